@@ -1,0 +1,3 @@
+pub mod ItemSet
+pub mod Query
+pub mod Cursor

@@ -1,0 +1,4 @@
+pub mod Queries
+pub mod Interviews
+pub mod Compatible
+pub mod Pages
