@@ -1,5 +1,8 @@
 -- The items of a set: the least, and those of the set without it.
-use Rattle.std.proofs.Common.{ℕ, zero, suc, ◌+◌, ◌<◌, ◌≤◌, ◌≡◌, inl, inr, Bool, true, false, cond, not, ◌&&◌, eqb, max, List, [], ◌∷◌, filter, Some, None, refl, sym, ap, ◌∙◌, arith, ne_eqb, eq-eqb, slice_get}
+use Rattle.std.specs.List.{All}
+use Rattle.std.proofs.Math.Seq.{get_or-append_seam}
+use Rattle.std.proofs.lemmas.List.Elements.{filter_passes}
+use Rattle.std.proofs.Common.{◌++◌, subst, length, length-append, ℕ, zero, suc, ◌+◌, ◌<◌, ◌≤◌, ◌≡◌, inl, inr, Bool, true, false, cond, not, ◌&&◌, eqb, max, List, [], ◌∷◌, filter, Some, None, refl, sym, ap, ◌∙◌, arith, ne_eqb, eq-eqb, slice_get}
 use Rattle.std.proofs.lemmas.Bool.{cases_eq}
 use Rattle.ls_set.specs.ItemSet.{Items, has, bound, items, least, without, numbers_from}
 use Rattle.ls_set.proofs.Sets.{has-without, and-true, and-false}
@@ -44,3 +47,12 @@ unfolding least
 items-none s e = no_first (items s) e
 
 pub ruleset items_facts = (items-least, items-none)
+
+-- ---- each item that is listed is an item
+
+pub listed-has : (s : Items) (before : List ℕ) (i : ℕ) (rest : List ℕ) → before ++ i ∷ rest ≡ items s → has s i ≡ true
+unfolding items
+listed-has s before i rest e =
+    let all : All (λ j. has s j ≡ true) (before ++ i ∷ rest) = subst (All (λ j. has s j ≡ true)) (sym e) (filter_passes (has s) (numbers_from 0 (bound s))) in
+    let lt : length before < length (before ++ i ∷ rest) = omega (arith, length-append before (i ∷ rest)) in
+    ap (has s) (sym (get_or-append_seam before i rest 0)) ∙ all (length before) 0 lt

@@ -1,0 +1,86 @@
+-- The words of a command are ASCII.
+use Rattle.std.proofs.Common.{ℕ, suc, ◌+◌, ◌<◌, ◌≤◌, ◌≡◌, ◌⊎◌, inl, inr, sym, subst, arith, Bool, true, false, ◌&&◌, cond, nat_lt, List, [], ◌∷◌, length, take, Some, refl}
+use Rattle.std.specs.Prelude.{All}
+use Rattle.std.specs.List.{list_all, prefix_len, slice_get}
+use Rattle.std.specs.Str.{IsAscii}
+use Rattle.std.specs.Cmp.Lexicographic.{same_text}
+use Rattle.std.proofs.lemmas.Bool.Decides.{nat_tests}
+use Rattle.std.proofs.lemmas.Str.Ascii.{IsAscii-nil, IsAscii-cons}
+use Rattle.std.proofs.lemmas.List.Elements.{All-nil, All-cons}
+use Rattle.std.proofs.lemmas.List.Sums.{prefix_len-le-length}
+use Rattle.std.proofs.lemmas.Option.{same_Some, none-some, cond_some}
+use Rattle.ls_lines.specs.Lines.{Text}
+use Rattle.ls_lines.specs.Kinds.{is_of, is_name_byte}
+use Rattle.ls_lines.specs.Forms.{spelling}
+use Rattle.ls_lines.specs.Commands.{fits, front}
+use Rattle.ls_lines.specs.declared.kind.Kind.{Kind}
+use Rattle.ls_lines.specs.declared.kind.Kind.TheVariants as kind
+use Rattle.ls_lines.specs.declared.keyword.Keyword.{Keyword}
+use Rattle.ls_lines.specs.declared.keyword.Keyword.TheVariants as word
+use Rattle.ls_lines.specs.declared.form.Part.{Part}
+use Rattle.ls_lines.specs.declared.form.Part.TheVariants.{Fixed, One, Many}
+
+pub never : {A : Type 0} → false ≡ true → A
+never e = absurd (cc e)
+
+pub both : (a b : Bool) → a && b ≡ true → (a ≡ true) × (b ≡ true)
+both true b h = (refl, h)
+both false b h = never h
+
+ascii_where : (test : ℕ → Bool) → ((b : ℕ) → test b ≡ true → b < 128) → (w : Text) → list_all test w ≡ true → IsAscii w
+ascii_where test below [] h = IsAscii-nil
+ascii_where test below (b ∷ w) h =
+    let parts = both (test b) (list_all test w) h in
+    IsAscii-cons b w (below b parts.0) (ascii_where test below w parts.1)
+
+is_name_byte-ascii : (b : ℕ) → is_name_byte b ≡ true → b < 128
+is_name_byte-ascii b h = grind (arith, nat_tests)
+
+below_128 : (b : ℕ) → nat_lt b 128 ≡ true → b < 128
+below_128 b h = grind (arith, nat_tests)
+
+is_of-ascii : (k : Kind) (w : Text) → is_of k w ≡ true → IsAscii w
+unfolding is_of
+is_of-ascii kind.Name w h = ascii_where is_name_byte is_name_byte-ascii w (both _ _ h).1
+is_of-ascii k w h = ascii_where is_name_byte is_name_byte-ascii w (both _ _ h).1
+
+spelling-ascii : (v : Keyword) → IsAscii (spelling v)
+unfolding spelling
+spelling-ascii word.Items = ascii_where (λ b. nat_lt b 128) below_128 (spelling word.Items) refl
+spelling-ascii v = ascii_where (λ b. nat_lt b 128) below_128 (spelling v) refl
+
+fits-ascii : (part : Part) (w : Text) → fits part w ≡ true → IsAscii w
+fits-ascii (Fixed v) w h = subst IsAscii (same_text (spelling v) w (sym h)) (spelling-ascii v)
+fits-ascii (One k) w h = is_of-ascii k w h
+fits-ascii (Many k) w h = is_of-ascii k w h
+
+kind-ascii : (k : Kind) (ws : List Text) → All IsAscii (take (prefix_len (is_of k) ws) ws)
+kind-ascii k [] = All-nil IsAscii
+kind-ascii k (w ∷ ws) =
+    elim (is_of k w) as (λ t. is_of k w ≡ t → All IsAscii (take (cond t (1 + prefix_len (is_of k) ws) 0) (w ∷ ws))) [
+      | true ↦ λ e. let next : 1 + prefix_len (is_of k) ws ≡ suc (prefix_len (is_of k) ws) = omega arith in rw next (All-cons IsAscii w (take (prefix_len (is_of k) ws) ws) (is_of-ascii k w e) (kind-ascii k ws))
+      | false ↦ λ e. All-nil IsAscii
+    ] refl
+
+-- what `front` takes is there, and is ASCII
+pub front-within : (part : Part) (ws : List Text) (m : ℕ) → front part ws ≡ Some m → m ≤ length ws
+front-within (Many k) ws m h = subst (λ n. n ≤ length ws) (same_Some _ m h) (prefix_len-le-length (is_of k) ws)
+front-within part [] m h = absurd (none-some m h)
+front-within part (w ∷ ws) m h = let parts = cond_some (fits part w) 1 m h in omega arith
+
+pub front-ascii : (part : Part) (ws : List Text) (m : ℕ) → front part ws ≡ Some m → All IsAscii (take m ws)
+front-ascii (Many k) ws m h = subst (λ n. All IsAscii (take n ws)) (same_Some _ m h) (kind-ascii k ws)
+front-ascii part [] m h = absurd (none-some m h)
+front-ascii part (w ∷ ws) m h =
+    let parts = cond_some (fits part w) 1 m h in
+    subst (λ n. All IsAscii (take n (w ∷ ws))) parts.1 (All-cons IsAscii w [] (fits-ascii part w parts.0) (All-nil IsAscii))
+
+-- what `front` takes, by the kind of its part
+pub front_many : (part : Part) (k : Kind) (ws : List Text) → part ≡ Many k → front part ws ≡ Some (prefix_len (fits part) ws)
+front_many part k ws is = rw is refl
+
+pub front_first : (part : Part) (ws : List Text) (w : Text) → ((v : Keyword) × (part ≡ Fixed v)) ⊎ ((k : Kind) × (part ≡ One k)) → slice_get ws 0 ≡ Some w → fits part w ≡ true → front part ws ≡ Some 1
+front_first part [] w is at h = absurd (none-some w at)
+front_first part (x ∷ ws) w is at h =
+    let here = same_Some x w at in
+    elim is [ inl v ↦ rw v.1 (rw (here, rw v.1 at h) refl) | inr k ↦ rw k.1 (rw (here, rw k.1 at h) refl) ]

@@ -1,0 +1,52 @@
+-- Examples: words, commands and the places of faults.
+use Rattle.std.proofs.Common.{ℕ, ◌≡◌, refl, List, [], ◌∷◌, ◌++◌, Some, codes, replicate}
+use Rattle.ls_lines.specs.Lines.{words}
+use Rattle.ls_lines.specs.Kinds.{is_of}
+use Rattle.ls_lines.specs.Forms.{spelling, parts, command, forms}
+use Rattle.ls_lines.specs.Commands.{cut, is_begun, command_of, fault_place}
+use Rattle.ls_lines.specs.declared.command.Command.TheVariants as commands
+
+commas_and_colons : words (codes "yes a,b:c\r") ≡ codes "yes" ∷ codes "a" ∷ codes "b" ∷ codes ":" ∷ codes "c" ∷ []
+unfolding words
+commas_and_colons = refl
+
+note : words (codes " \t# note") ≡ []
+unfolding words
+note = refl
+
+empty_line : command_of (words (codes " ,, ")) ≡ Some commands.Nothing
+unfolding words command_of forms parts command cut is_of spelling
+empty_line = refl
+
+no_names : command_of (words (codes "items")) ≡ Some (commands.Items [])
+unfolding words command_of forms parts command cut is_of spelling
+no_names = refl
+
+none_failed : command_of (words (codes "yes : b")) ≡ Some (commands.Yes [] (codes "b"))
+unfolding words command_of forms parts command cut is_of spelling
+none_failed = refl
+
+-- the place of the fault in a line
+abbrev place : List ℕ → ℕ
+place line = fault_place (words line)
+
+unknown_command : place (codes "foo") ≡ 1
+unfolding words fault_place is_begun forms parts is_of spelling
+unknown_command = refl
+
+no_colon : place (codes "yes a b") ≡ 4
+unfolding words fault_place is_begun forms parts is_of spelling
+no_colon = refl
+
+unknown_with_colon : place (codes "known a : b") ≡ 1
+unfolding words fault_place is_begun forms parts is_of spelling
+unknown_with_colon = refl
+
+too_many_words : place (codes "states x") ≡ 2
+unfolding words fault_place is_begun forms parts is_of spelling
+too_many_words = refl
+
+-- a name has at most 40 bytes
+long_name : place (codes "items " ++ replicate 41 97) ≡ 2
+unfolding words fault_place is_begun forms parts is_of spelling
+long_name = refl

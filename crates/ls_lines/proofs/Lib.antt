@@ -1,0 +1,9 @@
+pub mod Runs
+pub mod Ascii
+pub mod Cutting
+pub mod Places
+pub mod Choosing
+pub mod Parted
+pub mod Exact
+pub mod Apart
+pub mod Examples

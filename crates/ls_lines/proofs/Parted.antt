@@ -1,0 +1,86 @@
+-- What `front` takes from a line of a form, and what it leaves.
+use Rattle.std.proofs.Common.{ℕ, suc, ◌+◌, ◌≡◌, ◌⊎◌, inl, inr, refl, sym, ap, subst, ◌∙◌, arith, Bool, true, false, not, ◌&&◌, List, [], ◌∷◌, ◌++◌, drop, Some}
+use Rattle.std.specs.List.{prefix_len}
+use Rattle.std.specs.Cmp.Lexicographic.{same_text}
+use Rattle.std.proofs.lemmas.Option.{same_Some, none-some, cond_some}
+use Rattle.ls_lines.specs.Lines.{Text}
+use Rattle.ls_lines.specs.Kinds.{is_of}
+use Rattle.ls_lines.specs.Forms.{spelling, parts}
+use Rattle.ls_lines.specs.Commands.{fits, front}
+use Rattle.ls_lines.specs.Grammar.{IsLine, fixed, one, no_more, one_more}
+use Rattle.ls_lines.specs.declared.kind.Kind.{Kind}
+use Rattle.ls_lines.specs.declared.form.Form.{Form}
+use Rattle.ls_lines.specs.declared.form.Form.TheVariants as form
+use Rattle.ls_lines.specs.declared.form.Part.{Part}
+use Rattle.ls_lines.specs.declared.form.Part.TheVariants.{Fixed, One, Many}
+use Rattle.ls_lines.proofs.Ascii.{never, both}
+
+-- whether any number of words of the kind end where these parts begin: at no part, or at a fixed word that is not of the kind
+abbrev ends : Kind → List Part → Bool
+ends k [] = true
+ends k (Fixed v ∷ ps) = not (is_of k (spelling v))
+ends k (p ∷ ps) = false
+
+abbrev pub is_plain : List Part → Bool
+is_plain [] = true
+is_plain (Many k ∷ ps) = ends k ps && is_plain ps
+is_plain (p ∷ ps) = is_plain ps
+
+pub plain : (f : Form) → is_plain (parts f) ≡ true
+unfolding parts is_of spelling
+plain form.Nothing = refl
+plain f = refl
+
+-- the words of a kind at the front, one more and none
+dropped : (k : Kind) (w : Text) (ws : List Text) → is_of k w ≡ true → drop (prefix_len (is_of k) (w ∷ ws)) (w ∷ ws) ≡ drop (prefix_len (is_of k) ws) ws
+dropped k w ws e = rw e (let next : 1 + prefix_len (is_of k) ws ≡ suc (prefix_len (is_of k) ws) = omega arith in ap (λ m. drop m (w ∷ ws)) next)
+
+stopped : (k : Kind) (w : Text) (ws : List Text) → is_of k w ≡ false → drop (prefix_len (is_of k) (w ∷ ws)) (w ∷ ws) ≡ w ∷ ws
+stopped k w ws e = rw e refl
+
+regrown : (k : Kind) (ps : List Part) (ws more : List Text) → IsLine ps (drop (prefix_len (is_of k) ws) ws ++ more) → IsLine (Many k ∷ ps) (ws ++ more)
+regrown k ps [] more h = no_more h
+regrown k ps (w ∷ ws) more h =
+    elim (is_of k w) as (λ t. is_of k w ≡ t → IsLine (Many k ∷ ps) (w ∷ ws ++ more)) [
+      | true ↦ λ e. one_more e (regrown k ps ws more (subst (λ l. IsLine ps (l ++ more)) (dropped k w ws e) h))
+      | false ↦ λ e. no_more (subst (λ l. IsLine ps (l ++ more)) (stopped k w ws e) h)
+    ] refl
+
+-- what `front` takes and a line of the other parts behind it are a line
+pub joined : (part : Part) (ps : List Part) (ws more : List Text) (m : ℕ) → front part ws ≡ Some m → IsLine ps (drop m ws ++ more) → IsLine (part ∷ ps) (ws ++ more)
+joined (Many k) ps ws more m e h = regrown k ps ws more (subst (λ n. IsLine ps (drop n ws ++ more)) (sym (same_Some _ m e)) h)
+joined part ps [] more m e h = absurd (none-some m e)
+joined (Fixed v) ps (w ∷ ws) more m e h =
+    let here = cond_some (fits (Fixed v) w) 1 m e in
+    fixed here.0 (subst (λ n. IsLine ps (drop n (w ∷ ws) ++ more)) (sym here.1) h)
+joined (One k) ps (w ∷ ws) more m e h =
+    let here = cond_some (fits (One k) w) 1 m e in
+    one here.0 (subst (λ n. IsLine ps (drop n (w ∷ ws) ++ more)) (sym here.1) h)
+
+-- a line's first word is not of a kind that ends there
+apart : (k : Kind) {w : Text} {ps : List Part} {ws : List Text} → ends k ps ≡ true → is_of k w ≡ true → IsLine ps (w ∷ ws) → ⊥
+apart k {w = w} p e (fixed {v = v} same h) = never (sym (ap not (ap (is_of k) (same_text (spelling v) w (sym same)) ∙ e)) ∙ p)
+apart k p e (one f h) = never p
+apart k p e (no_more h) = never p
+apart k p e (one_more f h) = never p
+
+behind : (k : Kind) (ps : List Part) (ws more : List Text) → ends k ps ≡ true → IsLine (Many k ∷ ps) (ws ++ more) →
+    ((drop (prefix_len (is_of k) ws) ws ≡ []) × IsLine (Many k ∷ ps) more) ⊎ IsLine ps (drop (prefix_len (is_of k) ws) ws ++ more)
+behind k ps [] more p h = inl (refl, h)
+behind k ps (w ∷ ws) more p (no_more h) =
+    elim (is_of k w) as (λ t. is_of k w ≡ t → ((drop (prefix_len (is_of k) (w ∷ ws)) (w ∷ ws) ≡ []) × IsLine (Many k ∷ ps) more) ⊎ IsLine ps (drop (prefix_len (is_of k) (w ∷ ws)) (w ∷ ws) ++ more)) [
+      | true ↦ λ e. absurd (apart k p e h)
+      | false ↦ λ e. inr (subst (λ l. IsLine ps (l ++ more)) (sym (stopped k w ws e)) h)
+    ] refl
+behind k ps (w ∷ ws) more p (one_more e h) = subst (λ l. ((l ≡ []) × IsLine (Many k ∷ ps) more) ⊎ IsLine ps (l ++ more)) (sym (dropped k w ws e)) (behind k ps ws more p h)
+
+-- of a line with a word at its front `front` takes some words; they are all words in front of `more`, or the other parts have the rest
+pub parted : (part : Part) (ps : List Part) (w : Text) (ws more : List Text) → is_plain (part ∷ ps) ≡ true → IsLine (part ∷ ps) (w ∷ ws ++ more) →
+    (m : ℕ) × (front part (w ∷ ws) ≡ Some m) × (((drop m (w ∷ ws) ≡ []) × IsLine (part ∷ ps) more) ⊎ IsLine ps (drop m (w ∷ ws) ++ more))
+parted (Fixed v) ps w ws more p (fixed e h) = (1, rw e refl, inr h)
+parted (One k) ps w ws more p (one e h) = (1, rw e refl, inr h)
+parted (Many k) ps w ws more p h = (prefix_len (is_of k) (w ∷ ws), refl, behind k ps (w ∷ ws) more (both (ends k ps) (is_plain ps) p).0 h)
+
+pub plain_rest : (part : Part) (ps : List Part) → is_plain (part ∷ ps) ≡ true → is_plain ps ≡ true
+plain_rest (Many k) ps p = (both (ends k ps) (is_plain ps) p).1
+plain_rest part ps p = p

@@ -1,0 +1,12 @@
+use Rattle.std.proofs.Common.{rules, tests, ◌∙◌, sym, ap, not, nat_eq, Some}
+use Rattle.std.specs.Option.{option_eq}
+use Rattle.std.proofs.lemmas.Iterator.{YieldsList-from_slice}
+use Rattle.std.proofs.lemmas.Iterator.Search.{find_from_yields_List}
+use Rattle.ls_lines.specs.Lines.{is_blank}
+use Rattle.ls_lines.proofs.Runs.{is_note-by_first}
+use Rattle.ls_lines.proofs.token.is_note.Goals as goal
+
+pub returns : goal.returns
+returns c =
+    let first = find_from_yields_List (λ b. not (is_blank b)) _ _ c.find.result c.find.ensures.ran (YieldsList-from_slice c.args.line.now cc) (λ x b q k. search (rules, tests)) in
+    c.eq.ensures ∙ ap (λ o. option_eq nat_eq o (Some 35)) (c.copied.ensures ∙ first) ∙ sym (is_note-by_first c.args.line.now)

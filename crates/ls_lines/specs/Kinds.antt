@@ -1,0 +1,22 @@
+-- The kinds of words that a command takes.
+use Rattle.std.specs.Prelude.{ℕ, Bool, ◌&&◌, ◌||◌, ◌==◌, nat_le, length}
+use Rattle.std.specs.List.{list_all}
+use Rattle.ls_lines.specs.Lines.{Text}
+use Rattle.ls_lines.specs.declared.kind.Kind.{Kind}
+use Rattle.ls_lines.specs.declared.kind.Kind.TheVariants.{Name, Item}
+
+abbrev pub is_from_to : ℕ → ℕ → ℕ → Bool
+is_from_to low high b = nat_le low b && nat_le b high
+
+-- a letter, a digit, `_`, `-` or `.`
+abbrev pub is_name_byte : ℕ → Bool
+is_name_byte b = is_from_to 65 90 b || is_from_to 97 122 b || is_from_to 48 57 b || b == 95 || b == 45 || b == 46
+
+-- from one to the given number of such bytes
+abbrev pub is_name_up_to : ℕ → Text → Bool
+is_name_up_to most w = is_from_to 1 most (length w) && list_all is_name_byte w
+
+-- whether the word is of the kind; an item's name is a name
+unfoldable pub is_of : Kind → Text → Bool
+is_of Name w = is_name_up_to 40 w
+is_of Item w = is_name_up_to 40 w

@@ -1,0 +1,6 @@
+pub mod Lines
+pub mod Kinds
+pub mod Forms
+pub mod Commands
+pub mod Grammar
+pub mod Reading

@@ -1,0 +1,41 @@
+// The kinds of words.
+ghost use Rattle.std.specs.Prelude.{◌≡◌};
+ghost use Rattle.ls_lines.specs.Kinds.{is_name_up_to, is_name_byte};
+
+/// What a word of a command can be. An item's name is a name; it has to be one of the domain's.
+#[derive(Clone, Copy, Debug, PartialEq, Eq)]
+pub enum Kind {
+    Name,
+    Item,
+}
+
+/// The most bytes that a name has.
+const LONGEST_NAME: usize = 40;
+
+impl Kind {
+    ghost use Rattle.ls_lines.specs.Kinds.{is_of};
+
+    /// Whether the word, given as its bytes, is of the kind.
+    #[tactic(auto, unfolding(crate::specs::Kinds::is_of))]
+    pub fn takes(self, word: &[u8]) -> bool
+        ensures { result ≡ is_of self word.now }
+    {
+        match self {
+            Kind::Name | Kind::Item => is_name_up_to(LONGEST_NAME, word),
+        }
+    }
+}
+
+// From one to the given number of name bytes.
+fn is_name_up_to(most: usize, word: &[u8]) -> bool
+    ensures { result ≡ is_name_up_to most word.now }
+{
+    (1..=most).contains(&word.len()) && word.iter().all(|b| is_name_byte(*b))
+}
+
+// A name byte: a letter, a digit, `_`, `-` or `.`.
+fn is_name_byte(b: u8) -> bool
+    ensures { result ≡ is_name_byte b }
+{
+    matches!(b, b'A'..=b'Z' | b'a'..=b'z' | b'0'..=b'9' | b'_' | b'-' | b'.')
+}

@@ -1,0 +1,19 @@
+// Laws of the forms.
+ghost use Rattle.std.specs.Prelude.{◌≡◌, ◌↔◌, List, is_some, true};
+ghost use Rattle.ls_lines.specs.Lines.{Text};
+ghost use Rattle.ls_lines.specs.Forms.{parts};
+ghost use Rattle.ls_lines.specs.Commands.{cut, is_begun};
+ghost use Rattle.ls_lines.specs.Grammar.{IsLine, Completes};
+ghost use Rattle.ls_lines.specs.declared.form.Form.{Form};
+
+/// The words that are cut by a form are its lines, and those that it begins with are the beginnings
+/// of its lines. Nothing is done.
+pub fn forms_are_exact()
+    ensures line { (f : Form) (ws : List Text) → (is_some (cut (parts f) ws) ≡ true) ↔ IsLine (parts f) ws }
+    ensures begun { (f : Form) (ws : List Text) → (is_begun (parts f) ws ≡ true) ↔ Completes (parts f) ws }
+{}
+
+/// No line has two forms. Nothing is done.
+pub fn forms_are_told_apart()
+    ensures { (f g : Form) (ws : List Text) → IsLine (parts f) ws → IsLine (parts g) ws → f ≡ g }
+{}

@@ -1,0 +1,98 @@
+// Reading a line by the table of forms.
+ghost use Rattle.std.specs.Prelude.{◌≡◌, ◌≤◌, ◌+◌, ℕ, All, IfOk, IfSome, IsErrOf, None, Some, length, option_map, take};
+ghost use Rattle.std.specs.Str.{IsAscii};
+ghost use Rattle.ls_lines.specs.Lines.{words, longest_line};
+ghost use Rattle.ls_lines.specs.Commands.{fits, front, cut, command_of, fault_place};
+ghost use Rattle.ls_lines.specs.Reading.{begun_length};
+
+use crate::token::{Token, tokens};
+use crate::{Command, FORMS, LineFault, Part, WordList};
+use std::alloc::{AllocError, Global};
+
+/// The command that a line is. The line has no line feed, and at most as many bytes as are read.
+pub fn read_command(alloc: Global, line: &[u8]) -> Result<Command, LineFault>
+    requires { length line.now ≤ longest_line }
+    ensures read { IfOk result (λ c. command_of (words line.now) ≡ Some c) }
+    ensures shape { (place : ℕ)
+        → IsErrOf result (LineFault.Shape place)
+        → (command_of (words line.now) ≡ None) × (place ≡ fault_place (words line.now)) }
+{
+    let words = tokens(alloc, line).map_err(LineFault::Memory)?;
+    for form in FORMS {
+        if let Some(given) = cut(alloc, form.parts(), &words).map_err(LineFault::Memory)? {
+            return Ok(form.command(alloc, given));
+        }
+    }
+    let place = fault_place(&words) as u32;
+    Err(LineFault::Shape { place })
+}
+
+// What stands at each part, where the words are a line of the form.
+fn cut(alloc: Global, parts: &[Part], words: &[Token]) -> Result<Option<Vec<WordList>>, AllocError>
+    ensures { IfOk result (λ given. option_map (λ v. v.items) given ≡ cut parts.now words.now) }
+{
+    let mut given = Vec::new(alloc);
+    let mut start = 0;
+    for part in parts {
+        let Some(count) = front(*part, &words[start..]) else {
+            return Ok(None);
+        };
+        let end = start + count;
+        given.push(WordList::from_tokens(alloc, &words[start..end])?)?;
+        start = end;
+    }
+    Ok((start == words.len()).then_some(given))
+}
+
+// The place of a fault, in one pass for each form.
+fn fault_place(words: &[Token]) -> usize
+    ensures place { result ≡ fault_place words.now }
+    ensures within { result ≤ length words.now + 1 }
+{
+    let begun = FORMS
+        .iter()
+        .map(|form| begun_length(form.parts(), words))
+        .max()
+        .unwrap_or(0);
+    begun + 1
+}
+
+// How many words at the front some line of the form begins with.
+fn begun_length(parts: &[Part], words: &[Token]) -> usize
+    ensures value { result ≡ begun_length parts.now words.now }
+    ensures within { result ≤ length words.now }
+{
+    let mut count = 0;
+    for part in parts {
+        let Some(more) = front(*part, &words[count..]) else {
+            return count;
+        };
+        count += more;
+    }
+    count
+}
+
+// How many words at the front stand at the part.
+fn front(part: Part, words: &[Token]) -> Option<usize>
+    ensures value { result ≡ front part words.now }
+    ensures within { IfSome result (λ m. m ≤ length words.now) }
+    ensures ascii { IfSome result (λ m. All IsAscii (take m words.now)) }
+{
+    match part {
+        Part::Many(_) => Some(words.iter().take_while(|word| fits(part, word)).count()),
+        Part::Fixed(_) | Part::One(_) => match words.first() {
+            Some(word) if fits(part, word) => Some(1),
+            _ => None,
+        },
+    }
+}
+
+// Whether the word can stand at the part.
+fn fits(part: Part, word: &Token) -> bool
+    ensures { result ≡ fits part word.now }
+{
+    match part {
+        Part::Fixed(keyword) => keyword.text().as_bytes() == word.as_bytes(),
+        Part::One(kind) | Part::Many(kind) => kind.takes(word.as_bytes()),
+    }
+}

@@ -1,0 +1,64 @@
+// Words of a script.
+ghost use Rattle.std.specs.Prelude.{◌≡◌, [], IfOk};
+ghost use Rattle.std.specs.Str.{IsAscii};
+
+use std::alloc::{AllocError, Global};
+use std::marker::Model;
+
+/// A text of a script, seen as its list of bytes.
+#[derive(Debug, Drop)]
+pub struct Word {
+    text: String,
+}
+
+impl Model for Word {
+    ghost use Rattle.std.specs.Prelude.{List, ℕ, string_bytes};
+
+    ghost Value = { List ℕ };
+
+    ghost view = { λ w. string_bytes w.text };
+}
+
+impl Word {
+    /// The text as a word.
+    pub fn new(alloc: Global, text: &str) -> Result<Word, AllocError>
+        ensures { IfOk result (λ w. w ≡ text.now) }
+    {
+        Ok(Word {
+            text: String::from_str(alloc, text)?,
+        })
+    }
+
+    /// The word's text.
+    pub fn as_str(&self) -> &str
+        ensures { result.now ≡ self.now }
+    {
+        self.text.as_str()
+    }
+
+    /// The same word once more.
+    pub fn copy(&self) -> Result<Word, AllocError>
+        ensures { IfOk result (λ w. w ≡ self.now) }
+    {
+        Ok(Word {
+            text: self.text.clone()?,
+        })
+    }
+
+    // The word of no bytes.
+    pub(crate) fn empty(alloc: Global) -> Word
+        ensures { result ≡ [] }
+    {
+        Word {
+            text: String::new(alloc),
+        }
+    }
+
+    // The bytes as a word.
+    pub(crate) fn from_ascii(alloc: Global, bytes: &[u8]) -> Result<Word, AllocError>
+        requires { IsAscii bytes.now }
+        ensures { IfOk result (λ w. w ≡ bytes.now) }
+    {
+        Word::new(alloc, str::from_utf8(bytes).unwrap())
+    }
+}

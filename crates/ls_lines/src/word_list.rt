@@ -1,0 +1,93 @@
+// Lists of words.
+ghost use Rattle.std.specs.Prelude.{◌≡◌, ◌++◌, ◌∷◌, [], ◌==◌, OnOk, OnErr, IfOk, All, length, slice_get};
+ghost use Rattle.std.specs.Str.{IsAscii};
+
+use crate::Word;
+use crate::token::Token;
+use std::alloc::{AllocError, Global};
+use std::marker::Model;
+
+/// A list of words.
+#[derive(Debug, Drop)]
+pub struct WordList {
+    words: Vec<Word>,
+}
+
+impl Model for WordList {
+    ghost use Rattle.std.specs.Prelude.{List, ℕ};
+
+    ghost Value = { List (List ℕ) };
+
+    ghost view = { λ l. l.words.items };
+}
+
+impl WordList {
+    /// No word. It takes no memory.
+    pub fn new(alloc: Global) -> WordList
+        ensures { result ≡ [] }
+    {
+        WordList {
+            words: Vec::new(alloc),
+        }
+    }
+
+    /// Puts a word last, unless memory runs out; the list is then unchanged.
+    pub fn push(&mut self, w: Word) -> Result<(), AllocError>
+        ensures ok { OnOk result (self.new ≡ self.old ++ w ∷ []) }
+        ensures err { OnErr result (self.new ≡ self.old) }
+    {
+        self.words.push(w)?;
+        Ok(())
+    }
+
+    /// The words, in their order.
+    pub fn as_slice(&self) -> &[Word]
+        ensures { result.now ≡ self.now }
+    {
+        &self.words
+    }
+
+    /// How many words there are.
+    pub fn len(&self) -> usize
+        ensures { result ≡ length self.now }
+    {
+        self.words.len()
+    }
+
+    /// Whether there is no word.
+    pub fn is_empty(&self) -> bool
+        ensures { result ≡ (length self.now == 0) }
+    {
+        self.words.is_empty()
+    }
+
+    /// The same words once more.
+    pub fn copy(&self, alloc: Global) -> Result<WordList, AllocError>
+        ensures { IfOk result (λ l. l ≡ self.now) }
+    {
+        let mut copied = WordList::new(alloc);
+        for word in self.as_slice() {
+            copied.push(word.copy()?)?;
+        }
+        Ok(copied)
+    }
+
+    // The words, copied.
+    pub(crate) fn from_tokens(alloc: Global, tokens: &[Token]) -> Result<WordList, AllocError>
+        requires { All IsAscii tokens.now }
+        ensures { IfOk result (λ l. l ≡ tokens.now) }
+    {
+        let mut list = WordList::new(alloc);
+        for token in tokens {
+            list.push(Word::from_ascii(alloc, token.as_bytes())?)?;
+        }
+        Ok(list)
+    }
+
+    // The first word, if there is one.
+    pub(crate) fn into_first(self) -> Option<Word>
+        ensures { result ≡ slice_get self 0 }
+    {
+        self.words.into_iter().next()
+    }
+}

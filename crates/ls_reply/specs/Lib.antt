@@ -1,0 +1,7 @@
+pub mod Texts
+pub mod Sessions
+pub mod Meanings
+pub mod Refusals
+pub mod Rows
+pub mod Replies
+pub mod Transcripts

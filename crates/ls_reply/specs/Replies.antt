@@ -1,0 +1,56 @@
+-- The reply to a line: its bytes, whether they begin with `no `, and the next session.
+use Rattle.std.specs.Prelude.{ℕ, Bool, true, false, not, if◌then◌else◌, List, [], ◌∷◌, ◌++◌, map, length, Option, Some, None, codes, decimal, nat_eq}
+use Rattle.std.specs.List.{starts_with}
+use Rattle.ls_lines.specs.Lines.{Text, is_long, words}
+use Rattle.ls_lines.specs.Commands.{command_of, fault_place}
+use Rattle.ls_lines.specs.declared.command.Command.{Command}
+use Rattle.ls_lines.specs.declared.command.Command.TheVariants as command
+use Rattle.ls_reply.specs.Texts.{bytes_of}
+use Rattle.ls_reply.specs.Sessions.{Session, has_domain}
+use Rattle.ls_reply.specs.Meanings.{unnamed_places}
+use Rattle.ls_reply.specs.Refusals.{Refusal, Answer, Row, ◌otherwise◌, outcome, refuse, faults, says}
+use Rattle.ls_reply.specs.Rows.{items_row, answer_row, states_row}
+
+-- the places at fault: 0 where no domain stands; otherwise those of the words that must name an item and don't
+abbrev pub unnamed_at : Session → Command → List ℕ
+unnamed_at s c = if has_domain s then unnamed_places s.names c else 0 ∷ []
+
+-- their refusals, of which the first is answered
+abbrev pub unnamed : Session → Command → List Refusal
+unnamed s c = faults 15 (map (λ p. decimal p ∷ []) (unnamed_at s c))
+
+-- a row of a command that needs a domain
+abbrev pub within_domain : Session → Command → Row → Row
+within_domain s c row = record row { refusals = unnamed s c ++ row.refusals }
+
+-- the row of each command
+unfoldable pub row : Session → Command → Row
+row s command.Nothing = [] otherwise says s []
+row s (command.Items names) = items_row s names
+row s (command.Yes names item) = within_domain s (command.Yes names item) (answer_row s true names item)
+row s command.States = within_domain s command.States (states_row s)
+
+abbrev pub command_answer : Session → Command → Answer
+command_answer s c = let r = row s c in outcome s r.refusals r.answer
+
+-- the answer to words, which may be no command
+abbrev pub words_answer : Session → List Text → Option Command → Answer
+words_answer s ws None = outcome s (refuse 10 (decimal (fault_place ws) ∷ []) true) (says s [])
+words_answer s ws (Some c) = command_answer s c
+
+unfoldable pub line_answer : Session → List ℕ → Answer
+line_answer s line =
+    if is_long line then outcome s (refuse 10 (codes "long" ∷ decimal (length line) ∷ []) true) (says s [])
+    else words_answer s (words line) (command_of (words line))
+
+-- what is written for a line
+abbrev pub reply : Session → List ℕ → List ℕ
+reply s line = bytes_of (line_answer s line).lines
+
+-- the session after it
+abbrev pub next_session : Session → List ℕ → Session
+next_session s line = (line_answer s line).session
+
+-- whether a reply begins with `no `
+abbrev pub is_refusal : List ℕ → Bool
+is_refusal bytes = starts_with nat_eq bytes (codes "no ")

@@ -1,0 +1,87 @@
+-- The row of each command: its refusals in their order, otherwise its answer.
+use Rattle.std.specs.Prelude.{ℕ, Bool, true, false, not, ◌&&◌, ◌||◌, ◌==◌, nat_lt, nat_le, if◌then◌else◌, List, [], ◌∷◌, ◌++◌, map, length, bytes_eq, None, codes, decimal}
+use Rattle.std.specs.List.{list_any}
+use Rattle.ls_set.specs.ItemSet.{Items, is_same, comes_before}
+use Rattle.ls_set.specs.Cursor.{cursor}
+use Rattle.ls_set.specs.Query.{is_good}
+use Rattle.ls_set.specs.declared.query.Query.{Query}
+use Rattle.ls_theory.specs.Interviews.{Interview, accepted}
+use Rattle.ls_theory.specs.Pages.{Page, page}
+use Rattle.ls_lines.specs.Lines.{Text}
+use Rattle.ls_reply.specs.Texts.{set_text}
+use Rattle.ls_reply.specs.Sessions.{Session, started, has_domain, states}
+use Rattle.ls_reply.specs.Meanings.{item_of, items_of}
+use Rattle.ls_reply.specs.Refusals.{Row, ◌otherwise◌, refuse, says, becomes}
+
+-- ---- limits
+
+abbrev pub most_items : ℕ
+most_items = 16
+
+abbrev pub most_answers : ℕ
+most_answers = 8192
+
+-- how many sets a listing has at most
+abbrev pub most_listed : ℕ
+most_listed = 65536
+
+-- the code of what is not built yet
+abbrev pub not_built : ℕ
+not_built = 49
+
+-- ---- items
+
+-- whether some word stands twice
+abbrev pub repeats : List Text → Bool
+repeats [] = false
+repeats (w ∷ ws) = list_any (bytes_eq w) ws || repeats ws
+
+-- whether the names can't be a domain: there is none, there are too many, or one stands twice
+abbrev pub is_no_domain : List Text → Bool
+is_no_domain names = length names == 0 || nat_lt most_items (length names) || repeats names
+
+abbrev pub items_row : Session → List Text → Row
+items_row s names =
+    refuse not_built [] (has_domain s || is_no_domain names)
+    otherwise becomes (started names) (decimal (length names) ∷ [])
+
+-- ---- answers
+
+-- the query of a command's words
+abbrev pub query_of : List Text → List Text → Text → Query
+query_of names ws w = record { a = items_of names ws; q = item_of names w }
+
+abbrev pub is_same_query : Query → Query → Bool
+is_same_query r s = is_same r.a s.a && r.q == s.q
+
+-- whether the query was answered, and the answer stands
+abbrev pub stands : Interview → Query → Bool
+stands i r = list_any (λ a. is_same_query a.query r) i.answers
+
+abbrev pub is_full : Interview → Bool
+is_full i = nat_le most_answers (length i.answers)
+
+-- the row of an answer to a query
+abbrev pub query_row : Session → Bool → Query → Row
+query_row s is_yes r =
+    let i = s.interview in
+    refuse 18 [] (not (is_good (length s.names) r)) ++ refuse not_built [] (is_full i || stands i r)
+    otherwise becomes (record s { interview = accepted i r is_yes }) (decimal i.next ∷ [])
+
+abbrev pub answer_row : Session → Bool → List Text → Text → Row
+answer_row s is_yes ws w = query_row s is_yes (query_of s.names ws w)
+
+-- ---- listings
+
+-- the line of a set: its cursor and its names
+abbrev pub set_words : List Text → Items → List Text
+set_words names k = codes "set" ∷ cursor (length names) k ∷ set_text names k ∷ []
+
+-- the lines of a page, and whether a further set follows
+abbrev pub page_lines : List Text → Page Items → List (List Text)
+page_lines names p = map (set_words names) p.members ++ (codes "more" ∷ (if p.more then codes "yes" else codes "no") ∷ []) ∷ []
+
+abbrev pub states_row : Session → Row
+states_row s =
+    []
+    otherwise says s (page_lines s.names (page comes_before (states s) None most_listed))
