@@ -1,0 +1,11 @@
+use Rattle.std.proofs.Common.{◌==◌, rules, refl}
+use Rattle.std.proofs.lemmas.Iterator.Consumers.{map_from_collect}
+use Rattle.std.proofs.lemmas.Iterator.Splits.{YieldsList-from_slice_split}
+use Rattle.ls_lines.specs.Lines.{lines}
+use Rattle.ls_shell.proofs.run.lines_of.Goals as goal
+
+pub returns : goal.returns
+unfolding lines
+returns c =
+    map_from_collect _ c.collect.ensures.ran
+    (YieldsList-from_slice_split _ (λ b. b == 10) c.args.script.now c.split.ensures.rest c.split.ensures.done c.split.ensures.closure (λ x b q h. search rules))

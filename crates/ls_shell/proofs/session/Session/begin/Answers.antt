@@ -1,0 +1,22 @@
+use Rattle.std.proofs.Common.{◌≡◌, ◌∷◌, [], ap, ap₂, sym, ◌∙◌, codes, List, ℕ, decimal, length}
+use Rattle.ls_theory.specs.declared.answer.Answer.{Answer}
+use Rattle.ls_lines.specs.Lines.{Text}
+use Rattle.ls_reply.specs.Sessions.{Session}
+use Rattle.ls_reply.specs.Refusals as reply
+use Rattle.ls_shell.proofs.Outcomes.{says_line, refused_last, passed_last, decimal_49}
+use Rattle.ls_shell.proofs.session.Session.begin.Goals as goal
+
+pub returns-then-cannot_begin : goal.returns-then-cannot_begin
+returns-then-cannot_begin c =
+    says_line _ _ _ _ _ _
+    (refused_last c.args.self.now 49 [] _ _ (sym c.cannot_begin.ensures ∙ c.if-cannot_begin.true)
+    ∙ ap (λ (w : Text). let x : reply.Answer = record { lines = (codes "no" ∷ w ∷ []) ∷ []; session = c.args.self.now } in x) decimal_49)
+    c.push_line.ensures
+
+pub returns : goal.returns
+returns c =
+    says_line _ _ _ _ _ _
+    (passed_last c.args.self.now 49 [] _ _ (sym c.cannot_begin.ensures ∙ c.if-cannot_begin.false)
+    ∙ ap₂ (λ (w : Text) (done : List Answer). let x : reply.Answer = record { lines = (codes "ok" ∷ w ∷ []) ∷ []; session = record { names = c.args.names; interview = record { answers = done; next = 1 } } } in x)
+    (sym (c.as_bytes.ensures.value ∙ c.in_ok-count.ensures.ok ∙ ap decimal c.len.ensures)) (sym c.new.ensures.items))
+    c.push_line-2.ensures

@@ -1,0 +1,5 @@
+pub mod Statuses
+pub mod Sayings
+pub mod Runs
+pub mod Kept
+pub mod Faults
