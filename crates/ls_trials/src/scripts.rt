@@ -1,0 +1,52 @@
+// Scripts and their replies, line for line.
+use crate::trial::{Trial, run};
+use ls_shell::Status;
+use std::test::Fail;
+
+// A script, its replies, and whether one of them is a refusal.
+const SCRIPTS: [(&str, &str, Status); 9] = [
+    // Three items, a Yes, and the six states that it leaves.
+    (
+        "items a b c\nyes a : b\nstates\n",
+        "ok 3\nok 1\nset e {a b c}\nset c {a b}\nset a {a c}\nset 8 {a}\nset 2 {c}\nset 0 {}\nmore no\n",
+        Status::Done,
+    ),
+    // Refusals, each with its cause.
+    (
+        "items a a\nitems a b\nitems c\nyes a : a\nyes z : a\nknown a : b\n",
+        "no 49\nok 2\nno 49\nno 18\nno 15 2\nno 10 1\n",
+        Status::Refused,
+    ),
+    ("items a\nstates\n", "ok 1\nset 8 {a}\nset 0 {}\nmore no\n", Status::Done),
+    ("states\n", "no 15 0\n", Status::Refused),
+    ("foo\n", "no 10 1\n", Status::Refused),
+    ("yes a b\n", "no 10 4\n", Status::Refused),
+    // An empty line and a note have no reply, and a last line without a line end is answered.
+    ("\n# note\n ,\t\nitems after", "ok 1\n", Status::Done),
+    // Carriage returns, commas, and the answer that stands already.
+    (
+        "items a b c\r\nyes a,b:c\r\nyes a b : c\r\nyes b a a : c\r\n",
+        "ok 3\nok 1\nno 49\nno 49\n",
+        Status::Refused,
+    ),
+    ("", "", Status::Done),
+];
+
+#[test]
+fn scripts_are_answered_in_any_pieces(rt: HostRuntime) -> Result<(), Fail> {
+    for (script, replies, status) in SCRIPTS {
+        for piece in [1, 7, 12, 4096] {
+            let trial = Trial {
+                words: &[],
+                script: script.as_bytes(),
+                piece,
+                failing_reads: &[],
+                failing_writes: &[],
+            };
+            let outcome = run(&rt, trial)?;
+            assert_eq!(rt; outcome.written.as_slice(), replies.as_bytes(), "for {script:?} in pieces of {piece}");
+            assert_eq!(rt; outcome.status, status, "for {script:?}");
+        }
+    }
+    Ok(())
+}

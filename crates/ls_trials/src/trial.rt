@@ -1,0 +1,36 @@
+// A run of the program over objects in memory.
+use ls_edge::{MemSink, MemSource, SureShelf};
+use ls_shell::{Status, lspace};
+use std::alloc::AllocError;
+use std::thread::Threads;
+
+/// What a run is given: the words after the program's name, the script, how many bytes one read and one write move
+/// at most, and which reads and writes fail, counted from 1.
+#[derive(Clone, Copy)]
+pub struct Trial<'a> {
+    pub words: &'a [&'a str],
+    pub script: &'a [u8],
+    pub piece: usize,
+    pub failing_reads: &'a [u64],
+    pub failing_writes: &'a [u64],
+}
+
+/// What a run wrote, and how it ended.
+#[derive(Debug, Drop)]
+pub struct Outcome {
+    pub written: Vec<u8>,
+    pub status: Status,
+}
+
+pub fn run<R: Threads + Sync + AllocGlobal>(rt: &R, trial: Trial) -> Result<Outcome, AllocError> {
+    let alloc = rt.alloc();
+    let piece = trial.piece.max(1);
+    let mut src = MemSource::new(trial.script.to_vec(alloc)?, piece, trial.failing_reads.to_vec(alloc)?);
+    let mut out = MemSink::new(alloc, piece, trial.failing_writes.to_vec(alloc)?);
+    let mut shelf = SureShelf::new(alloc);
+    let status = lspace(rt, alloc, trial.words, &mut src, &mut out, &mut shelf);
+    Ok(Outcome {
+        written: out.written().to_vec(alloc)?,
+        status,
+    })
+}
