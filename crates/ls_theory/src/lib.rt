@@ -11,3 +11,6 @@ pub use answer::{Answer, yes_queries};
 pub use families::{compat, subsets};
 pub use listing::{Listing, page};
 pub use queries::{breaks, breaks_none};
+
+#[cfg(test)]
+mod tests;
