@@ -1,7 +1,7 @@
 -- Examples: whole scripts, byte for byte.
-use Rattle.std.proofs.Common.{◌≡◌, refl, Bool, true, false, [], ◌∷◌, ◌++◌, codes, replicate}
+use Rattle.std.proofs.Common.{◌≡◌, refl, true, false, [], codes, replicate}
 use Rattle.std.specs.Fmt.{digits}
-use Rattle.std.specs.Prelude.{ℕ, List}
+use Rattle.std.specs.Prelude.{ℕ}
 use Rattle.ls_set.specs.ItemSet.{has, empty, full, with, union, meet, single, differing, is_within, is_same, bound, items, least, comes_before}
 use Rattle.ls_set.specs.Cursor.{cursor}
 use Rattle.ls_theory.specs.Compatible.{compat}
@@ -10,7 +10,7 @@ use Rattle.ls_lines.specs.Kinds.{is_of}
 use Rattle.ls_lines.specs.Forms.{spelling, parts, command, forms}
 use Rattle.ls_lines.specs.Commands.{cut, is_begun, command_of, fault_place}
 use Rattle.ls_reply.specs.Texts.{line_of, bytes_of, names_of_set}
-use Rattle.ls_reply.specs.Sessions.{Session, started}
+use Rattle.ls_reply.specs.Sessions.{started}
 use Rattle.ls_reply.specs.Replies.{row, line_answer, reply}
 use Rattle.ls_reply.specs.Transcripts.{replies, refuses, transcript, is_some_refused}
 

@@ -1,5 +1,5 @@
 -- The reply to a line: its bytes, whether they begin with `no `, and the next session.
-use Rattle.std.specs.Prelude.{ℕ, Bool, true, false, not, if◌then◌else◌, List, [], ◌∷◌, ◌++◌, map, length, Option, Some, None, codes, decimal, nat_eq}
+use Rattle.std.specs.Prelude.{ℕ, Bool, true, if◌then◌else◌, List, [], ◌∷◌, ◌++◌, map, length, Option, Some, None, codes, decimal, nat_eq}
 use Rattle.std.specs.List.{starts_with}
 use Rattle.ls_lines.specs.Lines.{Text, is_long, words}
 use Rattle.ls_lines.specs.Commands.{command_of, fault_place}

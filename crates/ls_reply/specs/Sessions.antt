@@ -1,5 +1,5 @@
 -- A session's state.
-use Rattle.std.specs.Prelude.{Bool, not, ◌==◌, List, [], length}
+use Rattle.std.specs.Prelude.{Bool, not, ◌==◌, List, length}
 use Rattle.ls_set.specs.ItemSet.{Items}
 use Rattle.ls_theory.specs.Interviews.{Interview, begun}
 use Rattle.ls_theory.specs.Compatible.{compatible_sets}

@@ -2,7 +2,6 @@
 use Rattle.std.specs.Prelude.{ℕ, List, [], ◌∷◌, ◌++◌, map, slice_index_or}
 use Rattle.std.specs.List.{join_with_byte, flat_map}
 use Rattle.ls_set.specs.ItemSet.{Items, items}
-use Rattle.ls_set.specs.Cursor.{cursor}
 use Rattle.ls_lines.specs.Lines.{Text}
 
 -- a line: its words joined by single spaces, and a line feed

@@ -27,4 +27,4 @@ module _ {X : Type 0} (f : X → List ℕ) where
       ap (λ l. l ++ (cond (eqb i 0) [] (32 ∷ []) ++ f (get_or xs i d))) e
       ∙ append_assoc before (join_with_byte 32 front) (cond (eqb i 0) [] (32 ∷ []) ++ f (get_or xs i d))
       ∙ ap (λ l. before ++ l) (sym (ap (join_with_byte 32) (ap (map f) (take_more xs i d h) ∙ map-append f (take i xs) (get_or xs i d ∷ []))
-          ∙ join-snoc 32 front (f (get_or xs i d)) ∙ ap (λ g. join_with_byte 32 front ++ (g ++ f (get_or xs i d))) (gap-take 32 xs i h)))
+      ∙ join-snoc 32 front (f (get_or xs i d)) ∙ ap (λ g. join_with_byte 32 front ++ (g ++ f (get_or xs i d))) (gap-take 32 xs i h)))

@@ -1,5 +1,5 @@
 -- The answer to a line, by what the line is.
-use Rattle.std.proofs.Common.{◌≡◌, ℕ, ◌<◌, ◌≤◌, Bool, true, false, cond, not, eqb, List, [], ◌∷◌, length, Some, None, slice_get, codes, decimal, ap, ◌∙◌, sym, lt-ltb, le-ltb}
+use Rattle.std.proofs.Common.{◌≡◌, ℕ, ◌<◌, ◌≤◌, true, false, cond, not, eqb, List, [], ◌∷◌, length, Some, None, slice_get, codes, decimal, ap, ◌∙◌, sym, lt-ltb, le-ltb}
 use Rattle.ls_lines.specs.Lines.{Text, longest_line, words}
 use Rattle.ls_lines.specs.Commands.{command_of, fault_place}
 use Rattle.ls_lines.specs.declared.command.Command.{Command}

@@ -1,5 +1,5 @@
 -- The sets of a listing lie within the items, and the queries of answers are about items.
-use Rattle.std.proofs.Common.{◌≡◌, ℕ, zero, suc, ◌<◌, List, [], ◌∷◌, length, get_or, map, filter, take, lt-ltb, ◌∙◌, arith}
+use Rattle.std.proofs.Common.{ℕ, zero, suc, List, [], ◌∷◌, filter, lt-ltb, ◌∙◌, arith}
 use Rattle.std.specs.declared.option.Option as option
 use Rattle.std.specs.List.{All, AllByRecursion}
 use Rattle.std.proofs.lemmas.List.Elements.{All-filter, All-map, All-take}

@@ -9,7 +9,7 @@ use Rattle.ls_theory.specs.Interviews.{accepted}
 use Rattle.ls_lines.specs.Lines.{Text}
 use Rattle.ls_reply.specs.Texts.{line_of, bytes_of}
 use Rattle.ls_reply.specs.Sessions.{Session}
-use Rattle.ls_reply.specs.Refusals.{Refusal, Answer, Row, outcome, refuse, faults, refused, becomes}
+use Rattle.ls_reply.specs.Refusals.{Refusal, Answer, outcome, refuse, faults, refused, becomes}
 use Rattle.ls_reply.specs.Rows.{query_row, is_full, stands}
 use Rattle.ls_shell.specs.Sayings.{Says, row_answer}
 

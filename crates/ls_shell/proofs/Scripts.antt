@@ -1,5 +1,5 @@
 -- The replies to the lines of a script, a line more.
-use Rattle.std.proofs.Common.{◌≡◌, ◌<◌, ◌+◌, Bool, ◌||◌, List, [], ◌∷◌, ◌++◌, ℕ, length, map, take, get_or, refl, sym, ap, ap₂, ◌∙◌, append-nil, append_assoc}
+use Rattle.std.proofs.Common.{◌≡◌, ◌<◌, ◌+◌, ◌||◌, List, [], ◌∷◌, ◌++◌, ℕ, length, map, take, get_or, refl, sym, ap, ◌∙◌, append-nil, append_assoc}
 use Rattle.std.proofs.Math.Bool.{or_assoc, or-false}
 use Rattle.std.proofs.lemmas.List.{take_more, map-append}
 use Rattle.ls_reply.specs.Texts.{bytes_of}

@@ -1,10 +1,10 @@
 -- What a run of the program does: the bytes that it takes and writes.
-use Rattle.std.specs.Prelude.{◌≡◌, ℕ, ◌++◌, ◌+◌, ◌<◌, ◌≤◌, ◌⊎◌, true, false, List, [], length, codes, Some}
+use Rattle.std.specs.Prelude.{◌≡◌, ℕ, ◌+◌, ◌<◌, ◌≤◌, ◌⊎◌, true, false, List, length, codes, Some}
 use Rattle.std.specs.declared.option.Option.{Option}
 use Rattle.std.specs.Io.KnownBytes.{Appends, Consumes}
 use Rattle.ls_reply.specs.Transcripts.{transcript, is_some_refused}
 use Rattle.ls_shell.specs.declared.status.Status.{Status}
-use Rattle.ls_shell.specs.declared.status.Status.TheVariants.{Done, Refused, Usage, ReadFault, WriteFault, InputLong, NoMemory, NoScript}
+use Rattle.ls_shell.specs.declared.status.Status.TheVariants.{Done, Refused, Usage, WriteFault, InputLong, NoMemory}
 
 -- the most bytes that a script has
 abbrev pub longest_script : ℕ

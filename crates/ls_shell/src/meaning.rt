@@ -22,9 +22,7 @@ fn place_of(names: &[Word], word: &Word) -> Option<usize>
     ensures place { result ≡ position (bytes_eq word.now) names.now }
     ensures within { IfSome result (λ i. i < length names.now) }
 {
-    names
-        .iter()
-        .position(|name| word.as_str() == name.as_str())
+    names.iter().position(|name| word.as_str() == name.as_str())
 }
 
 /// The item that has the name.

@@ -126,12 +126,7 @@ impl Session {
     }
 
     // `yes NAMES : ITEM`
-    fn answer(
-        &mut self,
-        names: &WordList,
-        item: &Word,
-        out: &mut Vec<u8>,
-    ) -> Result<(), AllocError>
+    fn answer(&mut self, names: &WordList, item: &Word, out: &mut Vec<u8>) -> Result<(), AllocError>
         ensures { OnOk result (Says (command_answer self.old (command.Yes names.now item.now)) self.new out.old.items out.new.items) }
     {
         match self.query_of(names, item) {

@@ -17,7 +17,11 @@ const SCRIPTS: [(&str, &str, Status); 9] = [
         "no 49\nok 2\nno 49\nno 18\nno 15 2\nno 10 1\n",
         Status::Refused,
     ),
-    ("items a\nstates\n", "ok 1\nset 8 {a}\nset 0 {}\nmore no\n", Status::Done),
+    (
+        "items a\nstates\n",
+        "ok 1\nset 8 {a}\nset 0 {}\nmore no\n",
+        Status::Done,
+    ),
     ("states\n", "no 15 0\n", Status::Refused),
     ("foo\n", "no 10 1\n", Status::Refused),
     ("yes a b\n", "no 10 4\n", Status::Refused),
@@ -44,7 +48,11 @@ fn scripts_are_answered_in_any_pieces(rt: HostRuntime) -> Result<(), Fail> {
                 failing_writes: &[],
             };
             let outcome = run(&rt, trial)?;
-            assert_eq!(rt; outcome.written.as_slice(), replies.as_bytes(), "for {script:?} in pieces of {piece}");
+            assert_eq!(rt;
+                outcome.written.as_slice(),
+                replies.as_bytes(),
+                "for {script:?} in pieces of {piece}"
+            );
             assert_eq!(rt; outcome.status, status, "for {script:?}");
         }
     }

@@ -15,7 +15,13 @@ const PLAIN: Trial = Trial {
 
 #[test]
 fn a_failing_read_ends_the_run(rt: HostRuntime) -> Result<(), Fail> {
-    let outcome = run(&rt, Trial { failing_reads: &[3], ..PLAIN })?;
+    let outcome = run(
+        &rt,
+        Trial {
+            failing_reads: &[3],
+            ..PLAIN
+        },
+    )?;
     assert_eq!(rt; outcome.status, Status::ReadFault);
     assert_eq!(rt; outcome.written.len(), 0);
     Ok(())
@@ -23,7 +29,13 @@ fn a_failing_read_ends_the_run(rt: HostRuntime) -> Result<(), Fail> {
 
 #[test]
 fn a_failing_write_ends_the_run(rt: HostRuntime) -> Result<(), Fail> {
-    let outcome = run(&rt, Trial { failing_writes: &[2], ..PLAIN })?;
+    let outcome = run(
+        &rt,
+        Trial {
+            failing_writes: &[2],
+            ..PLAIN
+        },
+    )?;
     assert_eq!(rt; outcome.status, Status::WriteFault);
     assert_eq!(rt; outcome.written.as_slice(), b"ok 3\n".as_slice());
     Ok(())
@@ -34,7 +46,10 @@ fn words_are_answered_by_the_usage_line(rt: HostRuntime) -> Result<(), Fail> {
     for words in [["--help"].as_slice(), ["--script", "none"].as_slice()] {
         let outcome = run(&rt, Trial { words, ..PLAIN })?;
         assert_eq!(rt; outcome.status, Status::Usage);
-        assert_eq!(rt; outcome.written.as_slice(), b"usage: lspace [--script NAME | --drill N [--number S]]\n".as_slice());
+        assert_eq!(rt;
+            outcome.written.as_slice(),
+            b"usage: lspace [--script NAME | --drill N [--number S]]\n".as_slice()
+        );
     }
     Ok(())
 }
@@ -44,7 +59,13 @@ fn a_script_has_a_limit(rt: HostRuntime) -> Result<(), Fail> {
     let blanks = vec![in rt.alloc(); b' '; 65537]?;
     for (length, status) in [(65536, Status::Done), (65537, Status::InputLong)] {
         assert!(rt; length <= blanks.len());
-        let outcome = run(&rt, Trial { script: &blanks[..length], ..PLAIN })?;
+        let outcome = run(
+            &rt,
+            Trial {
+                script: &blanks[..length],
+                ..PLAIN
+            },
+        )?;
         assert_eq!(rt; outcome.status, status, "for {length} bytes");
         assert_eq!(rt; outcome.written.len(), 0);
     }
@@ -54,7 +75,14 @@ fn a_script_has_a_limit(rt: HostRuntime) -> Result<(), Fail> {
 #[test]
 fn sixteen_items_have_all_their_states_listed(rt: HostRuntime) -> Result<(), Fail> {
     let script = "items a b c d e f g h i j k l m n o p\nstates\nitems q\n";
-    let outcome = run(&rt, Trial { script: script.as_bytes(), piece: 4096, ..PLAIN })?;
+    let outcome = run(
+        &rt,
+        Trial {
+            script: script.as_bytes(),
+            piece: 4096,
+            ..PLAIN
+        },
+    )?;
     assert_eq!(rt; outcome.status, Status::Refused);
     let lines = outcome.written.iter().filter(|b| **b == b'\n').count();
     assert_eq!(rt; lines, 65536 + 3);

@@ -25,7 +25,11 @@ pub struct Outcome {
 pub fn run<R: Threads + Sync + AllocGlobal>(rt: &R, trial: Trial) -> Result<Outcome, AllocError> {
     let alloc = rt.alloc();
     let piece = trial.piece.max(1);
-    let mut src = MemSource::new(trial.script.to_vec(alloc)?, piece, trial.failing_reads.to_vec(alloc)?);
+    let mut src = MemSource::new(
+        trial.script.to_vec(alloc)?,
+        piece,
+        trial.failing_reads.to_vec(alloc)?,
+    );
     let mut out = MemSink::new(alloc, piece, trial.failing_writes.to_vec(alloc)?);
     let mut shelf = SureShelf::new(alloc);
     let status = lspace(rt, alloc, trial.words, &mut src, &mut out, &mut shelf);

@@ -1,5 +1,4 @@
-use Rattle.std.proofs.Common.{◌≡◌, Bool, true, false, ap, sym, ◌∙◌, not, List, ◌∷◌, ℕ, ◌+◌, [], length, Some, None, refl, arith}
-use Rattle.std.specs.declared.option.Option.{Option}
+use Rattle.std.proofs.Common.{◌≡◌, true, false, ap, sym, ◌∙◌, not, List, ◌∷◌, ℕ, ◌+◌, [], length, Some, None, refl, arith}
 use Rattle.ls_lines.specs.Lines.{Text}
 use Rattle.ls_reply.specs.Meanings.{is_named}
 use Rattle.ls_shell.proofs.Places.{from_place, first_place-placed, first_place}

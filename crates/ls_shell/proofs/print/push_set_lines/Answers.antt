@@ -1,4 +1,4 @@
-use Rattle.std.proofs.Common.{◌≡◌, ◌+◌, ◌<◌, ◌++◌, ◌∷◌, [], map, take, length, ap, sym, ◌∙◌, append-nil, arith}
+use Rattle.std.proofs.Common.{◌≡◌, ◌+◌, ◌<◌, ◌++◌, ◌∷◌, [], map, take, length, ap, sym, ◌∙◌, append-nil}
 use Rattle.std.proofs.lemmas.List.{take_more, map-append}
 use Rattle.ls_reply.specs.Texts.{bytes_of}
 use Rattle.ls_reply.specs.Rows.{set_words}

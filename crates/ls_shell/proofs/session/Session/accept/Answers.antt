@@ -1,4 +1,4 @@
-use Rattle.std.proofs.Common.{◌≡◌, ◌∷◌, ◌++◌, ◌+◌, [], ap, ap₂, sym, ◌∙◌, codes, List, ℕ, decimal, length, true}
+use Rattle.std.proofs.Common.{◌≡◌, ◌∷◌, ◌++◌, ◌+◌, [], ap, ap₂, sym, ◌∙◌, codes, List, decimal, length, true}
 use Rattle.ls_set.specs.Query.{is_good}
 use Rattle.ls_theory.specs.Interviews.{accepted}
 use Rattle.ls_theory.specs.declared.answer.Answer.{Answer}

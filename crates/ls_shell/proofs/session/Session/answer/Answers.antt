@@ -1,4 +1,4 @@
-use Rattle.std.proofs.Common.{◌≡◌, ap, sym, ◌∙◌, subst, true, OnOk, [], ◌∷◌}
+use Rattle.std.proofs.Common.{ap, sym, ◌∙◌, subst, true, OnOk}
 use Rattle.ls_set.specs.declared.query.Query.{Query}
 use Rattle.ls_lines.specs.declared.command.Command.TheVariants as command
 use Rattle.ls_reply.specs.Refusals.{Answer}

@@ -1,4 +1,4 @@
-use Rattle.std.proofs.Common.{◌≡◌, ap, sym, ◌∙◌, append-nil, refl}
+use Rattle.std.proofs.Common.{sym, append-nil, refl}
 use Rattle.ls_reply.specs.Replies.{row}
 use Rattle.ls_reply.specs.Texts.{bytes_of}
 use Rattle.ls_shell.proofs.session.Session.answer_command.Goals as goal

@@ -1,4 +1,4 @@
-use Rattle.std.proofs.Common.{◌≡◌, ◌∷◌, [], ap, sym, ◌∙◌, subst, OnOk, Err, codes}
+use Rattle.std.proofs.Common.{◌∷◌, [], ap, sym, ◌∙◌, subst, OnOk, Err, codes}
 use Rattle.ls_lines.specs.Lines.{Text}
 use Rattle.ls_reply.specs.Refusals.{Answer}
 use Rattle.ls_shell.specs.Sayings.{Says}

@@ -1,7 +1,6 @@
-use Rattle.std.proofs.Common.{◌≡◌, ◌∷◌, [], ap, ap₂, sym, ◌∙◌, codes, List, ℕ, decimal, length}
+use Rattle.std.proofs.Common.{◌∷◌, [], ap, ap₂, sym, ◌∙◌, codes, List, decimal}
 use Rattle.ls_theory.specs.declared.answer.Answer.{Answer}
 use Rattle.ls_lines.specs.Lines.{Text}
-use Rattle.ls_reply.specs.Sessions.{Session}
 use Rattle.ls_reply.specs.Refusals as reply
 use Rattle.ls_shell.proofs.Outcomes.{says_line, refused_last, passed_last, decimal_49}
 use Rattle.ls_shell.proofs.session.Session.begin.Goals as goal

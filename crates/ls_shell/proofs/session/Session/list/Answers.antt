@@ -1,6 +1,5 @@
-use Rattle.std.proofs.Common.{◌≡◌, ◌++◌, eqb, length, true, false, [], List, ap, ap₂, sym, ◌∙◌, subst, refl, OnOk}
+use Rattle.std.proofs.Common.{◌≡◌, ◌++◌, eqb, length, true, false, List, ap, ap₂, sym, ◌∙◌, subst, refl, OnOk}
 use Rattle.ls_set.specs.ItemSet.{Items}
-use Rattle.ls_theory.specs.Pages.{Page}
 use Rattle.ls_lines.specs.Lines.{Text}
 use Rattle.ls_lines.specs.declared.command.Command.TheVariants as command
 use Rattle.ls_reply.specs.Texts.{bytes_of}

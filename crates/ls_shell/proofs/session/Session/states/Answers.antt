@@ -1,6 +1,5 @@
-use Rattle.std.proofs.Common.{◌≡◌, ◌<◌, List, ap, sym, ◌∙◌, subst, length, None}
+use Rattle.std.proofs.Common.{◌≡◌, ◌<◌, ap, sym, ◌∙◌, subst, length, None}
 use Rattle.std.specs.List.{All}
-use Rattle.ls_set.specs.ItemSet.{Items, full, IsWithin}
 use Rattle.ls_set.specs.declared.item_set.TheConstants.{PLACES}
 use Rattle.ls_set.specs.declared.query.Query.{Query}
 use Rattle.ls_theory.specs.Interviews.{yes_queries}
