@@ -12,7 +12,7 @@ use crate::meaning::{is_no_domain, item_of, items_of, unnamed_place};
 use crate::print::{push_line, push_listing, refuse_at};
 use ls_lines::{Command, LineFault, Word, WordList, read_command};
 use ls_set::Query;
-use ls_theory::{Answer, Listing, compat, page, yes_queries};
+use ls_theory::{Answer, ListedStart, Listing, compat, page, yes_queries};
 use std::alloc::{AllocError, Global};
 use std::marker::Model;
 
@@ -36,11 +36,16 @@ pub struct Session {
 
 impl Model for Session {
     ghost use Rattle.ls_reply.specs.Sessions.{Session as State};
+    ghost use Rattle.std.specs.Prelude.{length};
+    ghost use Rattle.ls_theory.specs.Starts.{Free};
     ghost use Rattle.ls_shell.specs.Kept.{IsKept};
 
     ghost Value = { State };
 
-    ghost view = { λ s. record { names = s.names; interview = record { answers = s.answers.items; next = s.next } } };
+    ghost view = { λ s. record {
+      names = s.names;
+      interview = record { count = length s.names; start = Free; block = 1; answers = s.answers.items; next = s.next };
+    } };
 
     ghost invariant = { λ s. IsKept s.names s.answers.items s.next };
 }
@@ -195,7 +200,7 @@ impl Session {
     {
         let count = self.names.len() as u32;
         let yeses = yes_queries(self.alloc, &self.answers)?;
-        let sets = compat(self.alloc, count, &yeses)?;
+        let sets = compat(self.alloc, count, &ListedStart::Free, &yeses)?;
         page(self.alloc, &sets, None, MOST_LISTED)
     }
 }

@@ -1,59 +1,207 @@
-// Pages and answers; the trials of the program run the other calls.
-use crate::{Answer, page, subsets, yes_queries};
-use ls_set::{ItemSet, Query};
-use std::alloc::AllocError;
+// The plain programs on the items a b c.
+use crate::{
+    Answer, Asked, FringePair, Known, ListedInterview, ListedSettings, ListedStart, Odds, Reason,
+    Replay, Reply, Verdict, base, compatible_sets, fits_for, fits_now, fringes_of, interior,
+    is_settled, known_of, next_asked, next_question, outcome_of, page, peak, projection, queries,
+    replay_of, spaces_of, state_of, subsets, verdict_on,
+};
+use ls_set::{ItemSet, PLACES, Query};
+use std::process::Abort;
 use std::test::Fail;
 
-fn set_of(items: &[u32]) -> ItemSet {
+fn set_of(rt: &impl Abort, items: &[u32]) -> ItemSet {
     let mut set = ItemSet::empty();
     for item in items {
-        if *item < 3 {
-            set = set.with(*item);
-        }
+        assert!(rt; *item < PLACES);
+        set = set.with(*item);
     }
     set
 }
 
+fn query(rt: &impl Abort, a: &[u32], q: u32) -> Query {
+    Query {
+        a: set_of(rt, a),
+        q,
+    }
+}
+
+// The sets in the order: abc, ab, ac, a, bc, b, c, {}.
+fn all_sets(rt: &impl Abort) -> [ItemSet; 8] {
+    [
+        set_of(rt, &[0, 1, 2]),
+        set_of(rt, &[0, 1]),
+        set_of(rt, &[0, 2]),
+        set_of(rt, &[0]),
+        set_of(rt, &[1, 2]),
+        set_of(rt, &[1]),
+        set_of(rt, &[2]),
+        ItemSet::empty(),
+    ]
+}
+
+// The sets that are left where all who fail a fail b.
+fn six_states(rt: &impl Abort) -> [ItemSet; 6] {
+    let [abc, ab, ac, a, _, _, c, none] = all_sets(rt);
+    [abc, ab, ac, a, c, none]
+}
+
 #[test]
-fn keeps_the_yes_queries(rt: HostRuntime) -> Result<(), AllocError> {
-    let first = Query {
-        a: set_of(&[0]),
-        q: 1,
-    };
-    let second = Query {
-        a: set_of(&[2]),
-        q: 0,
-    };
-    let answers = [
-        Answer {
-            number: 1,
-            query: first,
-            yes: true,
-        },
-        Answer {
-            number: 2,
-            query: second,
-            yes: false,
-        },
+fn lists_sets_and_queries(rt: HostRuntime) -> Result<(), Fail> {
+    let all = subsets(rt.alloc(), 3)?;
+    assert_eq!(rt; all.as_slice(), all_sets(&rt).as_slice());
+    let listed = queries(rt.alloc(), 3, 2)?;
+    let want = [
+        query(&rt, &[0], 1),
+        query(&rt, &[0], 2),
+        query(&rt, &[1], 0),
+        query(&rt, &[1], 2),
+        query(&rt, &[2], 0),
+        query(&rt, &[2], 1),
+        query(&rt, &[0, 1], 2),
+        query(&rt, &[0, 2], 1),
+        query(&rt, &[1, 2], 0),
     ];
-    let yeses = yes_queries(rt.alloc(), &answers)?;
-    assert_eq!(rt; yeses.len(), 1);
+    assert_eq!(rt; listed.as_slice(), want.as_slice());
     Ok(())
 }
 
 #[test]
-fn turns_pages(rt: HostRuntime) -> Result<(), AllocError> {
-    let all = subsets(rt.alloc(), 3)?;
-    for (after, count, length, more) in [
-        (None, 8, 8, false),
-        (None, 3, 3, true),
-        (Some(set_of(&[0])), 3, 3, true),
-        (Some(set_of(&[0])), 4, 4, false),
-        (Some(set_of(&[])), 1, 0, false),
+fn lists_what_answers_leave_and_force(rt: HostRuntime) -> Result<(), Fail> {
+    let all = all_sets(&rt);
+    let mut i = ListedInterview {
+        count: 3,
+        start: ListedStart::Free,
+        block: 1,
+        answers: Vec::new(rt.alloc()),
+        next: 1,
+    };
+    assert_eq!(rt; compatible_sets(rt.alloc(), &i)?.as_slice(), all.as_slice());
+    i.answers.push(Answer {
+        number: 1,
+        query: query(&rt, &[0], 1),
+        yes: true,
+    })?;
+    let states = six_states(&rt);
+    assert_eq!(rt;
+        compatible_sets(rt.alloc(), &i)?.as_slice(),
+        states.as_slice()
+    );
+    assert_eq!(rt; spaces_of(rt.alloc(), &i)?.len(), 14);
+    i.answers.push(Answer {
+        number: 2,
+        query: query(&rt, &[0], 2),
+        yes: false,
+    })?;
+    for (a, q, want) in [
+        (&[1][..], 2, Known::No { by: 2 }),
+        (&[0][..], 1, Known::Yes),
+        (&[0, 2][..], 1, Known::Yes),
+        (&[1][..], 0, Known::Unsettled),
     ] {
-        let listing = page(rt.alloc(), &all, after, count)?;
-        assert_eq!(rt; listing.sets.len(), length);
-        assert_eq!(rt; listing.more, more);
+        let known = known_of(rt.alloc(), &i, &query(&rt, a, q))?;
+        assert_eq!(rt; known, want);
+    }
+    let first = next_question(rt.alloc(), &i, None)?;
+    assert_eq!(rt; first, Some(query(&rt, &[1], 0)));
+    let second = next_question(rt.alloc(), &i, first)?;
+    assert_eq!(rt; second, Some(query(&rt, &[2], 0)));
+    assert!(rt; !is_settled(rt.alloc(), &i)?);
+    Ok(())
+}
+
+#[test]
+fn tells_bases_and_peaks(rt: HostRuntime) -> Result<(), Fail> {
+    let [_, ab, ac, a, bc, b, c, _] = all_sets(&rt);
+    let states = six_states(&rt);
+    assert_eq!(rt; interior(&states, bc), c);
+    assert_eq!(rt;
+        base(rt.alloc(), &states)?.as_slice(),
+        [ab, a, c].as_slice()
+    );
+    let yeses = [query(&rt, &[0, 1], 2)];
+    let free = ListedStart::Free;
+    assert_eq!(rt; peak(rt.alloc(), 3, 3, &free, &yeses)?, Some((1, 4)));
+    assert_eq!(rt; peak(rt.alloc(), 4, 3, &free, &yeses)?, None);
+    let trace = projection(rt.alloc(), 3, bc, &states)?;
+    assert_eq!(rt; trace.as_slice(), [bc, b, c, ItemSet::empty()].as_slice());
+    let listing = page(rt.alloc(), &states, Some(ab), 2)?;
+    assert_eq!(rt; listing.sets.as_slice(), [ac, a].as_slice());
+    assert!(rt; listing.more);
+    Ok(())
+}
+
+#[test]
+fn judges_families(rt: HostRuntime) -> Result<(), Fail> {
+    let [abc, ab, _, a, _, b, c, none] = all_sets(&rt);
+    let states = six_states(&rt);
+    let verdict = verdict_on(rt.alloc(), abc, &[abc])?;
+    assert!(rt; matches!(verdict, Verdict::NoEmpty));
+    let verdict = verdict_on(rt.alloc(), abc, &[none])?;
+    assert!(rt; matches!(verdict, Verdict::NoFull));
+    match verdict_on(rt.alloc(), abc, &[abc, a, b, none])? {
+        Verdict::NotClosed { left, right } => assert_eq!(rt; (left, right), (a, b)),
+        other => assert!(rt; false, "{other:?}"),
+    }
+    match verdict_on(rt.alloc(), abc, &[abc, ab, none])? {
+        Verdict::NotGraded { set, first, second } => {
+            assert_eq!(rt; (set, first, second), (ab, 0, 1));
+        }
+        other => assert!(rt; false, "{other:?}"),
+    }
+    match verdict_on(rt.alloc(), abc, &states)? {
+        Verdict::Learning { base } => assert_eq!(rt; base.as_slice(), [ab, a, c].as_slice()),
+        other => assert!(rt; false, "{other:?}"),
+    }
+    Ok(())
+}
+
+#[test]
+fn tells_states_by_their_fringes(rt: HostRuntime) {
+    let [_, _, ac, a, bc, _, c, none] = all_sets(&rt);
+    let states = six_states(&rt);
+    for (state, inner, outer) in [(a, a, bc), (none, none, ac)] {
+        assert_eq!(rt; fringes_of(3, &states, state), FringePair { inner, outer });
+        assert_eq!(rt; state_of(3, &states, inner, outer), Some(state));
+    }
+    assert_eq!(rt; state_of(3, &states, c, bc), None);
+}
+
+#[test]
+fn assesses_pupils(rt: HostRuntime) -> Result<(), Fail> {
+    let [_, _, ac, _, _, _, _, none] = all_sets(&rt);
+    let states = six_states(&rt);
+    let s = ListedSettings {
+        odds: vec![in rt.alloc(); Odds { right: 8, wrong: 8 }; 3]?,
+        budget: 30,
+        share: 90,
+    };
+    assert!(rt; s.odds.len() == 3);
+    let mut replies: Vec<Reply> = Vec::new(rt.alloc());
+    // Ann is right on a and c, and wrong on b: the total, the leader's weight, and what is asked.
+    for (q, total, weight) in [
+        (2, 6, 1),
+        (0, 27, 8),
+        (1, 153, 64),
+        (2, 720, 512),
+        (0, 5200, 4096),
+        (1, 37960, 32768),
+    ] {
+        assert!(rt; fits_now(&s, &states, &replies));
+        let outcome = outcome_of(&s, &states, &replies);
+        assert_eq!(rt; (outcome.total, outcome.weight), (total, weight));
+        let asked = next_asked(rt.alloc(), &s, &states, &replies)?;
+        assert_eq!(rt; asked, Asked::Item(q));
+        replies.push(Reply { q, right: q != 1 })?;
+    }
+    for (right, replies) in [(ac, 6), (none, 4)] {
+        let fits = fits_for(rt.alloc(), 30, &s, &states, right, Vec::new(rt.alloc()))?;
+        assert!(rt; fits && s.budget == 30);
+        let want = Replay {
+            replies,
+            reason: Reason::Share,
+            state: right,
+        };
+        assert_eq!(rt; replay_of(rt.alloc(), &s, &states, right)?, want);
     }
     Ok(())
 }

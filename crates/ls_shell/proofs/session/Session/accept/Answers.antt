@@ -1,5 +1,6 @@
 use Rattle.std.proofs.Common.{◌≡◌, ◌∷◌, ◌++◌, ◌+◌, [], ap, ap₂, sym, ◌∙◌, codes, List, decimal, length, true}
 use Rattle.ls_set.specs.Query.{is_good}
+use Rattle.ls_theory.specs.Starts.{Free}
 use Rattle.ls_theory.specs.Interviews.{accepted}
 use Rattle.ls_theory.specs.declared.answer.Answer.{Answer}
 use Rattle.ls_lines.specs.Lines.{Text}
@@ -29,6 +30,6 @@ returns c =
     says_line _ _ _ _ _ _
     (query_row-accepted c.args.self.now c.args.query good (sym c.cannot_accept.ensures ∙ c.if-cannot_accept.false)
     ∙ ap (λ (s : Session). becomes (record s { interview = accepted s.interview c.args.query true }) (decimal s.interview.next ∷ [])) (sym c.self.view_is)
-    ∙ ap₂ (λ (w : Text) (done : List Answer). let x : reply.Answer = record { lines = (codes "ok" ∷ w ∷ []) ∷ []; session = record { names = names; interview = record { answers = done; next = next + 1 } } } in x)
+    ∙ ap₂ (λ (w : Text) (done : List Answer). let x : reply.Answer = record { lines = (codes "ok" ∷ w ∷ []) ∷ []; session = record { names = names; interview = record { count = length names; start = Free; block = 1; answers = done; next = next + 1 } } } in x)
     told (sym c.in_ok-push.ensures.items))
     c.push_line-2.ensures

@@ -1,4 +1,5 @@
-use Rattle.std.proofs.Common.{◌∷◌, [], ap, ap₂, sym, ◌∙◌, codes, List, decimal}
+use Rattle.std.proofs.Common.{◌∷◌, [], ap, ap₂, sym, ◌∙◌, codes, List, decimal, length}
+use Rattle.ls_theory.specs.Starts.{Free}
 use Rattle.ls_theory.specs.declared.answer.Answer.{Answer}
 use Rattle.ls_lines.specs.Lines.{Text}
 use Rattle.ls_reply.specs.Refusals as reply
@@ -16,6 +17,6 @@ pub returns : goal.returns
 returns c =
     says_line _ _ _ _ _ _
     (passed_last c.args.self.now 49 [] _ _ (sym c.cannot_begin.ensures ∙ c.if-cannot_begin.false)
-    ∙ ap₂ (λ (w : Text) (done : List Answer). let x : reply.Answer = record { lines = (codes "ok" ∷ w ∷ []) ∷ []; session = record { names = c.args.names; interview = record { answers = done; next = 1 } } } in x)
+    ∙ ap₂ (λ (w : Text) (done : List Answer). let x : reply.Answer = record { lines = (codes "ok" ∷ w ∷ []) ∷ []; session = record { names = c.args.names; interview = record { count = length c.args.names; start = Free; block = 1; answers = done; next = 1 } } } in x)
     (sym (c.as_bytes.ensures.value ∙ c.in_ok-count.ensures.ok ∙ ap decimal c.len.ensures)) (sym c.new.ensures.items))
     c.push_line-2.ensures

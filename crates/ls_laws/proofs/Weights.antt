@@ -1,0 +1,76 @@
+-- Masses are sums of weights, and a reply multiplies each weight.
+use Rattle.std.proofs.Common.{ℕ, ◌+◌, ◌*◌, ◌≡◌, ◌≢◌, ◌↔◌, inl, inr, Bool, true, false, cond, not, eqb, List, [], ◌∷◌, ◌++◌, filter, length, refl, sym, ap, ◌∙◌, arith, eqb-true, eq-eqb, ne_eqb}
+use Rattle.std.specs.Prelude.{sum_by}
+use Rattle.std.proofs.lemmas.Bool.{cases_Bool}
+use Rattle.std.proofs.lemmas.List.Sums.{sum_by-cons}
+use Rattle.std.proofs.lemmas.List.Filters.{sum_by-filter_both}
+use Rattle.ls_set.specs.ItemSet.{Items, has}
+use Rattle.ls_theory.specs.declared.odds.Odds.{Odds}
+use Rattle.ls_theory.specs.declared.reply.Reply.{Reply}
+use Rattle.ls_theory.specs.declared.asked.Asked.TheVariants.{Item, Over}
+use Rattle.ls_theory.specs.declared.reason.Reason.TheVariants.{Share, Budget}
+use Rattle.ls_theory.specs.Words.{product}
+use Rattle.ls_theory.specs.Weights.{weight, factor, total, mass}
+use Rattle.ls_theory.specs.Assessment.{Settings, asked, has_share, half_split}
+
+-- ---- masses
+
+sum-kept : (w : Items → ℕ) (p : Items → Bool) (f : List Items) → sum_by w (filter p f) ≡ sum_by (λ k. cond (p k) (w k) 0) f
+sum-kept w p [] = refl
+sum-kept w p (k ∷ f) =
+    let g = λ (k : Items). cond (p k) (w k) 0 in
+    let rest = sum-kept w p f in
+    (elim (p k) as (λ b. sum_by w (cond b (k ∷ filter p f) (filter p f)) ≡ cond b (w k) 0 + sum_by g f) [
+      | true ↦ sum_by-cons w k (filter p f) ∙ ap (λ n. w k + n) rest
+      | false ↦ rest ∙ (let e : sum_by g f ≡ 0 + sum_by g f = omega arith in e)
+    ])
+    ∙ sym (sum_by-cons g k f)
+
+pub mass-sum : (odds : List Odds) (replies : List Reply) (f : List Items) (q : ℕ) → mass odds replies f q ≡ sum_by (λ k. cond (has k q) (weight odds replies k) 0) f
+mass-sum odds replies f q = sum-kept (weight odds replies) (λ k. has k q) f
+
+pub mass-rest : (odds : List Odds) (replies : List Reply) (f : List Items) (q : ℕ) → mass odds replies f q + total odds replies (filter (λ k. not (has k q)) f) ≡ total odds replies f
+mass-rest odds replies f q = sum_by-filter_both (λ k. has k q) (λ k. not (has k q)) (λ k. refl) (weight odds replies) f
+
+-- ---- weights
+
+product-append : (xs ys : List ℕ) → product (xs ++ ys) ≡ product xs * product ys
+product-append [] ys = omega arith
+product-append (x ∷ xs) ys = rw (product-append xs ys) (omega arith)
+
+pub weight-more : (odds : List Odds) (replies : List Reply) (r : Reply) (k : Items) → weight odds (replies ++ (r ∷ [])) k ≡ weight odds replies k * factor odds k r
+unfolding weight
+weight-more odds [] r k = omega arith
+weight-more odds (x ∷ replies) r k = ap (λ n. factor odds k x * n) (weight-more odds replies r k) ∙ omega arith
+
+-- ---- when an assessment is over
+
+pub over-share : (s : Settings) (f : List Items) (replies : List Reply) → (asked s f replies ≡ Over Share) ↔ (has_share s f replies ≡ true)
+unfolding asked
+over-share s f replies = (
+  λ e. elim (cases_Bool (has_share s f replies)) [
+    | inl a ↦ a
+    | inr a ↦ elim (cases_Bool (eqb (length replies) s.budget)) [
+      | inl b ↦ absurd (let z : Over Budget ≡ Over Share = rw (a, b) at e in cc)
+      | inr b ↦ absurd (let z : Item (half_split s.odds replies f) ≡ Over Share = rw (a, b) at e in cc)
+    ]
+  ],
+  λ h. rw h refl,
+)
+
+pub over-budget : (s : Settings) (f : List Items) (replies : List Reply) → (asked s f replies ≡ Over Budget) ↔ ((has_share s f replies ≡ false) × (length replies ≡ s.budget))
+unfolding asked
+over-budget s f replies = (
+  λ e. elim (cases_Bool (has_share s f replies)) [
+    | inl a ↦ absurd (let z : Over Share ≡ Over Budget = rw a at e in cc)
+    | inr a ↦ elim (cases_Bool (eqb (length replies) s.budget)) [
+      | inl b ↦ (a, eqb-true (length replies) s.budget b)
+      | inr b ↦ absurd (let z : Item (half_split s.odds replies f) ≡ Over Budget = rw (a, b) at e in cc)
+    ]
+  ],
+  λ h. rw (h.0, eq-eqb (length replies) s.budget h.1) refl,
+)
+
+pub asked-item : (s : Settings) (f : List Items) (replies : List Reply) → has_share s f replies ≡ false → length replies ≢ s.budget → asked s f replies ≡ Item (half_split s.odds replies f)
+unfolding asked
+asked-item s f replies h ne = rw (h, ne_eqb (length replies) s.budget ne) refl

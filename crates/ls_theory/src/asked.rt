@@ -1,0 +1,9 @@
+// What a pupil is asked.
+use crate::reason::Reason;
+
+/// The item that is asked next, or that the assessment is over.
+#[derive(Clone, Copy, Debug, PartialEq, Eq)]
+pub enum Asked {
+    Item(u32),
+    Over(Reason),
+}

@@ -1,0 +1,8 @@
+// Replies of a pupil.
+
+/// A pupil's reply to the item `q`, right or wrong.
+#[derive(Clone, Copy, Debug, PartialEq, Eq)]
+pub struct Reply {
+    pub q: u32,
+    pub right: bool,
+}
