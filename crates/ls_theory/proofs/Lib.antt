@@ -1,4 +1,5 @@
 pub mod Numbers
+pub mod FirstItems
 pub mod Steps
 pub mod Totals
 pub mod Turns

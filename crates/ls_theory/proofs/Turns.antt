@@ -19,3 +19,19 @@ fits_more zero s f right replies h now rest = absurd (omega arith)
 fits_more (suc m) s f right replies h now rest =
     let e : suc m - 1 ≡ m = omega arith in
     (now, rw e at rest)
+
+-- they fit for some turns only where they fit now
+pub fits_first : (m : ℕ) (s : Settings) (f : List Items) (right : Items) (replies : List Reply) → FitsFor m s f right replies → FitsNow s f replies
+unfolding FitsFor
+fits_first zero s f right replies h = h
+fits_first (suc m) s f right replies h = h.0
+
+-- and from the next turn on
+pub fits_later : (m : ℕ) (s : Settings) (f : List Items) (right : Items) (replies : List Reply) → 0 < m → FitsFor m s f right replies → FitsFor (m - 1) s f right (turn right (asked s f replies) replies)
+unfolding FitsFor
+fits_later zero s f right replies h all = absurd (omega arith)
+fits_later (suc m) s f right replies h all =
+    let e : suc m - 1 ≡ m = omega arith in
+    rw e (all.1)
+
+pub ruleset fits_turn = (fits_more, fits_first, fits_later)

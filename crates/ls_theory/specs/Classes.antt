@@ -1,17 +1,23 @@
 -- A class: each pupil's assessment, answered by a table.
-use Rattle.std.specs.Prelude.{ℕ, zero, suc, if◌then◌else◌, List, [], ◌∷◌, ◌++◌, map, length}
+use Rattle.std.specs.Prelude.{ℕ, zero, suc, if◌then◌else◌, List, [], ◌∷◌, ◌++◌, map, length, string_bytes}
 use Rattle.ls_set.specs.ItemSet.{Items, has}
 use Rattle.ls_theory.specs.declared.reply.Reply.{Reply}
 use Rattle.ls_theory.specs.declared.reason.Reason.{Reason}
 use Rattle.ls_theory.specs.declared.reason.Reason.TheVariants.{Share, Budget}
 use Rattle.ls_theory.specs.declared.asked.Asked.{Asked}
 use Rattle.ls_theory.specs.declared.asked.Asked.TheVariants.{Item, Over}
+use Rattle.ls_theory.specs.declared.listed_row.ListedRow.{ListedRow}
+use Rattle.ls_theory.specs.declared.listed_result.ListedResult.{ListedResult}
 use Rattle.ls_theory.specs.Assessment.{Settings, asked, has_share, leader}
 
 -- a pupil's row of the table: its name, and the items that it gets right
 pub record Row : Type 0 where
   pub name : List ℕ
   pub right : Items
+
+-- the row that a program's record gives
+abbrev pub row_of : ListedRow → Row
+row_of r = record { name = string_bytes r.name; right = r.right }
 
 -- one turn: the table answers a question, and nothing changes once the assessment is over
 abbrev pub turn : Items → Asked → List Reply → List Reply
@@ -29,6 +35,10 @@ pub record PupilResult : Type 0 where
   pub replies : ℕ
   pub reason : Reason
   pub state : Items
+
+-- the line that a program's record gives
+abbrev pub result_of : ListedResult → PupilResult
+result_of r = record { name = string_bytes r.name; replies = r.replies; reason = r.reason; state = r.state }
 
 -- the number of replies when the assessment is over, the reason (by share, or else by budget), and the leader
 abbrev pub result_from : Settings → List Items → List ℕ → List Reply → PupilResult

@@ -1,5 +1,5 @@
 // The assessment of a pupil whose questions a table answers.
-ghost use Rattle.std.specs.Prelude.{◌≡◌, ◌≤◌, ℕ, List, [], length, IfOk, if◌then◌else◌, IsTrue};
+ghost use Rattle.std.specs.Prelude.{◌≡◌, ◌≤◌, ℕ, List, [], length, IfOk, if◌then◌else◌, IsTrue, ◌↔◌};
 ghost use Rattle.ls_theory.specs.declared.reason.Reason.TheVariants as Reason;
 ghost use Rattle.ls_theory.specs.Assessment.{has_share, settings_of};
 ghost use Rattle.ls_theory.specs.Classes.{turn, replies_in, result_from};
@@ -53,7 +53,7 @@ pub fn replies_in(
 }
 
 /// Whether the numbers of the assessment have at most 128 bits, now and after each of `turns` more turns.
-#[tactic(auto, unfolding(crate::specs::Bounds::FitsFor), using(crate::proofs::Turns::fits_more))]
+#[tactic(auto, unfolding(crate::specs::Bounds::FitsFor), using(crate::proofs::Turns::fits_turn))]
 pub fn fits_for(
     alloc: Global,
     turns: u64,
@@ -63,7 +63,7 @@ pub fn fits_for(
     replies: Vec<Reply>,
 ) -> Result<bool, AllocError>
     requires { length s.now.odds.items ≤ PLACES }
-    ensures { IfOk result (λ b. IsTrue b → FitsFor turns (settings_of s.now) f.now right replies.items) }
+    ensures { IfOk result (λ b. IsTrue b ↔ FitsFor turns (settings_of s.now) f.now right replies.items) }
 {
     if !fits_now(s, f, &replies) {
         return Ok(false);

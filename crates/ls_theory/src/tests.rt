@@ -1,9 +1,10 @@
 // The plain programs on the items a b c.
 use crate::{
-    Answer, Asked, FringePair, Known, ListedInterview, ListedSettings, ListedStart, Odds, Reason,
-    Replay, Reply, Verdict, base, compatible_sets, fits_for, fits_now, fringes_of, interior,
-    is_settled, known_of, next_asked, next_question, outcome_of, page, peak, projection, queries,
-    replay_of, spaces_of, state_of, subsets, verdict_on,
+    Answer, Asked, FringePair, Known, ListedInterview, ListedRow, ListedSettings, ListedStart,
+    Odds, Reason, Replay, Reply, Verdict, accepted, base, begun, class_results, compatible_sets,
+    fits_for, fits_now, fringes_of, interior, is_settled, known_of, next_asked, next_question,
+    outcome_of, page, paths, peak, projection, queries, replay_of, retracted, spaces_of, state_of,
+    subsets, verdict_on,
 };
 use ls_set::{ItemSet, PLACES, Query};
 use std::process::Abort;
@@ -203,5 +204,52 @@ fn assesses_pupils(rt: HostRuntime) -> Result<(), Fail> {
         };
         assert_eq!(rt; replay_of(rt.alloc(), &s, &states, right)?, want);
     }
+    Ok(())
+}
+
+#[test]
+fn assesses_a_class(rt: HostRuntime) -> Result<(), Fail> {
+    let [_, _, ac, _, _, _, _, _] = all_sets(&rt);
+    let states = six_states(&rt);
+    let s = ListedSettings {
+        odds: vec![in rt.alloc(); Odds { right: 8, wrong: 8 }; 3]?,
+        budget: 30,
+        share: 90,
+    };
+    assert!(rt; s.odds.len() == 3 && s.budget == 30);
+    let name = String::from_str(rt.alloc(), "Ann")?;
+    let table = [ListedRow { name, right: ac }];
+    assert!(rt; fits_for(rt.alloc(), 30, &s, &states, ac, Vec::new(rt.alloc()))?);
+    let lines = class_results(rt.alloc(), &s, &states, &table)?;
+    assert_eq!(rt; lines.len(), 1);
+    for line in &lines {
+        assert_eq!(rt; line.name.as_str(), "Ann");
+        assert_eq!(rt;
+            (line.replies, line.reason, line.state),
+            (6, Reason::Share, ac)
+        );
+    }
+    Ok(())
+}
+
+#[test]
+fn lists_learning_paths(rt: HostRuntime) -> Result<(), Fail> {
+    let states = six_states(&rt);
+    let listed = paths(rt.alloc(), 3, &states)?;
+    assert_eq!(rt; listed.len(), 3);
+    for (path, want) in listed.iter().zip([[0, 1, 2], [0, 2, 1], [2, 0, 1]]) {
+        assert_eq!(rt; path.as_slice(), want.as_slice());
+    }
+    Ok(())
+}
+
+#[test]
+fn answers_come_and_go(rt: HostRuntime) -> Result<(), Fail> {
+    let new = begun(rt.alloc(), 3, ListedStart::Free);
+    assert_eq!(rt; new.next, 1);
+    let after = accepted(new, query(&rt, &[0], 1), true)?;
+    assert_eq!(rt; after.answers.len(), 1);
+    let last = retracted(rt.alloc(), after, 1)?;
+    assert_eq!(rt; (last.answers.len(), last.next), (0, 2));
     Ok(())
 }
