@@ -82,6 +82,3 @@ pub use spaces::{closure, interior, is_among, is_space, is_union_closed};
 pub use traces::projection;
 pub use verdict::Verdict;
 pub use weighing::{agrees, factor, mass, odds_for, total, weight};
-
-#[cfg(test)]
-mod tests;

@@ -1,6 +1,8 @@
-//! Trials of the whole program over objects in memory. It has tests alone.
+//! Trials of the whole program over objects in memory, and of the plain programs. It has tests alone.
 #![tactic(auto)]
 
+#[cfg(test)]
+mod plain_programs;
 #[cfg(test)]
 mod scripts;
 #[cfg(test)]

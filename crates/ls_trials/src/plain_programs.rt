@@ -1,12 +1,12 @@
 // The plain programs on the items a b c.
-use crate::{
+use ls_set::{ItemSet, PLACES, Query};
+use ls_theory::{
     Answer, Asked, FringePair, Known, ListedInterview, ListedRow, ListedSettings, ListedStart,
     Odds, Reason, Replay, Reply, Verdict, accepted, base, begun, class_results, compatible_sets,
     fits_for, fits_now, fringes_of, interior, is_settled, known_of, next_asked, next_question,
     outcome_of, page, paths, peak, projection, queries, replay_of, retracted, spaces_of, state_of,
     subsets, verdict_on,
 };
-use ls_set::{ItemSet, PLACES, Query};
 use std::process::Abort;
 use std::test::Fail;
 
