@@ -3,7 +3,7 @@ use Rattle.std.proofs.Common.{◌≡◌, refl, true, false, [], codes, replicate
 use Rattle.std.specs.Fmt.{digits}
 use Rattle.std.specs.Prelude.{ℕ}
 use Rattle.ls_set.specs.ItemSet.{has, empty, full, with, union, meet, single, differing, is_within, is_same, bound, items, least, comes_before}
-use Rattle.ls_set.specs.Cursor.{cursor}
+use Rattle.ls_set.specs.Cursor.{cursor, cursor_set, read_cursor}
 use Rattle.ls_theory.specs.Compatible.{compat}
 use Rattle.ls_lines.specs.Lines.{lines, words}
 use Rattle.ls_lines.specs.Kinds.{is_of}
@@ -16,7 +16,7 @@ use Rattle.ls_reply.specs.Transcripts.{replies, refuses, transcript, is_some_ref
 
 -- an example that opens this opens each word
 unfoldable answering : ℕ
-unfolding digits has empty full with union meet single differing is_within is_same bound items least comes_before cursor compat lines words is_of spelling parts command forms cut is_begun command_of fault_place line_of bytes_of names_of_set row line_answer replies refuses
+unfolding digits has empty full with union meet single differing is_within is_same bound items least comes_before cursor cursor_set read_cursor compat lines words is_of spelling parts command forms cut is_begun command_of fault_place line_of bytes_of names_of_set row line_answer replies refuses
 answering = 0
 
 -- three items, the answer that who fails a fails b, and the six states that it leaves
@@ -53,3 +53,12 @@ one_item = refl
 long : reply (started []) (replicate 65537 97) ≡ codes "no 10 long 65537\n"
 unfolding answering
 long = refl
+
+-- pages from a cursor, also from a set that is no state, and what is no cursor
+pages : transcript (codes "items a b c\nyes a : b\nstates 2\nstates 2 after c\nstates 1 after 6\nstates 0\nstates 5 after 0") ≡ codes "ok 3\nok 1\nset e {a b c}\nset c {a b}\nmore yes\nset a {a c}\nset 8 {a}\nmore yes\nset 2 {c}\nmore yes\nmore yes\nmore no\n"
+unfolding answering
+pages = refl
+
+no_cursors : transcript (codes "states 1 after 0\nitems a b c\nstates 5 after 00\nstates 5 after g\nstates 5 after 1\nstates 5 before 0\nstates x") ≡ codes "no 15 0\nok 3\nno 24 length 2\nno 24 digit 1\nno 24 spare\nno 10 3\nno 10 2\n"
+unfolding answering
+no_cursors = refl

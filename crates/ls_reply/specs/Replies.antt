@@ -28,7 +28,7 @@ unfoldable pub row : Session → Command → Row
 row s command.Nothing = [] otherwise says s []
 row s (command.Items names) = items_row s names
 row s (command.Yes names item) = within_domain s (command.Yes names item) (answer_row s true names item)
-row s command.States = within_domain s command.States (states_row s)
+row s (command.States count after) = within_domain s (command.States count after) (states_row s count after)
 
 abbrev pub command_answer : Session → Command → Answer
 command_answer s c = let r = row s c in outcome s r.refusals r.answer

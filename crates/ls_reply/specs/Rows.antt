@@ -1,29 +1,27 @@
 -- The row of each command: its refusals in their order, otherwise its answer.
-use Rattle.std.specs.Prelude.{ℕ, Bool, false, not, ◌&&◌, ◌||◌, ◌==◌, nat_lt, nat_le, if◌then◌else◌, List, [], ◌∷◌, ◌++◌, map, length, bytes_eq, None, codes, decimal}
+use Rattle.std.specs.Prelude.{ℕ, Bool, false, not, ◌&&◌, ◌||◌, ◌==◌, nat_lt, nat_le, if◌then◌else◌, List, [], ◌∷◌, ◌++◌, map, length, bytes_eq, Option, codes, decimal}
 use Rattle.std.specs.List.{list_any}
 use Rattle.ls_set.specs.ItemSet.{Items, is_same, comes_before}
 use Rattle.ls_set.specs.Cursor.{cursor}
+use Rattle.ls_set.specs.declared.item_set.TheConstants.{PLACES}
 use Rattle.ls_set.specs.Query.{is_good}
 use Rattle.ls_set.specs.declared.query.Query.{Query}
 use Rattle.ls_theory.specs.Interviews.{Interview, accepted}
 use Rattle.ls_theory.specs.Pages.{Page, page}
 use Rattle.ls_lines.specs.Lines.{Text}
 use Rattle.ls_reply.specs.Texts.{set_text}
+use Rattle.ls_reply.specs.Cursors.{cursor_faults, cursor_set}
 use Rattle.ls_reply.specs.Sessions.{Session, started, has_domain, states}
 use Rattle.ls_reply.specs.Meanings.{item_of, items_of}
-use Rattle.ls_reply.specs.Refusals.{Row, ◌otherwise◌, refuse, says, becomes}
+use Rattle.ls_reply.specs.Refusals.{Row, ◌otherwise◌, refuse, faults, says, becomes}
 
 -- ---- limits
 
 abbrev pub most_items : ℕ
-most_items = 16
+most_items = PLACES
 
 abbrev pub most_answers : ℕ
 most_answers = 8192
-
--- how many sets a listing has at most
-abbrev pub most_listed : ℕ
-most_listed = 65536
 
 -- the code of what is not built yet
 abbrev pub not_built : ℕ
@@ -81,7 +79,9 @@ set_words names k = codes "set" ∷ cursor (length names) k ∷ set_text names k
 abbrev pub page_lines : List Text → Page Items → List (List Text)
 page_lines names p = map (set_words names) p.members ++ (codes "more" ∷ (if p.more then codes "yes" else codes "no") ∷ []) ∷ []
 
-abbrev pub states_row : Session → Row
-states_row s =
-    []
-    otherwise says s (page_lines s.names (page comes_before (states s) None most_listed))
+-- `count` states after the cursor's set, if there is a cursor, or from the first
+abbrev pub states_row : Session → ℕ → Option Text → Row
+states_row s count after =
+    let n = length s.names in
+    faults 24 (cursor_faults n after)
+    otherwise says s (page_lines s.names (page comes_before (states s) (cursor_set n after) count))

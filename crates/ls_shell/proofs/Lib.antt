@@ -1,7 +1,6 @@
 pub mod Joins
 pub mod Outcomes
 pub mod Places
-pub mod Listed
 pub mod LineAnswers
 pub mod Scripts
 pub mod Taken

@@ -1,5 +1,6 @@
 -- The answer to a line, by what the line is.
 use Rattle.std.proofs.Common.{◌≡◌, ℕ, ◌<◌, ◌≤◌, true, false, cond, not, eqb, List, [], ◌∷◌, length, Some, None, slice_get, codes, decimal, ap, ◌∙◌, sym, lt-ltb, le-ltb}
+use Rattle.std.specs.declared.option.Option.{Option}
 use Rattle.ls_lines.specs.Lines.{Text, longest_line, words}
 use Rattle.ls_lines.specs.Commands.{command_of, fault_place}
 use Rattle.ls_lines.specs.declared.command.Command.{Command}
@@ -43,5 +44,5 @@ module _ (s : Session) (line : List ℕ) where
 pub unnamed_at-none : (s : Session) (c : Command) → eqb (length s.names) 0 ≡ true → slice_get (unnamed_at s c) 0 ≡ Some 0
 unnamed_at-none s c e = ap (λ b. slice_get (cond (not b) (unnamed_places s.names c) (0 ∷ [])) 0) e
 
-pub unnamed_at-states : (s : Session) → eqb (length s.names) 0 ≡ false → unnamed_at s command.States ≡ []
-unnamed_at-states s e = ap (λ b. cond (not b) (unnamed_places s.names command.States) (0 ∷ [])) e
+pub unnamed_at-states : (s : Session) (count : ℕ) (after : Option Text) → eqb (length s.names) 0 ≡ false → unnamed_at s (command.States count after) ≡ []
+unnamed_at-states s count after e = ap (λ b. cond (not b) (unnamed_places s.names (command.States count after)) (0 ∷ [])) e

@@ -1,7 +1,7 @@
 -- The outcome of a row, refusal by refusal, and the bytes of its answer.
 use Rattle.std.specs.Fmt.{digits}
-use Rattle.std.specs.declared.alloc.AllocError.{AllocError}
-use Rattle.std.proofs.Common.{◌≡◌, ℕ, Bool, true, false, List, [], ◌∷◌, ◌++◌, Result, Ok, Err, OnOk, IfOk, codes, decimal, refl, sym, ap, ap₂, ◌∙◌, append-nil, append_assoc, not, ◌||◌, map, length, slice_get, Some}
+use Rattle.std.specs.declared.option.Option.{Option}
+use Rattle.std.proofs.Common.{◌≡◌, ℕ, Bool, true, false, List, [], ◌∷◌, ◌++◌, Result, Ok, Err, IfOk, subst, codes, decimal, refl, sym, ap, ap₂, ◌∙◌, append-nil, append_assoc, not, ◌||◌, map, length, slice_get, Some}
 use Rattle.std.proofs.lemmas.Grind.{flat_map-append}
 use Rattle.ls_set.specs.Query.{is_good}
 use Rattle.ls_set.specs.declared.query.Query.{Query}
@@ -11,7 +11,8 @@ use Rattle.ls_reply.specs.Texts.{line_of, bytes_of}
 use Rattle.ls_reply.specs.Sessions.{Session}
 use Rattle.ls_reply.specs.Refusals.{Refusal, Answer, outcome, refuse, faults, refused, becomes}
 use Rattle.ls_reply.specs.Rows.{query_row, is_full, stands}
-use Rattle.ls_shell.specs.Sayings.{Says, row_answer}
+use Rattle.ls_shell.specs.Sayings.{Said, Gives, row_answer}
+use Rattle.ls_shell.specs.declared.step_fault.StepFault.{StepFault}
 
 -- ---- refusals that hold, and refusals that don't
 
@@ -37,16 +38,18 @@ pub bytes_of-one : (ws : List Text) → bytes_of (ws ∷ []) ≡ line_of ws
 unfolding bytes_of
 bytes_of-one ws = append-nil (line_of ws)
 
-pub OnOk_map : (r : Result (Unit {0}) AllocError) {P Q : Type 0} → (P → Q) → OnOk r P → OnOk r Q
-OnOk_map (Ok u) f h = f h
-OnOk_map (Err x) f h = tt
+-- one line was written
+pub gives_line : (r : Result Bool StepFault) (a : Answer) (new : Session) (before after : Option (List ℕ)) (ws : List Text)
+    → a ≡ (let x : Answer = record { lines = ws ∷ []; session = new } in x) → IfOk r (Said before after (line_of ws)) → IfOk r (Gives a new before after)
+gives_line (Ok b) a new before after ws e h = record {
+  said = subst (λ bytes. Said before after bytes b) (sym (bytes_of-one ws) ∙ ap (λ (x : Answer). bytes_of x.lines) (sym e)) h;
+  session = ap (λ (x : Answer). x.session) (sym e);
+}
+gives_line (Err x) a new before after ws e h = tt
 
--- one line was appended
-pub says_line : (r : Result (Unit {0}) AllocError) (a : Answer) (new : Session) (before after : List ℕ) (ws : List Text)
-    → a ≡ (let x : Answer = record { lines = ws ∷ []; session = new } in x) → OnOk r (after ≡ before ++ line_of ws) → OnOk r (Says a new before after)
-says_line (Ok u) a new before after ws e h =
-    record { written = h ∙ ap (λ l. before ++ l) (sym (bytes_of-one ws) ∙ ap (λ (x : Answer). bytes_of x.lines) (sym e)); session = ap (λ (x : Answer). x.session) (sym e) }
-says_line (Err x) a new before after ws e h = tt
+-- the same answer, told otherwise
+pub gives_same : (r : Result Bool StepFault) (a b : Answer) (new : Session) (before after : Option (List ℕ)) → a ≡ b → IfOk r (Gives b new before after) → IfOk r (Gives a new before after)
+gives_same r a b new before after e h = subst (λ x. IfOk r (Gives x new before after)) (sym e) h
 
 -- ---- the codes
 
@@ -61,6 +64,10 @@ decimal_15 = refl
 pub decimal_18 : decimal 18 ≡ codes "18"
 unfolding digits
 decimal_18 = refl
+
+pub decimal_24 : decimal 24 ≡ codes "24"
+unfolding digits
+decimal_24 = refl
 
 pub decimal_49 : decimal 49 ≡ codes "49"
 unfolding digits
@@ -108,7 +115,3 @@ module _ (s : Session) (r : Query) where
   pub query_row-accepted : is_good (length s.names) r ≡ true → (is_full s.interview || stands s.interview r) ≡ false → answer_to ≡ becomes (record s { interview = accepted s.interview r true }) (decimal s.interview.next ∷ [])
   query_row-accepted e f =
       passed_by s 18 [] (not (is_good (length s.names) r)) _ _ (ap not e) ∙ passed_last s 49 [] _ _ f
-
-pub IfOk_map : {T : Type 0} (r : Result T AllocError) {P Q : T → Type 0} → ((x : T) → P x → Q x) → IfOk r P → IfOk r Q
-IfOk_map (Ok x) f h = f x h
-IfOk_map (Err e) f h = tt

@@ -1,12 +1,14 @@
 -- The replies to the lines of a script, a line more.
-use Rattle.std.proofs.Common.{◌≡◌, ◌<◌, ◌+◌, ◌||◌, List, [], ◌∷◌, ◌++◌, ℕ, length, map, take, get_or, refl, sym, ap, ◌∙◌, append-nil, append_assoc}
+use Rattle.std.proofs.Common.{◌≡◌, ◌<◌, ◌+◌, ◌||◌, Bool, List, [], ◌∷◌, ◌++◌, ℕ, length, map, take, get_or, refl, sym, ap, ◌∙◌, subst, append-nil, append_assoc}
 use Rattle.std.proofs.Math.Bool.{or_assoc, or-false}
 use Rattle.std.proofs.lemmas.List.{take_more, map-append}
-use Rattle.ls_reply.specs.Texts.{bytes_of}
+use Rattle.std.specs.declared.option.Option.{Option}
+use Rattle.std.specs.Io.KnownBytes.{Appends}
+use Rattle.ls_edge.proofs.Known.{appends_more}
 use Rattle.ls_reply.specs.Sessions.{Session}
 use Rattle.ls_reply.specs.Replies.{line_answer, reply, next_session, is_refusal}
 use Rattle.ls_reply.specs.Transcripts.{replies, refuses, session_after}
-use Rattle.ls_shell.specs.Sayings.{Says}
+use Rattle.ls_shell.specs.Sayings.{Gives}
 
 session_after-snoc : (s : Session) (ls : List (List ℕ)) (line : List ℕ) → session_after s (ls ++ line ∷ []) ≡ next_session (session_after s ls) line
 unfolding session_after
@@ -25,22 +27,23 @@ refuses-snoc s (l ∷ ls) line =
     ap (λ b. is_refusal (reply s l) || b) (refuses-snoc (next_session s l) ls line)
     ∙ sym (or_assoc (is_refusal (reply s l)) (refuses (next_session s l) ls) (is_refusal (reply (session_after (next_session s l) ls) line)))
 
--- what an answer to the i-th line adds
-pub record AddsLine (s : Session) (before after : List (List ℕ)) (new : Session) (text : List ℕ) : Type 0 where
-  pub session : new ≡ session_after s after
-  pub written : replies s after ≡ replies s before ++ text
-  pub refused : refuses s after ≡ (refuses s before || is_refusal text)
+-- what an answer to a further line adds to those before it
+pub record AddsLine (s : Session) (done more : List (List ℕ)) (new : Session) (before after : Option (List ℕ)) (refused : Bool) : Type 0 where
+  pub session : new ≡ session_after s more
+  pub written : (start : Option (List ℕ)) → Appends start before (replies s done) → Appends start after (replies s more)
+  pub is_refused : refuses s more ≡ (refuses s done || refused)
 
 module _ {X : Type 0} (f : X → List ℕ) where
-  pub adds_line : (s : Session) (xs : List X) (i : ℕ) (d : X) (session new : Session) (none text : List ℕ) → i < length xs → session ≡ session_after s (map f (take i xs))
-      → Says (line_answer session (f (get_or xs i d))) new none text → none ≡ [] → AddsLine s (map f (take i xs)) (map f (take (i + 1) xs)) new text
-  adds_line s xs i d session new none text lt e says empty =
+  pub adds_line : (s : Session) (xs : List X) (i : ℕ) (d : X) (session new : Session) (before after : Option (List ℕ)) (refused : Bool) → i < length xs → session ≡ session_after s (map f (take i xs))
+      → Gives (line_answer session (f (get_or xs i d))) new before after refused → AddsLine s (map f (take i xs)) (map f (take (i + 1) xs)) new before after refused
+  adds_line s xs i d session new before after refused lt e gives =
       let done = map f (take i xs) in
       let line = f (get_or xs i d) in
       let more : map f (take (i + 1) xs) ≡ done ++ line ∷ [] = ap (map f) (take_more xs i d lt) ∙ map-append f (take i xs) (get_or xs i d ∷ []) in
-      let told : text ≡ reply (session_after s done) line = says.written ∙ ap (λ b. b ++ bytes_of (line_answer session line).lines) empty ∙ ap (λ t. reply t line) e in
+      let told : reply session line ≡ reply (session_after s done) line = ap (λ t. reply t line) e in
+      let all : replies s (map f (take (i + 1) xs)) ≡ replies s done ++ reply session line = ap (replies s) more ∙ replies-snoc s done line ∙ ap (λ t. replies s done ++ t) (sym told) in
       record {
-        session = says.session ∙ ap (λ t. next_session t line) e ∙ sym (session_after-snoc s done line) ∙ ap (session_after s) (sym more);
-        written = ap (replies s) more ∙ replies-snoc s done line ∙ ap (λ t. replies s done ++ t) (sym told);
-        refused = ap (refuses s) more ∙ refuses-snoc s done line ∙ ap (λ t. refuses s done || is_refusal t) (sym told);
+        session = gives.session ∙ ap (λ t. next_session t line) e ∙ sym (session_after-snoc s done line) ∙ ap (session_after s) (sym more);
+        written = λ start w. subst (Appends start after) (sym all) (appends_more start before after (replies s done) (reply session line) w gives.said.written);
+        is_refused = ap (refuses s) more ∙ refuses-snoc s done line ∙ ap (λ t. refuses s done || is_refusal t) (sym told) ∙ ap (λ b. refuses s done || b) (sym gives.said.refused);
       }

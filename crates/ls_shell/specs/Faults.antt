@@ -1,9 +1,9 @@
--- How faults become those of a run.
+-- How faults become those of a step.
 use Rattle.ls_edge.specs.declared.traits.SinkFault.{SinkFault}
 use Rattle.ls_edge.specs.declared.traits.SinkFault.TheVariants as sink
-use Rattle.ls_shell.specs.declared.run.RunFault.{RunFault}
-use Rattle.ls_shell.specs.declared.run.RunFault.TheVariants.{Write, Memory}
+use Rattle.ls_shell.specs.declared.step_fault.StepFault.{StepFault}
+use Rattle.ls_shell.specs.declared.step_fault.StepFault.TheVariants.{Write, Memory}
 
-abbrev pub run_fault : SinkFault → RunFault
-run_fault sink.Failed = Write
-run_fault (sink.Memory e) = Memory e
+abbrev pub step_fault : SinkFault → StepFault
+step_fault sink.Failed = Write
+step_fault (sink.Memory e) = Memory e

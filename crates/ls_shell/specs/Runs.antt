@@ -22,10 +22,6 @@ TakesTooMany old new = (taken : List ℕ) × Consumes old new taken × (longest_
 abbrev pub TakesFew : List ℕ → Option (List ℕ) → Type 0
 TakesFew script new = (left : List ℕ) → new ≡ Some left → length script ≤ length left + longest_script
 
--- some bytes were appended, or none
-abbrev pub IsExtended : Option (List ℕ) → Option (List ℕ) → Type 0
-IsExtended old new = (bytes : List ℕ) × Appends old new bytes
-
 -- the whole transcript was written, and no reply to the script begins with `no `; the same where one does
 abbrev pub WritesTranscript : List ℕ → Option (List ℕ) → Option (List ℕ) → Type 0
 WritesTranscript script old new = Appends old new (transcript script)

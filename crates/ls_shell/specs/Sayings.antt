@@ -1,21 +1,35 @@
 -- What a command writes and leaves, by its row.
-use Rattle.std.specs.Prelude.{◌≡◌, ℕ, ◌++◌, List}
-use Rattle.ls_set.specs.ItemSet.{Items}
-use Rattle.ls_theory.specs.Pages.{Page}
-use Rattle.ls_theory.specs.declared.listing.Listing.{Listing}
+use Rattle.std.specs.Prelude.{◌≡◌, ℕ, ◌≤◌, Bool, List, Result, IsErrOf}
+use Rattle.std.specs.declared.option.Option.{Option}
+use Rattle.std.specs.Io.KnownBytes.{Appends}
+use Rattle.ls_edge.specs.Causes.{Rose}
 use Rattle.ls_reply.specs.Texts.{bytes_of}
 use Rattle.ls_reply.specs.Sessions.{Session}
 use Rattle.ls_reply.specs.Refusals.{Answer, Row, outcome}
+use Rattle.ls_reply.specs.Replies.{is_refusal}
+use Rattle.ls_shell.specs.declared.step_fault.StepFault.{StepFault}
+use Rattle.ls_shell.specs.declared.step_fault.StepFault.TheVariants as fault
 
--- the answer's lines were appended, and the session is the answer's
-pub record Says (answer : Answer) (new : Session) (before after : List ℕ) : Type 0 where
-  pub written : after ≡ before ++ bytes_of answer.lines
+-- the bytes were appended to those of a sink, and it is told whether they begin with `no `
+pub record Said (before after : Option (List ℕ)) (bytes : List ℕ) (refused : Bool) : Type 0 where
+  pub written : Appends before after bytes
+  pub refused : refused ≡ is_refusal bytes
+
+-- the answer's lines were appended, it is told whether they begin with `no `, and the session is the answer's
+pub record Gives (answer : Answer) (new : Session) (before after : Option (List ℕ)) (refused : Bool) : Type 0 where
+  pub said : Said before after (bytes_of answer.lines) refused
   pub session : new ≡ answer.session
 
 -- the answer of a row: its first refusal, or what it says otherwise
 abbrev pub row_answer : Session → Row → Answer
 row_answer s row = outcome s row.refusals row.answer
 
--- a page as the program keeps it
-abbrev pub page_of : Listing → Page Items
-page_of l = record { members = l.sets; more = l.more }
+-- some bytes were appended, or none
+abbrev pub IsExtended : Option (List ℕ) → Option (List ℕ) → Type 0
+IsExtended old new = (bytes : List ℕ) × Appends old new bytes
+
+-- whatever a step answers: bytes are only appended, the count of faults never falls, and it says that the sink failed only where that count rose
+pub record MovesSink {T : Type 0} (old new : Option (List ℕ)) (before now : ℕ) (result : Result T StepFault) : Type 0 where
+  pub kept : IsExtended old new
+  pub later : before ≤ now
+  pub cause : IsErrOf result fault.Write → Rose before now

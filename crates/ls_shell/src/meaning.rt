@@ -8,7 +8,7 @@ use ls_lines::Word;
 use ls_set::{ItemSet, PLACES};
 
 /// The most items that a domain has.
-pub const MOST_ITEMS: usize = 16;
+pub const MOST_ITEMS: usize = PLACES as usize;
 
 /// Whether the word is one of the names.
 pub fn is_named(names: &[Word], word: &Word) -> bool

@@ -1,14 +1,12 @@
 // The lines of replies.
-ghost use Rattle.std.specs.Prelude.{◌≡◌, ◌<◌, ◌≤◌, ◌++◌, ◌∷◌, [], map, length, OnOk, IfOk, All, decimal, codes, if◌then◌else◌};
+ghost use Rattle.std.specs.Prelude.{◌≡◌, ◌<◌, ◌≤◌, ◌++◌, ◌∷◌, [], map, length, OnOk, IfOk, if◌then◌else◌};
 ghost use Rattle.std.specs.List.{join_with_byte};
 ghost use Rattle.ls_set.specs.ItemSet.{full, IsWithin};
-ghost use Rattle.ls_reply.specs.Texts.{line_of, bytes_of, set_text, names_of_set};
-ghost use Rattle.ls_reply.specs.Rows.{set_words, page_lines};
-ghost use Rattle.ls_shell.specs.Sayings.{page_of};
+ghost use Rattle.ls_reply.specs.Texts.{line_of, set_text, names_of_set};
+ghost use Rattle.ls_reply.specs.Rows.{set_words};
 
 use ls_lines::Word;
 use ls_set::{ItemSet, PLACES, cursor_length};
-use ls_theory::Listing;
 use std::alloc::{AllocError, Global};
 
 // How many digits a cursor has at most.
@@ -42,19 +40,6 @@ pub fn push_line(words: &[&[u8]], out: &mut Vec<u8>) -> Result<(), AllocError>
     push_joined(words, out)?;
     out.push(b'\n')?;
     Ok(())
-}
-
-/// Appends a refusal with a place.
-pub fn refuse_at(
-    alloc: Global,
-    code: &[u8],
-    place: usize,
-    out: &mut Vec<u8>,
-) -> Result<(), AllocError>
-    ensures { OnOk result (out.new.items ≡ out.old.items ++ line_of (codes "no" ∷ code.now ∷ decimal place ∷ [])) }
-{
-    let place = place.to_string(alloc)?;
-    push_line(&[b"no", code, place.as_bytes()], out)
 }
 
 // The names of a set's items, in the order of items.
@@ -106,42 +91,4 @@ pub fn push_set_line(
     let mut set = Vec::new(alloc);
     push_set(alloc, names, s, &mut set)?;
     push_line(&[b"set", cursor, &set], out)
-}
-
-/// Appends the lines of a page of sets, and whether a further set follows.
-pub fn push_listing(
-    alloc: Global,
-    names: &[Word],
-    listing: &Listing,
-    out: &mut Vec<u8>,
-) -> Result<(), AllocError>
-    requires few { length names.now ≤ PLACES }
-    requires within { All (λ s. IsWithin s (full (length names.now))) listing.now.sets }
-    ensures { OnOk result (out.new.items ≡ out.old.items ++ bytes_of (page_lines names.now (page_of listing.now))) }
-{
-    push_set_lines(alloc, names, listing.sets.as_slice(), out)?;
-    push_line(&[b"more", yes_or_no(listing.more)], out)
-}
-
-fn yes_or_no(answer: bool) -> &'static [u8]
-    ensures { result.now ≡ (if answer then codes "yes" else codes "no") }
-{
-    if answer { b"yes" } else { b"no" }
-}
-
-// Appends the lines of sets.
-fn push_set_lines(
-    alloc: Global,
-    names: &[Word],
-    sets: &[ItemSet],
-    out: &mut Vec<u8>,
-) -> Result<(), AllocError>
-    requires few { length names.now ≤ PLACES }
-    requires within { All (λ s. IsWithin s (full (length names.now))) sets.now }
-    ensures { OnOk result (out.new.items ≡ out.old.items ++ bytes_of (map (set_words names.now) sets.now)) }
-{
-    for s in sets {
-        push_set_line(alloc, names, *s, out)?;
-    }
-    Ok(())
 }

@@ -1,19 +1,25 @@
 // A session.
-ghost use Rattle.std.specs.Prelude.{◌^◌, IfOk, IfErr, Some, None, slice_get, ◌≡◌, ◌<◌, ◌≤◌, ◌||◌, true, [], length, OnOk, All};
-ghost use Rattle.ls_set.specs.ItemSet.{full, IsWithin, comes_before};
+ghost use Rattle.std.specs.Prelude.{◌^◌, IfOk, IfErr, Some, ◌≡◌, ◌<◌, ◌≤◌, ◌||◌, true, [], ◌∷◌, slice_get, length, OnOk};
+ghost use Rattle.std.specs.Option.{ForSome};
+ghost use Rattle.ls_set.specs.ItemSet.{full, IsWithin};
 ghost use Rattle.ls_lines.specs.declared.command.Command.TheVariants as command;
-ghost use Rattle.ls_theory.specs.Pages.{page};
-ghost use Rattle.ls_reply.specs.Sessions.{started, has_domain, states};
-ghost use Rattle.ls_reply.specs.Rows.{is_no_domain, items_row, query_of, query_row, is_full, stands, most_listed};
+ghost use Rattle.ls_reply.specs.Sessions.{started, has_domain};
+ghost use Rattle.ls_reply.specs.Cursors.{cursor_set, cursor_faults, fault_words};
+ghost use Rattle.ls_reply.specs.Rows.{is_no_domain, items_row, query_of, query_row, is_full, stands};
 ghost use Rattle.ls_reply.specs.Replies.{command_answer, line_answer, unnamed_at};
-ghost use Rattle.ls_shell.specs.Sayings.{Says, row_answer};
+ghost use Rattle.ls_shell.specs.Sayings.{Gives, MovesSink, row_answer};
 
+use crate::StepFault;
+use crate::listing::{refuse_cursor, write_listing};
 use crate::meaning::{is_no_domain, item_of, items_of, unnamed_place};
-use crate::print::{push_line, push_listing, refuse_at};
+use crate::say::{refuse_at, say};
+use ls_edge::Sink;
+use ls_interior::Free;
 use ls_lines::{Command, LineFault, Word, WordList, read_command};
-use ls_set::Query;
-use ls_theory::{Answer, ListedStart, Listing, compat, page, yes_queries};
-use std::alloc::{AllocError, Global};
+use ls_rules::Ruled;
+use ls_set::{CursorFault, ItemSet, Query};
+use ls_theory::Answer;
+use std::alloc::Global;
 use std::marker::Model;
 
 /// The most bytes of a line that is read.
@@ -22,16 +28,15 @@ const LONGEST_LINE: usize = 65_536;
 /// The most answers that stand.
 const MOST_ANSWERS: usize = 8192;
 
-/// How many sets a listing has at most.
-const MOST_LISTED: u32 = 65_536;
-
-/// The names of the items, none where no domain stands; the standing answers; and the next answer's number.
+/// The names of the items, none where no domain stands; the standing answers; the next answer's number; and the
+/// family of the sets that the Yes answers leave.
 #[derive(Drop)]
 pub struct Session {
     alloc: Global,
     names: WordList,
     answers: Vec<Answer>,
     next: u64,
+    family: Ruled<Free>,
 }
 
 impl Model for Session {
@@ -47,7 +52,7 @@ impl Model for Session {
       interview = record { count = length s.names; start = Free; block = 1; answers = s.answers.items; next = s.next };
     } };
 
-    ghost invariant = { λ s. IsKept s.names s.answers.items s.next };
+    ghost invariant = { λ s. IsKept s.names s.answers.items s.next s.family.inner s.family.rules };
 }
 
 impl Session {
@@ -60,49 +65,55 @@ impl Session {
             names: WordList::new(alloc),
             answers: Vec::new(alloc),
             next: 1,
+            family: Ruled::new(alloc, Free::new(0)),
         }
     }
 
-    /// Answers one line.
-    pub fn answer_line(&mut self, line: &[u8], out: &mut Vec<u8>) -> Result<(), AllocError>
-        ensures { OnOk result (Says (line_answer self.old line.now) self.new out.old.items out.new.items) }
+    /// Answers one line: writes its reply, and says whether that begins with `no `. After an `Err` the session
+    /// isn't used again.
+    pub fn step<K: Sink>(&mut self, line: &[u8], out: &mut K) -> Result<bool, StepFault>
+        ensures answered { IfOk result (Gives (line_answer self.old line.now) self.new (K.written out.old) (K.written out.new)) }
+        ensures sink { MovesSink (K.written out.old) (K.written out.new) (K.faults out.old) (K.faults out.new) result }
     {
         if line.len() > LONGEST_LINE {
             let length = line.len().to_string(self.alloc)?;
-            return push_line(&[b"no", b"10", b"long", length.as_bytes()], out);
+            return say(self.alloc, &[b"no", b"10", b"long", length.as_bytes()], out);
         }
         match read_command(self.alloc, line) {
             Ok(command) => self.answer_command(command, out),
             Err(LineFault::Shape { place }) => refuse_at(self.alloc, b"10", place as usize, out),
-            Err(LineFault::Memory(e)) => Err(e),
+            Err(LineFault::Memory(e)) => Err(StepFault::Memory(e)),
         }
     }
 
     // Answers one command.
     #[tactic(auto, unfolding(ls_reply::specs::Replies::row))]
-    fn answer_command(&mut self, command: Command, out: &mut Vec<u8>) -> Result<(), AllocError>
-        ensures { OnOk result (Says (command_answer self.old command) self.new out.old.items out.new.items) }
+    fn answer_command<K: Sink>(&mut self, command: Command, out: &mut K) -> Result<bool, StepFault>
+        ensures answered { IfOk result (Gives (command_answer self.old command) self.new (K.written out.old) (K.written out.new)) }
+        ensures sink { MovesSink (K.written out.old) (K.written out.new) (K.faults out.old) (K.faults out.new) result }
     {
         match command {
-            Command::Nothing => Ok(()),
+            Command::Nothing => Ok(false),
             Command::Items { names } => self.begin(names, out),
             Command::Yes { names, item } => self.answer(&names, &item, out),
-            Command::States => self.list(out),
+            Command::States { count, after } => self.list(count, &after, out),
         }
     }
 
     // `items NAMES`
-    fn begin(&mut self, names: WordList, out: &mut Vec<u8>) -> Result<(), AllocError>
-        ensures { OnOk result (Says (row_answer self.old (items_row self.old names)) self.new out.old.items out.new.items) }
+    fn begin<K: Sink>(&mut self, names: WordList, out: &mut K) -> Result<bool, StepFault>
+        ensures answered { IfOk result (Gives (row_answer self.old (items_row self.old names)) self.new (K.written out.old) (K.written out.new)) }
+        ensures sink { MovesSink (K.written out.old) (K.written out.new) (K.faults out.old) (K.faults out.new) result }
     {
         if self.cannot_begin(&names) {
-            return push_line(&[b"no", b"49"], out);
+            return say(self.alloc, &[b"no", b"49"], out);
         }
         let count = names.len().to_string(self.alloc)?;
+        self.family = Ruled::new(self.alloc, Free::new(names.len() as u32));
         self.names = names;
         self.answers = Vec::new(self.alloc);
         self.next = 1;
-        push_line(&[b"ok", count.as_bytes()], out)
+        say(self.alloc, &[b"ok", count.as_bytes()], out)
     }
 
     fn cannot_begin(&self, names: &WordList) -> bool
@@ -131,8 +142,9 @@ impl Session {
     }
 
     // `yes NAMES : ITEM`
-    fn answer(&mut self, names: &WordList, item: &Word, out: &mut Vec<u8>) -> Result<(), AllocError>
-        ensures { OnOk result (Says (command_answer self.old (command.Yes names.now item.now)) self.new out.old.items out.new.items) }
+    fn answer<K: Sink>(&mut self, names: &WordList, item: &Word, out: &mut K) -> Result<bool, StepFault>
+        ensures answered { IfOk result (Gives (command_answer self.old (command.Yes names.now item.now)) self.new (K.written out.old) (K.written out.new)) }
+        ensures sink { MovesSink (K.written out.old) (K.written out.new) (K.faults out.old) (K.faults out.new) result }
     {
         match self.query_of(names, item) {
             Ok(query) => self.accept(query, out),
@@ -141,24 +153,27 @@ impl Session {
     }
 
     // A Yes to a query of items.
-    fn accept(&mut self, query: Query, out: &mut Vec<u8>) -> Result<(), AllocError>
-        ensures { OnOk result (Says (row_answer self.old (query_row self.old true query)) self.new out.old.items out.new.items) }
+    fn accept<K: Sink>(&mut self, query: Query, out: &mut K) -> Result<bool, StepFault>
+        ensures answered { IfOk result (Gives (row_answer self.old (query_row self.old true query)) self.new (K.written out.old) (K.written out.new)) }
+        ensures sink { MovesSink (K.written out.old) (K.written out.new) (K.faults out.old) (K.faults out.new) result }
     {
         if !query.is_good(self.names.len() as u32) {
-            return push_line(&[b"no", b"18"], out);
+            return say(self.alloc, &[b"no", b"18"], out);
         }
         if self.cannot_accept(&query) {
-            return push_line(&[b"no", b"49"], out);
+            return say(self.alloc, &[b"no", b"49"], out);
         }
         let number = self.next;
         let text = number.to_string(self.alloc)?;
+        self.family.reserve()?;
         self.answers.push(Answer {
             number,
             query,
             yes: true,
         })?;
+        self.family.push_reserved(query);
         self.next += 1;
-        push_line(&[b"ok", text.as_bytes()], out)
+        say(self.alloc, &[b"ok", text.as_bytes()], out)
     }
 
     fn cannot_accept(&self, query: &Query) -> bool
@@ -181,26 +196,40 @@ impl Session {
         self.answers.iter().any(|a| a.query == *query)
     }
 
-    // `states`
-    fn list(&self, out: &mut Vec<u8>) -> Result<(), AllocError>
-        ensures { OnOk result (Says (command_answer self.now command.States) self.now out.old.items out.new.items) }
+    // `states COUNT after CURSOR`
+    fn list<K: Sink>(&self, count: u32, after: &Option<Word>, out: &mut K) -> Result<bool, StepFault>
+        ensures answered { IfOk result (Gives (command_answer self.now (command.States count after.now)) self.now (K.written out.old) (K.written out.new)) }
+        ensures sink { MovesSink (K.written out.old) (K.written out.new) (K.faults out.old) (K.faults out.new) result }
     {
         if self.names.is_empty() {
             return refuse_at(self.alloc, b"15", 0, out);
         }
-        let listing = self.states()?;
-        push_listing(self.alloc, self.names.as_slice(), &listing, out)
+        match self.cursor(after) {
+            Ok(after) => write_listing(
+                self.alloc,
+                &self.family,
+                self.names.as_slice(),
+                after,
+                count,
+                out,
+            ),
+            Err(fault) => refuse_cursor(self.alloc, fault, out),
+        }
     }
 
-    // The compatible sets.
-    fn states(&self) -> Result<Listing, AllocError>
-        ensures sets { IfOk result (λ l. l.sets ≡ (page comes_before (states self.now) None most_listed).members) }
-        ensures more { IfOk result (λ l. l.more ≡ (page comes_before (states self.now) None most_listed).more) }
-        ensures within { IfOk result (λ l. All (λ s. IsWithin s (full (length self.now.names))) l.sets) }
+    // The set of the cursor after which a page begins, if there is one.
+    fn cursor(&self, after: &Option<Word>) -> Result<Option<ItemSet>, CursorFault>
+        ensures set { IfOk result (λ c. c ≡ cursor_set (length self.now.names) after.now) }
+        ensures found { OnOk result (cursor_faults (length self.now.names) after.now ≡ []) }
+        ensures fault { IfErr result (λ e. cursor_faults (length self.now.names) after.now ≡ fault_words e ∷ []) }
+        ensures within { IfOk result (λ c. ForSome c (λ w. IsWithin w (full (length self.now.names)))) }
     {
-        let count = self.names.len() as u32;
-        let yeses = yes_queries(self.alloc, &self.answers)?;
-        let sets = compat(self.alloc, count, &ListedStart::Free, &yeses)?;
-        page(self.alloc, &sets, None, MOST_LISTED)
+        match after {
+            None => Ok(None),
+            Some(word) => {
+                let text = word.as_str().as_bytes();
+                Ok(Some(ItemSet::from_cursor(self.names.len() as u32, text)?))
+            }
+        }
     }
 }

@@ -2,11 +2,12 @@
 ghost use Rattle.std.specs.Prelude.{◌≡◌, ◌≢◌, ◌<◌, ◌++◌, [], List, ℕ, Some, false, true, length};
 ghost use Rattle.std.specs.Io.KnownBytes.{Appends, Consumes, Keeps};
 ghost use Rattle.ls_edge.specs.Causes.{Rose};
-ghost use Rattle.ls_shell.specs.Runs.{usage_line, longest_script, TakesTooMany, TakesFew, IsExtended, WritesTranscript, AnswersScript, IsUsageStatus, IsLongStatus};
+ghost use Rattle.ls_shell.specs.Runs.{usage_line, longest_script, TakesTooMany, TakesFew, WritesTranscript, AnswersScript, IsUsageStatus, IsLongStatus};
+ghost use Rattle.ls_shell.specs.Sayings.{IsExtended};
 ghost use Rattle.ls_reply.specs.Transcripts.{is_some_refused};
 
-use crate::Status;
-use crate::run::{RunFault, answer_script};
+use crate::{Status, StepFault};
+use crate::run::answer_script;
 use crate::whole::{WholeFault, read_whole};
 use ls_edge::{Shelf, Sink, SinkFault, Source, write_whole};
 use std::alloc::Global;
@@ -82,7 +83,7 @@ pub fn lspace<R: Threads + Sync, S: Source, K: Sink, H: Shelf>(
     match answer_script(alloc, &script, out) {
         Ok(false) => Status::Done,
         Ok(true) => Status::Refused,
-        Err(RunFault::Write) => Status::WriteFault,
-        Err(RunFault::Memory(_)) => Status::NoMemory,
+        Err(StepFault::Write) => Status::WriteFault,
+        Err(StepFault::Memory(_)) => Status::NoMemory,
     }
 }

@@ -9,3 +9,5 @@ mod scripts;
 mod statuses;
 #[cfg(test)]
 mod trial;
+#[cfg(test)]
+mod wide;

@@ -4,7 +4,7 @@ use ls_shell::Status;
 use std::test::Fail;
 
 // A script, its replies, and whether one of them is a refusal.
-const SCRIPTS: [(&str, &str, Status); 9] = [
+const SCRIPTS: [(&str, &str, Status); 12] = [
     // Three items, a Yes, and the six states that it leaves.
     (
         "items a b c\nyes a : b\nstates\n",
@@ -34,6 +34,19 @@ const SCRIPTS: [(&str, &str, Status); 9] = [
         Status::Refused,
     ),
     ("", "", Status::Done),
+    // Pages: none, after a state, and after a set that is no state.
+    (
+        "items a b c\nyes a : b\nstates 0\nstates 2\nstates 2 after c\nstates 1 after 6\n",
+        "ok 3\nok 1\nmore yes\nset e {a b c}\nset c {a b}\nmore yes\nset a {a c}\nset 8 {a}\nmore yes\nset 2 {c}\nmore yes\n",
+        Status::Done,
+    ),
+    // The end of a listing, and texts that are no cursor.
+    (
+        "items a b c\nyes a : b\nstates 5 after 0\nstates 5 after 00\nstates 5 after g\nstates 5 after 1\n",
+        "ok 3\nok 1\nmore no\nno 24 length 2\nno 24 digit 1\nno 24 spare\n",
+        Status::Refused,
+    ),
+    ("states 1 after 0\nstates 01\nstates 65537\nstates 1 before 0\n", "no 15 0\nno 10 2\nno 10 2\nno 10 3\n", Status::Refused),
 ];
 
 #[test]

@@ -7,29 +7,29 @@ use Rattle.ls_lines.specs.Lines.{Text}
 use Rattle.ls_reply.specs.Sessions.{Session}
 use Rattle.ls_reply.specs.Refusals as reply
 use Rattle.ls_reply.specs.Refusals.{becomes}
-use Rattle.ls_shell.proofs.Outcomes.{says_line, query_row-bad, query_row-refused, query_row-accepted}
+use Rattle.ls_shell.proofs.Outcomes.{gives_line, query_row-bad, query_row-refused, query_row-accepted}
 use Rattle.ls_shell.proofs.session.Session.accept.Goals as goal
 
-pub returns-then-not-is_good : goal.returns-then-not-is_good
-returns-then-not-is_good c =
+pub returns-then-not-is_good-clause-answered : goal.returns-then-not-is_good-clause-answered
+returns-then-not-is_good-clause-answered g c =
     let good = ap (λ n. is_good n c.args.query) (sym (c.len.ensures ∙ ap (λ (s : Session). length s.names) c.self.view_is)) ∙ sym c.is_good.ensures ∙ c.if-not-is_good.true in
-    says_line _ _ _ _ _ _ (query_row-bad c.args.self.now c.args.query good) c.push_line.ensures
+    gives_line _ _ _ _ _ _ (query_row-bad c.args.self.now c.args.query good) c.say.ensures.said
 
-pub returns-then-cannot_accept : goal.returns-then-cannot_accept
-returns-then-cannot_accept c =
+pub returns-then-cannot_accept-clause-answered : goal.returns-then-cannot_accept-clause-answered
+returns-then-cannot_accept-clause-answered g c =
     let good = ap (λ n. is_good n c.args.query) (sym (c.len.ensures ∙ ap (λ (s : Session). length s.names) c.self.view_is)) ∙ sym c.is_good.ensures ∙ c.if-not-is_good.false in
-    says_line _ _ _ _ _ _ (query_row-refused c.args.self.now c.args.query good (sym c.cannot_accept.ensures ∙ c.if-cannot_accept.true)) c.push_line-then-cannot_accept.ensures
+    gives_line _ _ _ _ _ _ (query_row-refused c.args.self.now c.args.query good (sym c.cannot_accept.ensures ∙ c.if-cannot_accept.true)) c.say-then-cannot_accept.ensures.said
 
-pub returns : goal.returns
-returns c =
+pub returns-clause-answered : goal.returns-clause-answered
+returns-clause-answered g c =
     let good = ap (λ n. is_good n c.args.query) (sym (c.len.ensures ∙ ap (λ (s : Session). length s.names) c.self.view_is)) ∙ sym c.is_good.ensures ∙ c.if-not-is_good.false in
     let names = c.self.inside.names in
     let next = c.self.inside.next in
     let old : List Answer = c.self.inside.answers.items ++ record { number = next; query = c.args.query; yes = true } ∷ [] in
     let told : decimal next ≡ c.as_bytes.result.now = sym (c.as_bytes.ensures.value ∙ c.in_ok-text.ensures.ok) in
-    says_line _ _ _ _ _ _
+    gives_line _ _ _ _ _ _
     (query_row-accepted c.args.self.now c.args.query good (sym c.cannot_accept.ensures ∙ c.if-cannot_accept.false)
     ∙ ap (λ (s : Session). becomes (record s { interview = accepted s.interview c.args.query true }) (decimal s.interview.next ∷ [])) (sym c.self.view_is)
     ∙ ap₂ (λ (w : Text) (done : List Answer). let x : reply.Answer = record { lines = (codes "ok" ∷ w ∷ []) ∷ []; session = record { names = names; interview = record { count = length names; start = Free; block = 1; answers = done; next = next + 1 } } } in x)
     told (sym c.in_ok-push.ensures.items))
-    c.push_line-2.ensures
+    c.say-2.ensures.said

@@ -1,0 +1,63 @@
+// As many items as there can be.
+use crate::trial::{Trial, run};
+use ls_set::PLACES;
+use ls_shell::Status;
+use std::alloc::{AllocError, Global};
+use std::test::Fail;
+
+// The names `i0`, `i1` and so on of the items from `from` on, joined by single spaces.
+fn names_from(alloc: Global, from: u32) -> Result<String, AllocError> {
+    let mut names = String::new(alloc);
+    for i in from..PLACES {
+        if i > from {
+            names.push(' ')?;
+        }
+        let name = format!(in alloc; "i{i}")?;
+        names.push_str(&name)?;
+    }
+    Ok(names)
+}
+
+#[test]
+fn listings_begin_after_any_cursor(rt: HostRuntime) -> Result<(), Fail> {
+    let alloc = rt.alloc();
+    let all = names_from(alloc, 0)?;
+    let without_first = names_from(alloc, 1)?;
+    let fs = "fffffffffffffffffffffffffffffff";
+    let zeros = "0000000000000000000000000000000";
+    let script = format!(in alloc; "items {all}\nstates 1\nyes i1 : i0\nstates 1 after c{zeros}\n")?;
+    let replies = format!(in alloc; "ok 128\nset f{fs} {{{all}}}\nmore yes\nok 1\nset 7{fs} {{{without_first}}}\nmore yes\n")?;
+    let outcome = run(
+        &rt,
+        Trial {
+            words: &[],
+            script: script.as_bytes(),
+            piece: 4096,
+            failing_reads: &[],
+            failing_writes: &[],
+        },
+    )?;
+    assert_eq!(rt; outcome.written.as_slice(), replies.as_bytes());
+    assert_eq!(rt; outcome.status, Status::Done);
+    Ok(())
+}
+
+#[test]
+fn one_item_too_many_is_refused(rt: HostRuntime) -> Result<(), Fail> {
+    let alloc = rt.alloc();
+    let all = names_from(alloc, 0)?;
+    let script = format!(in alloc; "items {all} more\n")?;
+    let outcome = run(
+        &rt,
+        Trial {
+            words: &[],
+            script: script.as_bytes(),
+            piece: 4096,
+            failing_reads: &[],
+            failing_writes: &[],
+        },
+    )?;
+    assert_eq!(rt; outcome.written.as_slice(), b"no 49\n".as_slice());
+    assert_eq!(rt; outcome.status, Status::Refused);
+    Ok(())
+}
