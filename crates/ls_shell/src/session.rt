@@ -11,8 +11,9 @@ ghost use Rattle.ls_shell.specs.Sayings.{Says, row_answer};
 use crate::meaning::{is_no_domain, item_of, items_of, unnamed_place};
 use crate::print::{push_line, push_listing, refuse_at};
 use ls_lines::{Command, LineFault, Word, WordList, read_command};
+use ls_plain::{compat, page, yes_queries};
 use ls_set::Query;
-use ls_theory::{Answer, ListedStart, Listing, compat, page, yes_queries};
+use ls_theory::{Answer, ListedStart, Listing};
 use std::alloc::{AllocError, Global};
 use std::marker::Model;
 
