@@ -3,9 +3,9 @@ use Rattle.std.proofs.Common.{◌≡◌, refl, true, false, [], ◌∷◌, Some,
 use Rattle.ls_theory.specs.declared.verdict.Verdict.TheVariants.{NoEmpty, NoFull, NotClosed, NotGraded, Learning}
 use Rattle.ls_theory.specs.Starts.{Start, Free, Clauses}
 use Rattle.ls_theory.specs.Compatible.{compat}
-use Rattle.ls_theory.specs.Bases.{atoms_at, base, peak}
+use Rattle.ls_theory.specs.Bases.{atoms_at, base, peak, peak_of}
 use Rattle.ls_theory.specs.Verdict.{is_learning_space, verdict}
-use Rattle.ls_theory.proofs.Small.{words, ∅, a, b, ab, c, ac, bc, abc, ◌∶◌, six_states}
+use Rattle.ls_theory.proofs.Small.{words, ∅, a, b, ab, c, ac, bc, abc, ◌∶◌, six, six_states}
 
 -- a surmise function in which b has two clauses
 abbrev surmise : Start
@@ -39,6 +39,11 @@ peaked_before = refl
 no_peak : peak 4 3 Free (ab ∶ 2 ∷ a ∶ 2 ∷ []) ≡ None
 unfolding words
 no_peak = refl
+
+-- three items have 8 sets, far fewer than the 4096 of the limit, so no interview on them has a peak
+no_peak_of : peak_of six ≡ None
+unfolding words
+no_peak_of = refl
 
 -- each verdict
 no_empty : verdict abc (abc ∷ []) ≡ NoEmpty

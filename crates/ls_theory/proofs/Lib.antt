@@ -1,8 +1,4 @@
 pub mod Numbers
-pub mod FirstItems
-pub mod Steps
-pub mod Totals
-pub mod Turns
 mod Small
 mod ExamplesQueries
 mod ExamplesForced
