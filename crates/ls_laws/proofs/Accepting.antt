@@ -18,8 +18,8 @@ use Rattle.ls_laws.specs.Forced.{SomeFits, IsSound}
 use Rattle.ls_laws.proofs.Lists.{IsInOrder-filter}
 use Rattle.ls_laws.proofs.Interiors.{space-from}
 use Rattle.ls_laws.proofs.Breaks.{good-from}
-use Rattle.ls_laws.proofs.Closures.{left-IsFamily}
-use Rattle.ls_laws.proofs.Compat.{compat-IsFamily, compat-in_order, compat-more, among-compat}
+use Rattle.ls_laws.proofs.Closures.{left-IsUnionFamily}
+use Rattle.ls_laws.proofs.Compat.{compat-IsUnionFamily, compat-in_order, compat-more, among-compat}
 use Rattle.ls_laws.proofs.Fit.{Fits, all_or_none, left-holds_full}
 use Rattle.ls_laws.proofs.Search.{fitting_some, All-list_all, list_all-All}
 use Rattle.ls_laws.proofs.Answering.{FitsIn, a_space, compatible_fit, forced_yes_unbroken, forced_no_is}
@@ -89,7 +89,7 @@ pub begun-sound : (n : ℕ) (start : Start) → is_space (full n) (compat n star
 begun-sound n start h = record {
   some_fits = some_of (begun n start) (compat n start []) (record {
     in_order = compat-in_order n start [];
-    is_family = compat-IsFamily n start [];
+    is_family = compat-IsUnionFamily n start [];
     holds_full = (space-from (full n) (compat n start []) h).holds_whole;
     compatible = λ k c. c;
     broken = tt;
@@ -106,7 +106,7 @@ yes_added i r sound good free =
     let g = compatible_fit i sound.some_fits in
     let left : Fits n (left_by r f) ns (left_by r f) = record {
       in_order = IsInOrder-filter (λ k. not (breaks k r)) f g.in_order;
-      is_family = left-IsFamily n f r g.is_family;
+      is_family = left-IsUnionFamily n f r g.is_family;
       holds_full = left-holds_full n f r (good-from n r good) g.holds_full;
       compatible = λ k c. c;
       broken = all_or_none (left_by r f) ns (sym (forced_no_is i r sound.some_fits good) ∙ free);

@@ -20,10 +20,10 @@ use Rattle.ls_theory.specs.Fitting.{fits, fitting_spaces, spaces_of}
 use Rattle.ls_theory.specs.Forced.{is_forced_yes, is_forced_no, is_open, by, known, next_question, is_settled}
 use Rattle.ls_laws.specs.Spans.{left_by}
 use Rattle.ls_laws.specs.Forced.{SomeFits, IsSound, FitsAnswers, is_forced_by, is_forced_by_closures, known_by_closures}
-use Rattle.ls_laws.proofs.Interiors.{IsFamily}
+use Rattle.ls_laws.proofs.Interiors.{IsUnionFamily}
 use Rattle.ls_laws.proofs.Breaks.{IsGood, good-from}
 use Rattle.ls_laws.proofs.Closures.{has-closure, kept_is}
-use Rattle.ls_laws.proofs.Compat.{compat-IsFamily, compat-in_order}
+use Rattle.ls_laws.proofs.Compat.{compat-IsUnionFamily, compat-in_order}
 use Rattle.ls_laws.proofs.Fit.{Fits, IsForcedYes, IsForcedNo, IsSettled, compat_fits, forced_yes, forced_no, left_fits}
 use Rattle.ls_laws.proofs.Settled.{only_compat}
 use Rattle.ls_laws.proofs.Search.{fits-from, fits-is, all_fitting, some_fitting, subsets-IsOn, IsOn-subsets}
@@ -45,8 +45,8 @@ FitsIn-from i f h = fits-is i.count i.start (yes_queries i.answers) (no_queries 
 pub FitsIn-to : (i : Interview) (f : List Items) → FitsIn i f → FitsAnswers i f
 FitsIn-to i f h = record { in_order = h.in_order; is_on = h.is_family.small; passes = fits-from i.count i.start (yes_queries i.answers) (no_queries i.answers) f h }
 
-pub compat_family : (i : Interview) → IsFamily i.count (compatible_sets i)
-compat_family i = compat-IsFamily i.count i.start (yes_queries i.answers)
+pub compat_family : (i : Interview) → IsUnionFamily i.count (compatible_sets i)
+compat_family i = compat-IsUnionFamily i.count i.start (yes_queries i.answers)
 
 -- where some space fits, the compatible sets do
 pub compatible_fit : (i : Interview) → SomeFits i → FitsIn i (compatible_sets i)
@@ -126,7 +126,7 @@ tells p (s ∷ ns) = elim (p s.query) as (λ b. cond (b || list_any p (map (λ a
     ]
 
 -- the Nos that are kept, by closures
-kept_same : (n : ℕ) (f : List Items) (r : Query) (ns : List No) → IsFamily n f → IsGood n r → list_all (is_good n) (map (λ a. a.query) ns) ≡ true → AllByRecursion (λ q. some_breaks f q ≡ true) (map (λ a. a.query) ns)
+kept_same : (n : ℕ) (f : List Items) (r : Query) (ns : List No) → IsUnionFamily n f → IsGood n r → list_all (is_good n) (map (λ a. a.query) ns) ≡ true → AllByRecursion (λ q. some_breaks f q ≡ true) (map (λ a. a.query) ns)
     → AllByRecursion (λ s. is_forced_by f r s.query ≡ is_forced_by_closures n f r s.query) ns
 kept_same n f r [] family good items broken = tt
 kept_same n f r (s ∷ ns) family good items broken =

@@ -7,7 +7,7 @@ use Rattle.ls_set.proofs.Sets.{members, same_set, has-empty, IsWithin-from, is_w
 use Rattle.ls_set.proofs.Sizes.{len-within}
 use Rattle.ls_theory.specs.Bases.{is_atom_at, base}
 use Rattle.ls_laws.specs.Walks.{LeadsTo, IsWellGraded}
-use Rattle.ls_laws.proofs.Interiors.{IsUnionClosed}
+use Rattle.ls_laws.specs.Families.{IsUnionClosed}
 use Rattle.ls_laws.proofs.Counts.{len-parts, len-single, len-empty, len-zero, len-one, some_missing, as_many}
 use Rattle.ls_laws.proofs.Atoms.{IsAtom, IsAtom-from, is_atom_at-from, among-base, base-member, fewest_of}
 

@@ -10,12 +10,12 @@ use Rattle.ls_theory.specs.Families.{interior, closure}
 use Rattle.ls_theory.specs.Queries.{breaks, some_breaks}
 use Rattle.ls_laws.specs.Spans.{IsOn, left_by}
 use Rattle.ls_laws.specs.Forced.{is_forced_by, is_forced_by_closures}
-use Rattle.ls_laws.proofs.Interiors.{IsFamily, filter-IsFamily, has-interior, interior-is, IsInterior-interior}
+use Rattle.ls_laws.proofs.Interiors.{IsUnionFamily, filter-IsUnionFamily, has-interior, interior-is, IsInterior-interior}
 use Rattle.ls_laws.proofs.Breaks.{IsGood, Breaks-from, breaks-from, breaks-empty, unbroken-union, some_breaks-here, breaker, among-left_from, among-left_parts}
 
 -- what is left is a family
-pub left-IsFamily : (n : ℕ) (f : List Items) (r : Query) → IsFamily n f → IsFamily n (left_by r f)
-left-IsFamily n f r family = filter-IsFamily n f (λ k. not (breaks k r)) (not_from_false (breaks empty r) (breaks-empty r))
+pub left-IsUnionFamily : (n : ℕ) (f : List Items) (r : Query) → IsUnionFamily n f → IsUnionFamily n (left_by r f)
+left-IsUnionFamily n f r family = filter-IsUnionFamily n f (λ k. not (breaks k r)) (not_from_false (breaks empty r) (breaks-empty r))
     (λ s t a b. not_from_false (breaks (union s t) r) (unbroken-union s t r (not-true (breaks s r) a) (not-true (breaks t r) b))) family
 
 list_any-agree : (p q : Items → Bool) (f : List Items) → ((k : Items) → is_among f k ≡ true → p k ≡ q k) → list_any p f ≡ list_any q f
@@ -53,7 +53,7 @@ record IsClosure (n : ℕ) (f : List Items) (b c : Items) : Type 0 where
   outside : (i : ℕ) → has c i ≡ true → has top i ≡ false
   inside : (i : ℕ) → has (full n) i ≡ true → has top i ≡ false → has c i ≡ true
 
-closure-is : (n : ℕ) (f : List Items) (b : Items) → IsFamily n f → IsClosure n f b (closure (full n) f b)
+closure-is : (n : ℕ) (f : List Items) (b : Items) → IsUnionFamily n f → IsClosure n f b (closure (full n) f b)
 closure-is n f b family =
     let m = interior-is f family.holds_empty family.holds_unions (minus (full n) b) in
     let top = interior f (minus (full n) b) in
@@ -83,7 +83,7 @@ grown-none n f r s i h =
     )
 
 -- where no member of what is left breaks the No, the closures hold it
-kept-closed : (n : ℕ) (f : List Items) (r s : Query) → IsFamily n f → IsGood n r → s.q < n → some_breaks f s ≡ true → some_breaks (left_by r f) s ≡ false → is_forced_by_closures n f r s ≡ true
+kept-closed : (n : ℕ) (f : List Items) (r s : Query) → IsUnionFamily n f → IsGood n r → s.q < n → some_breaks f s ≡ true → some_breaks (left_by r f) s ≡ false → is_forced_by_closures n f r s ≡ true
 kept-closed n f r s family good item is_broken kept =
     let cl = closure-is n f s.a family in
     let b = breaker f s is_broken in
@@ -102,7 +102,7 @@ kept-closed n f r s family good item is_broken kept =
     let stays : breaks k.0 r ≡ false = false_from_ne_true (breaks k.0 r) (λ e. (out_of r.q (Breaks-from k.0 r e).has_q).1 refl) in
     true≢false (sym (some_breaks-here (left_by r f) k.0 s (among-left_from f r k.0 k.1 stays) breaks_s) ∙ kept))))
 
-closed-kept : (n : ℕ) (f : List Items) (r s : Query) → IsFamily n f → s.q < n → is_forced_by_closures n f r s ≡ true → some_breaks (left_by r f) s ≡ false
+closed-kept : (n : ℕ) (f : List Items) (r s : Query) → IsUnionFamily n f → s.q < n → is_forced_by_closures n f r s ≡ true → some_breaks (left_by r f) s ≡ false
 closed-kept n f r s family item h =
     let cl = closure-is n f s.a family in
     let p = and_parts (is_within r.a (closure (full n) f s.a)) (has (closure (full n) f (with (closure (full n) f s.a) r.q)) s.q) h in
@@ -121,7 +121,7 @@ closed-kept n f r s family item h =
     true≢false (sym (some_breaks-here f k.0 (grown n f r s) m.0 breaks_grown) ∙ none))
 
 -- the closure form
-pub kept_is : (n : ℕ) (f : List Items) (r s : Query) → IsFamily n f → IsGood n r → s.q < n → some_breaks f s ≡ true → is_forced_by f r s ≡ is_forced_by_closures n f r s
+pub kept_is : (n : ℕ) (f : List Items) (r s : Query) → IsUnionFamily n f → IsGood n r → s.q < n → some_breaks f s ≡ true → is_forced_by f r s ≡ is_forced_by_closures n f r s
 kept_is n f r s family good item is_broken = both_ways (is_forced_by f r s) (is_forced_by_closures n f r s)
     (λ h. kept-closed n f r s family good item is_broken (not-true (some_breaks (left_by r f) s) h))
     (λ h. not_from_false (some_breaks (left_by r f) s) (closed-kept n f r s family item h))
@@ -129,7 +129,7 @@ kept_is n f r s family good item is_broken = both_ways (is_forced_by f r s) (is_
 -- ---- the closures after a Yes
 
 -- where the closure of B lacks an item of A, or has q, it is the same without the members that break (A, q)
-pub closure_stays : (n : ℕ) (f : List Items) (r : Query) (b : Items) → IsFamily n f → IsGood n r → (is_within r.a (closure (full n) f b) && not (has (closure (full n) f b) r.q)) ≡ false
+pub closure_stays : (n : ℕ) (f : List Items) (r : Query) (b : Items) → IsUnionFamily n f → IsGood n r → (is_within r.a (closure (full n) f b) && not (has (closure (full n) f b) r.q)) ≡ false
     → closure (full n) (left_by r f) b ≡ closure (full n) f b
 closure_stays n f r b family good h =
     let m = interior-is f family.holds_empty family.holds_unions (minus (full n) b) in
@@ -140,7 +140,7 @@ closure_stays n f r b family good h =
     (is_within-from r.a (closure (full n) f b) (λ i a. has-minus (full n) top i ∙ and_from (has (full n) i) (not (has top i)) (good.small i a) (not_from_false (has top i) (not_both_ways (has top i) (has r.a i) (lost.apart i) a))))
     (not_from_false (has (closure (full n) f b) r.q) (false_from_ne_true (has (closure (full n) f b) r.q) (λ c.
     true≢false (sym lost.has_q ∙ not-true (has top r.q) (and_parts (has (full n) r.q) (not (has top r.q)) (sym (has-minus (full n) top r.q) ∙ c)).1))))) ∙ h)) in
-    ap (minus (full n)) (sym (IsInterior-interior (left_by r f) (left-IsFamily n f r family).holds_empty (left-IsFamily n f r family).holds_unions (minus (full n) b) top (record {
+    ap (minus (full n)) (sym (IsInterior-interior (left_by r f) (left-IsUnionFamily n f r family).holds_empty (left-IsUnionFamily n f r family).holds_unions (minus (full n) b) top (record {
       member = among-left_from f r top m.member stays;
       within = m.within;
       greatest = λ k c w. m.greatest k (among-left_parts f r k c).0 w;

@@ -18,7 +18,7 @@ use Rattle.ls_theory.specs.Compatible.{is_compatible, compat}
 use Rattle.ls_set.specs.Query.{is_good}
 use Rattle.ls_laws.specs.Spans.{left_by}
 use Rattle.ls_laws.proofs.Lists.{some-among, some-from, filter-both, filter-same, IsInOrder-filter}
-use Rattle.ls_laws.proofs.Interiors.{IsFamily, subsets-IsFamily, filter-IsFamily, space-from, space-to}
+use Rattle.ls_laws.proofs.Interiors.{IsUnionFamily, subsets-IsUnionFamily, filter-IsUnionFamily, space-from, space-to}
 use Rattle.ls_laws.proofs.Spans.{interior-empty, interior-union}
 use Rattle.ls_laws.proofs.Breaks.{breaks_none-empty, breaks_none-union, IsGood, breaks-empty, full-unbroken, unbroken-union, among-left_from, among-left_parts, breaks_none-full}
 
@@ -84,15 +84,15 @@ meets-union (Sets sets) s t a b =
 
 -- ---- the compatible sets
 
-pub compat-IsFamily : (n : ℕ) (start : Start) (yeses : List Query) → IsFamily n (compat n start yeses)
+pub compat-IsUnionFamily : (n : ℕ) (start : Start) (yeses : List Query) → IsUnionFamily n (compat n start yeses)
 unfolding compat
-compat-IsFamily n start yeses = filter-IsFamily n (subsets n) (is_compatible start yeses)
+compat-IsUnionFamily n start yeses = filter-IsUnionFamily n (subsets n) (is_compatible start yeses)
     (and_from (meets start empty) (breaks_none yeses empty) (meets-empty start) (breaks_none-empty yeses))
     (λ s t a b.
     let x = and_parts (meets start s) (breaks_none yeses s) a in
     let y = and_parts (meets start t) (breaks_none yeses t) b in
     and_from (meets start (union s t)) (breaks_none yeses (union s t)) (meets-union start s t x.0 y.0) (breaks_none-union yeses s t x.1 y.1))
-    (subsets-IsFamily n)
+    (subsets-IsUnionFamily n)
 
 pub compat-in_order : (n : ℕ) (start : Start) (yeses : List Query) → IsInOrder (compat n start yeses)
 unfolding compat
@@ -115,7 +115,7 @@ compat-more n start yeses r =
 
 pub compat-space : (n : ℕ) (start : Start) (yeses : List Query) → meets start (full n) ≡ true → list_all (is_good n) yeses ≡ true → is_space (full n) (compat n start yeses) ≡ true
 compat-space n start yeses h good =
-    let family = compat-IsFamily n start yeses in
+    let family = compat-IsUnionFamily n start yeses in
     space-to (full n) (compat n start yeses) family.holds_empty
     (among-compat n start yeses (full n) ∙ and_from (is_within (full n) (full n)) (is_compatible start yeses (full n)) (is_within-from (full n) (full n) (λ i a. a))
     (and_from (meets start (full n)) (breaks_none yeses (full n)) h (breaks_none-full n yeses good)))

@@ -8,14 +8,14 @@ use Rattle.ls_theory.specs.Queries.{breaks, some_breaks}
 use Rattle.ls_laws.specs.Spans.{IsPart, left_by}
 use Rattle.ls_laws.specs.Forced.{is_forced_by}
 use Rattle.ls_laws.proofs.Lists.{IsInOrder-filter}
-use Rattle.ls_laws.proofs.Interiors.{IsFamily}
+use Rattle.ls_laws.proofs.Interiors.{IsUnionFamily}
 use Rattle.ls_laws.proofs.Breaks.{IsGood, full-unbroken, some_breaks-here, some_breaks-part, among-left_from, among-left_parts, left-unbroken}
-use Rattle.ls_laws.proofs.Closures.{left-IsFamily}
+use Rattle.ls_laws.proofs.Closures.{left-IsUnionFamily}
 
 -- a space whose members are compatible, and of which some member breaks each No
 pub record Fits (n : ℕ) (compat : List Items) (nos : List Query) (f : List Items) : Type 0 where
   pub in_order : IsInOrder f
-  pub is_family : IsFamily n f
+  pub is_family : IsUnionFamily n f
   pub holds_full : is_among f (full n) ≡ true
   pub compatible : IsPart f compat
   pub broken : AllByRecursion (λ r. some_breaks f r ≡ true) nos
@@ -39,7 +39,7 @@ All-broken_part f g [] part h = tt
 All-broken_part f g (r ∷ nos) part h = (some_breaks-part f g r part h.0, All-broken_part f g nos part h.1)
 
 -- where some space fits, the compatible sets do
-pub compat_fits : (n : ℕ) (compat : List Items) (nos : List Query) (f : List Items) → IsInOrder compat → IsFamily n compat → Fits n compat nos f → Fits n compat nos compat
+pub compat_fits : (n : ℕ) (compat : List Items) (nos : List Query) (f : List Items) → IsInOrder compat → IsUnionFamily n compat → Fits n compat nos f → Fits n compat nos compat
 compat_fits n compat nos f order family fits = record {
   in_order = order;
   is_family = family;
@@ -67,13 +67,13 @@ none_or_all f [] h = refl
 none_or_all f (s ∷ nos) h = rw h.0 (none_or_all f nos h.1)
 
 -- what is left fits exactly where some fitting space has no member that breaks the query
-pub left_fits : (n : ℕ) (compat : List Items) (nos : List Query) (r : Query) → IsInOrder compat → IsFamily n compat → is_among compat (full n) ≡ true → IsGood n r
+pub left_fits : (n : ℕ) (compat : List Items) (nos : List Query) (r : Query) → IsInOrder compat → IsUnionFamily n compat → is_among compat (full n) ≡ true → IsGood n r
     → Fits n compat nos (left_by r compat) ↔ ((f : List Items) × Fits n compat nos f × (some_breaks f r ≡ false))
 left_fits n compat nos r order family holds good = (
   λ h. (left_by r compat, h, left-unbroken compat r),
   λ h. record {
     in_order = IsInOrder-filter (λ k. not (breaks k r)) compat order;
-    is_family = left-IsFamily n compat r family;
+    is_family = left-IsUnionFamily n compat r family;
     holds_full = left-holds_full n compat r good holds;
     compatible = λ k c. (among-left_parts compat r k c).0;
     broken = All-broken_part h.0 (left_by r compat) nos
@@ -83,7 +83,7 @@ left_fits n compat nos r order family holds good = (
 )
 
 -- a good query is forced No exactly where some No is broken by no member of what is left
-pub forced_no : (n : ℕ) (compat : List Items) (nos : List Query) (r : Query) → IsInOrder compat → IsFamily n compat → is_among compat (full n) ≡ true → IsGood n r
+pub forced_no : (n : ℕ) (compat : List Items) (nos : List Query) (r : Query) → IsInOrder compat → IsUnionFamily n compat → is_among compat (full n) ≡ true → IsGood n r
     → IsForcedNo n compat nos r ↔ (list_any (is_forced_by compat r) nos ≡ true)
 forced_no n compat nos r order family holds good = (
   λ forced. elim (cases_Bool (list_any (is_forced_by compat r) nos)) [
@@ -91,7 +91,7 @@ forced_no n compat nos r order family holds good = (
     | inr b ↦
         let rest : Fits n compat nos (left_by r compat) = record {
           in_order = IsInOrder-filter (λ k. not (breaks k r)) compat order;
-          is_family = left-IsFamily n compat r family;
+          is_family = left-IsUnionFamily n compat r family;
           holds_full = left-holds_full n compat r good holds;
           compatible = λ k c. (among-left_parts compat r k c).0;
           broken = all_or_none (left_by r compat) nos b;
@@ -106,7 +106,7 @@ forced_no n compat nos r order family holds good = (
 
 -- ---- forced Yes, and not both
 
-pub forced_yes : (n : ℕ) (compat : List Items) (nos : List Query) (r : Query) (f : List Items) → IsInOrder compat → IsFamily n compat → Fits n compat nos f → IsForcedYes n compat nos r ↔ (some_breaks compat r ≡ false)
+pub forced_yes : (n : ℕ) (compat : List Items) (nos : List Query) (r : Query) (f : List Items) → IsInOrder compat → IsUnionFamily n compat → Fits n compat nos f → IsForcedYes n compat nos r ↔ (some_breaks compat r ≡ false)
 forced_yes n compat nos r f order family fits = (
   λ h. h compat (compat_fits n compat nos f order family fits),
   λ none g h. false_from_ne_true (some_breaks g r) (λ b. true≢false (sym (some_breaks-part g compat r h.compatible b) ∙ none)),

@@ -8,16 +8,13 @@ use Rattle.ls_set.proofs.Members.{among-here, among-there, among-filter}
 use Rattle.ls_set.proofs.Order.{among-subsets}
 use Rattle.ls_theory.specs.Families.{unions, interior, is_union_closed, is_space}
 use Rattle.ls_laws.specs.Spans.{IsOn, IsPart}
+use Rattle.ls_laws.specs.Families.{IsUnionClosed}
 use Rattle.ls_laws.proofs.Lists.{every-among, every-from, some-among, some-from}
 
 -- ---- families
 
--- with any two members their union is one
-abbrev pub IsUnionClosed : List Items → Type 0
-IsUnionClosed f = (s t : Items) → is_among f s ≡ true → is_among f t ≡ true → is_among f (union s t) ≡ true
-
--- sets of items below n, with the empty set, and with any two members their union
-pub record IsFamily (n : ℕ) (f : List Items) : Type 0 where
+-- sets of items below n, with the empty set, and with any two members their union; the list needs no order
+pub record IsUnionFamily (n : ℕ) (f : List Items) : Type 0 where
   pub small : IsOn n f
   pub holds_empty : is_among f empty ≡ true
   pub holds_unions : IsUnionClosed f
@@ -43,19 +40,19 @@ space-from whole f h =
 pub space-to : (whole : Items) (f : List Items) → is_among f empty ≡ true → is_among f whole ≡ true → IsUnionClosed f → is_space whole f ≡ true
 space-to whole f e w u = and_from (is_among f empty && is_among f whole) (is_union_closed f) (and_from (is_among f empty) (is_among f whole) e w) (closed-to f u)
 
-pub family-from : (n : ℕ) (f : List Items) → IsOn n f → is_space (full n) f ≡ true → IsFamily n f
+pub family-from : (n : ℕ) (f : List Items) → IsOn n f → is_space (full n) f ≡ true → IsUnionFamily n f
 family-from n f small h = let s = space-from (full n) f h in record { small = small; holds_empty = s.holds_empty; holds_unions = s.holds_unions }
 
-pub subsets-IsFamily : (n : ℕ) → IsFamily n (subsets n)
-subsets-IsFamily n = record {
+pub subsets-IsUnionFamily : (n : ℕ) → IsUnionFamily n (subsets n)
+subsets-IsUnionFamily n = record {
   small = λ s c. IsWithin-from s (full n) (sym (among-subsets n s) ∙ c);
   holds_empty = among-subsets n empty ∙ is_within-from empty (full n) (empty-within (full n));
   holds_unions = λ s t a b. among-subsets n (union s t) ∙ is_within-from (union s t) (full n) (union-within s t (full n) (IsWithin-from s (full n) (sym (among-subsets n s) ∙ a)) (IsWithin-from t (full n) (sym (among-subsets n t) ∙ b)));
 }
 
 -- the members that pass a test that the empty set and unions pass
-pub filter-IsFamily : (n : ℕ) (f : List Items) (p : Items → Bool) → p empty ≡ true → ((s t : Items) → p s ≡ true → p t ≡ true → p (union s t) ≡ true) → IsFamily n f → IsFamily n (filter p f)
-filter-IsFamily n f p e u family = record {
+pub filter-IsUnionFamily : (n : ℕ) (f : List Items) (p : Items → Bool) → p empty ≡ true → ((s t : Items) → p s ≡ true → p t ≡ true → p (union s t) ≡ true) → IsUnionFamily n f → IsUnionFamily n (filter p f)
+filter-IsUnionFamily n f p e u family = record {
   small = λ s c. family.small s (and_parts (is_among f s) (p s) (sym (among-filter p f s) ∙ c)).0;
   holds_empty = among-filter p f empty ∙ and_from (is_among f empty) (p empty) family.holds_empty e;
   holds_unions = λ s t a b.
@@ -135,3 +132,14 @@ pub is_within-interior : (f : List Items) → is_among f empty ≡ true → IsUn
 is_within-interior f e u s = both_ways (is_within s (interior f s)) (is_among f s)
     (λ w. subst (λ t. is_among f t ≡ true) (sym (same_within s (interior f s) (IsWithin-from s (interior f s) w) (interior-within f s))) (interior-is f e u s).member)
     (λ c. is_within-from s (interior f s) (interior-greatest f s s c (λ i a. a)))
+
+-- ---- interiors of different sets
+
+-- the interior grows with the set
+pub interior_grows : (f : List Items) (s t : Items) → IsWithin s t → IsWithin (interior f s) (interior f t)
+interior_grows f s t w i h = let r = from-interior f s i h in to-interior f t r.0 i r.1 (λ j a. w j (r.2 j a)) r.3
+
+-- the interior is its own interior
+pub interior_again : (f : List Items) (s : Items) → interior f (interior f s) ≡ interior f s
+interior_again f s = same_within (interior f (interior f s)) (interior f s) (interior-within f (interior f s))
+    (λ i h. let r = from-interior f s i h in to-interior f (interior f s) r.0 i r.1 (interior-greatest f s r.0 r.1 r.2) r.3)

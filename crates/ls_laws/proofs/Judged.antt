@@ -15,7 +15,8 @@ use Rattle.ls_theory.specs.Bases.{base, atom_items}
 use Rattle.ls_theory.specs.Verdict.{is_well_graded, is_learning_space, unclosed_pair, double_atom, graded_verdict, verdict}
 use Rattle.ls_laws.specs.Spans.{IsPart, is_double}
 use Rattle.ls_laws.proofs.Lists.{some-among, some-from}
-use Rattle.ls_laws.proofs.Interiors.{IsUnionClosed, closed-from, closed-to, space-from}
+use Rattle.ls_laws.specs.Families.{IsUnionClosed}
+use Rattle.ls_laws.proofs.Interiors.{closed-from, closed-to, space-from}
 use Rattle.ls_laws.proofs.WellGraded.{is_well_graded-atoms}
 
 -- ---- unions

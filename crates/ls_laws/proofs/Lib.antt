@@ -10,6 +10,7 @@ pub mod Remains
 pub mod Breaks
 pub mod Closures
 pub mod Compat
+pub mod Families
 pub mod Fit
 pub mod Settled
 pub mod Search

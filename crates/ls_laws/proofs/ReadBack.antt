@@ -10,7 +10,7 @@ use Rattle.ls_theory.specs.Fringes.{inner_fringe, outer_fringe, state_of}
 use Rattle.ls_laws.specs.Spans.{IsOn}
 use Rattle.ls_laws.specs.Walks.{IsWellGraded}
 use Rattle.ls_laws.proofs.Lists.{filter-both, find-none, find-one}
-use Rattle.ls_laws.proofs.Interiors.{IsFamily, IsInterior-interior, interior-is}
+use Rattle.ls_laws.proofs.Interiors.{IsUnionFamily, IsInterior-interior, interior-is}
 use Rattle.ls_laws.proofs.Counts.{some_missing}
 use Rattle.ls_laws.proofs.Climbs.{outward, removable}
 
@@ -55,7 +55,7 @@ right_of_union : (s t : Items) (i : ℕ) → has (union s t) i ≡ true → has 
 right_of_union s t i a b = grind (arith, members)
 
 -- a member is the greatest that has no item of its outer fringe
-pub greatest_without : (n : ℕ) (f : List Items) → IsFamily n f → IsWellGraded f → (k : Items) → is_among f k ≡ true → interior f (minus (full n) (outer_fringe n f k)) ≡ k
+pub greatest_without : (n : ℕ) (f : List Items) → IsUnionFamily n f → IsWellGraded f → (k : Items) → is_among f k ≡ true → interior f (minus (full n) (outer_fringe n f k)) ≡ k
 greatest_without n f family graded k c =
     let rest = minus (full n) (outer_fringe n f k) in
     sym (IsInterior-interior f family.holds_empty family.holds_unions rest k (record {
@@ -75,7 +75,7 @@ greatest_without n f family graded k c =
     }))
 
 -- so it is told by its outer fringe
-pub outer_fringe-same : (n : ℕ) (f : List Items) → IsFamily n f → IsWellGraded f → (k l : Items) → is_among f k ≡ true → is_among f l ≡ true → outer_fringe n f k ≡ outer_fringe n f l → k ≡ l
+pub outer_fringe-same : (n : ℕ) (f : List Items) → IsUnionFamily n f → IsWellGraded f → (k l : Items) → is_among f k ≡ true → is_among f l ≡ true → outer_fringe n f k ≡ outer_fringe n f l → k ≡ l
 outer_fringe-same n f family graded k l ck cl e =
     sym (greatest_without n f family graded k ck) ∙ ap (λ o. interior f (minus (full n) o)) e ∙ greatest_without n f family graded l cl
 
@@ -85,7 +85,7 @@ outer_fringe-same n f family graded k l ck cl e =
 abbrev pub has_fringes : ℕ → List Items → Items → Items → Items → Bool
 has_fringes n f inner outer k = is_same (inner_fringe f k) inner && is_same (outer_fringe n f k) outer
 
-fringes-tell : (n : ℕ) (f : List Items) → IsFamily n f → IsWellGraded f → (inner outer k : Items) → is_among f k ≡ true → has_fringes n f inner outer k ≡ true → k ≡ interior f (minus (full n) outer)
+fringes-tell : (n : ℕ) (f : List Items) → IsUnionFamily n f → IsWellGraded f → (inner outer k : Items) → is_among f k ≡ true → has_fringes n f inner outer k ≡ true → k ≡ interior f (minus (full n) outer)
 fringes-tell n f family graded inner outer k c h =
     let x = and_parts (is_same (inner_fringe f k) inner) (is_same (outer_fringe n f k) outer) h in
     sym (greatest_without n f family graded k c) ∙ ap (λ o. interior f (minus (full n) o)) ((Decides-is_same (outer_fringe n f k) outer).0 x.1)
@@ -95,7 +95,7 @@ own_fringes n f k = and_from (is_same (inner_fringe f k) (inner_fringe f k)) (is
     ((Decides-is_same (inner_fringe f k) (inner_fringe f k)).1 refl) ((Decides-is_same (outer_fringe n f k) (outer_fringe n f k)).1 refl)
 
 -- the member with two given fringes is the greatest that has no item of the outer one, or there is none
-pub state_of-is : (n : ℕ) (f : List Items) → IsFamily n f → IsWellGraded f → (inner outer : Items)
+pub state_of-is : (n : ℕ) (f : List Items) → IsUnionFamily n f → IsWellGraded f → (inner outer : Items)
     → let k = interior f (minus (full n) outer) in state_of n f inner outer ≡ cond (has_fringes n f inner outer k) (Some k) None
 unfolding state_of
 state_of-is n f family graded inner outer =
@@ -110,7 +110,7 @@ state_of-is n f family graded inner outer =
     ]
 
 -- a member is read back from its fringes
-pub state_of-own : (n : ℕ) (f : List Items) → IsFamily n f → IsWellGraded f → (k : Items) → is_among f k ≡ true → state_of n f (inner_fringe f k) (outer_fringe n f k) ≡ Some k
+pub state_of-own : (n : ℕ) (f : List Items) → IsUnionFamily n f → IsWellGraded f → (k : Items) → is_among f k ≡ true → state_of n f (inner_fringe f k) (outer_fringe n f k) ≡ Some k
 unfolding state_of
 state_of-own n f family graded k c =
     find-one (has_fringes n f (inner_fringe f k) (outer_fringe n f k)) f k c (own_fringes n f k)
@@ -119,7 +119,7 @@ state_of-own n f family graded k c =
 -- ---- no member is stuck
 
 -- where a member lacks an item of another, its outer fringe has an item of that other
-pub outer_towards : (n : ℕ) (f : List Items) → IsFamily n f → IsWellGraded f → (k l : Items) (x : ℕ) → is_among f k ≡ true → is_among f l ≡ true → has l x ≡ true → has k x ≡ false
+pub outer_towards : (n : ℕ) (f : List Items) → IsUnionFamily n f → IsWellGraded f → (k l : Items) (x : ℕ) → is_among f k ≡ true → is_among f l ≡ true → has l x ≡ true → has k x ≡ false
     → (i : ℕ) × (has l i ≡ true) × (has (outer_fringe n f k) i ≡ true)
 outer_towards n f family graded k l x ck cl hl hk =
     let u = union k l in
@@ -127,7 +127,7 @@ outer_towards n f family graded k l x ck cl hl hk =
     (r.0, right_of_union k l r.0 r.1 r.2, has-outer_fringe n f family.small k r.0 ∙ rw r.2 r.3)
 
 -- a member that is not empty has an inner fringe
-pub inner_towards : (n : ℕ) (f : List Items) → IsFamily n f → IsWellGraded f → (k : Items) (x : ℕ) → is_among f k ≡ true → has k x ≡ true → (i : ℕ) × (has (inner_fringe f k) i ≡ true)
+pub inner_towards : (n : ℕ) (f : List Items) → IsUnionFamily n f → IsWellGraded f → (k : Items) (x : ℕ) → is_among f k ≡ true → has k x ≡ true → (i : ℕ) × (has (inner_fringe f k) i ≡ true)
 inner_towards n f family graded k x c h =
     let r = removable f graded family.holds_empty k x c h in
     (r.0, has-inner_fringe f k r.0 ∙ rw r.1 r.2)

@@ -10,7 +10,8 @@ use Rattle.ls_theory.specs.Families.{interior}
 use Rattle.ls_theory.specs.Bases.{base}
 use Rattle.ls_laws.specs.Spans.{IsPart, Spans, needed, left_by, touches, joins, after_yes}
 use Rattle.ls_laws.proofs.Lists.{IsInOrder-filter}
-use Rattle.ls_laws.proofs.Interiors.{IsUnionClosed, from-interior, interior-whole}
+use Rattle.ls_laws.specs.Families.{IsUnionClosed}
+use Rattle.ls_laws.proofs.Interiors.{from-interior, interior-whole}
 use Rattle.ls_laws.proofs.Counts.{some_item}
 use Rattle.ls_laws.proofs.Atoms.{among-base, base-member, atom_within}
 use Rattle.ls_laws.proofs.Spans.{base-of, base-needed}

@@ -8,7 +8,7 @@ use Rattle.ls_set.proofs.Sizes.{len-less}
 use Rattle.ls_theory.specs.Families.{interior}
 use Rattle.ls_theory.specs.Queries.{breaks}
 use Rattle.ls_laws.proofs.Lists.{same_members}
-use Rattle.ls_laws.proofs.Interiors.{IsFamily, interior-greatest, is_within-interior}
+use Rattle.ls_laws.proofs.Interiors.{IsUnionFamily, interior-greatest, is_within-interior}
 use Rattle.ls_laws.proofs.Breaks.{IsGood, Breaks-from, breaks-from, some_breaks-here, breaker}
 use Rattle.ls_laws.proofs.Fit.{Fits, IsSettled, compat_fits}
 
@@ -61,7 +61,7 @@ rest-broken : (n : ℕ) (k : Items) (q : ℕ) → has k q ≡ true → breaks k 
 rest-broken n k q h = breaks-from k (rest_of n k q) (record { apart = λ i a. has-minus (full n) k i ∙ left_out (has (full n) i) (has k i) a; has_q = h })
 
 -- each compatible set is a member of each fitting space
-settled-part : (n : ℕ) (compat : List Items) (nos : List Query) (f : List Items) → IsInOrder compat → IsFamily n compat → Fits n compat nos f → IsSettled n (max 1 (n - 1)) compat nos → (k : Items) → is_among compat k ≡ true → is_among f k ≡ true
+settled-part : (n : ℕ) (compat : List Items) (nos : List Query) (f : List Items) → IsInOrder compat → IsUnionFamily n compat → Fits n compat nos f → IsSettled n (max 1 (n - 1)) compat nos → (k : Items) → is_among compat k ≡ true → is_among f k ≡ true
 settled-part n compat nos f order family fits settled k c =
     let small = family.small k c in
     elim (cases_Bool (is_same k (full n))) [
@@ -77,7 +77,7 @@ settled-part n compat nos f order family fits settled k c =
     ]
 
 -- exactly one space fits, and it is that of the compatible sets
-pub only_compat : (n : ℕ) (compat : List Items) (nos : List Query) (g : List Items) → IsInOrder compat → IsFamily n compat → Fits n compat nos g → IsSettled n (max 1 (n - 1)) compat nos
+pub only_compat : (n : ℕ) (compat : List Items) (nos : List Query) (g : List Items) → IsInOrder compat → IsUnionFamily n compat → Fits n compat nos g → IsSettled n (max 1 (n - 1)) compat nos
     → (f : List Items) → Fits n compat nos f ↔ (f ≡ compat)
 only_compat n compat nos g order family some settled f = (
   λ fits. same_members f compat fits.in_order order fits.compatible (settled-part n compat nos f order family fits settled),

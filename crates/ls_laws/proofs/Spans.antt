@@ -9,7 +9,7 @@ use Rattle.ls_theory.specs.Families.{interior}
 use Rattle.ls_theory.specs.Bases.{base}
 use Rattle.ls_laws.specs.Spans.{IsOn, IsPart, Spans, is_proper, needed, spanned}
 use Rattle.ls_laws.proofs.Lists.{IsInOrder-filter, same_members}
-use Rattle.ls_laws.proofs.Interiors.{IsFamily, subsets-IsFamily, filter-IsFamily, from-interior, interior-whole, interior-member, interior-among}
+use Rattle.ls_laws.proofs.Interiors.{IsUnionFamily, subsets-IsUnionFamily, filter-IsUnionFamily, from-interior, interior-whole, interior-member, interior-among}
 use Rattle.ls_laws.proofs.Atoms.{among-base, base-atom, base-member, base-spans, base-least, atom_within}
 
 -- The base of f is, of any members that span f, those that are not the union of the others within them.
@@ -67,12 +67,12 @@ interior-union g s t a b = interior-whole g (union s t) (λ q h. elim (or_cases 
   | inr x ↦ let r = from-interior g t q (ap (λ u. has u q) b ∙ x) in (r.0, r.1, (λ i y. union-right s t i (r.2 i y)), r.3)
 ])
 
-pub spanned-IsFamily : (n : ℕ) (g : List Items) → IsFamily n (spanned n g)
+pub spanned-IsUnionFamily : (n : ℕ) (g : List Items) → IsUnionFamily n (spanned n g)
 unfolding spanned
-spanned-IsFamily n g = filter-IsFamily n (subsets n) (λ k. is_same (interior g k) k)
+spanned-IsUnionFamily n g = filter-IsUnionFamily n (subsets n) (λ k. is_same (interior g k) k)
     ((Decides-is_same (interior g empty) empty).1 (interior-empty g))
     (λ s t a b. (Decides-is_same (interior g (union s t)) (union s t)).1 (interior-union g s t ((Decides-is_same (interior g s) s).0 a) ((Decides-is_same (interior g t) t).0 b)))
-    (subsets-IsFamily n)
+    (subsets-IsUnionFamily n)
 
 -- a set of the list is one of them
 pub spanned-has : (n : ℕ) (g : List Items) → IsOn n g → IsPart g (spanned n g)
@@ -88,7 +88,7 @@ pub base-spanned : (n : ℕ) (g : List Items) → IsOn n g → (k : Items) → i
 base-spanned n g small = base-of (spanned n g) g (spanned-has n g small) (spanned-whole n g)
 
 -- members that span a family span nothing else
-pub spanned-same : (n : ℕ) (f g : List Items) → IsFamily n f → IsPart g f → Spans g f
+pub spanned-same : (n : ℕ) (f g : List Items) → IsUnionFamily n f → IsPart g f → Spans g f
     → (k : Items) → is_among (spanned n g) k ≡ is_among f k
 spanned-same n f g family part span k = both_ways (is_among (spanned n g) k) (is_among f k)
     (λ c. subst (λ s. is_among f s ≡ true) (spanned-whole n g k c) (interior-among f g family.holds_empty family.holds_unions part k))
@@ -104,7 +104,7 @@ needed-in_order : (g : List Items) → IsInOrder g → IsInOrder (needed g)
 unfolding needed
 needed-in_order g h = IsInOrder-filter _ g h
 
-spanned-in_order : (n : ℕ) (g : List Items) → IsInOrder (spanned n g)
+pub spanned-in_order : (n : ℕ) (g : List Items) → IsInOrder (spanned n g)
 unfolding spanned
 spanned-in_order n g = IsInOrder-filter _ (subsets n) (subsets_from-in_order 0 n)
 
@@ -120,5 +120,5 @@ pub spanned-needed : (n : ℕ) (g : List Items) → IsInOrder g → IsOn n g →
 spanned-needed n g h small = base-needed (spanned n g) g (spanned-in_order n g) h (spanned-has n g small) (spanned-whole n g)
 
 -- what the base of a family spans is the family
-pub spanned-base : (n : ℕ) (f : List Items) → IsInOrder f → IsFamily n f → spanned n (base f) ≡ f
+pub spanned-base : (n : ℕ) (f : List Items) → IsInOrder f → IsUnionFamily n f → spanned n (base f) ≡ f
 spanned-base n f h family = same_list (spanned n (base f)) f (spanned-in_order n (base f)) h (spanned-same n f (base f) family (base-member f) (base-spans f))

@@ -12,7 +12,8 @@ use Rattle.ls_theory.specs.Verdict.{neighbours, is_joined, is_well_graded, is_le
 use Rattle.ls_laws.specs.Spans.{IsOn, is_double}
 use Rattle.ls_laws.specs.Walks.{LeadsTo, IsWellGraded}
 use Rattle.ls_laws.proofs.Lists.{every-among, every-from, some-among, some-from, filter-both}
-use Rattle.ls_laws.proofs.Interiors.{IsUnionClosed, IsFamily, family-from}
+use Rattle.ls_laws.specs.Families.{IsUnionClosed}
+use Rattle.ls_laws.proofs.Interiors.{IsUnionFamily, family-from}
 use Rattle.ls_laws.proofs.Climbs.{graded_by_atoms}
 
 leads_from : (f : List Items) (d : ℕ) (k l : Items) → is_joined f d k l ≡ true → (ss : List Items) × LeadsTo f k ss l × (length ss ≡ d)
@@ -126,7 +127,7 @@ is_well_graded-atoms f e u =
     ])))
 
 -- a learning space of items below n
-pub learning-parts : (n : ℕ) (f : List Items) → IsOn n f → is_learning_space (full n) f ≡ true → IsFamily n f × IsWellGraded f
+pub learning-parts : (n : ℕ) (f : List Items) → IsOn n f → is_learning_space (full n) f ≡ true → IsUnionFamily n f × IsWellGraded f
 learning-parts n f small h =
     let a = and_parts (is_space (full n) f) (is_well_graded f) h in
     (family-from n f small a.0, (is_well_graded-decides f).0 a.1)

@@ -1,3 +1,4 @@
 pub mod Walks
 pub mod Spans
+pub mod Families
 pub mod Forced

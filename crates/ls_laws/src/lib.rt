@@ -19,4 +19,6 @@ pub use forced::{
 };
 pub use fringes::{fringes_have, fringes_lead_on, fringes_tell};
 pub use gradation::{graded_by_atoms, judged_by_atoms};
-pub use spaces::{compatible_sets_are_a_space, interiors_are_greatest, projections_are_spaces};
+pub use spaces::{
+    compatible_sets_are_a_space, interiors_are_greatest, interiors_grow, projections_are_spaces,
+};

@@ -44,6 +44,14 @@ pub fn interiors_are_greatest()
         is_union_closed f ≡ true → is_within s (interior f s) ≡ is_among f s }
 {}
 
+/// In any list of sets the interior of a set grows with the set, and is its own interior.
+pub fn interiors_grow()
+    ensures monotone { (f : List Items) (s t : Items) → IsWithin s t →
+        IsWithin (interior f s) (interior f t) }
+    ensures idempotent { (f : List Items) (s : Items) →
+        interior f (interior f s) ≡ interior f s }
+{}
+
 /// A projection of a space is a space on the part; its members are the meets of the part with the
 /// members.
 pub fn projections_are_spaces()

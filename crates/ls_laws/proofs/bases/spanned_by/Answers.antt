@@ -1,11 +1,11 @@
 use Rattle.ls_laws.proofs.Interiors.{closed-to, family-from}
-use Rattle.ls_laws.proofs.Spans.{spanned-IsFamily, spanned-has, spanned-whole, spanned-needed, spanned-base}
+use Rattle.ls_laws.proofs.Spans.{spanned-IsUnionFamily, spanned-has, spanned-whole, spanned-needed, spanned-base}
 use Rattle.ls_laws.specs.Spans.{spanned}
 use Rattle.ls_laws.proofs.bases.spanned_by.Goals as goal
 
 pub returns : goal.returns
 returns c = record {
-  closed = λ n g. closed-to (spanned n g) (spanned-IsFamily n g).holds_unions;
+  closed = λ n g. closed-to (spanned n g) (spanned-IsUnionFamily n g).holds_unions;
   holds = spanned-has;
   whole = spanned-whole;
   base = spanned-needed;

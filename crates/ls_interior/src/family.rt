@@ -1,0 +1,78 @@
+// Families that are known by their interiors.
+ghost use Rattle.std.specs.Prelude.{◌≡◌, ℕ, ◌+◌, ◌≤◌, List};
+ghost use Rattle.ls_set.specs.ItemSet.{Items, full, is_among, IsWithin};
+ghost use Rattle.ls_theory.specs.Families.{interior, closure};
+ghost use Rattle.ls_laws.specs.Families.{IsFamily};
+
+use crate::steps::Steps;
+use ls_set::{ItemSet, PLACES};
+use std::sync::ledger::Ledger;
+
+/// A family on items: a list of sets of them in the order, which holds the empty set and is closed
+/// under union. It is known by its interiors.
+///
+/// That an interior is a member, lies within the set, grows with it and is its own interior, follows
+/// from `is_family` (`interiors_are_greatest` and `interiors_grow` of ls_laws).
+pub trait Inside {
+    /// How many items there are.
+    ghost item_count: { Self → ℕ };
+
+    /// The members, in the order.
+    ghost members: { Self → List Items };
+
+    /// How many items there are, at most [`PLACES`].
+    fn items(&self) -> u32
+        ensures count { result ≡ item_count self.now }
+        ensures few { result ≤ PLACES };
+
+    /// The interior of `s`: the greatest member within it. All items of `s` are below `items()`.
+    fn inside(&self, s: ItemSet) -> ItemSet
+        requires { IsWithin s (full (item_count self.now)) }
+        ensures { result ≡ interior (members self.now) s };
+
+    /// The members are a family on the items.
+    ghost is_family: { (f : Self) → IsFamily (item_count f) (members f) };
+}
+
+/// A family on items, each of whose interiors is counted.
+pub trait Interior {
+    /// How many items there are.
+    ghost item_count: { Self → ℕ };
+
+    /// The members, in the order.
+    ghost members: { Self → List Items };
+
+    /// How many items there are, at most [`PLACES`].
+    fn items(&self) -> u32
+        ensures count { result ≡ item_count self.now }
+        ensures few { result ≤ PLACES };
+
+    /// The interior of `s`: the greatest member within it. All items of `s` are below `items()`. It
+    /// counts as one step.
+    fn interior<L: Ledger>(&self, s: ItemSet, steps: &mut Steps<L>) -> ItemSet
+        requires { IsWithin s (full (item_count self.now)) }
+        ensures value { result ≡ interior (members self.now) s }
+        ensures cost { steps.new ≡ steps.old + 1 };
+
+    /// The members are a family on the items.
+    ghost is_family: { (f : Self) → IsFamily (item_count f) (members f) };
+}
+
+/// Whether the set is a member. All its items are below `f.items()`.
+pub fn is_member<F: Inside>(f: &F, s: ItemSet) -> bool
+    requires { IsWithin s (full (F.item_count f.now)) }
+    ensures { result ≡ is_among (F.members f.now) s }
+{
+    s.is_within(f.inside(s))
+}
+
+/// The closure of `s`, which is the complement of the interior of its complement, in one step. All
+/// items of `s` are below `f.items()`.
+pub fn closure<I: Interior, L: Ledger>(f: &I, s: ItemSet, steps: &mut Steps<L>) -> ItemSet
+    requires { IsWithin s (full (I.item_count f.now)) }
+    ensures value { result ≡ closure (full (I.item_count f.now)) (I.members f.now) s }
+    ensures cost { steps.new ≡ steps.old + 1 }
+{
+    let all = ItemSet::full(f.items());
+    all.minus(f.interior(all.minus(s), steps))
+}

@@ -1,0 +1,15 @@
+//! Families of sets, known by their interiors, and the count of the interiors that are formed.
+#![tactic(auto)]
+
+mod counted;
+mod family;
+mod free;
+mod steps;
+
+pub use counted::Counted;
+pub use family::{Inside, Interior, closure, is_member};
+pub use free::Free;
+pub use steps::Steps;
+
+#[cfg(test)]
+mod tests;
