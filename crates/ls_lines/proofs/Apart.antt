@@ -13,7 +13,7 @@ use Rattle.ls_lines.specs.declared.form.Form.{Form}
 use Rattle.ls_lines.specs.declared.form.Form.TheVariants as form
 use Rattle.ls_lines.specs.declared.form.Part.{Part}
 use Rattle.ls_lines.specs.declared.form.Part.TheVariants.{Fixed, One, Many}
-use Rattle.ls_lines.proofs.Ascii.{never, both}
+use Rattle.ls_lines.proofs.Numbers.{never, both}
 
 -- whether the two may have a line in common: their fixed words agree as far as no `Many` stands before, and so do their lengths
 abbrev clash : List Part → List Part → Bool
@@ -58,6 +58,8 @@ place form.Nothing = 0
 place form.Items = 1
 place form.Yes = 2
 place form.States = 3
+place form.StatesUpTo = 4
+place form.StatesAfter = 5
 
 at_place : (f : Form) → slice_get forms (place f) ≡ Some f
 unfolding forms

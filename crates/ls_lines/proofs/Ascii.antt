@@ -10,7 +10,7 @@ use Rattle.std.proofs.lemmas.List.Elements.{All-nil, All-cons}
 use Rattle.std.proofs.lemmas.List.Sums.{prefix_len-le-length}
 use Rattle.std.proofs.lemmas.Option.{same_Some, none-some, cond_some}
 use Rattle.ls_lines.specs.Lines.{Text}
-use Rattle.ls_lines.specs.Kinds.{is_of, is_name_byte}
+use Rattle.ls_lines.specs.Kinds.{is_of, is_name_byte, is_cursor_byte, most_counted}
 use Rattle.ls_lines.specs.Forms.{spelling}
 use Rattle.ls_lines.specs.Commands.{fits, front}
 use Rattle.ls_lines.specs.declared.kind.Kind.{Kind}
@@ -19,22 +19,13 @@ use Rattle.ls_lines.specs.declared.keyword.Keyword.{Keyword}
 use Rattle.ls_lines.specs.declared.keyword.Keyword.TheVariants as word
 use Rattle.ls_lines.specs.declared.form.Part.{Part}
 use Rattle.ls_lines.specs.declared.form.Part.TheVariants.{Fixed, One, Many}
-
-pub never : {A : Type 0} → false ≡ true → A
-never e = absurd (cc e)
-
-pub both : (a b : Bool) → a && b ≡ true → (a ≡ true) × (b ≡ true)
-both true b h = (refl, h)
-both false b h = never h
-
-ascii_where : (test : ℕ → Bool) → ((b : ℕ) → test b ≡ true → b < 128) → (w : Text) → list_all test w ≡ true → IsAscii w
-ascii_where test below [] h = IsAscii-nil
-ascii_where test below (b ∷ w) h =
-    let parts = both (test b) (list_all test w) h in
-    IsAscii-cons b w (below b parts.0) (ascii_where test below w parts.1)
+use Rattle.ls_lines.proofs.Numbers.{never, both, ascii_where, is_decimal-ascii, number_up_to-decimal}
 
 is_name_byte-ascii : (b : ℕ) → is_name_byte b ≡ true → b < 128
 is_name_byte-ascii b h = grind (arith, nat_tests)
+
+is_cursor_byte-ascii : (b : ℕ) → is_cursor_byte b ≡ true → b < 128
+is_cursor_byte-ascii b h = grind (arith, nat_tests)
 
 below_128 : (b : ℕ) → nat_lt b 128 ≡ true → b < 128
 below_128 b h = grind (arith, nat_tests)
@@ -42,7 +33,9 @@ below_128 b h = grind (arith, nat_tests)
 is_of-ascii : (k : Kind) (w : Text) → is_of k w ≡ true → IsAscii w
 unfolding is_of
 is_of-ascii kind.Name w h = ascii_where is_name_byte is_name_byte-ascii w (both _ _ h).1
-is_of-ascii k w h = ascii_where is_name_byte is_name_byte-ascii w (both _ _ h).1
+is_of-ascii kind.Item w h = ascii_where is_name_byte is_name_byte-ascii w (both _ _ h).1
+is_of-ascii kind.Count w h = is_decimal-ascii w (number_up_to-decimal most_counted w h)
+is_of-ascii kind.Cursor w h = ascii_where is_cursor_byte is_cursor_byte-ascii w (both _ _ h).1
 
 spelling-ascii : (v : Keyword) → IsAscii (spelling v)
 unfolding spelling

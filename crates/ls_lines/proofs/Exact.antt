@@ -13,7 +13,7 @@ use Rattle.ls_lines.specs.declared.kind.Kind.TheVariants as kind
 use Rattle.ls_lines.specs.declared.form.Form.{Form}
 use Rattle.ls_lines.specs.declared.form.Part.{Part}
 use Rattle.ls_lines.specs.declared.form.Part.TheVariants.{Fixed, One, Many}
-use Rattle.ls_lines.proofs.Ascii.{never}
+use Rattle.ls_lines.proofs.Numbers.{never}
 use Rattle.ls_lines.proofs.Places.{begun_by_none}
 use Rattle.ls_lines.proofs.Parted.{is_plain, plain, plain_rest, joined, parted}
 
@@ -72,6 +72,7 @@ cut_complete (part ∷ ps) (w ∷ ws) p h =
 sample : (k : Kind) → (w : Text) × (is_of k w ≡ true)
 unfolding is_of
 sample kind.Name = (codes "a", refl)
+sample kind.Count = (codes "0", refl)
 sample k = (codes "a", refl)
 
 some_line : (ps : List Part) → (ws : List Text) × IsLine ps ws

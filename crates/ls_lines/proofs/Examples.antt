@@ -1,5 +1,5 @@
 -- Examples: words, commands and the places of faults.
-use Rattle.std.proofs.Common.{ℕ, ◌≡◌, refl, List, [], ◌∷◌, ◌++◌, Some, codes, replicate}
+use Rattle.std.proofs.Common.{ℕ, ◌≡◌, refl, List, [], ◌∷◌, ◌++◌, Some, codes, replicate, None}
 use Rattle.ls_lines.specs.Lines.{words}
 use Rattle.ls_lines.specs.Kinds.{is_of}
 use Rattle.ls_lines.specs.Forms.{spelling, parts, command, forms}
@@ -26,6 +26,14 @@ none_failed : command_of (words (codes "yes : b")) ≡ Some (commands.Yes [] (co
 unfolding words command_of forms parts command cut is_of spelling
 none_failed = refl
 
+all_states : command_of (words (codes "states")) ≡ Some (commands.States 65536 None)
+unfolding words command_of forms parts command cut is_of spelling
+all_states = refl
+
+page_after : command_of (words (codes "states 20 after a-b#")) ≡ Some (commands.States 20 (Some (codes "a-b#")))
+unfolding words command_of forms parts command cut is_of spelling
+page_after = refl
+
 -- the place of the fault in a line
 abbrev place : List ℕ → ℕ
 place line = fault_place (words line)
@@ -45,6 +53,14 @@ unknown_with_colon = refl
 too_many_words : place (codes "states x") ≡ 2
 unfolding words fault_place is_begun forms parts is_of spelling
 too_many_words = refl
+
+no_cursor : place (codes "states 3 after") ≡ 4
+unfolding words fault_place is_begun forms parts is_of spelling
+no_cursor = refl
+
+leading_zero : place (codes "states 03") ≡ 2
+unfolding words fault_place is_begun forms parts is_of spelling
+leading_zero = refl
 
 -- a name has at most 40 bytes
 long_name : place (codes "items " ++ replicate 41 97) ≡ 2

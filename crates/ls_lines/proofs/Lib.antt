@@ -1,8 +1,10 @@
 pub mod Runs
+pub mod Numbers
 pub mod Ascii
 pub mod Cutting
 pub mod Places
 pub mod Choosing
+pub mod Counts
 pub mod Parted
 pub mod Exact
 pub mod Apart

@@ -13,7 +13,7 @@ use Rattle.ls_lines.specs.declared.form.Form.{Form}
 use Rattle.ls_lines.specs.declared.form.Form.TheVariants as form
 use Rattle.ls_lines.specs.declared.form.Part.{Part}
 use Rattle.ls_lines.specs.declared.form.Part.TheVariants.{Fixed, One, Many}
-use Rattle.ls_lines.proofs.Ascii.{never, both}
+use Rattle.ls_lines.proofs.Numbers.{never, both}
 
 -- whether any number of words of the kind end where these parts begin: at no part, or at a fixed word that is not of the kind
 abbrev ends : Kind → List Part → Bool

@@ -8,6 +8,7 @@ use Rattle.ls_lines.specs.Forms.{spelling, parts, command, forms}
 use Rattle.ls_lines.specs.declared.form.Part.{Part}
 use Rattle.ls_lines.specs.declared.form.Part.TheVariants.{Fixed, One, Many}
 use Rattle.ls_lines.specs.declared.command.Command.{Command}
+use Rattle.ls_lines.specs.declared.command.Command.TheVariants.{States}
 
 -- whether the word can stand at the part
 abbrev pub fits : Part → Text → Bool
@@ -36,6 +37,11 @@ is_begun (part ∷ ps) ws = option_map_or (λ m. is_begun ps (drop m ws)) (front
 -- the command that the words are, if they are one
 unfoldable pub command_of : List Text → Option Command
 command_of ws = slice_get (filter_map (λ f. option_map (command f) (cut (parts f) ws)) forms) 0
+
+-- the count of the command, where it has one
+abbrev pub count_of : Command → Option ℕ
+count_of (States count after) = Some count
+count_of c = None
 
 -- whether some command begins with the words
 abbrev pub begins_command : List Text → Bool

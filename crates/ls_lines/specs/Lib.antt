@@ -1,4 +1,5 @@
 pub mod Lines
+pub mod Numbers
 pub mod Kinds
 pub mod Forms
 pub mod Commands

@@ -9,5 +9,6 @@ pub enum Command {
     Nothing,
     Items { names: WordList },
     Yes { names: WordList, item: Word },
-    States,
+    /// A page of at most `count` states: the first ones, or those after a cursor.
+    States { count: u32, after: Option<Word> },
 }

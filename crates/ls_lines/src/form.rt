@@ -1,8 +1,10 @@
 // The forms of commands.
 
 ghost use Rattle.std.specs.Prelude.{◌≡◌, [], slice_set};
-ghost use Rattle.ls_lines.specs.Forms.{all, one};
+ghost use Rattle.ls_lines.specs.Forms.{all, one, count};
 
+use crate::kind::MOST_COUNTED;
+use crate::number::number_up_to;
 use crate::{Command, Keyword, Kind, Word, WordList};
 use std::alloc::Global;
 use std::mem;
@@ -22,10 +24,19 @@ pub enum Form {
     Items,
     Yes,
     States,
+    StatesUpTo,
+    StatesAfter,
 }
 
 /// All forms.
-pub const FORMS: [Form; 4] = [Form::Nothing, Form::Items, Form::Yes, Form::States];
+pub const FORMS: [Form; 6] = [
+    Form::Nothing,
+    Form::Items,
+    Form::Yes,
+    Form::States,
+    Form::StatesUpTo,
+    Form::StatesAfter,
+];
 
 impl Form {
     ghost use Rattle.std.specs.Prelude.{◌≡◌};
@@ -46,6 +57,13 @@ impl Form {
                 Part::One(Kind::Item),
             ],
             Form::States => &[Part::Fixed(Keyword::States)],
+            Form::StatesUpTo => &[Part::Fixed(Keyword::States), Part::One(Kind::Count)],
+            Form::StatesAfter => &[
+                Part::Fixed(Keyword::States),
+                Part::One(Kind::Count),
+                Part::Fixed(Keyword::After),
+                Part::One(Kind::Cursor),
+            ],
         }
     }
 
@@ -63,7 +81,18 @@ impl Form {
                 names: take_all(alloc, &mut given, 1),
                 item: take_one(alloc, &mut given, 3),
             },
-            Form::States => Command::States,
+            Form::States => Command::States {
+                count: MOST_COUNTED,
+                after: None,
+            },
+            Form::StatesUpTo => Command::States {
+                count: take_count(alloc, &mut given, 1),
+                after: None,
+            },
+            Form::StatesAfter => Command::States {
+                count: take_count(alloc, &mut given, 1),
+                after: Some(take_one(alloc, &mut given, 3)),
+            },
         }
     }
 }
@@ -88,4 +117,13 @@ fn take_one(alloc: Global, given: &mut [WordList], place: usize) -> Word
     take_all(alloc, given, place)
         .into_first()
         .unwrap_or(Word::empty(alloc))
+}
+
+// The number of the one word at a part, which is a count.
+fn take_count(alloc: Global, given: &mut [WordList], place: usize) -> u32
+    ensures value { result ≡ count given.old place }
+    ensures others { given.new ≡ slice_set given.old place [] }
+{
+    let word = take_one(alloc, given, place);
+    number_up_to(MOST_COUNTED, word.as_str().as_bytes()).unwrap_or(0)
 }

@@ -6,6 +6,7 @@ pub enum Keyword {
     Items,
     Yes,
     States,
+    After,
     Colon,
 }
 
@@ -22,6 +23,7 @@ impl Keyword {
             Keyword::Items => "items",
             Keyword::Yes => "yes",
             Keyword::States => "states",
+            Keyword::After => "after",
             Keyword::Colon => ":",
         }
     }

@@ -1,16 +1,23 @@
 // The kinds of words.
 ghost use Rattle.std.specs.Prelude.{◌≡◌};
-ghost use Rattle.ls_lines.specs.Kinds.{is_name_up_to, is_name_byte};
+ghost use Rattle.ls_lines.specs.Kinds.{is_name_up_to, is_name_byte, is_cursor, is_cursor_byte};
+
+use crate::number::number_up_to;
 
 /// What a word of a command can be. An item's name is a name; it has to be one of the domain's.
 #[derive(Clone, Copy, Debug, PartialEq, Eq)]
 pub enum Kind {
     Name,
     Item,
+    Count,
+    Cursor,
 }
 
 /// The most bytes that a name has.
 const LONGEST_NAME: usize = 40;
+
+/// The most sets or paths that one page has.
+pub const MOST_COUNTED: u32 = 65_536;
 
 impl Kind {
     ghost use Rattle.ls_lines.specs.Kinds.{is_of};
@@ -22,6 +29,8 @@ impl Kind {
     {
         match self {
             Kind::Name | Kind::Item => is_name_up_to(LONGEST_NAME, word),
+            Kind::Count => number_up_to(MOST_COUNTED, word).is_some(),
+            Kind::Cursor => is_cursor(word),
         }
     }
 }
@@ -38,4 +47,18 @@ fn is_name_byte(b: u8) -> bool
     ensures { result ≡ is_name_byte b }
 {
     matches!(b, b'A'..=b'Z' | b'a'..=b'z' | b'0'..=b'9' | b'_' | b'-' | b'.')
+}
+
+// One cursor byte or more.
+fn is_cursor(word: &[u8]) -> bool
+    ensures { result ≡ is_cursor word.now }
+{
+    !word.is_empty() && word.iter().all(|b| is_cursor_byte(*b))
+}
+
+// From `!` to `~`, and no comma, colon or bar.
+fn is_cursor_byte(b: u8) -> bool
+    ensures { result ≡ is_cursor_byte b }
+{
+    matches!(b, b'!'..=b'~') && !matches!(b, b',' | b':' | b'|')
 }

@@ -1,10 +1,12 @@
 // Laws of the forms.
-ghost use Rattle.std.specs.Prelude.{◌≡◌, ◌↔◌, List, is_some, true};
+ghost use Rattle.std.specs.Prelude.{◌≡◌, ◌≤◌, ◌↔◌, ℕ, List, is_some, true};
 ghost use Rattle.ls_lines.specs.Lines.{Text};
 ghost use Rattle.ls_lines.specs.Forms.{parts};
-ghost use Rattle.ls_lines.specs.Commands.{cut, is_begun};
+ghost use Rattle.ls_lines.specs.Commands.{cut, is_begun, command_of, count_of};
+ghost use Rattle.ls_lines.specs.Kinds.{most_counted};
 ghost use Rattle.ls_lines.specs.Grammar.{IsLine, Completes};
 ghost use Rattle.ls_lines.specs.declared.form.Form.{Form};
+ghost use Rattle.ls_lines.specs.declared.command.Command.{Command};
 
 /// The words that are cut by a form are its lines, and those that it begins with are the beginnings
 /// of its lines. Nothing is done.
@@ -16,4 +18,9 @@ pub fn forms_are_exact()
 /// No line has two forms. Nothing is done.
 pub fn forms_are_told_apart()
     ensures { (f g : Form) (ws : List Text) → IsLine (parts f) ws → IsLine (parts g) ws → f ≡ g }
+{}
+
+/// The count of a command that is read is at most 65536. Nothing is done.
+pub fn counts_are_bounded()
+    ensures { (ws : List Text) (c : Command) (n : ℕ) → command_of ws ≡ Some c → count_of c ≡ Some n → n ≤ most_counted }
 {}

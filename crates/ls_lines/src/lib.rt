@@ -7,6 +7,7 @@ mod keyword;
 mod kind;
 mod laws;
 mod line_fault;
+mod number;
 mod reading;
 #[cfg(test)]
 mod tests;
@@ -17,8 +18,8 @@ mod word_list;
 pub use command::Command;
 pub use form::{FORMS, Form, Part};
 pub use keyword::Keyword;
-pub use kind::Kind;
-pub use laws::{forms_are_exact, forms_are_told_apart};
+pub use kind::{Kind, MOST_COUNTED};
+pub use laws::{counts_are_bounded, forms_are_exact, forms_are_told_apart};
 pub use line_fault::LineFault;
 pub use reading::read_command;
 pub use word::Word;

@@ -1,7 +1,7 @@
 // The lines of a script and what they are read as.
 use crate::{
-    Command, FORMS, Form, Keyword, Kind, LineFault, Part, Word, WordList, forms_are_exact,
-    forms_are_told_apart, read_command,
+    Command, FORMS, Form, Keyword, Kind, LineFault, Part, Word, WordList, counts_are_bounded,
+    forms_are_exact, forms_are_told_apart, read_command,
 };
 use std::alloc::{AllocError, Global};
 use std::test::Fail;
@@ -28,7 +28,13 @@ fn shown(alloc: Global, line: &str) -> Result<String, AllocError> {
             let names = joined(alloc, &names)?;
             format!(in alloc; "yes{names} : {}", item.as_str())
         }
-        Ok(Command::States) => String::from_str(alloc, "states"),
+        Ok(Command::States { count, after: None }) => format!(in alloc; "states {count}"),
+        Ok(
+            Command::States {
+                count,
+                after: Some(word),
+            },
+        ) => { format!(in alloc; "states {count} after {}", word.as_str()) }
         Err(LineFault::Shape { place }) => format!(in alloc; "fault {place}"),
         Err(LineFault::Memory(error)) => Err(error),
     }
@@ -43,7 +49,15 @@ fn lines_are_read(rt: HostRuntime) -> Result<(), Fail> {
         ("items", "items"),
         ("items a b.2 C-3 d_4", "items a b.2 C-3 d_4"),
         ("items\r\r", "fault 1"),
-        ("states", "states"),
+        ("states", "states 65536"),
+        ("states 0", "states 0"),
+        ("states 65536", "states 65536"),
+        ("states 65537", "fault 2"),
+        ("states 07", "fault 2"),
+        ("states +7", "fault 2"),
+        ("states 2 after", "fault 4"),
+        ("states 2 after ~!", "states 2 after ~!"),
+        ("states after a", "fault 2"),
         ("", "nothing"),
         ("\r", "nothing"),
         (" ,, ", "nothing"),
@@ -72,6 +86,7 @@ fn lines_are_read(rt: HostRuntime) -> Result<(), Fail> {
 fn each_call_succeeds(rt: HostRuntime) -> Result<(), Fail> {
     forms_are_exact();
     forms_are_told_apart();
+    counts_are_bounded();
 
     let mut words = WordList::new(rt.alloc());
     assert!(rt; words.is_empty());

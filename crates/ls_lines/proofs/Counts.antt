@@ -1,0 +1,38 @@
+-- The count of a command that is read is at most 65536.
+use Rattle.std.proofs.Common.{ℕ, ◌≡◌, ◌≤◌, sym, subst, arith, Option, None, Some, List, [], ◌∷◌, option_map}
+use Rattle.std.specs.List.{filter_map, cons_option, slice_get}
+use Rattle.std.proofs.lemmas.Option.{none-some, same_Some}
+use Rattle.ls_lines.specs.Lines.{Text}
+use Rattle.ls_lines.specs.Kinds.{most_counted}
+use Rattle.ls_lines.specs.Forms.{one, parts, command, forms}
+use Rattle.ls_lines.specs.Commands.{cut, command_of, count_of}
+use Rattle.ls_lines.specs.declared.form.Form.{Form}
+use Rattle.ls_lines.specs.declared.form.Form.TheVariants as form
+use Rattle.ls_lines.specs.declared.command.Command.{Command}
+use Rattle.ls_lines.proofs.Numbers.{number-within}
+
+-- the command that is read is the command of some form
+made : (ws : List Text) (fs : List Form) (c : Command) → slice_get (filter_map (λ f. option_map (command f) (cut (parts f) ws)) fs) 0 ≡ Some c →
+    (f : Form) × (given : List (List Text)) × (command f given ≡ c)
+made ws [] c h = absurd (none-some c h)
+made ws (f ∷ fs) c h =
+    elim (cut (parts f) ws) as (λ o. slice_get (cons_option (option_map (command f) o) (filter_map (λ g. option_map (command g) (cut (parts g) ws)) fs)) 0 ≡ Some c → (f : Form) × (given : List (List Text)) × (command f given ≡ c)) [
+      | None ↦ λ e. made ws fs c e
+      | Some given ↦ λ e. (f, given, same_Some (command f given) c e)
+    ] h
+
+pub made_by_form : (ws : List Text) (c : Command) → command_of ws ≡ Some c → (f : Form) × (given : List (List Text)) × (command f given ≡ c)
+unfolding command_of
+made_by_form ws c h = made ws forms c h
+
+form_count-within : (f : Form) (given : List (List Text)) (n : ℕ) → count_of (command f given) ≡ Some n → n ≤ most_counted
+unfolding command
+form_count-within form.States given n h = subst (λ m. m ≤ most_counted) (same_Some most_counted n h) (omega arith)
+form_count-within form.StatesUpTo given n h = subst (λ m. m ≤ most_counted) (same_Some _ n h) (number-within most_counted (one given 1))
+form_count-within form.StatesAfter given n h = subst (λ m. m ≤ most_counted) (same_Some _ n h) (number-within most_counted (one given 1))
+form_count-within f given n h = absurd (none-some n h)
+
+pub count-within : (ws : List Text) (c : Command) (n : ℕ) → command_of ws ≡ Some c → count_of c ≡ Some n → n ≤ most_counted
+count-within ws c n h k =
+    let by = made_by_form ws c h in
+    form_count-within by.0 by.1 n (subst (λ d. count_of d ≡ Some n) (sym by.2) k)

@@ -1,0 +1,72 @@
+-- Decimal numbers are ASCII, and are read by `parse`.
+use Rattle.std.proofs.Common.{None, unwrap_or, ◌≤◌, not, ◌||◌, ◌==◌, nat_lt, slice_index, ℕ, ◌≡◌, ◌<◌, ◌^◌, inl, inr, refl, arith, rules, Bool, true, false, cond, ◌&&◌, nat_le, List, [], ◌∷◌, length, Some, None, Result, is_some}
+use Rattle.std.specs.List.{list_all}
+use Rattle.std.specs.Str.{IsAscii}
+use Rattle.std.specs.Str.Parse.{digits_value, ParsesUnsigned}
+use Rattle.std.specs.Result.{OkIff}
+use Rattle.std.proofs.lemmas.Str.Ascii.{IsAscii-nil, IsAscii-cons}
+use Rattle.std.proofs.lemmas.Str.Parse.{IsNumeralModel, IsDigitsTest, numerals_by_value, parse_digits}
+use Rattle.std.proofs.lemmas.Bool.{cases_lt, ltb-true, leb-true}
+use Rattle.std.proofs.lemmas.Bool.Decides.{nat_tests}
+use Rattle.ls_lines.specs.Lines.{Text}
+use Rattle.ls_lines.specs.Numbers.{is_digit, is_decimal, number_up_to}
+
+pub never : {A : Type 0} → false ≡ true → A
+never e = absurd (cc e)
+
+pub both : (a b : Bool) → a && b ≡ true → (a ≡ true) × (b ≡ true)
+both true b h = (refl, h)
+both false b h = never h
+
+pub ascii_where : (test : ℕ → Bool) → ((b : ℕ) → test b ≡ true → b < 128) → (w : Text) → list_all test w ≡ true → IsAscii w
+ascii_where test below [] h = IsAscii-nil
+ascii_where test below (b ∷ w) h =
+    let parts = both (test b) (list_all test w) h in
+    IsAscii-cons b w (below b parts.0) (ascii_where test below w parts.1)
+
+is_digit-ascii : (b : ℕ) → is_digit b ≡ true → b < 128
+is_digit-ascii b h = grind (arith, nat_tests)
+
+-- a decimal number is some digits
+pub some_digits : (w : Text) → is_decimal w ≡ true → (0 < length w) × (list_all is_digit w ≡ true)
+some_digits w h =
+    let parts = both (nat_lt 0 (length w) && list_all is_digit w) (length w == 1 || not (slice_index w 0 == 48)) h in
+    let some = both (nat_lt 0 (length w)) (list_all is_digit w) parts.0 in
+    let long : 0 < length w = ltb-true 0 (length w) some.0 in
+    (long, some.1)
+
+pub is_decimal-ascii : (w : Text) → is_decimal w ≡ true → IsAscii w
+is_decimal-ascii w h = ascii_where is_digit is_digit-ascii w (some_digits w h).1
+
+pub number_up_to-decimal : (most : ℕ) (w : Text) → is_some (number_up_to most w) ≡ true → is_decimal w ≡ true
+number_up_to-decimal most w h =
+    elim (is_decimal w) as (λ d. is_some (cond (d && nat_le (digits_value 10 w) most) (Some (digits_value 10 w)) None) ≡ true → d ≡ true) [
+      | true ↦ λ e. refl
+      | false ↦ λ e. e
+    ] h
+
+-- the number that is read is at most the most, also where there is none
+pub number-within : (most : ℕ) (w : Text) → unwrap_or (number_up_to most w) 0 ≤ most
+number-within most w =
+    elim (is_decimal w && nat_le (digits_value 10 w) most) as (λ t. is_decimal w && nat_le (digits_value 10 w) most ≡ t → unwrap_or (cond t (Some (digits_value 10 w)) None) 0 ≤ most) [
+      | true ↦ λ e. leb-true (digits_value 10 w) most (both (is_decimal w) (nat_le (digits_value 10 w) most) e).1
+      | false ↦ λ e. omega arith
+    ] refl
+
+tells_digits : IsDigitsTest (λ ds. list_all is_digit ds ≡ true)
+tells_digits = search rules
+
+pub digits : IsNumeralModel (λ ds. list_all is_digit ds ≡ true) (digits_value 10)
+digits = numerals_by_value _ tells_digits
+
+-- a decimal number that does not fit 32 bits is past the most
+pub past_most : (most : ℕ) (w : Text) → most < 2 ^ 32 → is_decimal w ≡ true → ((0 < length w) × (digits_value 10 w < 2 ^ 32) → ⊥) → None ≡ number_up_to most w
+past_most most w fits d h =
+    elim (cases_lt (digits_value 10 w) (2 ^ 32)) [
+      | inl lt ↦ absurd (h ((some_digits w d).0, lt))
+      | inr ge ↦ let past : nat_le (digits_value 10 w) most ≡ false = grind (arith, nat_tests) in rw (d, past) refl
+    ]
+
+-- what `parse` gives of a decimal number
+pub parsed : {E : Type 0} (w : Text) (r : Result ℕ E) → ParsesUnsigned 32 10 w r → is_decimal w ≡ true → OkIff r ((0 < length w) × (digits_value 10 w < 2 ^ 32)) (digits_value 10 w)
+parsed w r h d = parse_digits digits 32 w r h (some_digits w d).1
