@@ -1,6 +1,6 @@
 -- The files of a map in memory, by the bytes of their names.
-use Rattle.std.proofs.Common.{◌≡◌, ◌∙◌, ap, sym, cond, ℕ, List, [], ◌∷◌, Bool, true, false, Some, Err, Result, Vec, length, nat_lt, ◌<◌, ◌≤◌, refl, arith, Bor}
-use Rattle.std.proofs.lemmas.Bool.{lt-ltb, le-ltb}
+use Rattle.std.proofs.Common.{◌≡◌, ◌∙◌, ap, sym, cond, ℕ, List, [], ◌∷◌, Bool, true, false, None, Some, Ok, Err, IfOk, inl, inr, subst, Result, Vec, length, nat_lt, ◌<◌, ◌≤◌, refl, arith, Bor}
+use Rattle.std.proofs.lemmas.Bool.{lt-ltb, le-ltb, ltb-false, cases_Bool}
 use Rattle.std.proofs.lemmas.Map.Text.{btree_map_updates_text, is_eq-slice_cmp}
 use Rattle.std.specs.Cmp.{eq_by_cmp_equiv}
 use Rattle.std.specs.Cmp.Lexicographic.{slice_cmp, nat_list_cmp_total}
@@ -13,7 +13,7 @@ use Rattle.std.specs.String.{string_bytes, string_cmp}
 use Rattle.std.specs.declared.alloc.Global.{Global}
 use Rattle.std.specs.declared.option.Option.{Option}
 use Rattle.std.specs.declared.string.String.{String}
-use Rattle.ls_edge.specs.Files.{Folder, folder_of, FetchedFrom, GivesBytes}
+use Rattle.ls_edge.specs.Files.{Folder, folder_of, FetchedFrom, GivesBytes, given}
 use Rattle.ls_edge.specs.declared.traits.TheConstants.{LONGEST_FILE}
 use Rattle.ls_edge.specs.declared.traits.FetchFault.{FetchFault}
 use Rattle.ls_edge.specs.declared.traits.FetchFault.TheVariants as fetch
@@ -38,16 +38,36 @@ file_found folder files name result found is same was =
     ap (λ f. map.get f name) (sym is) ∙ get-folder_of files.entries name ∙ ap (option_map (λ v. v.items)) (sym same ∙ ap option_copied was)
 
 -- a file of more bytes than the limit is too large
-pub fetched_long : (file : Option (List ℕ)) (bytes : List ℕ) (n : ℕ) → file ≡ Some bytes → n ≡ length bytes → LONGEST_FILE < n → FetchedFrom file (Err (fetch.TooLarge n))
-fetched_long file bytes n is long above =
+pub given_long : (file : Option (List ℕ)) (bytes : List ℕ) (n : ℕ) → file ≡ Some bytes → n ≡ length bytes → LONGEST_FILE < n → given file ≡ Err (fetch.TooLarge n)
+given_long file bytes n is long above =
     let more : nat_lt LONGEST_FILE (length bytes) ≡ true = lt-ltb _ _ (omega arith) in
-    rw (is, more) (ap (λ m. Err (fetch.TooLarge m)) long)
+    rw (is, more) (ap (λ m. Err (fetch.TooLarge m)) (sym long))
 
 -- a file of no more is given
-pub fetched_short : (file : Option (List ℕ)) (bytes : List ℕ) (result : Result (Vec ℕ Global) FetchFault) → file ≡ Some bytes → length bytes ≤ LONGEST_FILE → GivesBytes bytes result → FetchedFrom file result
-fetched_short file bytes result is within gives =
+pub given_short : (file : Option (List ℕ)) (bytes : List ℕ) → file ≡ Some bytes → length bytes ≤ LONGEST_FILE → given file ≡ Ok bytes
+given_short file bytes is within =
     let no_more : nat_lt LONGEST_FILE (length bytes) ≡ false = le-ltb _ _ within in
-    rw (is, no_more) gives
+    rw (is, no_more) refl
+
+-- what is given has no more
+pub given_within : (file : Option (List ℕ)) (bytes : List ℕ) → given file ≡ Ok bytes → length bytes ≤ LONGEST_FILE
+given_within None bytes is = cc
+given_within (Some b) bytes is =
+    elim (cases_Bool (nat_lt LONGEST_FILE (length b))) [
+      | inl more ↦ let other : Err (fetch.TooLarge (length b)) ≡ Ok bytes = rw more at is in cc
+      | inr no_more ↦
+          let same : Ok b ≡ Ok bytes = rw no_more at is in
+          let within : length b ≤ LONGEST_FILE = ltb-false _ _ no_more in
+          subst (λ (r : Result (List ℕ) FetchFault). IfOk r (λ x. length x ≤ LONGEST_FILE)) same within
+    ]
+
+-- a fetch that gives what it has to give
+pub fetched : (file : Option (List ℕ)) (bytes : List ℕ) (result : Result (Vec ℕ Global) FetchFault) → given file ≡ Ok bytes → GivesBytes bytes result → FetchedFrom file result
+fetched file bytes result is gives = rw is gives
+
+-- a fetch that has none to give
+pub fetched_none : (file : Option (List ℕ)) (e : FetchFault) → given file ≡ Err e → FetchedFrom file (Err e)
+fetched_none file e is = rw is refl
 
 -- a name that is set in the map is set in the folder
 pub folder_of-insert : (old new : BTreeMap (String Global) (Vec ℕ Global)) (name : String Global) (v : Vec ℕ Global)

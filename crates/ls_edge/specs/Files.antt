@@ -1,5 +1,5 @@
 -- What the calls on a shelf do to its files, where these are told.
-use Rattle.std.specs.Prelude.{◌≡◌, ◌≤◌, ℕ, List, [], ◌∷◌, length, nat_lt, ⊤, Result, Ok, Err, Some, None, IsErrOf, IfSome, MatchBool, Vec}
+use Rattle.std.specs.Prelude.{◌≡◌, ◌≤◌, ℕ, List, [], ◌∷◌, length, nat_lt, ⊤, Result, Ok, Err, Some, None, IsErrOf, IfSome, MatchResult, Vec, if◌then◌else◌}
 use Rattle.std.specs.declared.option.Option.{Option}
 use Rattle.std.specs.declared.alloc.Global.{Global}
 use Rattle.std.specs.Ordering.{nat_cmp}
@@ -36,11 +36,14 @@ GivesBytes bytes (Err (fetch.TooLarge n)) = ⊥
 GivesBytes bytes (Err fetch.Failed) = ⊤
 GivesBytes bytes (Err (fetch.Memory e)) = ⊤
 
+-- the bytes that a fetch of the file has to give, or why it has none to give
+abbrev pub given : Option (List ℕ) → Result (List ℕ) FetchFault
+given None = Err fetch.Missing
+given (Some bytes) = if nat_lt LONGEST_FILE (length bytes) then Err (fetch.TooLarge (length bytes)) else Ok bytes
+
 -- what a fetch answers of the file that a name has: one that is missing and one that is too large are always reported as such
 abbrev pub FetchedFrom : Option (List ℕ) → Result (Vec ℕ Global) FetchFault → Type 0
-FetchedFrom None result = IsErrOf result fetch.Missing
-FetchedFrom (Some bytes) result =
-    MatchBool (nat_lt LONGEST_FILE (length bytes)) (IsErrOf result (fetch.TooLarge (length bytes))) (GivesBytes bytes result)
+FetchedFrom file result = MatchResult (given file) (λ bytes. GivesBytes bytes result) (λ e. result ≡ Err e)
 
 -- a fetch changes no told file, and answers of the file that the name has
 abbrev pub Fetches : Option Folder → Option Folder → List ℕ → Result (Vec ℕ Global) FetchFault → Type 0

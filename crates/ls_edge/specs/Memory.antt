@@ -1,6 +1,10 @@
 -- What clauses see of the objects in memory, and which of their calls fail.
-use Rattle.std.specs.Prelude.{◌+◌, ◌-◌, ◌^◌, ◌==◌, ◌&&◌, ℕ, Bool, List, nat_lt, if◌then◌else◌}
+use Rattle.std.specs.Prelude.{◌+◌, ◌-◌, ◌^◌, ◌==◌, ◌&&◌, ℕ, Bool, List, nat_lt, if◌then◌else◌, refl}
 use Rattle.std.specs.List.{list_any}
+use Rattle.std.specs.Result.{is_ok}
+use Rattle.std.specs.Coded.{Coded, code_by, coded×, coded_ℕ, coded_list}
+use Rattle.std.specs.FinMap as map
+use Rattle.ls_edge.specs.Files.{Folder, given}
 
 -- a source that never fails: the bytes that it has left, and the most that one call moves
 pub record SureSourceState : Type 0 where
@@ -28,6 +32,23 @@ pub record SinkState : Type 0 where
   pub calls : ℕ
   pub faults : ℕ
 
+-- a shelf with calls that fail
+pub record ShelfState : Type 0 where
+  pub files : Folder
+  pub fails : List ℕ
+  pub calls : ℕ
+  pub faults : ℕ
+
+-- the code of a map of files
+abbrev pub folder_code : Coded Folder
+folder_code = map.code (coded_list coded_ℕ) (coded_list coded_ℕ)
+
+-- such a shelf is stored as the tuple of its fields
+abbrev pub shelf_code : Coded ShelfState
+shelf_code =
+    code_by (Folder × (List ℕ × (ℕ × ℕ))) (coded× folder_code (coded× (coded_list coded_ℕ) (coded× coded_ℕ coded_ℕ))) (λ s. (s.files, (s.fails, (s.calls, s.faults))))
+    (λ t. record { files = t.0; fails = t.1.0; calls = t.1.1.0; faults = t.1.1.1 }) (λ _. refl)
+
 -- the numbers of the calls that fail, and how many calls were made and how many of them failed
 pub record CallState : Type 0 where
   pub fails : List ℕ
@@ -41,3 +62,11 @@ fails_next fails calls = nat_lt calls (2 ^ 64 - 1) && list_any (λ n. n == calls
 -- how many calls have failed after the next one
 abbrev pub next_faults : List ℕ → ℕ → ℕ → ℕ
 next_faults fails calls faults = if fails_next fails calls then faults + 1 else faults
+
+-- the next call fails where it fetches this file; one that has none to give doesn't fail
+abbrev pub fetch_fails : ShelfState → List ℕ → Bool
+fetch_fails s name = is_ok (given (map.get s.files name)) && fails_next s.fails s.calls
+
+-- how many calls have failed after that fetch
+abbrev pub fetch_faults : ShelfState → List ℕ → ℕ
+fetch_faults s name = if fetch_fails s name then s.faults + 1 else s.faults

@@ -51,4 +51,13 @@ impl Calls {
         }
         fails
     }
+
+    // Counts the next call, which doesn't fail.
+    pub(crate) fn pass(&mut self)
+        ensures calls { self.new.calls ≡ one_more self.old.calls }
+        ensures faults { self.new.faults ≡ self.old.faults }
+        ensures kept { self.new.fails ≡ self.old.fails }
+    {
+        self.made = self.made.saturating_add(1);
+    }
 }

@@ -1,7 +1,7 @@
 // A shelf in memory that never fails.
-ghost use Rattle.std.specs.Prelude.{◌≡◌, ◌≤◌, Some, IfOk, IsErrOf, length};
+ghost use Rattle.std.specs.Prelude.{◌≡◌, ◌≤◌, Some, Ok, Err, IfOk, IfErr, OnOk, OnErr, IsErrOf, length};
 ghost use Rattle.std.specs.FinMap as map;
-ghost use Rattle.ls_edge.specs.Files.{GivesBytes, Fetches, Stores, FetchCause, StoreCause};
+ghost use Rattle.ls_edge.specs.Files.{GivesBytes, Fetches, Stores, FetchCause, StoreCause, given};
 
 use crate::{FetchFault, LONGEST_FILE, Shelf, StoreFault};
 use std::alloc::{AllocError, Global};
@@ -16,14 +16,12 @@ pub struct SureShelf {
 }
 
 impl Model for SureShelf {
-    ghost use Rattle.std.specs.Prelude.{ℕ};
-    ghost use Rattle.std.specs.FinMap as map;
-    ghost use Rattle.std.specs.Coded.{coded_ℕ, coded_list};
     ghost use Rattle.ls_edge.specs.Files.{Folder, folder_of};
+    ghost use Rattle.ls_edge.specs.Memory.{folder_code};
 
     ghost Value = { Folder };
 
-    ghost coded = { map.code (coded_list coded_ℕ) (coded_list coded_ℕ) };
+    ghost coded = { folder_code };
 
     ghost view = { λ s. folder_of s.files.entries };
 }
@@ -37,6 +35,33 @@ impl SureShelf {
             alloc,
             files: BTreeMap::new(alloc),
         }
+    }
+
+    // The bytes that a fetch has to give, or why it has none to give.
+    pub(crate) fn file(&self, name: &str) -> Result<&[u8], FetchFault>
+        ensures found { IfOk result (λ b. given (map.get self.now name.now) ≡ Ok b.now) }
+        ensures refused { IfErr result (λ e. given (map.get self.now name.now) ≡ Err e) }
+    {
+        let Some(bytes) = self.files.get(name) else {
+            return Err(FetchFault::Missing);
+        };
+        if bytes.len() > LONGEST_FILE {
+            return Err(FetchFault::TooLarge {
+                bytes: bytes.len() as u64,
+            });
+        }
+        Ok(bytes)
+    }
+
+    // Keeps these bytes as the file of that name, unless memory runs out.
+    pub(crate) fn keep(&mut self, name: &str, bytes: &[u8]) -> Result<(), AllocError>
+        ensures ok { OnOk result (self.new ≡ map.insert self.old name.now bytes.now) }
+        ensures err { OnErr result (self.new ≡ self.old) }
+    {
+        let name = String::from_str(self.alloc, name)?;
+        let bytes = Vec::from_slice(self.alloc, bytes)?;
+        self.files.insert(name, bytes)?;
+        Ok(())
     }
 }
 
@@ -59,14 +84,7 @@ impl Shelf for SureShelf {
         ensures cause { FetchCause 0 0 result }
         ensures sure { ¬ IsErrOf result FetchFault.Failed }
     {
-        let Some(bytes) = self.files.get(name) else {
-            return Err(FetchFault::Missing);
-        };
-        if bytes.len() > LONGEST_FILE {
-            return Err(FetchFault::TooLarge {
-                bytes: bytes.len() as u64,
-            });
-        }
+        let bytes = self.file(name)?;
         copy_of(self.alloc, bytes)
     }
 
@@ -75,11 +93,6 @@ impl Shelf for SureShelf {
         ensures cause { StoreCause 0 0 result }
         ensures sure { ¬ IsErrOf result StoreFault.Failed }
     {
-        let name = String::from_str(self.alloc, name).map_err(StoreFault::Memory)?;
-        let bytes = Vec::from_slice(self.alloc, bytes).map_err(StoreFault::Memory)?;
-        match self.files.insert(name, bytes) {
-            Ok(_) => Ok(()),
-            Err(_) => Err(StoreFault::Memory(AllocError)),
-        }
+        self.keep(name, bytes).map_err(StoreFault::Memory)
     }
 }

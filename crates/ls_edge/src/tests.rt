@@ -1,8 +1,10 @@
 // The objects in memory call by call, and each adapter used once.
 use crate::{
-    Failed, FetchFault, LONGEST_FILE, MemSink, MemSource, Shelf, Sink, SinkFault, Source, StdSink,
-    StdSource, SureShelf, SureSink, SureSource, write_whole,
+    Failed, FetchFault, FolderShelf, LONGEST_FILE, MemShelf, MemSink, MemSource, Shelf, Sink,
+    SinkFault, Source, StdSink, StdSource, StoreFault, SureShelf, SureSink, SureSource,
+    write_whole,
 };
+use std::fs;
 use std::test::Fail;
 
 // Reads until the source answers `Ok(0)`.
@@ -133,6 +135,50 @@ fn a_shelf_refuses_a_long_file(rt: HostRuntime) -> Result<(), Fail> {
             Err(FetchFault::TooLarge { bytes: 16_777_217 })
         )
     );
+    Ok(())
+}
+
+#[test]
+fn a_shelf_fails_where_listed(rt: HostRuntime) -> Result<(), Fail> {
+    let mut shelf = MemShelf::new(rt.alloc(), vec![in rt.alloc(); 1, 3, 4]?);
+    shelf.put("one", b"first")?;
+    // Call 1 has no file to give, so it doesn't fail.
+    assert!(rt; holds(&mut shelf, "two", Err(FetchFault::Missing)));
+    assert!(rt; holds(&mut shelf, "one", Ok(b"first")));
+    assert!(rt; holds(&mut shelf, "one", Err(FetchFault::Failed)));
+    assert_eq!(rt; shelf.store("one", b"second"), Err(StoreFault::Failed));
+    assert!(rt; holds(&mut shelf, "one", Ok(b"first")));
+    assert_eq!(rt; shelf.store("one", b"second"), Ok(()));
+    assert!(rt; holds(&mut shelf, "one", Ok(b"second")));
+    Ok(())
+}
+
+#[test]
+fn a_folder_keeps_files(rt: HostRuntime) -> Result<(), Fail> {
+    let folder = "folder_of_a_test";
+    let _ = fs::remove_dir_all(&rt, folder);
+    fs::create_dir(&rt, folder)?;
+    let mut shelf = FolderShelf::new(&rt, folder)?;
+    assert!(rt; holds(&mut shelf, "one", Err(FetchFault::Missing)));
+    assert_eq!(rt; shelf.store("one", b"first"), Ok(()));
+    assert_eq!(rt; shelf.store("one", b"next"), Ok(()));
+    assert!(rt; holds(&mut shelf, "one", Ok(b"next")));
+    // A folder is no file.
+    assert!(rt; holds(&mut shelf, ".", Err(FetchFault::Failed)));
+    assert_eq!(rt; shelf.store(".", b""), Err(StoreFault::Failed));
+    let mut bytes = vec![in rt.alloc(); 7; LONGEST_FILE]?;
+    assert_eq!(rt; shelf.store("long", &bytes), Ok(()));
+    assert!(rt; holds(&mut shelf, "long", Ok(&bytes)));
+    bytes.push(7)?;
+    assert_eq!(rt; shelf.store("long", &bytes), Ok(()));
+    assert!(rt;
+        holds(
+            &mut shelf,
+            "long",
+            Err(FetchFault::TooLarge { bytes: 16_777_217 })
+        )
+    );
+    fs::remove_dir_all(&rt, folder)?;
     Ok(())
 }
 
