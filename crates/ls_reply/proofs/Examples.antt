@@ -10,7 +10,9 @@ use Rattle.ls_lines.specs.Kinds.{is_of}
 use Rattle.ls_lines.specs.Forms.{spelling, parts, command, forms}
 use Rattle.ls_lines.specs.Commands.{cut, is_begun, command_of, fault_place}
 use Rattle.ls_reply.specs.Texts.{line_of, bytes_of, names_of_set}
+use Rattle.std.specs.FinMap as map
 use Rattle.ls_reply.specs.Sessions.{started}
+use Rattle.ls_reply.specs.Scenes.{files_of}
 use Rattle.ls_reply.specs.Replies.{row, line_answer, reply}
 use Rattle.ls_reply.specs.Transcripts.{replies, refuses, transcript, is_some_refused}
 
@@ -20,45 +22,45 @@ unfolding digits has empty full with union meet single differing is_within is_sa
 answering = 0
 
 -- three items, the answer that who fails a fails b, and the six states that it leaves
-first : transcript (codes "items a b c\nyes a : b\nstates\n") ≡ codes "ok 3\nok 1\nset e {a b c}\nset c {a b}\nset a {a c}\nset 8 {a}\nset 2 {c}\nset 0 {}\nmore no\n"
+first : transcript map.empty (codes "items a b c\nyes a : b\nstates\n") ≡ codes "ok 3\nok 1\nset e {a b c}\nset c {a b}\nset a {a c}\nset 8 {a}\nset 2 {c}\nset 0 {}\nmore no\n"
 unfolding answering
 first = refl
 
-not_refused : is_some_refused (codes "items a b c\nyes a : b\nstates\n") ≡ false
+not_refused : is_some_refused map.empty (codes "items a b c\nyes a : b\nstates\n") ≡ false
 unfolding answering
 not_refused = refl
 
-refused : transcript (codes "items a a\nitems a b\nitems c\nyes a : a\nyes z : a\nknown a : b") ≡ codes "no 49\nok 2\nno 49\nno 18\nno 15 2\nno 10 1\n"
+refused : transcript map.empty (codes "items a a\nitems a b\nitems c\nyes a : a\nyes z : a\nknown a : b") ≡ codes "no 49\nok 2\nno 49\nno 18\nno 15 2\nno 10 1\n"
 unfolding answering
 refused = refl
 
-some_refused : is_some_refused (codes "items a a\nitems a b\nitems c\nyes a : a\nyes z : a\nknown a : b") ≡ true
+some_refused : is_some_refused map.empty (codes "items a a\nitems a b\nitems c\nyes a : a\nyes z : a\nknown a : b") ≡ true
 unfolding answering
 some_refused = refl
 
 -- no domain, no names, notes, carriage returns, and an item named after a command
-others : transcript (codes "states\nfoo\nyes a b\nitems\n\n# note\nitems yes no\r\nyes yes : no\nyes yes,yes:no\nyes no : maybe\nyes : no") ≡ codes "no 15 0\nno 10 1\nno 10 4\nno 49\nok 2\nok 1\nno 49\nno 15 4\nno 18\n"
+others : transcript map.empty (codes "states\nfoo\nyes a b\nitems\n\n# note\nitems yes no\r\nyes yes : no\nyes yes,yes:no\nyes no : maybe\nyes : no") ≡ codes "no 15 0\nno 10 1\nno 10 4\nno 49\nok 2\nok 1\nno 49\nno 15 4\nno 18\n"
 unfolding answering
 others = refl
 
-nothing : transcript [] ≡ []
+nothing : transcript map.empty [] ≡ []
 unfolding answering
 nothing = refl
 
-one_item : transcript (codes "items a\nstates") ≡ codes "ok 1\nset 8 {a}\nset 0 {}\nmore no\n"
+one_item : transcript map.empty (codes "items a\nstates") ≡ codes "ok 1\nset 8 {a}\nset 0 {}\nmore no\n"
 unfolding answering
 one_item = refl
 
 -- a line of more bytes than are read
-long : reply (started []) (replicate 65537 97) ≡ codes "no 10 long 65537\n"
+long : reply (started []) (files_of map.empty false) (replicate 65537 97) ≡ codes "no 10 long 65537\n"
 unfolding answering
 long = refl
 
 -- pages from a cursor, also from a set that is no state, and what is no cursor
-pages : transcript (codes "items a b c\nyes a : b\nstates 2\nstates 2 after c\nstates 1 after 6\nstates 0\nstates 5 after 0") ≡ codes "ok 3\nok 1\nset e {a b c}\nset c {a b}\nmore yes\nset a {a c}\nset 8 {a}\nmore yes\nset 2 {c}\nmore yes\nmore yes\nmore no\n"
+pages : transcript map.empty (codes "items a b c\nyes a : b\nstates 2\nstates 2 after c\nstates 1 after 6\nstates 0\nstates 5 after 0") ≡ codes "ok 3\nok 1\nset e {a b c}\nset c {a b}\nmore yes\nset a {a c}\nset 8 {a}\nmore yes\nset 2 {c}\nmore yes\nmore yes\nmore no\n"
 unfolding answering
 pages = refl
 
-no_cursors : transcript (codes "states 1 after 0\nitems a b c\nstates 5 after 00\nstates 5 after g\nstates 5 after 1\nstates 5 before 0\nstates x") ≡ codes "no 15 0\nok 3\nno 24 length 2\nno 24 digit 1\nno 24 spare\nno 10 3\nno 10 2\n"
+no_cursors : transcript map.empty (codes "states 1 after 0\nitems a b c\nstates 5 after 00\nstates 5 after g\nstates 5 after 1\nstates 5 before 0\nstates x") ≡ codes "no 15 0\nok 3\nno 24 length 2\nno 24 digit 1\nno 24 spare\nno 10 3\nno 10 2\n"
 unfolding answering
 no_cursors = refl

@@ -1,5 +1,6 @@
 pub mod Texts
 pub mod Sessions
+pub mod Scenes
 pub mod Meanings
 pub mod Refusals
 pub mod Cursors

@@ -7,6 +7,7 @@ use Rattle.ls_lines.specs.declared.command.Command.{Command}
 use Rattle.ls_lines.specs.declared.command.Command.TheVariants as command
 use Rattle.ls_reply.specs.Texts.{bytes_of}
 use Rattle.ls_reply.specs.Sessions.{Session, has_domain}
+use Rattle.ls_reply.specs.Scenes.{Files}
 use Rattle.ls_reply.specs.Meanings.{unnamed_places}
 use Rattle.ls_reply.specs.Refusals.{Refusal, Answer, Row, ◌otherwise◌, outcome, refuse, faults, says}
 use Rattle.ls_reply.specs.Rows.{items_row, answer_row, states_row}
@@ -23,33 +24,33 @@ unnamed s c = faults 15 (map (λ p. decimal p ∷ []) (unnamed_at s c))
 abbrev pub within_domain : Session → Command → Row → Row
 within_domain s c row = record row { refusals = unnamed s c ++ row.refusals }
 
--- the row of each command
-unfoldable pub row : Session → Command → Row
-row s command.Nothing = [] otherwise says s []
-row s (command.Items names) = items_row s names
-row s (command.Yes names item) = within_domain s (command.Yes names item) (answer_row s true names item)
-row s (command.States count after) = within_domain s (command.States count after) (states_row s count after)
+-- the row of each command, by what the session and the folder have
+unfoldable pub row : Session → Files → Command → Row
+row s files command.Nothing = [] otherwise says s []
+row s files (command.Items names) = items_row s names
+row s files (command.Yes names item) = within_domain s (command.Yes names item) (answer_row s true names item)
+row s files (command.States count after) = within_domain s (command.States count after) (states_row s count after)
 
-abbrev pub command_answer : Session → Command → Answer
-command_answer s c = let r = row s c in outcome s r.refusals r.answer
+abbrev pub command_answer : Session → Files → Command → Answer
+command_answer s files c = let r = row s files c in outcome s r.refusals r.answer
 
 -- the answer to words, which may be no command
-abbrev pub words_answer : Session → List Text → Option Command → Answer
-words_answer s ws None = outcome s (refuse 10 (decimal (fault_place ws) ∷ []) true) (says s [])
-words_answer s ws (Some c) = command_answer s c
+abbrev pub words_answer : Session → Files → List Text → Option Command → Answer
+words_answer s files ws None = outcome s (refuse 10 (decimal (fault_place ws) ∷ []) true) (says s [])
+words_answer s files ws (Some c) = command_answer s files c
 
-unfoldable pub line_answer : Session → List ℕ → Answer
-line_answer s line =
+unfoldable pub line_answer : Session → Files → List ℕ → Answer
+line_answer s files line =
     if is_long line then outcome s (refuse 10 (codes "long" ∷ decimal (length line) ∷ []) true) (says s [])
-    else words_answer s (words line) (command_of (words line))
+    else words_answer s files (words line) (command_of (words line))
 
 -- what is written for a line
-abbrev pub reply : Session → List ℕ → List ℕ
-reply s line = bytes_of (line_answer s line).lines
+abbrev pub reply : Session → Files → List ℕ → List ℕ
+reply s files line = bytes_of (line_answer s files line).lines
 
 -- the session after it
-abbrev pub next_session : Session → List ℕ → Session
-next_session s line = (line_answer s line).session
+abbrev pub next_session : Session → Files → List ℕ → Session
+next_session s files line = (line_answer s files line).session
 
 -- whether a reply begins with `no `
 abbrev pub is_refusal : List ℕ → Bool

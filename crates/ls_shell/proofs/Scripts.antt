@@ -45,5 +45,5 @@ module _ {X : Type 0} (f : X → List ℕ) where
       record {
         session = gives.session ∙ ap (λ t. next_session t line) e ∙ sym (session_after-snoc s done line) ∙ ap (session_after s) (sym more);
         written = λ start w. subst (Appends start after) (sym all) (appends_more start before after (replies s done) (reply session line) w gives.said.written);
-        is_refused = ap (refuses s) more ∙ refuses-snoc s done line ∙ ap (λ t. refuses s done || is_refusal t) (sym told) ∙ ap (λ b. refuses s done || b) (sym gives.said.refused);
+        is_refused = ap (refuses s) more ∙ refuses-snoc s done line ∙ ap (λ t. refuses s done || is_refusal t) (sym told) ∙ ap (λ b. refuses s done || b) (sym gives.said.told);
       }

@@ -13,7 +13,7 @@ use Rattle.ls_shell.specs.declared.step_fault.StepFault.TheVariants as fault
 -- the bytes were appended to those of a sink, and it is told whether they begin with `no `
 pub record Said (before after : Option (List ℕ)) (bytes : List ℕ) (refused : Bool) : Type 0 where
   pub written : Appends before after bytes
-  pub refused : refused ≡ is_refusal bytes
+  pub told : refused ≡ is_refusal bytes
 
 -- the answer's lines were appended, it is told whether they begin with `no `, and the session is the answer's
 pub record Gives (answer : Answer) (new : Session) (before after : Option (List ℕ)) (refused : Bool) : Type 0 where
