@@ -14,14 +14,14 @@ fn interior_and_closure<L: Ledger>(blank: Blank) -> (ItemSet, ItemSet)
     let free = Free::new(3);
     let counted = Counted::new(&free);
     let mut steps = Steps::<L>::new(blank);
-    let set = ItemSet::empty().with(1);
+    let set = ItemSet::full(3);
     let inside = counted.interior(set, &mut steps);
     (inside, closure(&counted, set, &mut steps))
 }
 
 #[test]
 fn all_sets_are_members(rt: HostRuntime) {
-    let set = ItemSet::empty().with(1);
+    let set = ItemSet::full(3);
     assert!(rt; is_member(&Free::new(3), set));
     let (inside, closed) = interior_and_closure::<Brand>(Blank::new(1));
     assert_eq!(rt; inside, set);
