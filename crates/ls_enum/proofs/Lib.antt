@@ -1,0 +1,3 @@
+pub mod Successors
+pub mod Left
+pub mod Joined

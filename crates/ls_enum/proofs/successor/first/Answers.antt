@@ -1,0 +1,12 @@
+use Rattle.std.proofs.Common.{◌∙◌}
+use Rattle.ls_laws.proofs.Interiors.{interior-within}
+use Rattle.ls_enum.proofs.Successors.{first-is, slice_get-find}
+use Rattle.ls_enum.proofs.successor.first.Goals as goal
+
+pub returns-clause-first : goal.returns-clause-first
+returns-clause-first g c =
+    rw (c.interior.ensures.value, c.full.ensures, c.items.ensures.count) (slice_get-find _ ∙ first-is _ _ (g.met.I.Interior.is_family c.args.f.now))
+
+pub returns-clause-small : goal.returns-clause-small
+returns-clause-small g c =
+    rw (c.interior.ensures.value, c.full.ensures, c.items.ensures.count) (interior-within (g.I.Interior.members c.args.f.now) _)

@@ -1,0 +1,25 @@
+-- Listings of a family: what comes after a set, and pages joined one after another.
+--     first_after word f      the first member that comes after word, which may be any set
+--     reach n word i      where an interior is formed in search of it
+--     left_after cursor f      the members after the cursor, or all of them where there is none
+--     joined_pages f cursor sizes      pages of these sizes, each after the last set of those before it
+use Rattle.std.specs.Prelude.{ℕ, ◌+◌, List, [], ◌∷◌, ◌++◌, filter, find, Option}
+use Rattle.std.specs.List.{last_or}
+use Rattle.ls_set.specs.ItemSet.{Items, full, union, minus, keep_before, comes_before}
+use Rattle.ls_theory.specs.Pages.{comes_after, page}
+
+abbrev pub first_after : Items → List Items → Option Items
+first_after word f = find (comes_before word) f
+
+-- the items of the word before i, and all items after i
+abbrev pub reach : ℕ → Items → ℕ → Items
+reach n word i = union (keep_before word i) (minus (full n) (full (i + 1)))
+
+abbrev pub left_after : Option Items → List Items → List Items
+left_after cursor f = filter (comes_after comes_before cursor) f
+
+abbrev pub joined_pages : List Items → Option Items → List ℕ → List Items
+joined_pages f cursor [] = []
+joined_pages f cursor (k ∷ sizes) =
+    let sets = (page comes_before f cursor k).members in
+    sets ++ joined_pages f (last_or cursor sets) sizes
