@@ -1,6 +1,7 @@
 pub mod Joins
 pub mod Outcomes
 pub mod Places
+pub mod Moves
 pub mod Listed
 pub mod LineAnswers
 pub mod Scripts

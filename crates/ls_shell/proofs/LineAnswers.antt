@@ -6,6 +6,7 @@ use Rattle.ls_lines.specs.Commands.{command_of, fault_place}
 use Rattle.ls_lines.specs.declared.command.Command.{Command}
 use Rattle.ls_lines.specs.declared.command.Command.TheVariants as command
 use Rattle.ls_reply.specs.Sessions.{Session}
+use Rattle.ls_reply.specs.Scenes.{Files}
 use Rattle.ls_reply.specs.Meanings.{unnamed_places}
 use Rattle.ls_reply.specs.Refusals.{Answer, outcome, refuse, says}
 use Rattle.ls_reply.specs.Replies.{unnamed_at, command_answer, words_answer, line_answer}
@@ -15,27 +16,27 @@ use Rattle.ls_shell.proofs.Outcomes.{decimal_10}
 abbrev pub refusal : Session → List Text → Answer
 refusal s details = record { lines = (codes "no" ∷ details) ∷ []; session = s }
 
-module _ (s : Session) (line : List ℕ) where
+module _ (s : Session) (files : Files) (line : List ℕ) where
   abbrev long : Answer
   long = outcome s (refuse 10 (codes "long" ∷ decimal (length line) ∷ []) true) (says s [])
 
   abbrev short : Answer
-  short = words_answer s (words line) (command_of (words line))
+  short = words_answer s files (words line) (command_of (words line))
 
-  pub line_long : longest_line < length line → line_answer s line ≡ refusal s (codes "10" ∷ codes "long" ∷ decimal (length line) ∷ [])
+  pub line_long : longest_line < length line → line_answer s files line ≡ refusal s (codes "10" ∷ codes "long" ∷ decimal (length line) ∷ [])
   unfolding line_answer
   line_long h =
       ap (λ b. cond b long short) (lt-ltb longest_line (length line) h)
       ∙ ap (λ (w : Text). refusal s (w ∷ codes "long" ∷ decimal (length line) ∷ [])) decimal_10
 
-  pub line_command : (c : Command) → length line ≤ longest_line → command_of (words line) ≡ Some c → line_answer s line ≡ command_answer s c
+  pub line_command : (c : Command) → length line ≤ longest_line → command_of (words line) ≡ Some c → line_answer s files line ≡ command_answer s files c
   unfolding line_answer
-  line_command c h e = ap (λ b. cond b long short) (le-ltb longest_line (length line) h) ∙ ap (words_answer s (words line)) e
+  line_command c h e = ap (λ b. cond b long short) (le-ltb longest_line (length line) h) ∙ ap (words_answer s files (words line)) e
 
-  pub line_fault : (place : ℕ) → length line ≤ longest_line → command_of (words line) ≡ None → place ≡ fault_place (words line) → line_answer s line ≡ refusal s (codes "10" ∷ decimal place ∷ [])
+  pub line_fault : (place : ℕ) → length line ≤ longest_line → command_of (words line) ≡ None → place ≡ fault_place (words line) → line_answer s files line ≡ refusal s (codes "10" ∷ decimal place ∷ [])
   unfolding line_answer
   line_fault place h e f =
-      ap (λ b. cond b long short) (le-ltb longest_line (length line) h) ∙ ap (words_answer s (words line)) e
+      ap (λ b. cond b long short) (le-ltb longest_line (length line) h) ∙ ap (words_answer s files (words line)) e
       ∙ ap (λ (n : ℕ). outcome s (refuse 10 (decimal n ∷ []) true) (says s [])) (sym f)
       ∙ ap (λ (w : Text). refusal s (w ∷ decimal place ∷ [])) decimal_10
 

@@ -9,6 +9,7 @@ use Rattle.ls_theory.specs.Interviews.{accepted}
 use Rattle.ls_lines.specs.Lines.{Text}
 use Rattle.ls_reply.specs.Texts.{line_of, bytes_of}
 use Rattle.ls_reply.specs.Sessions.{Session}
+use Rattle.ls_reply.specs.Scenes.{Files}
 use Rattle.ls_reply.specs.Refusals.{Refusal, Answer, outcome, refuse, faults, refused, becomes}
 use Rattle.ls_reply.specs.Rows.{query_row, is_full, stands}
 use Rattle.ls_shell.specs.Sayings.{Said, Gives, row_answer}
@@ -48,8 +49,17 @@ gives_line (Ok b) a new before after ws e h = record {
 gives_line (Err x) a new before after ws e h = tt
 
 -- the same answer, told otherwise
+pub gives_as : (a b : Answer) (new : Session) (before after : Option (List ℕ)) (refused : Bool) → a ≡ b → Gives b new before after refused → Gives a new before after refused
+gives_as a b new before after refused e h = subst (λ x. Gives x new before after refused) (sym e) h
+
 pub gives_same : (r : Result Bool StepFault) (a b : Answer) (new : Session) (before after : Option (List ℕ)) → a ≡ b → IfOk r (Gives b new before after) → IfOk r (Gives a new before after)
 gives_same r a b new before after e h = subst (λ x. IfOk r (Gives x new before after)) (sym e) h
+
+-- one line was written, whatever the folder has
+pub gives_lines : (r : Result Bool StepFault) (a : Files → Answer) (new : Session) (before after : Option (List ℕ)) (ws : List Text)
+    → ((files : Files) → a files ≡ (let x : Answer = record { lines = ws ∷ []; session = new } in x)) → IfOk r (Said before after (line_of ws)) → IfOk r (λ b. (files : Files) → Gives (a files) new before after b)
+gives_lines (Ok b) a new before after ws e h = λ files. gives_line (Ok b) (a files) new before after ws (e files) h
+gives_lines (Err x) a new before after ws e h = tt
 
 -- ---- the codes
 

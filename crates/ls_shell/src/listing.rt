@@ -1,5 +1,6 @@
 // Listings of the members of a family, written set by set.
-ghost use Rattle.std.specs.Prelude.{◌≡◌, ◌≤◌, ◌+◌, ◌*◌, ◌∷◌, [], IfOk, length, codes, decimal, if◌then◌else◌};
+ghost use Rattle.std.specs.Prelude.{◌≡◌, ◌≤◌, ◌+◌, ◌*◌, ◌∷◌, [], IfOk, OnOk, length, codes, decimal, if◌then◌else◌};
+ghost use Rattle.std.specs.Io.KnownBytes.{Appends};
 ghost use Rattle.std.specs.Option.{ForSome};
 ghost use Rattle.ls_set.specs.ItemSet.{full, IsWithin, comes_before};
 ghost use Rattle.ls_theory.specs.Pages.{page};
@@ -84,13 +85,30 @@ fn write_page<I: Interior, K: Sink, L: Ledger>(
         let Some(set) = first_left(f, cursor, steps) else {
             return say_more(alloc, false, out);
         };
-        line.clear();
-        push_set_line(alloc, names, set, &mut line)?;
-        write_whole(out, &line)?;
+        write_set(alloc, names, set, &mut line, out)?;
         cursor = Some(set);
     }
     let is_more = first_left(f, cursor, steps).is_some();
     say_more(alloc, is_more, out)
+}
+
+// Writes the line of a set, which is made in the given room.
+fn write_set<K: Sink>(
+    alloc: Global,
+    names: &[Word],
+    set: ItemSet,
+    line: &mut Vec<u8>,
+    out: &mut K,
+) -> Result<(), StepFault>
+    requires few { length names.now ≤ PLACES }
+    requires within { IsWithin set (full (length names.now)) }
+    ensures written { OnOk result (Appends (K.written out.old) (K.written out.new) (line_of (set_words names.now set))) }
+    ensures sink { MovesSink (K.written out.old) (K.written out.new) (K.faults out.old) (K.faults out.new) result }
+{
+    line.clear();
+    push_set_line(alloc, names, set, line)?;
+    write_whole(out, line)?;
+    Ok(())
 }
 
 // Writes whether a further set follows.

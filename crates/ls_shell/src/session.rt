@@ -4,9 +4,10 @@ ghost use Rattle.std.specs.Option.{ForSome};
 ghost use Rattle.ls_set.specs.ItemSet.{full, IsWithin};
 ghost use Rattle.ls_lines.specs.declared.command.Command.TheVariants as command;
 ghost use Rattle.ls_reply.specs.Sessions.{started, has_domain};
+ghost use Rattle.ls_reply.specs.Scenes.{Files};
 ghost use Rattle.ls_reply.specs.Cursors.{cursor_set, cursor_faults, fault_words};
-ghost use Rattle.ls_reply.specs.Rows.{is_no_domain, items_row, query_of, query_row, is_full, stands};
-ghost use Rattle.ls_reply.specs.Replies.{command_answer, line_answer, unnamed_at};
+ghost use Rattle.ls_reply.specs.Rows.{is_no_domain, items_row, query_of, query_row, answer_row, states_row, is_full, stands};
+ghost use Rattle.ls_reply.specs.Replies.{command_answer, line_answer, unnamed_at, within_domain};
 ghost use Rattle.ls_shell.specs.Sayings.{Gives, MovesSink, row_answer};
 
 use crate::StepFault;
@@ -72,7 +73,7 @@ impl Session {
     /// Answers one line: writes its reply, and says whether that begins with `no `. After an `Err` the session
     /// isn't used again.
     pub fn step<K: Sink>(&mut self, line: &[u8], out: &mut K) -> Result<bool, StepFault>
-        ensures answered { IfOk result (Gives (line_answer self.old line.now) self.new (K.written out.old) (K.written out.new)) }
+        ensures answered { IfOk result (λ b. (files : Files) → Gives (line_answer self.old files line.now) self.new (K.written out.old) (K.written out.new) b) }
         ensures sink { MovesSink (K.written out.old) (K.written out.new) (K.faults out.old) (K.faults out.new) result }
     {
         if line.len() > LONGEST_LINE {
@@ -89,7 +90,7 @@ impl Session {
     // Answers one command.
     #[tactic(auto, unfolding(ls_reply::specs::Replies::row))]
     fn answer_command<K: Sink>(&mut self, command: Command, out: &mut K) -> Result<bool, StepFault>
-        ensures answered { IfOk result (Gives (command_answer self.old command) self.new (K.written out.old) (K.written out.new)) }
+        ensures answered { IfOk result (λ b. (files : Files) → Gives (command_answer self.old files command) self.new (K.written out.old) (K.written out.new) b) }
         ensures sink { MovesSink (K.written out.old) (K.written out.new) (K.faults out.old) (K.faults out.new) result }
     {
         match command {
@@ -143,7 +144,7 @@ impl Session {
 
     // `yes NAMES : ITEM`
     fn answer<K: Sink>(&mut self, names: &WordList, item: &Word, out: &mut K) -> Result<bool, StepFault>
-        ensures answered { IfOk result (Gives (command_answer self.old (command.Yes names.now item.now)) self.new (K.written out.old) (K.written out.new)) }
+        ensures answered { IfOk result (Gives (row_answer self.old (within_domain self.old (command.Yes names.now item.now) (answer_row self.old true names.now item.now))) self.new (K.written out.old) (K.written out.new)) }
         ensures sink { MovesSink (K.written out.old) (K.written out.new) (K.faults out.old) (K.faults out.new) result }
     {
         match self.query_of(names, item) {
@@ -198,7 +199,7 @@ impl Session {
 
     // `states COUNT after CURSOR`
     fn list<K: Sink>(&self, count: u32, after: &Option<Word>, out: &mut K) -> Result<bool, StepFault>
-        ensures answered { IfOk result (Gives (command_answer self.now (command.States count after.now)) self.now (K.written out.old) (K.written out.new)) }
+        ensures answered { IfOk result (Gives (row_answer self.now (within_domain self.now (command.States count after.now) (states_row self.now count after.now))) self.now (K.written out.old) (K.written out.new)) }
         ensures sink { MovesSink (K.written out.old) (K.written out.new) (K.faults out.old) (K.faults out.new) result }
     {
         if self.names.is_empty() {

@@ -1,21 +1,26 @@
 use Rattle.std.proofs.Common.{◌∷◌, [], ap, sym, ◌∙◌, Err, codes}
 use Rattle.ls_lines.specs.Lines.{Text}
-use Rattle.ls_shell.proofs.Outcomes.{gives_line, gives_same}
+use Rattle.ls_reply.specs.Replies.{line_answer}
+use Rattle.ls_shell.proofs.Moves.{IfOk_map}
+use Rattle.ls_shell.proofs.Outcomes.{gives_lines, gives_as}
 use Rattle.ls_shell.proofs.LineAnswers.{refusal, line_long, line_command, line_fault}
 use Rattle.ls_shell.proofs.session.Session.step.Goals as goal
 
 pub returns-then-line-gt-LONGEST_LINE-clause-answered : goal.returns-then-line-gt-LONGEST_LINE-clause-answered
 returns-then-line-gt-LONGEST_LINE-clause-answered g c =
-    gives_line _ _ _ _ _ _
-    (line_long c.args.self.now c.args.line.now c.if-line-gt-LONGEST_LINE.true
+    gives_lines _ (λ files. line_answer c.args.self.now files c.args.line.now) _ _ _ _
+    (λ files. line_long c.args.self.now files c.args.line.now c.if-line-gt-LONGEST_LINE.true
     ∙ ap (λ (w : Text). refusal c.args.self.now (codes "10" ∷ codes "long" ∷ w ∷ [])) (sym (c.as_bytes.ensures.value ∙ c.in_ok-length.ensures.ok)))
     c.say.ensures.said
 
 pub returns-in-Ok-clause-answered : goal.returns-in-Ok-clause-answered
 returns-in-Ok-clause-answered g c =
-    gives_same _ _ _ _ _ _ (line_command c.args.self.now c.args.line.now c.in-Ok.command c.if-line-gt-LONGEST_LINE.false c.in-Ok.ensures.read) c.answer_command.ensures.answered
+    IfOk_map c.answer_command.result
+    (λ b h files. gives_as _ _ _ _ _ b (line_command c.args.self.now files c.args.line.now c.in-Ok.command c.if-line-gt-LONGEST_LINE.false c.in-Ok.ensures.read) (h files))
+    c.answer_command.ensures.answered
 
 pub returns-in-Err-Shape-clause-answered : goal.returns-in-Err-Shape-clause-answered
 returns-in-Err-Shape-clause-answered g c =
     let at = c.in-Err-Shape.ensures.shape c.in-Err-Shape.place (ap Err c.in-Err-Shape.field-0-is) in
-    gives_line _ _ _ _ _ _ (line_fault c.args.self.now c.args.line.now c.in-Err-Shape.place c.if-line-gt-LONGEST_LINE.false at.0 at.1) c.refuse_at.ensures.said
+    gives_lines _ (λ files. line_answer c.args.self.now files c.args.line.now) _ _ _ _
+    (λ files. line_fault c.args.self.now files c.args.line.now c.in-Err-Shape.place c.if-line-gt-LONGEST_LINE.false at.0 at.1) c.refuse_at.ensures.said
