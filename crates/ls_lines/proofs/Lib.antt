@@ -7,3 +7,4 @@ pub mod Parted
 pub mod Exact
 pub mod Apart
 pub mod Examples
+pub mod Cuts

@@ -4,3 +4,5 @@ pub mod Forms
 pub mod Commands
 pub mod Grammar
 pub mod Reading
+pub mod Cutting
+pub mod CutterParts
