@@ -9,3 +9,4 @@ pub mod Parted
 pub mod Exact
 pub mod Apart
 pub mod Examples
+pub mod Cuts

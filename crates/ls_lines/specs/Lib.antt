@@ -5,3 +5,5 @@ pub mod Forms
 pub mod Commands
 pub mod Grammar
 pub mod Reading
+pub mod Cutting
+pub mod CutterParts

@@ -2,6 +2,8 @@
 #![tactic(auto)]
 
 mod command;
+mod cutter;
+mod ended;
 mod form;
 mod keyword;
 mod kind;
@@ -16,6 +18,8 @@ mod word;
 mod word_list;
 
 pub use command::Command;
+pub use cutter::{Cutter, LONGEST_LINE, lines_go_on};
+pub use ended::Ended;
 pub use form::{FORMS, Form, Part};
 pub use keyword::Keyword;
 pub use kind::{Kind, MOST_COUNTED};

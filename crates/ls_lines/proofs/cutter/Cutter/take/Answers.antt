@@ -1,0 +1,18 @@
+use Rattle.std.proofs.Common.{◌≡◌, ◌+◌, ◌-◌, ◌<◌, ◌==◌, length, take, sym, ◌∙◌, subst, refl, arith, IfSome, length-take}
+use Rattle.ls_lines.specs.Lines.{lines}
+use Rattle.ls_lines.proofs.Cuts.{split_uncut, split_first}
+use Rattle.ls_lines.proofs.cutter.Cutter.take.Goals as goal
+
+pub returns-in-None : goal.returns-in-None
+unfolding lines
+returns-in-None c = λ pending h room.
+    (refl, split_uncut (λ b. b == 10) c.args.piece.now (sym c.in-None.is ∙ c.line_end.ensures.place), c.hold.ensures pending h room)
+
+pub returns-in-Some : goal.returns-in-Some
+unfolding lines
+returns-in-Some c = λ pending h room.
+    let i = c.in-Some.i in
+    let piece = c.args.piece.now in
+    let within : i < length piece = subst (λ o. IfSome o (λ j. j < length piece)) c.in-Some.is c.line_end.ensures.within in
+    let back : i + 1 - 1 ≡ i = omega arith in
+    rw back (omega arith, omega arith, split_first (λ b. b == 10) piece i (sym c.in-Some.is ∙ c.line_end.ensures.place), c.end.ensures _ (c.hold-in-Some.ensures pending h (omega (arith, length-take i piece))))
