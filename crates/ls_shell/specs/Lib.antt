@@ -1,5 +1,6 @@
 pub mod Statuses
 pub mod Sayings
+pub mod Progress
 pub mod Runs
 pub mod Kept
 pub mod Faults

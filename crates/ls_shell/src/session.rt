@@ -1,7 +1,8 @@
 // A session.
-ghost use Rattle.std.specs.Prelude.{◌^◌, IfOk, IfErr, Some, ◌≡◌, ◌<◌, ◌≤◌, ◌||◌, true, [], ◌∷◌, slice_get, length, OnOk};
+ghost use Rattle.std.specs.Prelude.{◌^◌, IfOk, IfErr, Some, ◌≡◌, ◌<◌, ◌≤◌, ◌||◌, true, List, ℕ, [], ◌∷◌, slice_get, length, OnOk};
 ghost use Rattle.std.specs.Option.{ForSome};
 ghost use Rattle.ls_set.specs.ItemSet.{full, IsWithin};
+ghost use Rattle.ls_lines.specs.Lines.{is_long};
 ghost use Rattle.ls_lines.specs.declared.command.Command.TheVariants as command;
 ghost use Rattle.ls_reply.specs.Sessions.{started, has_domain};
 ghost use Rattle.ls_reply.specs.Scenes.{Files};
@@ -16,15 +17,12 @@ use crate::meaning::{is_no_domain, item_of, items_of, unnamed_place};
 use crate::say::{refuse_at, say};
 use ls_edge::Sink;
 use ls_interior::Free;
-use ls_lines::{Command, LineFault, Word, WordList, read_command};
+use ls_lines::{Command, LONGEST_LINE, LineFault, Word, WordList, read_command};
 use ls_rules::Ruled;
 use ls_set::{CursorFault, ItemSet, Query};
 use ls_theory::Answer;
 use std::alloc::Global;
 use std::marker::Model;
-
-/// The most bytes of a line that is read.
-const LONGEST_LINE: usize = 65_536;
 
 /// The most answers that stand.
 const MOST_ANSWERS: usize = 8192;
@@ -77,14 +75,23 @@ impl Session {
         ensures sink { MovesSink (K.written out.old) (K.written out.new) (K.faults out.old) (K.faults out.new) result }
     {
         if line.len() > LONGEST_LINE {
-            let length = line.len().to_string(self.alloc)?;
-            return say(self.alloc, &[b"no", b"10", b"long", length.as_bytes()], out);
+            return self.refuse_long(line.len() as u64, out);
         }
         match read_command(self.alloc, line) {
             Ok(command) => self.answer_command(command, out),
             Err(LineFault::Shape { place }) => refuse_at(self.alloc, b"10", place as usize, out),
             Err(LineFault::Memory(e)) => Err(StepFault::Memory(e)),
         }
+    }
+
+    /// Answers a line that is too long to be read, of which the number of bytes is known alone.
+    pub fn refuse_long<K: Sink>(&self, bytes: u64, out: &mut K) -> Result<bool, StepFault>
+        ensures answered { IfOk result (λ b. (line : List ℕ) → length line ≡ bytes → is_long line ≡ true → (files : Files)
+            → Gives (line_answer self.now files line) self.now (K.written out.old) (K.written out.new) b) }
+        ensures sink { MovesSink (K.written out.old) (K.written out.new) (K.faults out.old) (K.faults out.new) result }
+    {
+        let length = bytes.to_string(self.alloc)?;
+        say(self.alloc, &[b"no", b"10", b"long", length.as_bytes()], out)
     }
 
     // Answers one command.
