@@ -1,5 +1,5 @@
 -- What is left after a cursor, and what is left of a page.
-use Rattle.std.proofs.Common.{ℕ, zero, suc, ◌+◌, ◌-◌, ◌*◌, ◌<◌, ◌≤◌, ◌≡◌, length, arith, Bool, true, false, cond, is_some, ltb, le-ltb, lt-ltb, ltb-true, List, [], ◌∷◌, ◌++◌, append_assoc, append-nil, filter, find, slice_get, take, MatchOption, Option, Some, None, refl, sym, ap, ap₂, ◌∙◌, subst, true≢false}
+use Rattle.std.proofs.Common.{ℕ, zero, suc, ◌+◌, ◌-◌, ◌*◌, ◌<◌, ◌≤◌, ◌≡◌, length, arith, Bool, true, false, cond, is_some, ltb, le-ltb, lt-ltb, ltb-true, List, [], ◌∷◌, ◌++◌, append_assoc, append-nil, filter, find, take, MatchOption, Option, Some, None, refl, sym, ap, ap₂, ◌∙◌, subst}
 use Rattle.std.proofs.lemmas.Bool.{and_parts}
 use Rattle.std.specs.List.{AllByRecursion}
 use Rattle.ls_set.specs.ItemSet.{Items, full, comes_before, is_among, IsWithin, IsInOrder}
@@ -12,7 +12,7 @@ use Rattle.ls_enum.specs.Listings.{left_after}
 
 -- ---- the first that is left, and what is left behind it
 
-pub filter-all : {X : Type 0} (p : X → Bool) (xs : List X) → AllByRecursion (λ x. p x ≡ true) xs → filter p xs ≡ xs
+filter-all : {X : Type 0} (p : X → Bool) (xs : List X) → AllByRecursion (λ x. p x ≡ true) xs → filter p xs ≡ xs
 filter-all p [] h = refl
 filter-all p (x ∷ xs) h = rw h.0 (ap (λ l. x ∷ l) (filter-all p xs h.1))
 
@@ -67,9 +67,6 @@ left-among cursor f k rest e =
 
 pub left-small : (n : ℕ) (cursor : Option Items) (f : List Items) (k : Items) (rest : List Items) → IsFamily n f → left_after cursor f ≡ k ∷ rest → IsWithin k (full n)
 left-small n cursor f k rest family e = family.small k (left-among cursor f k rest e)
-
-pub found-small : (n : ℕ) (cursor : Option Items) (f : List Items) (k : Items) → IsFamily n f → find (comes_after comes_before cursor) f ≡ Some k → IsWithin k (full n)
-found-small n cursor f k family e = left-small n cursor f k _ family (left-first cursor f k family.in_order e)
 
 -- ---- what is left of a page of `count` sets, of which `done` are given and `rest` would follow
 
