@@ -1,5 +1,5 @@
 -- Pages joined by their last sets.
-use Rattle.std.proofs.Common.{ℕ, zero, suc, ◌+◌, ◌-◌, ◌<◌, ◌≤◌, ◌≡◌, length, arith, Bool, true, false, ltb, ltb-true, ltb-false, lt-ltb, List, [], ◌∷◌, ◌++◌, take, drop, sum, Option, Some, None, refl, sym, ap, ap₂, ◌∙◌, find}
+use Rattle.std.proofs.Common.{ℕ, zero, suc, ◌+◌, ◌-◌, ◌<◌, ◌≤◌, ◌≡◌, length, arith, true, false, ltb, ltb-true, ltb-false, lt-ltb, List, [], ◌∷◌, ◌++◌, take, drop, sum, Option, Some, None, refl, sym, ap, ◌∙◌, find}
 use Rattle.std.specs.List.{last_or}
 use Rattle.std.proofs.Math.Seq.{take-add}
 use Rattle.std.proofs.lemmas.List.{length-drop}

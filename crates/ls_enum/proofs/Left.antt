@@ -1,5 +1,5 @@
 -- What is left after a cursor, and what is left of a page.
-use Rattle.std.proofs.Common.{ℕ, zero, suc, ◌+◌, ◌-◌, ◌*◌, ◌<◌, ◌≤◌, ◌≡◌, length, arith, Bool, true, false, cond, is_some, ltb, le-ltb, lt-ltb, ltb-true, List, [], ◌∷◌, ◌++◌, append_assoc, append-nil, filter, find, slice_get, take, Option, Some, None, refl, sym, ap, ap₂, ◌∙◌, subst, true≢false}
+use Rattle.std.proofs.Common.{ℕ, zero, suc, ◌+◌, ◌-◌, ◌*◌, ◌<◌, ◌≤◌, ◌≡◌, length, arith, Bool, true, false, cond, is_some, ltb, le-ltb, lt-ltb, ltb-true, List, [], ◌∷◌, ◌++◌, append_assoc, append-nil, filter, find, take, MatchOption, Option, Some, None, refl, sym, ap, ap₂, ◌∙◌, subst}
 use Rattle.std.proofs.lemmas.Bool.{and_parts}
 use Rattle.std.specs.List.{AllByRecursion}
 use Rattle.ls_set.specs.ItemSet.{Items, full, comes_before, is_among, IsWithin, IsInOrder}
@@ -12,7 +12,7 @@ use Rattle.ls_enum.specs.Listings.{left_after}
 
 -- ---- the first that is left, and what is left behind it
 
-pub filter-all : {X : Type 0} (p : X → Bool) (xs : List X) → AllByRecursion (λ x. p x ≡ true) xs → filter p xs ≡ xs
+filter-all : {X : Type 0} (p : X → Bool) (xs : List X) → AllByRecursion (λ x. p x ≡ true) xs → filter p xs ≡ xs
 filter-all p [] h = refl
 filter-all p (x ∷ xs) h = rw h.0 (ap (λ l. x ∷ l) (filter-all p xs h.1))
 
@@ -68,9 +68,6 @@ left-among cursor f k rest e =
 pub left-small : (n : ℕ) (cursor : Option Items) (f : List Items) (k : Items) (rest : List Items) → IsFamily n f → left_after cursor f ≡ k ∷ rest → IsWithin k (full n)
 left-small n cursor f k rest family e = family.small k (left-among cursor f k rest e)
 
-pub found-small : (n : ℕ) (cursor : Option Items) (f : List Items) (k : Items) → IsFamily n f → find (comes_after comes_before cursor) f ≡ Some k → IsWithin k (full n)
-found-small n cursor f k family e = left-small n cursor f k _ family (left-first cursor f k family.in_order e)
-
 -- ---- what is left of a page of `count` sets, of which `done` are given and `rest` would follow
 
 -- one more given: the sets of the page that are left
@@ -112,16 +109,12 @@ take-full rest count done l = ap (λ m. take m rest) (let q : count - done ≡ 0
 pub given-full : (given rest all : List Items) (count done : ℕ) → count ≤ done → given ++ take (count - done) rest ≡ all → given ≡ all
 given-full given rest all count done l h = sym (append-nil given) ∙ ap (λ t. given ++ t) (sym (take-full rest count done l)) ∙ h
 
--- a further set follows where one is found
-more-found : (p : Items → Bool) (xs : List Items) → is_some (find p xs) ≡ ltb 0 (length (filter p xs))
-more-found p [] = refl
-more-found p (x ∷ xs) = elim (p x) as (λ b. is_some (cond b (Some x) (find p xs)) ≡ ltb 0 (length (cond b (x ∷ filter p xs) (filter p xs)))) [
-  | true ↦ sym (lt-ltb 0 (length (x ∷ filter p xs)) (omega arith))
-  | false ↦ more-found p xs
-]
-
-pub more-full : (cursor : Option Items) (f : List Items) (count done : ℕ) → count ≤ done → is_some (find (comes_after comes_before cursor) f) ≡ ltb (count - done) (length (left_after cursor f))
-more-full cursor f count done l = more-found (comes_after comes_before cursor) f ∙ ap (λ m. ltb m (length (left_after cursor f))) (let q : 0 ≡ count - done = omega arith in q)
+-- `count` sets are given, and a further one is looked for
+pub more-full : (r : Option Items) (rest next : List Items) (count done : ℕ) → MatchOption r ((rest ≡ []) × (next ≡ [])) (λ x. rest ≡ x ∷ next) → count ≤ done → is_some r ≡ ltb (count - done) (length rest)
+more-full None rest next count done h l = sym (more-ended rest (count - done) h.0)
+more-full (Some x) rest next count done h l =
+    let n : length rest ≡ length next + 1 = ap length h ∙ (let q : length (x ∷ next) ≡ length next + 1 = omega arith in q) in
+    sym (lt-ltb (count - done) (length rest) (omega arith))
 
 -- each set costs at most so many steps
 pub more_steps : (before now start done each : ℕ) → before ≤ start + done * each → now ≤ before + each → now ≤ start + (done + 1) * each

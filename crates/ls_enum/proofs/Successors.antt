@@ -1,7 +1,7 @@
 -- The successor rule: from the greatest item of the word down, the first interior that agrees with the word before an item is the next member.
-use Rattle.std.proofs.Common.{ℕ, zero, suc, ◌+◌, ◌<◌, ◌≤◌, ◌≡◌, ◌⊎◌, inl, inr, arith, Bool, true, false, not, ◌&&◌, ◌||◌, ltb, List, [], ◌∷◌, find, slice_get, Some, None, refl, sym, ap, ◌∙◌, subst, true≢false, lt-ltb, le-ltb, ltb-true, ltb-false}
+use Rattle.std.proofs.Common.{ℕ, ◌+◌, ◌<◌, ◌≤◌, ◌≡◌, ◌⊎◌, inl, inr, arith, Bool, true, false, not, ◌&&◌, ◌||◌, ltb, List, [], ◌∷◌, find, slice_get, Some, None, refl, sym, ap, ◌∙◌, subst, true≢false, lt-ltb, le-ltb, ltb-true, ltb-false}
 use Rattle.std.proofs.lemmas.Bool.{cases_Bool, cases_eq, cases_order, false_from_ne_true, or_cases, or_left, or_right, and_parts, and_from, not-true}
-use Rattle.ls_set.specs.ItemSet.{Items, has, full, union, minus, keep_before, is_among, is_within, IsWithin, comes_before, IsInOrder, DiffersFirstAt}
+use Rattle.ls_set.specs.ItemSet.{Items, has, full, keep_before, is_among, is_within, IsWithin, comes_before, IsInOrder, DiffersFirstAt}
 use Rattle.ls_set.proofs.Sets.{has-full, has-union, has-minus, has-keep_before, is_within-from, union-within, minus-within, keep_before-within}
 use Rattle.ls_set.proofs.Order.{comes_before-at, differs_first}
 use Rattle.ls_set.proofs.Members.{among-here, among-there, among-cases, Each-among}
@@ -13,7 +13,7 @@ use Rattle.ls_enum.specs.Listings.{first_after, reach}
 
 -- ---- the first that passes, in a list in order
 
-pub find_in_order : (p : Items → Bool) (xs : List Items) (t : Items) → IsInOrder xs → is_among xs t ≡ true → p t ≡ true → ((x : Items) → is_among xs x ≡ true → p x ≡ true → comes_before x t ≡ true → ⊥) → find p xs ≡ Some t
+find_in_order : (p : Items → Bool) (xs : List Items) (t : Items) → IsInOrder xs → is_among xs t ≡ true → p t ≡ true → ((x : Items) → is_among xs x ≡ true → p x ≡ true → comes_before x t ≡ true → ⊥) → find p xs ≡ Some t
 find_in_order p [] t o c h first = absurd (true≢false (sym c))
 find_in_order p (x ∷ xs) t o c h first =
     elim (among-cases t x xs c) [
@@ -57,13 +57,6 @@ differing-within n word t i small d j h =
 
 inside-is : (n : ℕ) (f : List Items) → IsFamily n f → (s : Items) → IsInterior f s (interior f s)
 inside-is n f family s = interior-is f family.holds_empty family.holds_unions s
-
-pub passed : (f : List Items) (word : Items) (i : ℕ) → has word i ≡ false → NoneFrom f word (i + 1) → NoneFrom f word i
-passed f word i out none t c d l differs =
-    elim (cases_eq d i) [
-      | inl e ↦ true≢false (sym differs.in_first ∙ ap (has word) e ∙ out)
-      | inr n ↦ none t c d (omega arith) differs
-    ]
 
 pub failed : (n : ℕ) (f : List Items) (word : Items) (i : ℕ) → IsFamily n f → is_within (keep_before word i) (interior f (reach n word i)) ≡ false → NoneFrom f word (i + 1) → NoneFrom f word i
 failed n f word i family unlike none t c d l differs =

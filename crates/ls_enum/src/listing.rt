@@ -7,7 +7,7 @@ ghost use Rattle.ls_theory.specs.Pages.{page};
 ghost use Rattle.ls_enum.specs.Listings.{joined_pages};
 
 use crate::list_fault::ListFault;
-use crate::successor::first_left;
+use crate::states::States;
 use ls_interior::{Interior, Steps};
 use ls_set::{ItemSet, SetList};
 use ls_theory::Listing;
@@ -24,24 +24,25 @@ pub fn page<I: Interior, L: Ledger>(
     steps: &mut Steps<L>,
 ) -> Result<Listing, AllocError>
     requires { ForSome after (λ w. IsWithin w (full (I.item_count f.now))) }
-    ensures sets { IfOk result (λ l. l.sets ≡ (page comes_before (I.members f.now) after k).members) }
-    ensures more { IfOk result (λ l. l.more ≡ (page comes_before (I.members f.now) after k).more) }
+    ensures sets { IfOk result (λ l.
+        l.sets ≡ (page comes_before (I.members f.now) after k).members) }
+    ensures more { IfOk result (λ l.
+        l.more ≡ (page comes_before (I.members f.now) after k).more) }
     ensures cost { steps.new ≤ steps.old + (k + 1) * (I.item_count f.now + 1) }
 {
     let mut sets = SetList::new(alloc);
-    let mut cursor = after;
+    let mut states = States::new(f, after, steps);
     for _given in 0..k {
-        let Some(set) = first_left(f, cursor, steps) else {
+        let Some(set) = states.next() else {
             return Ok(Listing { sets, more: false });
         };
         sets.push(set)?;
-        cursor = Some(set);
     }
-    let more = first_left(f, cursor, steps).is_some();
+    let more = states.next().is_some();
     Ok(Listing { sets, more })
 }
 
-/// All members, or `More` where there are more than `max`.
+/// All members, or `More` where there are more than `max` and memory lasts.
 pub fn list_all<I: Interior, L: Ledger>(
     alloc: Global,
     f: &I,

@@ -14,8 +14,11 @@ use std::sync::ledger::Ledger;
 /// the count of steps, looks for a member only when it is asked for the next one, and takes no memory.
 #[derive(Drop)]
 pub struct States<'a, I: Interior, L: Ledger> {
+    /// The family whose members are given.
     pub family: &'a I,
+    /// How many interiors were formed.
     pub steps: &'a mut Steps<L>,
+    /// The set after which the next member is looked for: a set of the family's items.
     pub cursor: Option<ItemSet>,
     ghost small: { ForSome cursor (λ w. IsWithin w (full (I.item_count family.now))) },
 }
@@ -76,8 +79,11 @@ impl<'a, I: Interior, L: Ledger> Iterator for States<'a, I, L> {
     ghost remaining = { item_count (λ s. left_after s.cursor (I.members s.family.now)) };
 
     fn next(&mut self) -> Option<ItemSet>
-        ensures steps { YieldsFirst (λ s. left_after s.cursor (I.members s.family.now)) self.old result self.new }
-        ensures goes { MakesProgress (λ _. ⊤) (item_count (λ s. left_after s.cursor (I.members s.family.now))) self.old result self.new }
+        ensures steps { YieldsFirst (λ s. left_after s.cursor (I.members s.family.now))
+            self.old result self.new }
+        ensures goes { MakesProgress (λ _. ⊤)
+            (item_count (λ s. left_after s.cursor (I.members s.family.now)))
+            self.old result self.new }
         ensures small { IfSome result (λ k. IsWithin k (full (I.item_count self.old.family.now))) }
         ensures cursor { MatchOption result (self.new.cursor ≡ self.old.cursor) (λ k. self.new.cursor ≡ Some k) }
         ensures family { self.new.family.now ≡ self.old.family.now }

@@ -1,6 +1,5 @@
 use Rattle.std.proofs.Common.{◌≡◌, ◌+◌, ◌*◌, ◌-◌, ◌≤◌, ◌++◌, length, nat_lt, take}
-use Rattle.std.specs.Option.{ForSome}
-use Rattle.ls_set.specs.ItemSet.{full, comes_before, IsWithin}
+use Rattle.ls_set.specs.ItemSet.{comes_before}
 use Rattle.ls_theory.specs.Pages.{page}
 use Rattle.ls_enum.specs.Listings.{left_after}
 use Rattle.ls_enum.proofs.listing.page.Given as goal
@@ -9,9 +8,11 @@ use Rattle.ls_enum.proofs.listing.page.Given as goal
 abbrev pub invariant-loop-given : goal.invariant-loop-given
 invariant-loop-given g l =
     let f = g.I.Interior.members l.f in
+    let left = left_after l.states.cursor (g.I.Interior.members l.states.family.now) in
     record {
-      small : ForSome l.cursor (λ w. IsWithin w (full (g.I.Interior.item_count l.f)));
-      sets : l.sets ++ take (l.k - l._given) (left_after l.cursor f) ≡ (page comes_before f l.fn.after l.k).members;
-      more : nat_lt (l.k - l._given) (length (left_after l.cursor f)) ≡ (page comes_before f l.fn.after l.k).more;
-      cost : l.steps ≤ l.fn.steps + l._given * (g.I.Interior.item_count l.f + 1);
+      family : l.states.family.now ≡ l.f;
+      sets : l.sets ++ take (l.k - l._given) left ≡ (page comes_before f l.fn.after l.k).members;
+      more : nat_lt (l.k - l._given) (length left) ≡ (page comes_before f l.fn.after l.k).more;
+      cost : l.states.steps.now ≤ l.fn.steps + l._given * (g.I.Interior.item_count l.f + 1);
+      loan : l.states.steps.ghost_name ≡ l.initial.states.steps.ghost_name;
     }

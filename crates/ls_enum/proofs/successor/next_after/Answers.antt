@@ -3,7 +3,7 @@ use Rattle.ls_set.specs.ItemSet.{full, is_within, IsWithin}
 use Rattle.ls_set.proofs.Sets.{IsWithin-from}
 use Rattle.ls_theory.specs.Families.{interior}
 use Rattle.ls_enum.specs.Listings.{reach}
-use Rattle.ls_enum.proofs.Successors.{reach-within, inside-small, passed, failed, found, none_after, none_from_end}
+use Rattle.ls_enum.proofs.Successors.{reach-within, inside-small, failed, found, none_after, none_from_end}
 use Rattle.ls_enum.proofs.successor.next_after.Goals as goal
 
 pub loop-i-init : goal.loop-i-init
