@@ -4,5 +4,4 @@ pub mod Places
 pub mod Moves
 pub mod Listed
 pub mod LineAnswers
-pub mod Scripts
 pub mod Taken

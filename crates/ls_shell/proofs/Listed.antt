@@ -1,12 +1,13 @@
 -- A page that is written set by set.
-use Rattle.std.proofs.Common.{◌≡◌, ℕ, ◌+◌, ◌-◌, ◌<◌, ◌≤◌, Bool, true, false, cond, ltb, List, [], ◌∷◌, ◌++◌, length, map, take, codes, refl, sym, ap, ◌∙◌, subst, arith, append-nil, append_assoc}
+use Rattle.std.proofs.Common.{◌≡◌, ℕ, ◌+◌, ◌-◌, ◌<◌, ◌≤◌, Bool, true, false, cond, ltb, List, [], ◌∷◌, ◌++◌, length, map, take, codes, Some, None, is_some, find, lt-ltb, refl, sym, ap, ◌∙◌, subst, arith, append-nil, append_assoc}
 use Rattle.std.specs.declared.option.Option.{Option}
 use Rattle.std.specs.Io.KnownBytes.{Appends}
 use Rattle.std.proofs.lemmas.List.{map-append}
-use Rattle.ls_set.specs.ItemSet.{Items}
-use Rattle.ls_theory.specs.Pages.{Page}
+use Rattle.ls_set.specs.ItemSet.{Items, comes_before, IsInOrder}
+use Rattle.ls_theory.specs.Pages.{Page, comes_after}
 use Rattle.ls_edge.proofs.Known.{appends_more, appends_none}
-use Rattle.ls_enum.proofs.Left.{given-left, more-left}
+use Rattle.ls_enum.specs.Listings.{left_after}
+use Rattle.ls_enum.proofs.Left.{given-left, more-left, more-ended, left-none, left-first}
 use Rattle.ls_lines.specs.Lines.{Text}
 use Rattle.ls_reply.specs.Texts.{line_of, bytes_of}
 use Rattle.ls_reply.specs.Rows.{set_words, page_lines}
@@ -75,3 +76,8 @@ module _ (names : List Text) where
       subst (λ sets. Said a c (bytes_of (page_lines names (let q : Page Items = record { members = sets; more = ltb count (length all) } in q))) r) given
       (subst (λ m. Said a c (bytes_of (page_lines names (let q : Page Items = record { members = p.given; more = m } in q))) r) last
       (page_said a b c p.given (cond more (codes "yes") (codes "no")) r p.written s))
+
+-- a further set follows where one is found
+pub found-more : (cursor : Option Items) (f : List Items) (r : Option Items) → IsInOrder f → r ≡ find (comes_after comes_before cursor) f → is_some r ≡ ltb 0 (length (left_after cursor f))
+found-more cursor f None o e = sym (more-ended (left_after cursor f) 0 (left-none cursor f (sym e)))
+found-more cursor f (Some k) o e = sym (ap (λ l. ltb 0 (length l)) (left-first cursor f k o (sym e)) ∙ lt-ltb 0 (length (k ∷ left_after (Some k) f)) (omega arith))

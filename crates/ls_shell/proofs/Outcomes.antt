@@ -48,6 +48,18 @@ gives_line (Ok b) a new before after ws e h = record {
 }
 gives_line (Err x) a new before after ws e h = tt
 
+pub gives_line_as : (a : Answer) (new : Session) (before after : Option (List ℕ)) (ws : List Text) (refused : Bool)
+    → a ≡ (let x : Answer = record { lines = ws ∷ []; session = new } in x) → Said before after (line_of ws) refused → Gives a new before after refused
+gives_line_as a new before after ws refused e h = gives_line (Ok refused) a new before after ws e h
+
+-- lines were written
+pub gives_all : (a : Answer) (new : Session) (before after : Option (List ℕ)) (lines : List (List Text)) (refused : Bool)
+    → a ≡ (let x : Answer = record { lines = lines; session = new } in x) → Said before after (bytes_of lines) refused → Gives a new before after refused
+gives_all a new before after lines refused e h = record {
+  said = subst (λ bytes. Said before after bytes refused) (ap (λ (x : Answer). bytes_of x.lines) (sym e)) h;
+  session = ap (λ (x : Answer). x.session) (sym e);
+}
+
 -- the same answer, told otherwise
 pub gives_as : (a b : Answer) (new : Session) (before after : Option (List ℕ)) (refused : Bool) → a ≡ b → Gives b new before after refused → Gives a new before after refused
 gives_as a b new before after refused e h = subst (λ x. Gives x new before after refused) (sym e) h

@@ -1,6 +1,6 @@
 -- How far a run over a script has come.
 use Rattle.std.specs.Prelude.{ℕ, ◌≡◌, Bool, ◌||◌, List, [], ◌∷◌, ◌++◌, Option, Some, None}
-use Rattle.std.specs.Io.KnownBytes.{Appends}
+use Rattle.std.specs.Io.KnownBytes.{Appends, Keeps}
 use Rattle.ls_edge.specs.Files.{Folder}
 use Rattle.ls_lines.specs.Lines.{lines}
 use Rattle.ls_lines.specs.Cutting.{Holds, kept, ended_of, ahead}
@@ -29,6 +29,6 @@ pub record AnswersLine (folder : Folder) (line : List ℕ) (old new : Run) (befo
 
 -- the line that ended was answered, if one did
 abbrev pub AnswersEnded : Run → Run → Option Ended → Option (List ℕ) → Option (List ℕ) → Type 0
-AnswersEnded old new None before after = (new ≡ old) × (after ≡ before)
+AnswersEnded old new None before after = (new ≡ old) × Keeps before after
 AnswersEnded old new (Some ended) before after =
     (line : List ℕ) → ended ≡ ended_of line → old.cutter.line ≡ kept line → (folder : Folder) → AnswersLine folder line old new before after

@@ -1,37 +1,48 @@
 -- What a run of the program does: the bytes that it takes and writes.
-use Rattle.std.specs.Prelude.{◌≡◌, ℕ, ◌+◌, ◌<◌, ◌≤◌, ◌⊎◌, true, false, List, length, codes, Some}
+use Rattle.std.specs.Prelude.{◌≡◌, ℕ, ◌+◌, ◌<◌, ◌≤◌, ◌⊎◌, Bool, true, false, List, length, codes, Some}
 use Rattle.std.specs.declared.option.Option.{Option}
-use Rattle.std.specs.Io.KnownBytes.{Appends, Consumes}
+use Rattle.std.specs.Io.KnownBytes.{Appends, Consumes, IsAtEnd}
+use Rattle.ls_edge.specs.Files.{Folder}
 use Rattle.ls_reply.specs.Transcripts.{transcript, is_some_refused}
+use Rattle.ls_shell.specs.declared.reading.TheConstants.{LONGEST_SCRIPT}
 use Rattle.ls_shell.specs.declared.status.Status.{Status}
 use Rattle.ls_shell.specs.declared.status.Status.TheVariants.{Done, Refused, Usage, WriteFault, InputLong, NoMemory}
-
--- the most bytes that a script has
-abbrev pub longest_script : ℕ
-longest_script = 65536
 
 -- the line that is written where the words of the command line aren't understood
 abbrev pub usage_line : List ℕ
 usage_line = codes "usage: lspace [--script NAME | --drill N [--number S]]\n"
 
--- more bytes were taken than a script has
-abbrev pub TakesTooMany : Option (List ℕ) → Option (List ℕ) → Type 0
-TakesTooMany old new = (taken : List ℕ) × Consumes old new taken × (longest_script < length taken)
+-- at most so many bytes were taken
+abbrev pub TakesAtMost : ℕ → Option (List ℕ) → Option (List ℕ) → Type 0
+TakesAtMost most old new = (taken : List ℕ) × Consumes old new taken × (length taken ≤ most)
+
+-- more bytes were taken
+abbrev pub TakesMore : ℕ → Option (List ℕ) → Option (List ℕ) → Type 0
+TakesMore most old new = (taken : List ℕ) × Consumes old new taken × (most < length taken)
 
 -- of these bytes, as many as a script may have were taken, or fewer
 abbrev pub TakesFew : List ℕ → Option (List ℕ) → Type 0
-TakesFew script new = (left : List ℕ) → new ≡ Some left → length script ≤ length left + longest_script
+TakesFew script new = (left : List ℕ) → new ≡ Some left → length script ≤ length left + LONGEST_SCRIPT
+
+-- a script was taken to its end and its whole transcript written, whatever the folder has; and it is told whether some reply begins with `no `
+pub record AnswersAll (left_before left_after before after : Option (List ℕ)) (refused : Bool) : Type 0 where
+  pub script : List ℕ
+  pub taken : Consumes left_before left_after script
+  pub at_end : IsAtEnd left_after
+  pub few : length script ≤ LONGEST_SCRIPT
+  pub written : (folder : Folder) → Appends before after (transcript folder script)
+  pub told : (folder : Folder) → refused ≡ is_some_refused folder script
 
 -- the whole transcript was written, and no reply to the script begins with `no `; the same where one does
-abbrev pub WritesTranscript : List ℕ → Option (List ℕ) → Option (List ℕ) → Type 0
-WritesTranscript script old new = Appends old new (transcript script)
+abbrev pub WritesTranscript : Folder → List ℕ → Option (List ℕ) → Option (List ℕ) → Type 0
+WritesTranscript folder script old new = Appends old new (transcript folder script)
 
 -- a run over the script answers by its transcript, unless memory ran out
-abbrev pub AnswersScript : List ℕ → Option (List ℕ) → Option (List ℕ) → Status → Type 0
-AnswersScript script old new Done = WritesTranscript script old new × (is_some_refused script ≡ false)
-AnswersScript script old new Refused = WritesTranscript script old new × (is_some_refused script ≡ true)
-AnswersScript script old new NoMemory = Unit {0}
-AnswersScript script old new status = ⊥
+abbrev pub AnswersScript : Folder → List ℕ → Option (List ℕ) → Option (List ℕ) → Status → Type 0
+AnswersScript folder script old new Done = WritesTranscript folder script old new × (is_some_refused folder script ≡ false)
+AnswersScript folder script old new Refused = WritesTranscript folder script old new × (is_some_refused folder script ≡ true)
+AnswersScript folder script old new NoMemory = Unit {0}
+AnswersScript folder script old new status = ⊥
 
 -- where there are words, the status says so, or that the usage line could not be written
 abbrev pub IsUsageStatus : Status → Type 0

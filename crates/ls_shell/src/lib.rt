@@ -4,13 +4,14 @@
 mod listing;
 mod meaning;
 mod print;
+mod reading;
 mod run;
+mod run_fault;
 mod say;
 mod session;
 mod status;
 mod step_fault;
 mod top;
-mod whole;
 
 pub use session::Session;
 pub use status::Status;

@@ -174,11 +174,13 @@ impl Session {
         let number = self.next;
         let text = number.to_string(self.alloc)?;
         self.family.reserve()?;
-        self.answers.push(Answer {
+        self.answers.reserve(1)?;
+        let answer = Answer {
             number,
             query,
             yes: true,
-        })?;
+        };
+        self.answers.push(answer).unwrap();
         self.family.push_reserved(query);
         self.next += 1;
         say(self.alloc, &[b"ok", text.as_bytes()], out)

@@ -1,20 +1,18 @@
 // The top call.
 ghost use Rattle.std.specs.Prelude.{◌≡◌, ◌≢◌, ◌<◌, ◌++◌, [], List, ℕ, Some, false, true, length};
-ghost use Rattle.std.specs.Io.KnownBytes.{Appends, Consumes, Keeps};
+ghost use Rattle.std.specs.Io.KnownBytes.{Appends};
+ghost use Rattle.ls_edge.specs.Files.{Folder};
 ghost use Rattle.ls_edge.specs.Causes.{Rose};
-ghost use Rattle.ls_shell.specs.Runs.{usage_line, longest_script, TakesTooMany, TakesFew, WritesTranscript, AnswersScript, IsUsageStatus, IsLongStatus};
+ghost use Rattle.ls_shell.specs.Runs.{usage_line, TakesMore, TakesFew, WritesTranscript, AnswersScript, IsUsageStatus, IsLongStatus};
 ghost use Rattle.ls_shell.specs.Sayings.{IsExtended};
 ghost use Rattle.ls_reply.specs.Transcripts.{is_some_refused};
 
-use crate::{Status, StepFault};
-use crate::run::answer_script;
-use crate::whole::{WholeFault, read_whole};
+use crate::Status;
+use crate::reading::{LONGEST_SCRIPT, answer_source};
+use crate::run_fault::RunFault;
 use ls_edge::{Shelf, Sink, SinkFault, Source, write_whole};
 use std::alloc::Global;
 use std::thread::Threads;
-
-/// The most bytes that a script has.
-const LONGEST_SCRIPT: usize = 65_536;
 
 /// The line that is written where the words of the command line aren't understood.
 const USAGE: &str = "usage: lspace [--script NAME | --drill N [--number S]]\n";
@@ -42,15 +40,15 @@ pub fn lspace<R: Threads + Sync, S: Source, K: Sink, H: Shelf>(
     out: &mut K,
     shelf: &mut H,
 ) -> Status
-    // Every script is answered by its transcript, unless memory runs out.
+    // Every script is answered by its transcript, unless memory runs out. No command that is built looks into the folder.
     ensures headline { words.now ≡ [] → (script : List ℕ) → S.left src.old ≡ Some script → TakesFew script (S.left src.new)
         → (Rose (S.faults src.old) (S.faults src.new) → ⊥) → (Rose (K.faults out.old) (K.faults out.new) → ⊥)
-        → AnswersScript script (K.written out.old) (K.written out.new) result }
+        → (folder : Folder) → AnswersScript folder script (K.written out.old) (K.written out.new) result }
     // Status 0, and status 1.
-    ensures done { result ≡ Status.Done → (words.now ≡ []) × ((script : List ℕ) → S.left src.old ≡ Some script
-        → (S.left src.new ≡ Some []) × WritesTranscript script (K.written out.old) (K.written out.new) × (is_some_refused script ≡ false)) }
-    ensures refused { result ≡ Status.Refused → (words.now ≡ []) × ((script : List ℕ) → S.left src.old ≡ Some script
-        → (S.left src.new ≡ Some []) × WritesTranscript script (K.written out.old) (K.written out.new) × (is_some_refused script ≡ true)) }
+    ensures done { result ≡ Status.Done → (words.now ≡ []) × ((script : List ℕ) (folder : Folder) → S.left src.old ≡ Some script
+        → (S.left src.new ≡ Some []) × WritesTranscript folder script (K.written out.old) (K.written out.new) × (is_some_refused folder script ≡ false)) }
+    ensures refused { result ≡ Status.Refused → (words.now ≡ []) × ((script : List ℕ) (folder : Folder) → S.left src.old ≡ Some script
+        → (S.left src.new ≡ Some []) × WritesTranscript folder script (K.written out.old) (K.written out.new) × (is_some_refused folder script ≡ true)) }
 
     // Status 2: exactly where there is a word.
     ensures usage { result ≡ Status.Usage → (words.now ≢ []) × Appends (K.written out.old) (K.written out.new) usage_line }
@@ -58,12 +56,12 @@ pub fn lspace<R: Threads + Sync, S: Source, K: Sink, H: Shelf>(
     ensures unread { words.now ≢ [] → (S.left src.new ≡ S.left src.old) × (S.faults src.new ≡ S.faults src.old) }
 
     // Status 3, and status 4.
-    ensures read_fault { result ≡ Status.ReadFault → (words.now ≡ []) × Rose (S.faults src.old) (S.faults src.new) × Keeps (K.written out.old) (K.written out.new) }
+    ensures read_fault { result ≡ Status.ReadFault → (words.now ≡ []) × Rose (S.faults src.old) (S.faults src.new) }
     ensures write_fault { result ≡ Status.WriteFault → Rose (K.faults out.old) (K.faults out.new) }
 
-    // Status 5: exactly where more bytes were taken than a script has; then nothing is written.
-    ensures long { result ≡ Status.InputLong → (words.now ≡ []) × TakesTooMany (S.left src.old) (S.left src.new) × Keeps (K.written out.old) (K.written out.new) }
-    ensures too_long { (taken rest : List ℕ) → S.left src.old ≡ Some (taken ++ rest) → S.left src.new ≡ Some rest → longest_script < length taken → IsLongStatus result }
+    // Status 5: exactly where more bytes were taken than a script has.
+    ensures long { result ≡ Status.InputLong → (words.now ≡ []) × TakesMore LONGEST_SCRIPT (S.left src.old) (S.left src.new) }
+    ensures too_long { (taken rest : List ℕ) → S.left src.old ≡ Some (taken ++ rest) → S.left src.new ≡ Some rest → LONGEST_SCRIPT < length taken → IsLongStatus result }
 
     // What was written stays, no script is looked for, and the shelf is left alone.
     ensures kept { IsExtended (K.written out.old) (K.written out.new) }
@@ -74,16 +72,12 @@ pub fn lspace<R: Threads + Sync, S: Source, K: Sink, H: Shelf>(
     if !words.is_empty() {
         return usage(out);
     }
-    let script = match read_whole(alloc, LONGEST_SCRIPT, src) {
-        Ok(script) => script,
-        Err(WholeFault::Long) => return Status::InputLong,
-        Err(WholeFault::Failed) => return Status::ReadFault,
-        Err(WholeFault::Memory(_)) => return Status::NoMemory,
-    };
-    match answer_script(alloc, &script, out) {
+    match answer_source(alloc, src, out) {
         Ok(false) => Status::Done,
         Ok(true) => Status::Refused,
-        Err(StepFault::Write) => Status::WriteFault,
-        Err(StepFault::Memory(_)) => Status::NoMemory,
+        Err(RunFault::Long) => Status::InputLong,
+        Err(RunFault::Read) => Status::ReadFault,
+        Err(RunFault::Write) => Status::WriteFault,
+        Err(RunFault::Memory(_)) => Status::NoMemory,
     }
 }

@@ -1,9 +1,9 @@
-use Rattle.std.proofs.Common.{sym, ap, ◌∙◌, subst, arith, ◌+◌, ◌-◌, Some, length, is_some}
+use Rattle.std.proofs.Common.{sym, ap, ◌∙◌, subst, arith, ◌+◌, ◌-◌, ◌≡◌, ltb, Some, length}
 use Rattle.std.proofs.lemmas.Grind.{common_steps}
 use Rattle.ls_set.specs.ItemSet.{full, IsWithin}
 use Rattle.ls_enum.specs.Listings.{left_after}
-use Rattle.ls_enum.proofs.Left.{left-first, left-none, more_steps, more-full, more-ended, take-ended, take-full}
-use Rattle.ls_shell.proofs.Listed.{part_none, part_more, part_said}
+use Rattle.ls_enum.proofs.Left.{left-first, left-none, more_steps, more-ended, take-ended, take-full}
+use Rattle.ls_shell.proofs.Listed.{part_none, part_more, part_said, found-more}
 use Rattle.ls_shell.proofs.Moves.{IfOk_map, moves_more, moves_same}
 use Rattle.ls_shell.proofs.listing.write_page.Goals as goal
 
@@ -40,10 +40,11 @@ returns-in_default-clause-sink g c = moves_more _ _ _ _ _ _ _ _ c.loop-done.inva
 pub returns-clause-said : goal.returns-clause-said
 returns-clause-said g c =
     let f = g.I.Interior.members c.args.f.now in
-    let full = more-full c.loop-done.cursor f c.args.count c.loop-done._done c.loop-done-test.false in
+    let none : c.args.count - c.loop-done._done ≡ 0 = omega arith in
+    let more = found-more c.loop-done.cursor f c.first_left-2.result (g.met.I.Interior.is_family c.args.f.now).in_order c.first_left-2.ensures.first in
     IfOk_map c.say_more-2.result
     (λ r said. part_said c.args.names.now _ _ _ _ _ (c.args.count - c.loop-done._done) c.args.count _ r c.loop-done.invariant.part (take-full _ c.args.count c.loop-done._done c.loop-done-test.false)
-    (sym full ∙ ap is_some (sym c.first_left-2.ensures.first) ∙ sym c.is_some-is_more.ensures) said)
+    (ap (λ n. ltb n (length (left_after c.loop-done.cursor f))) none ∙ sym more ∙ sym c.is_some-is_more.ensures) said)
     c.say_more-2.ensures.said
 
 pub returns-clause-sink : goal.returns-clause-sink

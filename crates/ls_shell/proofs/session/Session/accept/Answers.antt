@@ -25,11 +25,12 @@ returns-clause-answered g c =
     let good = ap (λ n. is_good n c.args.query) (sym (c.len.ensures ∙ ap (λ (s : Session). length s.names) c.self.view_is)) ∙ sym c.is_good.ensures ∙ c.if-not-is_good.false in
     let names = c.self.inside.names in
     let next = c.self.inside.next in
-    let old : List Answer = c.self.inside.answers.items ++ record { number = next; query = c.args.query; yes = true } ∷ [] in
+    let answer : Answer = record { number = next; query = c.args.query; yes = true } in
+    let pushed : c.push.new.self.items ≡ c.self.inside.answers.items ++ answer ∷ [] = (rw c.unwrap.ensures at c.push.ensures.items) ∙ ap (λ (l : List Answer). l ++ answer ∷ []) c.reserve-2.ensures.items in
     let told : decimal next ≡ c.as_bytes.result.now = sym (c.as_bytes.ensures.value ∙ c.in_ok-text.ensures.ok) in
     gives_line _ _ _ _ _ _
     (query_row-accepted c.args.self.now c.args.query good (sym c.cannot_accept.ensures ∙ c.if-cannot_accept.false)
     ∙ ap (λ (s : Session). becomes (record s { interview = accepted s.interview c.args.query true }) (decimal s.interview.next ∷ [])) (sym c.self.view_is)
     ∙ ap₂ (λ (w : Text) (done : List Answer). let x : reply.Answer = record { lines = (codes "ok" ∷ w ∷ []) ∷ []; session = record { names = names; interview = record { count = length names; start = Free; block = 1; answers = done; next = next + 1 } } } in x)
-    told (sym c.in_ok-push.ensures.items))
+    told (sym pushed))
     c.say-2.ensures.said

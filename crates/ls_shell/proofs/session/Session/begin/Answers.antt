@@ -18,5 +18,5 @@ returns-clause-answered g c =
     gives_line _ _ _ _ _ _
     (passed_last c.args.self.now 49 [] _ _ (sym c.cannot_begin.ensures ∙ c.if-cannot_begin.false)
     ∙ ap₂ (λ (w : Text) (done : List Answer). let x : reply.Answer = record { lines = (codes "ok" ∷ w ∷ []) ∷ []; session = record { names = c.args.names; interview = record { count = length c.args.names; start = Free; block = 1; answers = done; next = 1 } } } in x)
-    (sym (c.as_bytes.ensures.value ∙ c.in_ok-count.ensures.ok ∙ ap decimal c.len.ensures)) (sym c.new.ensures.items))
+    (sym (c.as_bytes.ensures.value ∙ c.in_ok-count.ensures.ok ∙ ap decimal c.len.ensures)) (sym c.new-3.ensures.items))
     c.say-2.ensures.said

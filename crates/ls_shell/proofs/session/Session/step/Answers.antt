@@ -1,17 +1,13 @@
-use Rattle.std.proofs.Common.{◌∷◌, [], ap, sym, ◌∙◌, Err, codes}
-use Rattle.ls_lines.specs.Lines.{Text}
+use Rattle.std.proofs.Common.{ap, Err, refl, lt-ltb}
 use Rattle.ls_reply.specs.Replies.{line_answer}
 use Rattle.ls_shell.proofs.Moves.{IfOk_map}
 use Rattle.ls_shell.proofs.Outcomes.{gives_lines, gives_as}
-use Rattle.ls_shell.proofs.LineAnswers.{refusal, line_long, line_command, line_fault}
+use Rattle.ls_shell.proofs.LineAnswers.{line_command, line_fault}
 use Rattle.ls_shell.proofs.session.Session.step.Goals as goal
 
 pub returns-then-line-gt-LONGEST_LINE-clause-answered : goal.returns-then-line-gt-LONGEST_LINE-clause-answered
 returns-then-line-gt-LONGEST_LINE-clause-answered g c =
-    gives_lines _ (λ files. line_answer c.args.self.now files c.args.line.now) _ _ _ _
-    (λ files. line_long c.args.self.now files c.args.line.now c.if-line-gt-LONGEST_LINE.true
-    ∙ ap (λ (w : Text). refusal c.args.self.now (codes "10" ∷ codes "long" ∷ w ∷ [])) (sym (c.as_bytes.ensures.value ∙ c.in_ok-length.ensures.ok)))
-    c.say.ensures.said
+    IfOk_map c.refuse_long.result (λ b h. h c.args.line.now refl (lt-ltb _ _ c.if-line-gt-LONGEST_LINE.true)) c.refuse_long.ensures.answered
 
 pub returns-in-Ok-clause-answered : goal.returns-in-Ok-clause-answered
 returns-in-Ok-clause-answered g c =
