@@ -1,11 +1,14 @@
 // The plain programs on the items a b c.
+use ls_plain::{
+    accepted, begun, compatible_sets, interior, is_settled, known_of, next_question, page, queries,
+    retracted, spaces_of, subsets,
+};
+use ls_plain_families::{base, fringes_of, paths, peak, projection, state_of, verdict_on};
+use ls_plain_pupils::{class_results, fits_for, fits_now, next_asked, outcome_of, replay_of};
 use ls_set::{ItemSet, PLACES, Query};
 use ls_theory::{
     Answer, Asked, FringePair, Known, ListedInterview, ListedRow, ListedSettings, ListedStart,
-    Odds, Reason, Replay, Reply, Verdict, accepted, base, begun, class_results, compatible_sets,
-    fits_for, fits_now, fringes_of, interior, is_settled, known_of, next_asked, next_question,
-    outcome_of, page, paths, peak, projection, queries, replay_of, retracted, spaces_of, state_of,
-    subsets, verdict_on,
+    Odds, Reason, Replay, Reply, Verdict,
 };
 use std::process::Abort;
 use std::test::Fail;
@@ -190,12 +193,12 @@ fn assesses_pupils(rt: HostRuntime) -> Result<(), Fail> {
         assert!(rt; fits_now(&s, &states, &replies));
         let outcome = outcome_of(&s, &states, &replies);
         assert_eq!(rt; (outcome.total, outcome.weight), (total, weight));
-        let asked = next_asked(rt.alloc(), &s, &states, &replies)?;
+        let asked = next_asked(&s, &states, &replies);
         assert_eq!(rt; asked, Asked::Item(q));
         replies.push(Reply { q, right: q != 1 })?;
     }
     for (right, replies) in [(ac, 6), (none, 4)] {
-        let fits = fits_for(rt.alloc(), 30, &s, &states, right, Vec::new(rt.alloc()))?;
+        let fits = fits_for(30, &s, &states, right, Vec::new(rt.alloc()))?;
         assert!(rt; fits && s.budget == 30);
         let want = Replay {
             replies,
@@ -219,7 +222,7 @@ fn assesses_a_class(rt: HostRuntime) -> Result<(), Fail> {
     assert!(rt; s.odds.len() == 3 && s.budget == 30);
     let name = String::from_str(rt.alloc(), "Ann")?;
     let table = [ListedRow { name, right: ac }];
-    assert!(rt; fits_for(rt.alloc(), 30, &s, &states, ac, Vec::new(rt.alloc()))?);
+    assert!(rt; fits_for(30, &s, &states, ac, Vec::new(rt.alloc()))?);
     let lines = class_results(rt.alloc(), &s, &states, &table)?;
     assert_eq!(rt; lines.len(), 1);
     for line in &lines {
