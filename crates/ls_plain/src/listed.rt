@@ -20,20 +20,15 @@ pub fn numbers_from(alloc: Global, first: u32, count: u32) -> Result<Vec<u32>, A
     Ok(numbers)
 }
 
-// The sets, each with the item.
-fn with_item(alloc: Global, i: u32, sets: &[ItemSet]) -> Result<Vec<ItemSet>, AllocError>
-    requires { i < PLACES }
-    ensures { IfOk result (λ v. v.items ≡ map (λ s. with s i) sets.now) }
-{
-    sets.iter().map(|s| s.with(i)).collect(alloc)
-}
-
-// Those with the item, and then those without it.
+// The sets with the item, and then those without it.
 fn doubled(alloc: Global, i: u32, sets: &[ItemSet]) -> Result<Vec<ItemSet>, AllocError>
     requires { i < PLACES }
     ensures { IfOk result (λ v. v.items ≡ map (λ s. with s i) sets.now ++ sets.now) }
 {
-    let mut all = with_item(alloc, i, sets)?;
+    let mut all = Vec::new(alloc);
+    for s in sets {
+        all.push(s.with(i))?;
+    }
     all.extend_from_slice(sets)?;
     Ok(all)
 }

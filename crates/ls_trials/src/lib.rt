@@ -4,6 +4,8 @@
 #[cfg(test)]
 mod plain_programs;
 #[cfg(test)]
+mod plain_pupils;
+#[cfg(test)]
 mod scripts;
 #[cfg(test)]
 mod statuses;

@@ -1,12 +1,12 @@
-// The plain programs on the items a b c.
-use ls_set::{ItemSet, PLACES, Query};
-use ls_theory::{
-    Answer, Asked, FringePair, Known, ListedInterview, ListedRow, ListedSettings, ListedStart,
-    Odds, Reason, Replay, Reply, Verdict, accepted, base, begun, class_results, compatible_sets,
-    fits_for, fits_now, fringes_of, interior, is_settled, known_of, next_asked, next_question,
-    outcome_of, page, paths, peak, projection, queries, replay_of, retracted, spaces_of, state_of,
-    subsets, verdict_on,
+// The plain programs of interviews and families, on the items a b c.
+use ls_plain::{
+    accepted, begun, compatible_sets, interior, is_settled, known_of, next_question, page, queries,
+    retracted, spaces_of, subsets,
 };
+use ls_plain_families::{base, fringes_of, paths, peak, projection, state_of, verdict_on};
+use ls_set::{ItemSet, PLACES, Query};
+use ls_theory::{FringePair, Known, ListedInterview, ListedStart, Verdict};
+use std::alloc::{AllocError, Global};
 use std::process::Abort;
 use std::test::Fail;
 
@@ -27,7 +27,7 @@ fn query(rt: &impl Abort, a: &[u32], q: u32) -> Query {
 }
 
 // The sets in the order: abc, ab, ac, a, bc, b, c, {}.
-fn all_sets(rt: &impl Abort) -> [ItemSet; 8] {
+pub(crate) fn all_sets(rt: &impl Abort) -> [ItemSet; 8] {
     [
         set_of(rt, &[0, 1, 2]),
         set_of(rt, &[0, 1]),
@@ -41,7 +41,7 @@ fn all_sets(rt: &impl Abort) -> [ItemSet; 8] {
 }
 
 // The sets that are left where all who fail a fail b.
-fn six_states(rt: &impl Abort) -> [ItemSet; 6] {
+pub(crate) fn six_states(rt: &impl Abort) -> [ItemSet; 6] {
     let [abc, ab, ac, a, _, _, c, none] = all_sets(rt);
     [abc, ab, ac, a, c, none]
 }
@@ -67,32 +67,35 @@ fn lists_sets_and_queries(rt: HostRuntime) -> Result<(), Fail> {
 }
 
 #[test]
-fn lists_what_answers_leave_and_force(rt: HostRuntime) -> Result<(), Fail> {
-    let all = all_sets(&rt);
-    let mut i = ListedInterview {
-        count: 3,
-        start: ListedStart::Free,
-        block: 1,
-        answers: Vec::new(rt.alloc()),
-        next: 1,
-    };
-    assert_eq!(rt; compatible_sets(rt.alloc(), &i)?.as_slice(), all.as_slice());
-    i.answers.push(Answer {
-        number: 1,
-        query: query(&rt, &[0], 1),
-        yes: true,
-    })?;
-    let states = six_states(&rt);
+fn lists_what_answers_leave(rt: HostRuntime) -> Result<(), Fail> {
+    let new = begun(rt.alloc(), 3, ListedStart::Free);
     assert_eq!(rt;
-        compatible_sets(rt.alloc(), &i)?.as_slice(),
-        states.as_slice()
+        compatible_sets(rt.alloc(), &new)?.as_slice(),
+        all_sets(&rt).as_slice()
     );
-    assert_eq!(rt; spaces_of(rt.alloc(), &i)?.len(), 14);
-    i.answers.push(Answer {
-        number: 2,
-        query: query(&rt, &[0], 2),
-        yes: false,
-    })?;
+    let after = accepted(new, query(&rt, &[0], 1), true)?;
+    assert_eq!(rt;
+        compatible_sets(rt.alloc(), &after)?.as_slice(),
+        six_states(&rt).as_slice()
+    );
+    assert_eq!(rt; spaces_of(rt.alloc(), &after)?.len(), 14);
+    Ok(())
+}
+
+// The interview in which all who fail a fail b, and not all who fail a fail c.
+fn two_answers(rt: &impl Abort, alloc: Global) -> Result<ListedInterview, AllocError> {
+    let new = begun(alloc, 3, ListedStart::Free);
+    let first = accepted(new, query(rt, &[0], 1), true)?;
+    assert!(rt; first.next == 2);
+    let both = accepted(first, query(rt, &[0], 2), false)?;
+    assert!(rt; both.count == 3 && both.block == 1);
+    Ok(both)
+}
+
+#[test]
+fn tells_what_answers_force(rt: HostRuntime) -> Result<(), Fail> {
+    let i = two_answers(&rt, rt.alloc())?;
+    assert!(rt; i.count == 3);
     for (a, q, want) in [
         (&[1][..], 2, Known::No { by: 2 }),
         (&[0][..], 1, Known::Yes),
@@ -102,6 +105,13 @@ fn lists_what_answers_leave_and_force(rt: HostRuntime) -> Result<(), Fail> {
         let known = known_of(rt.alloc(), &i, &query(&rt, a, q))?;
         assert_eq!(rt; known, want);
     }
+    Ok(())
+}
+
+#[test]
+fn tells_the_next_question(rt: HostRuntime) -> Result<(), Fail> {
+    let i = two_answers(&rt, rt.alloc())?;
+    assert!(rt; i.count == 3 && i.block == 1);
     let first = next_question(rt.alloc(), &i, None)?;
     assert_eq!(rt; first, Some(query(&rt, &[1], 0)));
     let second = next_question(rt.alloc(), &i, first)?;
@@ -112,7 +122,7 @@ fn lists_what_answers_leave_and_force(rt: HostRuntime) -> Result<(), Fail> {
 
 #[test]
 fn tells_bases_and_peaks(rt: HostRuntime) -> Result<(), Fail> {
-    let [_, ab, ac, a, bc, b, c, _] = all_sets(&rt);
+    let [_, ab, _, a, bc, _, c, _] = all_sets(&rt);
     let states = six_states(&rt);
     assert_eq!(rt; interior(&states, bc), c);
     assert_eq!(rt;
@@ -123,8 +133,15 @@ fn tells_bases_and_peaks(rt: HostRuntime) -> Result<(), Fail> {
     let free = ListedStart::Free;
     assert_eq!(rt; peak(rt.alloc(), 3, 3, &free, &yeses)?, Some((1, 4)));
     assert_eq!(rt; peak(rt.alloc(), 4, 3, &free, &yeses)?, None);
+    Ok(())
+}
+
+#[test]
+fn lists_projections_and_pages(rt: HostRuntime) -> Result<(), Fail> {
+    let [_, ab, ac, a, bc, b, c, none] = all_sets(&rt);
+    let states = six_states(&rt);
     let trace = projection(rt.alloc(), 3, bc, &states)?;
-    assert_eq!(rt; trace.as_slice(), [bc, b, c, ItemSet::empty()].as_slice());
+    assert_eq!(rt; trace.as_slice(), [bc, b, c, none].as_slice());
     let listing = page(rt.alloc(), &states, Some(ab), 2)?;
     assert_eq!(rt; listing.sets.as_slice(), [ac, a].as_slice());
     assert!(rt; listing.more);
@@ -132,9 +149,8 @@ fn tells_bases_and_peaks(rt: HostRuntime) -> Result<(), Fail> {
 }
 
 #[test]
-fn judges_families(rt: HostRuntime) -> Result<(), Fail> {
-    let [abc, ab, _, a, _, b, c, none] = all_sets(&rt);
-    let states = six_states(&rt);
+fn judges_families_that_are_no_spaces(rt: HostRuntime) -> Result<(), Fail> {
+    let [abc, _, _, a, _, b, _, none] = all_sets(&rt);
     let verdict = verdict_on(rt.alloc(), abc, &[abc])?;
     assert!(rt; matches!(verdict, Verdict::NoEmpty));
     let verdict = verdict_on(rt.alloc(), abc, &[none])?;
@@ -143,13 +159,19 @@ fn judges_families(rt: HostRuntime) -> Result<(), Fail> {
         Verdict::NotClosed { left, right } => assert_eq!(rt; (left, right), (a, b)),
         other => assert!(rt; false, "{other:?}"),
     }
+    Ok(())
+}
+
+#[test]
+fn judges_spaces(rt: HostRuntime) -> Result<(), Fail> {
+    let [abc, ab, _, a, _, _, c, none] = all_sets(&rt);
     match verdict_on(rt.alloc(), abc, &[abc, ab, none])? {
         Verdict::NotGraded { set, first, second } => {
             assert_eq!(rt; (set, first, second), (ab, 0, 1));
         }
         other => assert!(rt; false, "{other:?}"),
     }
-    match verdict_on(rt.alloc(), abc, &states)? {
+    match verdict_on(rt.alloc(), abc, &six_states(&rt))? {
         Verdict::Learning { base } => assert_eq!(rt; base.as_slice(), [ab, a, c].as_slice()),
         other => assert!(rt; false, "{other:?}"),
     }
@@ -165,71 +187,6 @@ fn tells_states_by_their_fringes(rt: HostRuntime) {
         assert_eq!(rt; state_of(3, &states, inner, outer), Some(state));
     }
     assert_eq!(rt; state_of(3, &states, c, bc), None);
-}
-
-#[test]
-fn assesses_pupils(rt: HostRuntime) -> Result<(), Fail> {
-    let [_, _, ac, _, _, _, _, none] = all_sets(&rt);
-    let states = six_states(&rt);
-    let s = ListedSettings {
-        odds: vec![in rt.alloc(); Odds { right: 8, wrong: 8 }; 3]?,
-        budget: 30,
-        share: 90,
-    };
-    assert!(rt; s.odds.len() == 3);
-    let mut replies: Vec<Reply> = Vec::new(rt.alloc());
-    // Ann is right on a and c, and wrong on b: the total, the leader's weight, and what is asked.
-    for (q, total, weight) in [
-        (2, 6, 1),
-        (0, 27, 8),
-        (1, 153, 64),
-        (2, 720, 512),
-        (0, 5200, 4096),
-        (1, 37960, 32768),
-    ] {
-        assert!(rt; fits_now(&s, &states, &replies));
-        let outcome = outcome_of(&s, &states, &replies);
-        assert_eq!(rt; (outcome.total, outcome.weight), (total, weight));
-        let asked = next_asked(rt.alloc(), &s, &states, &replies)?;
-        assert_eq!(rt; asked, Asked::Item(q));
-        replies.push(Reply { q, right: q != 1 })?;
-    }
-    for (right, replies) in [(ac, 6), (none, 4)] {
-        let fits = fits_for(rt.alloc(), 30, &s, &states, right, Vec::new(rt.alloc()))?;
-        assert!(rt; fits && s.budget == 30);
-        let want = Replay {
-            replies,
-            reason: Reason::Share,
-            state: right,
-        };
-        assert_eq!(rt; replay_of(rt.alloc(), &s, &states, right)?, want);
-    }
-    Ok(())
-}
-
-#[test]
-fn assesses_a_class(rt: HostRuntime) -> Result<(), Fail> {
-    let [_, _, ac, _, _, _, _, _] = all_sets(&rt);
-    let states = six_states(&rt);
-    let s = ListedSettings {
-        odds: vec![in rt.alloc(); Odds { right: 8, wrong: 8 }; 3]?,
-        budget: 30,
-        share: 90,
-    };
-    assert!(rt; s.odds.len() == 3 && s.budget == 30);
-    let name = String::from_str(rt.alloc(), "Ann")?;
-    let table = [ListedRow { name, right: ac }];
-    assert!(rt; fits_for(rt.alloc(), 30, &s, &states, ac, Vec::new(rt.alloc()))?);
-    let lines = class_results(rt.alloc(), &s, &states, &table)?;
-    assert_eq!(rt; lines.len(), 1);
-    for line in &lines {
-        assert_eq!(rt; line.name.as_str(), "Ann");
-        assert_eq!(rt;
-            (line.replies, line.reason, line.state),
-            (6, Reason::Share, ac)
-        );
-    }
-    Ok(())
 }
 
 #[test]
