@@ -15,7 +15,7 @@ module _ (p : ℕ → Bool) where
         | false ↦ λ e. elim (slice_split p xs) as (λ ys. onto_first x ys ≡ [] → ⊥) [ [] ↦ λ e. cc | y ∷ ys ↦ λ e. cc ] e
       ] e
 
-  ahead-nil : (xs : List ℕ) → ahead [] (slice_split p xs) ≡ slice_split p xs
+  pub ahead-nil : (xs : List ℕ) → ahead [] (slice_split p xs) ≡ slice_split p xs
   ahead-nil [] = refl
   ahead-nil (x ∷ xs) =
       elim (p x) as (λ b. ahead [] (cond b ([] ∷ slice_split p xs) (onto_first x (slice_split p xs))) ≡ cond b ([] ∷ slice_split p xs) (onto_first x (slice_split p xs))) [
@@ -92,3 +92,7 @@ module _ (p : ℕ → Bool) where
 pub goes_on : (stream more : List ℕ) (ended : List (List ℕ)) (pending : List ℕ) → lines stream ≡ ended ++ pending ∷ [] → lines (stream ++ more) ≡ ended ++ ahead pending (lines more)
 unfolding lines
 goes_on = split_goes_on (λ b. b == 10)
+
+pub ahead-lines : (xs : List ℕ) → ahead [] (lines xs) ≡ lines xs
+unfolding lines
+ahead-lines = ahead-nil (λ b. b == 10)

@@ -1,5 +1,5 @@
 // Cutting a stream into lines.
-ghost use Rattle.std.specs.Prelude.{◌≡◌, ◌<◌, ◌+◌, ◌^◌, ℕ, List, [], ◌∷◌, ◌++◌, ◌==◌, length, position, IfOk, IfSome, MatchOption, take};
+ghost use Rattle.std.specs.Prelude.{◌≡◌, ◌<◌, ◌≤◌, ◌+◌, ◌^◌, ℕ, List, [], ◌∷◌, ◌++◌, ◌==◌, length, position, IfOk, IfSome, MatchOption, take};
 ghost use Rattle.ls_lines.specs.Lines.{lines};
 ghost use Rattle.ls_lines.specs.Cutting.{Holds, IsTaken, Ends, ahead};
 
@@ -66,7 +66,9 @@ impl Cutter {
     /// Takes bytes of the piece up to and with the first line end, or all of them where there is no line end, and says
     /// how many, and how a line ended, if one did. It takes no memory.
     pub fn take(&mut self, piece: &[u8]) -> (usize, Option<Ended>)
-        ensures { (pending : List ℕ) → Holds self.old pending → length pending + length piece.now < 2 ^ 64
+        ensures within { result.0 ≤ length piece.now }
+        ensures some { 0 < length piece.now → 0 < result.0 }
+        ensures taken { (pending : List ℕ) → Holds self.old pending → length pending + length piece.now < 2 ^ 64
             → IsTaken self.new pending piece.now result.0 result.1 }
     {
         match line_end(piece) {

@@ -1,6 +1,9 @@
 pub mod Joins
 pub mod Outcomes
 pub mod Places
+pub mod Joined
+pub mod Answered
+pub mod Pieces
 pub mod Moves
 pub mod Listed
 pub mod LineAnswers

@@ -33,7 +33,7 @@ pub fn answer_source<S: Source, K: Sink>(
     let mut run = Run::new(alloc)?;
     let mut piece = [0u8; PIECE];
     let mut count = 0;
-    loop {
+    'pieces: loop {
         let offered = PIECE.min(LONGEST_SCRIPT - count).max(1);
         let taken = match src.read(&mut piece[..offered]) {
             Ok(taken) => taken,

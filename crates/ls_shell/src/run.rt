@@ -49,7 +49,7 @@ impl Run {
         let mut rest = piece;
         while !rest.is_empty() {
             let (count, ended) = self.cutter.take(rest);
-            rest = &rest[count..];
+            (_, rest) = rest.split_at(count);
             self.answer(ended, out)?;
         }
         Ok(())

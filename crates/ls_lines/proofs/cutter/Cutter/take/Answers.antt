@@ -3,14 +3,14 @@ use Rattle.ls_lines.specs.Lines.{lines}
 use Rattle.ls_lines.proofs.Cuts.{split_uncut, split_first}
 use Rattle.ls_lines.proofs.cutter.Cutter.take.Goals as goal
 
-pub returns-in-None : goal.returns-in-None
+pub returns-in-None-clause-taken : goal.returns-in-None-clause-taken
 unfolding lines
-returns-in-None c = λ pending h room.
+returns-in-None-clause-taken c = λ pending h room.
     (refl, split_uncut (λ b. b == 10) c.args.piece.now (sym c.in-None.is ∙ c.line_end.ensures.place), c.hold.ensures pending h room)
 
-pub returns-in-Some : goal.returns-in-Some
+pub returns-in-Some-clause-taken : goal.returns-in-Some-clause-taken
 unfolding lines
-returns-in-Some c = λ pending h room.
+returns-in-Some-clause-taken c = λ pending h room.
     let i = c.in-Some.i in
     let piece = c.args.piece.now in
     let within : i < length piece = subst (λ o. IfSome o (λ j. j < length piece)) c.in-Some.is c.line_end.ensures.within in

@@ -1,0 +1,8 @@
+use Rattle.std.proofs.Common.{refl}
+use Rattle.ls_shell.proofs.Answered.{answers_end}
+use Rattle.ls_shell.proofs.run.Run.finish.Goals as goal
+
+pub returns-clause-answered : goal.returns-clause-answered
+returns-clause-answered g c = λ m script start few a.
+    answers_end m script c.finish-ended.result c.args.self.now (record c.args.self.now { cutter = c.finish-ended.new.self }) c.answer.new.self start (g.K.Sink.written c.args.out.now) (g.K.Sink.written c.answer.new.out) refl refl
+    c.finish-ended.ensures c.in_ok-answer.ensures.answered few a

@@ -1,0 +1,6 @@
+use Rattle.std.proofs.Common.{refl}
+use Rattle.ls_shell.proofs.Answered.{answers_none}
+use Rattle.ls_shell.proofs.run.Run.new.Goals as goal
+
+pub returns : goal.returns
+returns c = λ m now. answers_none m _ now c.new.ensures refl c.in_ok-new.ensures
