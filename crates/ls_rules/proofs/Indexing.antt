@@ -1,6 +1,6 @@
 -- Places of sets by their items: after a push and a removal, and the rules at the places of an item.
-use Rattle.std.proofs.Common.{ℕ, zero, suc, ◌+◌, ◌-◌, ◌<◌, ◌≤◌, ◌≡◌, inl, inr, Bool, true, false, cond, not, min, eqb, ltb, List, [], ◌∷◌, ◌++◌, map, filter, length, take, drop, get_or, Some, refl, sym, ap, ap₂, ◌∙◌, arith, eq-eqb, ne_eqb, lt-ltb, le-ltb, All, slice_get, add-zero, set, ◌&&◌, ◌≢◌, true≢false, subst, zero-add}
-use Rattle.std.specs.List.{remove, filter_map, list_all}
+use Rattle.std.proofs.Common.{ℕ, zero, suc, ◌+◌, ◌-◌, ◌<◌, ◌≤◌, ◌≡◌, inl, inr, Bool, true, false, cond, not, List, [], ◌∷◌, ◌++◌, map, filter, length, take, drop, get_or, Some, refl, sym, ap, ap₂, ◌∙◌, arith, eq-eqb, ne_eqb, lt-ltb, le-ltb, All, slice_get, add-zero, set, ◌&&◌, ◌≢◌, true≢false, subst, zero-add}
+use Rattle.std.specs.List.{remove, list_all}
 use Rattle.std.proofs.lemmas.List.{map-append, take-map, drop-map, length-map, get_or_past, get_or-set_same, get_or-set_other}
 use Rattle.std.proofs.lemmas.List.Elements.{All-cons, All-nil}
 use Rattle.std.proofs.lemmas.List.Folds.{list_all-append}
@@ -8,7 +8,7 @@ use Rattle.std.proofs.lemmas.Bool.{and_parts, and_from, cases_lt, cases_eq}
 use Rattle.ls_set.specs.ItemSet.{Items, has, empty, without, IsWithin}
 use Rattle.ls_set.proofs.Sets.{has-empty, has-without, without-within, and-true, and-false}
 use Rattle.ls_set.specs.declared.query.Query.{Query}
-use Rattle.ls_rules.specs.Places.{PlaceList, no_places, places_at, spare_at, lower, lowered, places_from, IsIndexOf, least_spare, spare_within}
+use Rattle.ls_rules.specs.Places.{PlaceList, no_places, places_at, spare_at, lowered, places_from, IsIndexOf, least_spare, spare_within}
 use Rattle.ls_set.specs.Query.{is_good}
 use Rattle.ls_rules.specs.Waking.{rules_at, first_of, IsIndexed}
 

@@ -1,26 +1,20 @@
 -- Looking at rules: what stays, what falls out, and that at the end no rule is broken.
-use Rattle.std.proofs.Common.{ℕ, ◌+◌, ◌*◌, ◌<◌, ◌≤◌, ◌≡◌, inl, inr, Bool, true, false, cond, not, ◌&&◌, ◌||◌, eqb, Option, List, [], ◌∷◌, map, filter, fold, None, Some, refl, sym, ap, ◌∙◌, subst, arith, true≢false, eq-eqb, ne_eqb, length, All, ltb-true, get_or, drop, drop-cons, add-one, ap₂, slice_get}
+use Rattle.std.proofs.Common.{ℕ, ◌+◌, ◌*◌, ◌<◌, ◌≤◌, ◌≡◌, inl, inr, Bool, true, false, cond, not, ◌&&◌, ◌||◌, eqb, Option, List, [], ◌∷◌, map, filter, fold, None, Some, refl, sym, ap, ◌∙◌, subst, arith, true≢false, eq-eqb, ne_eqb, length, ltb-true, get_or, drop, drop-cons, add-one, ap₂, slice_get}
 use Rattle.std.specs.Option.{option_map_or}
 use Rattle.std.specs.List.{AllByRecursion, list_all}
-use Rattle.std.proofs.lemmas.Bool.{cases_Bool, cases_eq, and_parts, and_from, or_right, not-true, not_from_false, false_from_ne_true, eqb-false}
-use Rattle.std.proofs.lemmas.List.Elements.{All-cons, All-nil}
-use Rattle.ls_set.specs.ItemSet.{Items, has, empty, full, meet, minus, single, with, without, is_same, is_within, is_among, len, least, IsWithin, items}
+use Rattle.std.proofs.lemmas.Bool.{cases_Bool, cases_eq, and_parts, and_from, or_right, not-true, not_from_false, false_from_ne_true}
+use Rattle.ls_set.specs.ItemSet.{Items, has, empty, full, meet, minus, single, with, without, is_same, len, least, IsWithin}
 use Rattle.ls_set.specs.Query.{is_good}
 use Rattle.ls_set.specs.declared.query.Query.{Query}
-use Rattle.ls_set.proofs.Sets.{has-full, has-empty, has-meet, has-minus, has-single, has-with, has-without, without-within, union-left, or-false, same_set, is_within-from, Decides-is_same}
-use Rattle.ls_set.proofs.Members.{among-filter}
-use Rattle.ls_set.proofs.Sizes.{len-less, len-within}
+use Rattle.ls_set.proofs.Sets.{has-full, has-empty, has-meet, has-minus, has-single, has-with, has-without, without-within, or-false, same_set, Decides-is_same}
+use Rattle.ls_set.proofs.Sizes.{len-less}
 use Rattle.ls_set.proofs.Firsts.{items-none}
 use Rattle.ls_set.proofs.Ascending.{least-cases}
 use Rattle.ls_set.proofs.Order.{Each-both}
 use Rattle.ls_theory.specs.Queries.{breaks, breaks_none}
-use Rattle.ls_laws.proofs.Breaks.{IsGood, Breaks, Breaks-from, breaks-from, good-from}
-use Rattle.ls_theory.specs.Families.{interior}
-use Rattle.ls_laws.specs.Families.{IsFamily}
-use Rattle.ls_laws.proofs.Interiors.{is_within-interior, interior-within, interior-greatest, IsInterior-interior}
-use Rattle.ls_laws.proofs.Families.{ruled-IsFamily}
-use Rattle.ls_laws.proofs.Counts.{len-single, len-parts, len-zero, some_item, some_missing}
-use Rattle.ls_laws.proofs.Search.{All-list_all, list_all-All}
+use Rattle.ls_laws.proofs.Breaks.{IsGood, Breaks-from, breaks-from, good-from}
+use Rattle.ls_laws.proofs.Counts.{len-single, len-parts, len-zero, some_item}
+use Rattle.ls_laws.proofs.Search.{list_all-All}
 use Rattle.std.proofs.lemmas.Option.{slice_get_read}
 use Rattle.ls_rules.specs.Places.{PlaceList, places_at, IsIndexOf}
 use Rattle.ls_rules.proofs.Indexing.{indexed_rules}
