@@ -1,6 +1,6 @@
 -- Places of sets by their items: after a push and a removal, and the rules at the places of an item.
-use Rattle.std.proofs.Common.{ℕ, zero, suc, ◌+◌, ◌-◌, ◌<◌, ◌≤◌, ◌≡◌, inl, inr, Bool, true, false, cond, not, min, eqb, ltb, List, [], ◌∷◌, ◌++◌, map, filter, length, take, drop, get_or, Some, refl, sym, ap, ap₂, ◌∙◌, arith, eq-eqb, ne_eqb, lt-ltb, le-ltb, All, slice_get, add-zero, set, ◌&&◌, ◌≢◌, true≢false, subst, zero-add}
-use Rattle.std.specs.List.{remove, filter_map, list_all}
+use Rattle.std.proofs.Common.{ℕ, zero, suc, ◌+◌, ◌-◌, ◌<◌, ◌≤◌, ◌≡◌, inl, inr, Bool, true, false, cond, not, List, [], ◌∷◌, ◌++◌, map, filter, length, take, drop, get_or, Some, refl, sym, ap, ap₂, ◌∙◌, arith, eq-eqb, ne_eqb, lt-ltb, le-ltb, All, slice_get, add-zero, set, ◌&&◌, ◌≢◌, true≢false, subst, zero-add}
+use Rattle.std.specs.List.{remove, list_all}
 use Rattle.std.proofs.lemmas.List.{map-append, take-map, drop-map, length-map, get_or_past, get_or-set_same, get_or-set_other}
 use Rattle.std.proofs.lemmas.List.Elements.{All-cons, All-nil}
 use Rattle.std.proofs.lemmas.List.Folds.{list_all-append}
@@ -8,13 +8,13 @@ use Rattle.std.proofs.lemmas.Bool.{and_parts, and_from, cases_lt, cases_eq}
 use Rattle.ls_set.specs.ItemSet.{Items, has, empty, without, IsWithin}
 use Rattle.ls_set.proofs.Sets.{has-empty, has-without, without-within, and-true, and-false}
 use Rattle.ls_set.specs.declared.query.Query.{Query}
-use Rattle.ls_rules.specs.Places.{PlaceList, no_places, places_at, spare_at, lower, lowered, places_from, IsIndexOf, least_spare, spare_within}
+use Rattle.ls_rules.specs.Places.{PlaceList, no_places, places_at, spare_at, lowered, places_from, IsIndexOf, least_spare, spare_within}
 use Rattle.ls_set.specs.Query.{is_good}
 use Rattle.ls_rules.specs.Waking.{rules_at, first_of, IsIndexed}
 
 -- ---- one more set
 
-pub places_from-append : (p : ℕ) (ks : List Items) (k : Items) (i : ℕ) → places_from p (ks ++ k ∷ []) i ≡ cond (has k i) (places_from p ks i ++ (p + length ks) ∷ []) (places_from p ks i)
+places_from-append : (p : ℕ) (ks : List Items) (k : Items) (i : ℕ) → places_from p (ks ++ k ∷ []) i ≡ cond (has k i) (places_from p ks i ++ (p + length ks) ∷ []) (places_from p ks i)
 places_from-append p [] k i = ap (λ q. cond (has k i) (q ∷ []) []) (sym (add-zero p))
 places_from-append p (x ∷ ks) k i =
     let rest : places_from (suc p) (ks ++ k ∷ []) i ≡ cond (has k i) (places_from (suc p) ks i ++ (p + length (x ∷ ks)) ∷ []) (places_from (suc p) ks i) =
@@ -37,7 +37,7 @@ lowered-above place p h (k ∷ ks) i =
       | false ↦ rest
     ]
 
-pub places_from-remove : (p : ℕ) (ks : List Items) (m i : ℕ) → m < length ks → places_from p (remove ks m) i ≡ lowered (p + m) (places_from p ks i)
+places_from-remove : (p : ℕ) (ks : List Items) (m i : ℕ) → m < length ks → places_from p (remove ks m) i ≡ lowered (p + m) (places_from p ks i)
 places_from-remove p [] m i h = absurd (omega arith)
 places_from-remove p (k ∷ ks) zero i h =
     let rest : lowered (p + 0) (places_from (suc p) ks i) ≡ places_from p ks i = lowered-above (p + 0) p (omega arith) ks i in
@@ -53,10 +53,10 @@ places_from-remove p (k ∷ ks) (suc m) i h =
       | false ↦ rest
     ]
 
-pub map-remove : {X Y : Type 0} (f : X → Y) (xs : List X) (m : ℕ) → map f (remove xs m) ≡ remove (map f xs) m
+map-remove : {X Y : Type 0} (f : X → Y) (xs : List X) (m : ℕ) → map f (remove xs m) ≡ remove (map f xs) m
 map-remove f xs m = map-append f (take m xs) (drop (suc m) xs) ∙ ap₂ (λ a b. a ++ b) (sym (take-map f m xs)) (sym (drop-map f (suc m) xs))
 
-pub list_all-remove : {X : Type 0} (p : X → Bool) (xs : List X) (m : ℕ) → list_all p xs ≡ true → list_all p (remove xs m) ≡ true
+list_all-remove : {X : Type 0} (p : X → Bool) (xs : List X) (m : ℕ) → list_all p xs ≡ true → list_all p (remove xs m) ≡ true
 list_all-remove p [] zero h = refl
 list_all-remove p [] (suc m) h = refl
 list_all-remove p (x ∷ xs) zero h = (and_parts (p x) (list_all p xs) h).1
@@ -64,7 +64,7 @@ list_all-remove p (x ∷ xs) (suc m) h = let a = and_parts (p x) (list_all p xs)
 
 -- ---- the rules at the places of an item
 
-pub places_from-small : (m p : ℕ) (ks : List Items) (i : ℕ) → p + length ks ≤ m → All (λ q. q < m) (places_from p ks i)
+places_from-small : (m p : ℕ) (ks : List Items) (i : ℕ) → p + length ks ≤ m → All (λ q. q < m) (places_from p ks i)
 places_from-small m p [] i h = All-nil (λ q. q < m)
 places_from-small m p (k ∷ ks) i h =
     let rest = places_from-small m (suc p) ks i (omega arith) in
@@ -91,7 +91,7 @@ rules_at-from all key i p (r ∷ rest) e =
     ]
 
 -- the rules at the places of an item are those whose set has it
-pub rules_at-item : (rules : List Query) (key : Query → Items) (i : ℕ) → rules_at rules (places_from 0 (map key rules) i) ≡ filter (λ r. has (key r) i) rules
+rules_at-item : (rules : List Query) (key : Query → Items) (i : ℕ) → rules_at rules (places_from 0 (map key rules) i) ≡ filter (λ r. has (key r) i) rules
 rules_at-item rules key i = rules_at-from rules key i 0 rules refl
 
 -- what is kept of an item are the places of the rules whose set has it
@@ -147,20 +147,20 @@ each_place : (P : ℕ → Type 0) → P zero → ((i : ℕ) → P (suc i)) → (
 each_place P a h zero = a
 each_place P a h (suc i) = h i
 
-pub least_spare-parts : (ls : List PlaceList) (m : ℕ) → 0 < least_spare ls m → (0 < m) × ((i : ℕ) → i < length ls → 0 < spare_at ls i)
+least_spare-parts : (ls : List PlaceList) (m : ℕ) → 0 < least_spare ls m → (0 < m) × ((i : ℕ) → i < length ls → 0 < spare_at ls i)
 least_spare-parts [] m h = (h, λ i l. absurd (omega arith))
 least_spare-parts (l ∷ ls) m h =
     let rest = least_spare-parts ls m (omega arith) in
     (rest.0, each_place (λ i. i < length (l ∷ ls) → 0 < spare_at (l ∷ ls) i) (λ _. omega arith) (λ i k. rest.1 i (omega arith)))
 
-pub least_spare-from : (ls : List PlaceList) (m : ℕ) → 0 < m → ((i : ℕ) → i < length ls → 0 < spare_at ls i) → 0 < least_spare ls m
+least_spare-from : (ls : List PlaceList) (m : ℕ) → 0 < m → ((i : ℕ) → i < length ls → 0 < spare_at ls i) → 0 < least_spare ls m
 least_spare-from [] m a h = a
 least_spare-from (l ∷ ls) m a h =
     let first : 0 < l.spare = h 0 (omega arith) in
     let rest : 0 < least_spare ls m = least_spare-from ls m a (λ i k. h (suc i) (omega arith)) in
     omega arith
 
-pub spare_within-parts : (n : ℕ) (ls : List PlaceList) (m : ℕ) → 0 < spare_within n ls m → (0 < m) × ((i : ℕ) → i < n → 0 < spare_at ls i)
+spare_within-parts : (n : ℕ) (ls : List PlaceList) (m : ℕ) → 0 < spare_within n ls m → (0 < m) × ((i : ℕ) → i < n → 0 < spare_at ls i)
 spare_within-parts n ls m h =
     elim (cases_lt (length ls) n) [
       | inl a ↦ let none : 0 < 0 = rw (lt-ltb (length ls) n a) at h in absurd (omega arith)
@@ -189,14 +189,10 @@ room_within ls i h = elim (cases_lt i (length ls)) [
   | inr a ↦ let e : spare_at ls i ≡ 0 = ap (λ (l : PlaceList). l.spare) (get_or_past ls i no_places a) in absurd (omega arith)
 ]
 
--- past the end there are no places
-pub none_past : (ls : List PlaceList) (i : ℕ) → length ls ≤ i → places_at ls i ≡ []
-none_past ls i h = ap (λ (l : PlaceList). l.places) (get_or_past ls i no_places h)
-
-pub at_same : {Y : Type 0} (f : PlaceList → Y) (ls : List PlaceList) (i : ℕ) (l : PlaceList) → i < length ls → f (get_or (set ls i l) i no_places) ≡ f l
+at_same : {Y : Type 0} (f : PlaceList → Y) (ls : List PlaceList) (i : ℕ) (l : PlaceList) → i < length ls → f (get_or (set ls i l) i no_places) ≡ f l
 at_same f ls i l h = ap f (get_or-set_same ls i l no_places h)
 
-pub at_other : {Y : Type 0} (f : PlaceList → Y) (ls : List PlaceList) (i j : ℕ) (l : PlaceList) → j ≢ i → f (get_or (set ls i l) j no_places) ≡ f (get_or ls j no_places)
+at_other : {Y : Type 0} (f : PlaceList → Y) (ls : List PlaceList) (i j : ℕ) (l : PlaceList) → j ≢ i → f (get_or (set ls i l) j no_places) ≡ f (get_or ls j no_places)
 at_other f ls i j l n = ap f (get_or-set_other ls i j l no_places n)
 
 -- of the items of the set, those that are not left have the place last
@@ -204,13 +200,6 @@ pub record Pushing (old now : List PlaceList) (whole left : Items) (place : ℕ)
   pub places : (j : ℕ) → places_at now j ≡ cond (has whole j && not (has left j)) (places_at old j ++ place ∷ []) (places_at old j)
   pub room : (j : ℕ) → has left j ≡ true → 0 < spare_at now j
   pub within : IsWithin left whole
-
-pub Pushing-first : (ls : List PlaceList) (whole : Items) (place : ℕ) → ((j : ℕ) → has whole j ≡ true → 0 < spare_at ls j) → Pushing ls ls whole whole place
-Pushing-first ls whole place h = record {
-  places = λ j. elim (has whole j) as (λ b. places_at ls j ≡ cond (b && not b) (places_at ls j ++ place ∷ []) (places_at ls j)) [ true ↦ refl | false ↦ refl ];
-  room = h;
-  within = λ j a. a;
-}
 
 pub Pushing-more : (old now : List PlaceList) (whole left : Items) (place i : ℕ) (l : PlaceList) → has left i ≡ true → l.places ≡ places_at now i ++ place ∷ [] → Pushing old now whole left place
     → Pushing old (set now i l) whole (without left i) place

@@ -1,26 +1,20 @@
 -- Looking at rules: what stays, what falls out, and that at the end no rule is broken.
-use Rattle.std.proofs.Common.{ℕ, ◌+◌, ◌*◌, ◌<◌, ◌≤◌, ◌≡◌, inl, inr, Bool, true, false, cond, not, ◌&&◌, ◌||◌, eqb, Option, List, [], ◌∷◌, map, filter, fold, None, Some, refl, sym, ap, ◌∙◌, subst, arith, true≢false, eq-eqb, ne_eqb, length, All, ltb-true, get_or, drop, drop-cons, add-one, ap₂, slice_get}
+use Rattle.std.proofs.Common.{ℕ, ◌+◌, ◌*◌, ◌<◌, ◌≤◌, ◌≡◌, inl, inr, Bool, true, false, cond, not, ◌&&◌, ◌||◌, eqb, Option, List, [], ◌∷◌, map, filter, fold, None, Some, refl, sym, ap, ◌∙◌, subst, arith, true≢false, eq-eqb, ne_eqb, length, ltb-true, get_or, drop, drop-cons, add-one, ap₂, slice_get}
 use Rattle.std.specs.Option.{option_map_or}
 use Rattle.std.specs.List.{AllByRecursion, list_all}
-use Rattle.std.proofs.lemmas.Bool.{cases_Bool, cases_eq, and_parts, and_from, or_right, not-true, not_from_false, false_from_ne_true, eqb-false}
-use Rattle.std.proofs.lemmas.List.Elements.{All-cons, All-nil}
-use Rattle.ls_set.specs.ItemSet.{Items, has, empty, full, meet, minus, single, with, without, is_same, is_within, is_among, len, least, IsWithin, items}
+use Rattle.std.proofs.lemmas.Bool.{cases_Bool, cases_eq, and_parts, and_from, or_right, not-true, not_from_false, false_from_ne_true}
+use Rattle.ls_set.specs.ItemSet.{Items, has, empty, full, meet, minus, single, with, without, is_same, len, least, IsWithin}
 use Rattle.ls_set.specs.Query.{is_good}
 use Rattle.ls_set.specs.declared.query.Query.{Query}
-use Rattle.ls_set.proofs.Sets.{has-full, has-empty, has-meet, has-minus, has-single, has-with, has-without, without-within, union-left, or-false, same_set, is_within-from, Decides-is_same}
-use Rattle.ls_set.proofs.Members.{among-filter}
-use Rattle.ls_set.proofs.Sizes.{len-less, len-within}
+use Rattle.ls_set.proofs.Sets.{has-full, has-empty, has-meet, has-minus, has-single, has-with, has-without, without-within, or-false, same_set, Decides-is_same}
+use Rattle.ls_set.proofs.Sizes.{len-less}
 use Rattle.ls_set.proofs.Firsts.{items-none}
 use Rattle.ls_set.proofs.Ascending.{least-cases}
 use Rattle.ls_set.proofs.Order.{Each-both}
 use Rattle.ls_theory.specs.Queries.{breaks, breaks_none}
-use Rattle.ls_laws.proofs.Breaks.{IsGood, Breaks, Breaks-from, breaks-from, good-from}
-use Rattle.ls_theory.specs.Families.{interior}
-use Rattle.ls_laws.specs.Families.{IsFamily}
-use Rattle.ls_laws.proofs.Interiors.{is_within-interior, interior-within, interior-greatest, IsInterior-interior}
-use Rattle.ls_laws.proofs.Families.{ruled-IsFamily}
-use Rattle.ls_laws.proofs.Counts.{len-single, len-parts, len-zero, some_item, some_missing}
-use Rattle.ls_laws.proofs.Search.{All-list_all, list_all-All}
+use Rattle.ls_laws.proofs.Breaks.{IsGood, Breaks-from, breaks-from, good-from}
+use Rattle.ls_laws.proofs.Counts.{len-single, len-parts, len-zero, some_item}
+use Rattle.ls_laws.proofs.Search.{list_all-All}
 use Rattle.std.proofs.lemmas.Option.{slice_get_read}
 use Rattle.ls_rules.specs.Places.{PlaceList, places_at, IsIndexOf}
 use Rattle.ls_rules.proofs.Indexing.{indexed_rules}
@@ -83,11 +77,11 @@ breaks-part : (t k : Items) (r : Query) → IsWithin t k → breaks k r ≡ true
 breaks-part t k r w h a = breaks-from t r (record { apart = λ i x. (Breaks-from k r h).apart i (w i x); has_q = a })
 
 -- a set with the item that does not break the rule has an item of its A
-meets_rule : (k : Items) (r : Query) → has k r.q ≡ true → breaks k r ≡ false → (i : ℕ) × (has k i ≡ true) × (has r.a i ≡ true)
+pub meets_rule : (k : Items) (r : Query) → has k r.q ≡ true → breaks k r ≡ false → (i : ℕ) × (has k i ≡ true) × (has r.a i ≡ true)
 meets_rule k r h u = common_item k r.a (false_from_ne_true (is_same (meet k r.a) empty) (λ a. true≢false (sym (and_from (is_same (meet k r.a) empty) (has k r.q) a h) ∙ u)))
 
 -- a set that breaks the rule has no item of its A
-no_item : (k : Items) (r : Query) (i : ℕ) → breaks k r ≡ true → has r.a i ≡ true → has k i ≡ false
+pub no_item : (k : Items) (r : Query) (i : ℕ) → breaks k r ≡ true → has r.a i ≡ true → has k i ≡ false
 no_item k r i h a = false_from_ne_true (has k i) (λ x. true≢false (sym a ∙ (Breaks-from k r h).apart i x))
 
 -- ---- looking
@@ -185,9 +179,6 @@ none_of_part t p (r ∷ rules) h =
 
 -- ---- going on from the items that fell out
 
-pub Settling-first : (rules : List Query) (s : Round) → AllByRecursion (IsAwake s) rules → Settling rules s.kept s
-Settling-first rules s awake = record { within = λ i h. h; awake = awake; greatest = λ t _ w. w }
-
 -- the item i was taken out of what fell out
 abbrev pub woken : Round → ℕ → Round
 woken s i = record { kept = s.kept; fallen = without s.fallen i }
@@ -232,14 +223,6 @@ none_broken s (r ∷ rules) e a =
 -- when nothing fell out, no rule is broken
 pub Settling-done : (rules : List Query) (from : Items) (s : Round) → least s.fallen ≡ None → Settling rules from s → Settles rules from s.kept
 Settling-done rules from s e a = record { within = a.within; unbroken = none_broken s rules (no_least s.fallen e) a.awake; greatest = a.greatest }
-
--- what is settled of what is kept is settled of the whole
-pub Settles-through : (rules : List Query) (from settled : Items) (s : Round) → Settling rules from s → Settles rules s.kept settled → Settles rules from settled
-Settles-through rules from settled s a b = record {
-  within = λ i h. a.within i (b.within i h);
-  unbroken = b.unbroken;
-  greatest = λ t u w. b.greatest t u (a.greatest t u w);
-}
 
 -- ---- the first round
 
@@ -314,71 +297,6 @@ Started-done rules n k left s good e a =
           rules (list_all-All (is_good n) rules good) a.looked;
       greatest = a.greatest;
     }
-
--- ---- a further round
-
--- where a settled set loses items, these wake every rule that is broken
-pub lost_awake : (rules : List Query) (kept next : Items) → breaks_none rules kept ≡ true → IsWithin next kept → AllByRecursion (IsAwake (record { kept = next; fallen = minus kept next })) rules
-lost_awake [] kept next h w = tt
-lost_awake (r ∷ rules) kept next h w =
-    let p = and_parts (not (breaks kept r)) (breaks_none rules kept) h in (
-      λ b.
-          let x = meets_rule kept r (w r.q (Breaks-from next r b).has_q) (not-true (breaks kept r) p.0) in
-          (x.0, x.2, has-minus kept next x.0 ∙ and_from (has kept x.0) (not (has next x.0)) x.1 (not_from_false (has next x.0) (no_item next r x.0 b x.2))),
-      lost_awake rules kept next p.1 w,
-    )
-
--- ---- the interior
-
--- what holds of a settled set within s that no member within s reaches past
-pub record Reaches (f : List Items) (rules : List Query) (s kept : Items) : Type 0 where
-  pub within : IsWithin kept s
-  pub unbroken : breaks_none rules kept ≡ true
-  pub greatest : (t : Items) → is_among f t ≡ true → breaks_none rules t ≡ true → IsWithin t s → IsWithin t kept
-
--- of the interior in the family what is settled reaches far enough, in the first round and in each further one
-pub Reaches-first : (f : List Items) (rules : List Query) (s settled : Items) → Settles rules (interior f s) settled → Reaches f rules s settled
-Reaches-first f rules s settled a = record {
-  within = λ i h. interior-within f s i (a.within i h);
-  unbroken = a.unbroken;
-  greatest = λ t c u w. a.greatest t u (interior-greatest f s t c w);
-}
-
-pub Reaches-more : (f : List Items) (rules : List Query) (s kept settled : Items) → Reaches f rules s kept → Settles rules (interior f kept) settled → Reaches f rules s settled
-Reaches-more f rules s kept settled r a = record {
-  within = λ i h. r.within i (interior-within f kept i (a.within i h));
-  unbroken = a.unbroken;
-  greatest = λ t c u w. a.greatest t u (interior-greatest f kept t c (r.greatest t c u w));
-}
-
--- a settled set that is within its interior in the family is the interior under the rules
-pub Reaches-done : (n : ℕ) (f : List Items) (rules : List Query) (s kept : Items) → IsFamily n f → Reaches f rules s kept → is_within kept (interior f kept) ≡ true → kept ≡ interior (filter (breaks_none rules) f) s
-Reaches-done n f rules s kept family r h =
-    let ruled = ruled-IsFamily rules family in
-    let member = sym (is_within-interior f family.holds_empty family.holds_unions kept) ∙ h in
-    IsInterior-interior (filter (breaks_none rules) f) ruled.holds_empty ruled.holds_unions s kept (record {
-      member = among-filter (breaks_none rules) f kept ∙ and_from (is_among f kept) (breaks_none rules kept) member r.unbroken;
-      within = r.within;
-      greatest = λ t c w. let p = and_parts (is_among f t) (breaks_none rules t) (sym (among-filter (breaks_none rules) f t) ∙ c) in r.greatest t p.0 p.1 w;
-    })
-
--- a further round keeps less
-pub fewer_kept : (f : List Items) (rules : List Query) (kept settled : Items) → is_within kept (interior f kept) ≡ false → Settles rules (interior f kept) settled → len settled < len kept
-fewer_kept f rules kept settled h a =
-    let next = interior f kept in
-    let part = len-within settled next a.within in
-    elim (some_missing next kept) [
-      | inl w ↦ absurd (true≢false (sym (is_within-from kept next w) ∙ h))
-      | inr x ↦ let less = len-less next kept x.0 (interior-within f kept) x.2 x.1 in omega arith
-    ]
-
--- the items of good rules are below the limit
-pub good_items : (n m : ℕ) (rules : List Query) → n ≤ m → list_all (is_good n) rules ≡ true → All (λ r. r.q < m) rules
-good_items n m [] h good = All-nil (λ r. r.q < m)
-good_items n m (r ∷ rules) h good =
-    let p = and_parts (is_good n r) (list_all (is_good n) rules) good in
-    let item = (good-from n r p.0).item in
-    All-cons (λ r. r.q < m) r rules (omega arith) (good_items n m rules h p.1)
 
 -- ---- the loop over places
 

@@ -1,5 +1,5 @@
 -- For each item, the places of the sets of a list that have it.
-use Rattle.std.specs.Prelude.{ℕ, zero, suc, ◌-◌, ◌<◌, ◌≤◌, ◌≡◌, ◌==◌, nat_lt, not, if◌then◌else◌, min, List, [], ◌∷◌, map, filter, length, slice_index_or}
+use Rattle.std.specs.Prelude.{ℕ, suc, ◌-◌, ◌≡◌, ◌==◌, nat_lt, not, if◌then◌else◌, min, List, [], ◌∷◌, map, filter, length, slice_index_or}
 use Rattle.ls_set.specs.ItemSet.{Items, has}
 
 -- places, and how many more fit without memory

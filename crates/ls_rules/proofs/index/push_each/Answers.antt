@@ -1,7 +1,7 @@
-use Rattle.std.proofs.Common.{ℕ, ◌++◌, ◌∷◌, [], sym, ap, ◌∙◌, length-set}
+use Rattle.std.proofs.Common.{◌++◌, ◌∷◌, [], sym, ap, ◌∙◌, length-set}
 use Rattle.ls_set.proofs.Ascending.{least-cases}
 use Rattle.ls_rules.specs.Places.{PlaceList, no_places}
-use Rattle.ls_rules.proofs.Indexing.{room_within, no_default, Pushing-first, Pushing-more, Pushing-done}
+use Rattle.ls_rules.proofs.Indexing.{room_within, no_default, Pushing-more, Pushing-done}
 use Rattle.ls_rules.proofs.Rounds.{no_least, len-without}
 use Rattle.ls_rules.proofs.index.push_each.Goals as goal
 

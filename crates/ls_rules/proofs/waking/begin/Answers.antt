@@ -1,5 +1,4 @@
-use Rattle.std.proofs.Common.{sym, ap, ◌∙◌}
-use Rattle.ls_set.specs.ItemSet.{Items, minus}
+use Rattle.std.proofs.Common.{sym, ◌∙◌}
 use Rattle.ls_set.proofs.Ascending.{least-cases}
 use Rattle.ls_rules.specs.Waking.{first_of}
 use Rattle.ls_rules.proofs.Indexing.{indexed_small}

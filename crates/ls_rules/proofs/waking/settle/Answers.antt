@@ -2,7 +2,6 @@ use Rattle.std.proofs.Common.{filter, sym, ap, ◌∙◌}
 use Rattle.ls_set.specs.ItemSet.{Items, has}
 use Rattle.ls_set.proofs.Ascending.{least-cases}
 use Rattle.ls_rules.specs.Waking.{look_at}
-use Rattle.ls_rules.specs.declared.round.Round.{Round}
 use Rattle.ls_rules.proofs.Indexing.{indexed_small}
 use Rattle.ls_rules.proofs.Rounds.{turned, woken, lighter, Settling-more, Settling-done}
 use Rattle.ls_rules.proofs.waking.settle.Goals as goal

@@ -1,4 +1,4 @@
-use Rattle.std.proofs.Common.{ap, sym, ◌∙◌, arith}
+use Rattle.std.proofs.Common.{arith}
 use Rattle.ls_laws.proofs.Breaks.{good-from}
 use Rattle.ls_rules.proofs.Indexing.{room_for, IsIndexed-push}
 use Rattle.ls_rules.proofs.Rounds.{below, first-within}

@@ -1,4 +1,3 @@
-use Rattle.std.proofs.Common.{ap, sym, ◌∙◌, arith}
 use Rattle.ls_rules.proofs.Indexing.{IsIndexed-remove}
 use Rattle.ls_rules.proofs.ruled.Ruled.remove.Goals as goal
 

@@ -1,7 +1,7 @@
 use Rattle.std.proofs.Common.{◌≡◌, true, false, sym, ◌∙◌}
 use Rattle.ls_set.specs.ItemSet.{is_within}
 use Rattle.ls_laws.proofs.Interiors.{interior-within}
-use Rattle.ls_rules.proofs.Rounds.{Settles-through, Reaches-first, Reaches-more, Reaches-done, fewer_kept, lost_awake}
+use Rattle.ls_rules.proofs.Reaching.{Settles-through, Reaches-first, Reaches-more, Reaches-done, fewer_kept, lost_awake}
 use Rattle.ls_rules.proofs.ruled.RuledInside.inside.Goals as goal
 
 pub loop-self-init : goal.loop-self-init

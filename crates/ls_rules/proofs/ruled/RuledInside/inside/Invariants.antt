@@ -1,5 +1,5 @@
 use Rattle.ls_set.specs.ItemSet.{len}
-use Rattle.ls_rules.proofs.Rounds.{Reaches}
+use Rattle.ls_rules.proofs.Reaching.{Reaches}
 use Rattle.ls_rules.proofs.ruled.RuledInside.inside.Given as goal
 
 abbrev pub invariant-loop-self : goal.invariant-loop-self
