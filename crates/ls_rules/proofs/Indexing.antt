@@ -1,0 +1,226 @@
+-- Places of sets by their items: after a push and a removal, and the rules at the places of an item.
+use Rattle.std.proofs.Common.{ℕ, zero, suc, ◌+◌, ◌-◌, ◌<◌, ◌≤◌, ◌≡◌, inl, inr, Bool, true, false, cond, not, min, eqb, ltb, List, [], ◌∷◌, ◌++◌, map, filter, length, take, drop, get_or, Some, refl, sym, ap, ap₂, ◌∙◌, arith, eq-eqb, ne_eqb, lt-ltb, le-ltb, All, slice_get, add-zero, set, ◌&&◌, ◌≢◌, true≢false, subst, zero-add}
+use Rattle.std.specs.List.{remove, filter_map, list_all}
+use Rattle.std.proofs.lemmas.List.{map-append, take-map, drop-map, length-map, get_or_past, get_or-set_same, get_or-set_other}
+use Rattle.std.proofs.lemmas.List.Elements.{All-cons, All-nil}
+use Rattle.std.proofs.lemmas.List.Folds.{list_all-append}
+use Rattle.std.proofs.lemmas.Bool.{and_parts, and_from, cases_lt, cases_eq}
+use Rattle.ls_set.specs.ItemSet.{Items, has, empty, without, IsWithin}
+use Rattle.ls_set.proofs.Sets.{has-empty, has-without, without-within, and-true, and-false}
+use Rattle.ls_set.specs.declared.query.Query.{Query}
+use Rattle.ls_rules.specs.Places.{PlaceList, no_places, places_at, spare_at, lower, lowered, places_from, IsIndexOf, least_spare, spare_within}
+use Rattle.ls_set.specs.Query.{is_good}
+use Rattle.ls_rules.specs.Waking.{rules_at, first_of, IsIndexed}
+
+-- ---- one more set
+
+places_from-append : (p : ℕ) (ks : List Items) (k : Items) (i : ℕ) → places_from p (ks ++ k ∷ []) i ≡ cond (has k i) (places_from p ks i ++ (p + length ks) ∷ []) (places_from p ks i)
+places_from-append p [] k i = ap (λ q. cond (has k i) (q ∷ []) []) (sym (add-zero p))
+places_from-append p (x ∷ ks) k i =
+    let rest : places_from (suc p) (ks ++ k ∷ []) i ≡ cond (has k i) (places_from (suc p) ks i ++ (p + length (x ∷ ks)) ∷ []) (places_from (suc p) ks i) =
+    places_from-append (suc p) ks k i ∙ ap (λ q. cond (has k i) (places_from (suc p) ks i ++ q ∷ []) (places_from (suc p) ks i)) (let e : suc p + length ks ≡ p + length (x ∷ ks) = omega arith in e) in
+    elim (has x i) as (λ b. cond b (p ∷ places_from (suc p) (ks ++ k ∷ []) i) (places_from (suc p) (ks ++ k ∷ []) i)
+    ≡ cond (has k i) (cond b (p ∷ places_from (suc p) ks i) (places_from (suc p) ks i) ++ (p + length (x ∷ ks)) ∷ []) (cond b (p ∷ places_from (suc p) ks i) (places_from (suc p) ks i))) [
+      | true ↦ ap (λ l. p ∷ l) rest ∙ elim (has k i) as (λ b. (p ∷ cond b (places_from (suc p) ks i ++ (p + length (x ∷ ks)) ∷ []) (places_from (suc p) ks i)) ≡ cond b (p ∷ places_from (suc p) ks i ++ (p + length (x ∷ ks)) ∷ []) (p ∷ places_from (suc p) ks i)) [ true ↦ refl | false ↦ refl ]
+      | false ↦ rest
+    ]
+
+-- ---- one set less
+
+-- places above the one that is taken out become one lower
+lowered-above : (place p : ℕ) → place ≤ p → (ks : List Items) (i : ℕ) → lowered place (places_from (suc p) ks i) ≡ places_from p ks i
+lowered-above place p h [] i = refl
+lowered-above place p h (k ∷ ks) i =
+    let rest = lowered-above place (suc p) (omega arith) ks i in
+    elim (has k i) as (λ b. lowered place (cond b (suc p ∷ places_from (suc (suc p)) ks i) (places_from (suc (suc p)) ks i)) ≡ cond b (p ∷ places_from (suc p) ks i) (places_from (suc p) ks i)) [
+      | true ↦ rw (ne_eqb (suc p) place (omega arith), lt-ltb place (suc p) (omega arith)) (ap₂ (λ x l. x ∷ l) (let e : suc p - 1 ≡ p = omega arith in e) rest)
+      | false ↦ rest
+    ]
+
+places_from-remove : (p : ℕ) (ks : List Items) (m i : ℕ) → m < length ks → places_from p (remove ks m) i ≡ lowered (p + m) (places_from p ks i)
+places_from-remove p [] m i h = absurd (omega arith)
+places_from-remove p (k ∷ ks) zero i h =
+    let rest : lowered (p + 0) (places_from (suc p) ks i) ≡ places_from p ks i = lowered-above (p + 0) p (omega arith) ks i in
+    sym (elim (has k i) as (λ b. lowered (p + 0) (cond b (p ∷ places_from (suc p) ks i) (places_from (suc p) ks i)) ≡ places_from p ks i) [
+      | true ↦ rw (eq-eqb p (p + 0) (omega arith)) rest
+      | false ↦ rest
+    ])
+places_from-remove p (k ∷ ks) (suc m) i h =
+    let rest : places_from (suc p) (remove ks m) i ≡ lowered (p + suc m) (places_from (suc p) ks i) =
+    places_from-remove (suc p) ks m i (omega arith) ∙ ap (λ q. lowered q (places_from (suc p) ks i)) (let e : suc p + m ≡ p + suc m = omega arith in e) in
+    elim (has k i) as (λ b. cond b (p ∷ places_from (suc p) (remove ks m) i) (places_from (suc p) (remove ks m) i) ≡ lowered (p + suc m) (cond b (p ∷ places_from (suc p) ks i) (places_from (suc p) ks i))) [
+      | true ↦ rw (ne_eqb p (p + suc m) (omega arith), le-ltb (p + suc m) p (omega arith)) (ap (λ l. p ∷ l) rest)
+      | false ↦ rest
+    ]
+
+map-remove : {X Y : Type 0} (f : X → Y) (xs : List X) (m : ℕ) → map f (remove xs m) ≡ remove (map f xs) m
+map-remove f xs m = map-append f (take m xs) (drop (suc m) xs) ∙ ap₂ (λ a b. a ++ b) (sym (take-map f m xs)) (sym (drop-map f (suc m) xs))
+
+list_all-remove : {X : Type 0} (p : X → Bool) (xs : List X) (m : ℕ) → list_all p xs ≡ true → list_all p (remove xs m) ≡ true
+list_all-remove p [] zero h = refl
+list_all-remove p [] (suc m) h = refl
+list_all-remove p (x ∷ xs) zero h = (and_parts (p x) (list_all p xs) h).1
+list_all-remove p (x ∷ xs) (suc m) h = let a = and_parts (p x) (list_all p xs) h in and_from (p x) (list_all p (remove xs m)) a.0 (list_all-remove p xs m a.1)
+
+-- ---- the rules at the places of an item
+
+places_from-small : (m p : ℕ) (ks : List Items) (i : ℕ) → p + length ks ≤ m → All (λ q. q < m) (places_from p ks i)
+places_from-small m p [] i h = All-nil (λ q. q < m)
+places_from-small m p (k ∷ ks) i h =
+    let rest = places_from-small m (suc p) ks i (omega arith) in
+    elim (has k i) as (λ b. All (λ q. q < m) (cond b (p ∷ places_from (suc p) ks i) (places_from (suc p) ks i))) [
+      | true ↦ All-cons (λ q. q < m) p (places_from (suc p) ks i) (omega arith) rest
+      | false ↦ rest
+    ]
+
+-- what stands at a place, and after it
+at_place : {X : Type 0} (all : List X) (p : ℕ) (x : X) (rest : List X) → drop p all ≡ x ∷ rest → (slice_get all p ≡ Some x) × (drop (suc p) all ≡ rest)
+at_place [] zero x rest e = cc
+at_place [] (suc p) x rest e = cc
+at_place (y ∷ all) zero x rest e = (let q : y ≡ x = cc in ap Some q, let q : all ≡ rest = cc in q)
+at_place (y ∷ all) (suc p) x rest e = at_place all p x rest e
+
+rules_at-from : (all : List Query) (key : Query → Items) (i p : ℕ) (rest : List Query) → drop p all ≡ rest → rules_at all (places_from p (map key rest) i) ≡ filter (λ r. has (key r) i) rest
+rules_at-from all key i p [] e = refl
+rules_at-from all key i p (r ∷ rest) e =
+    let a = at_place all p r rest e in
+    let more = rules_at-from all key i (suc p) rest a.1 in
+    elim (has (key r) i) as (λ b. rules_at all (cond b (p ∷ places_from (suc p) (map key rest) i) (places_from (suc p) (map key rest) i)) ≡ cond b (r ∷ filter (λ r. has (key r) i) rest) (filter (λ r. has (key r) i) rest)) [
+      | true ↦ rw a.0 (ap (λ l. r ∷ l) more)
+      | false ↦ more
+    ]
+
+-- the rules at the places of an item are those whose set has it
+rules_at-item : (rules : List Query) (key : Query → Items) (i : ℕ) → rules_at rules (places_from 0 (map key rules) i) ≡ filter (λ r. has (key r) i) rules
+rules_at-item rules key i = rules_at-from rules key i 0 rules refl
+
+-- what is kept of an item are the places of the rules whose set has it
+pub indexed_small : (rules : List Query) (key : Query → Items) (ls : List PlaceList) (i : ℕ) (ps : List ℕ) → IsIndexOf ls (map key rules) → ps ≡ places_at ls i → All (λ p. p < length rules) ps
+indexed_small rules key ls i ps index e =
+    let P : List ℕ → Type 0 = λ qs. All (λ p. p < length rules) qs in
+    subst P (sym (e ∙ index i)) (places_from-small (length rules) 0 (map key rules) i (omega (arith, length-map rules key)))
+
+pub indexed_rules : (rules : List Query) (key : Query → Items) (ls : List PlaceList) (i : ℕ) (ps : List ℕ) → IsIndexOf ls (map key rules) → ps ≡ places_at ls i → rules_at rules ps ≡ filter (λ r. has (key r) i) rules
+indexed_rules rules key ls i ps index e = ap (rules_at rules) (e ∙ index i) ∙ rules_at-item rules key i
+
+-- ---- the rules and their places after a change
+
+more_places : (rules : List Query) (key : Query → Items) (r : Query) (ls more : List PlaceList) → IsIndexOf ls (map key rules)
+    → ((i : ℕ) → places_at more i ≡ cond (has (key r) i) (places_at ls i ++ length rules ∷ []) (places_at ls i)) → IsIndexOf more (map key (rules ++ r ∷ []))
+more_places rules key r ls more index h i =
+    h i ∙ ap (λ ps. cond (has (key r) i) (ps ++ length rules ∷ []) ps) (index i)
+    ∙ ap (λ p. cond (has (key r) i) (places_from 0 (map key rules) i ++ p ∷ []) (places_from 0 (map key rules) i)) (let e : length rules ≡ 0 + length (map key rules) = omega (arith, length-map rules key) in e)
+    ∙ sym (places_from-append 0 (map key rules) (key r) i) ∙ ap (λ ks. places_from 0 ks i) (sym (map-append key rules (r ∷ [])))
+
+fewer_places : (rules : List Query) (key : Query → Items) (m : ℕ) (ls fewer : List PlaceList) → m < length rules → IsIndexOf ls (map key rules)
+    → ((i : ℕ) → places_at fewer i ≡ lowered m (places_at ls i)) → IsIndexOf fewer (map key (remove rules m))
+fewer_places rules key m ls fewer l index h i =
+    h i ∙ ap (lowered m) (index i) ∙ ap (λ n. lowered n (places_from 0 (map key rules) i)) (sym (zero-add m))
+    ∙ sym (places_from-remove 0 (map key rules) m i (omega (arith, length-map rules key))) ∙ ap (λ ks. places_from 0 ks i) (sym (map-remove key rules m))
+
+pub IsIndexed-push : (n : ℕ) (rules : List Query) (r : Query) (first : Items) (place : ℕ) (wakes starts wakes' starts' : List PlaceList) → IsIndexed n rules wakes starts → is_good n r ≡ true → first ≡ first_of r.a → place ≡ length rules
+    → ((i : ℕ) → places_at wakes' i ≡ cond (has r.a i) (places_at wakes i ++ place ∷ []) (places_at wakes i)) → length wakes' ≡ length wakes
+    → ((i : ℕ) → places_at starts' i ≡ cond (has first i) (places_at starts i ++ place ∷ []) (places_at starts i)) → length starts' ≡ length starts
+    → IsIndexed n (rules ++ r ∷ []) wakes' starts'
+IsIndexed-push n rules r first place wakes starts wakes' starts' a good f p w wl s sl = record {
+  good = list_all-append (is_good n) rules (r ∷ []) ∙ and_from (list_all (is_good n) rules) (is_good n r && true) a.good (and-true (is_good n r) ∙ good);
+  wakes_are = more_places rules (λ r. r.a) r wakes wakes' a.wakes_are (λ i. w i ∙ ap (λ q. cond (has r.a i) (places_at wakes i ++ q ∷ []) (places_at wakes i)) p);
+  starts_are = more_places rules (λ r. first_of r.a) r starts starts' a.starts_are (λ i. s i ∙ ap₂ (λ (k : Items) q. cond (has k i) (places_at starts i ++ q ∷ []) (places_at starts i)) f p);
+  few_wakes = rw wl a.few_wakes;
+  few_starts = rw sl a.few_starts;
+}
+
+pub IsIndexed-remove : (n : ℕ) (rules : List Query) (m : ℕ) (wakes starts wakes' starts' : List PlaceList) → IsIndexed n rules wakes starts → m < length rules
+    → ((i : ℕ) → places_at wakes' i ≡ lowered m (places_at wakes i)) → length wakes' ≡ length wakes → ((i : ℕ) → places_at starts' i ≡ lowered m (places_at starts i)) → length starts' ≡ length starts
+    → IsIndexed n (remove rules m) wakes' starts'
+IsIndexed-remove n rules m wakes starts wakes' starts' a l w wl s sl = record {
+  good = list_all-remove (is_good n) rules m a.good;
+  wakes_are = fewer_places rules (λ r. r.a) m wakes wakes' l a.wakes_are w;
+  starts_are = fewer_places rules (λ r. first_of r.a) m starts starts' l a.starts_are s;
+  few_wakes = rw wl a.few_wakes;
+  few_starts = rw sl a.few_starts;
+}
+
+-- ---- room
+
+each_place : (P : ℕ → Type 0) → P zero → ((i : ℕ) → P (suc i)) → (i : ℕ) → P i
+each_place P a h zero = a
+each_place P a h (suc i) = h i
+
+least_spare-parts : (ls : List PlaceList) (m : ℕ) → 0 < least_spare ls m → (0 < m) × ((i : ℕ) → i < length ls → 0 < spare_at ls i)
+least_spare-parts [] m h = (h, λ i l. absurd (omega arith))
+least_spare-parts (l ∷ ls) m h =
+    let rest = least_spare-parts ls m (omega arith) in
+    (rest.0, each_place (λ i. i < length (l ∷ ls) → 0 < spare_at (l ∷ ls) i) (λ _. omega arith) (λ i k. rest.1 i (omega arith)))
+
+least_spare-from : (ls : List PlaceList) (m : ℕ) → 0 < m → ((i : ℕ) → i < length ls → 0 < spare_at ls i) → 0 < least_spare ls m
+least_spare-from [] m a h = a
+least_spare-from (l ∷ ls) m a h =
+    let first : 0 < l.spare = h 0 (omega arith) in
+    let rest : 0 < least_spare ls m = least_spare-from ls m a (λ i k. h (suc i) (omega arith)) in
+    omega arith
+
+spare_within-parts : (n : ℕ) (ls : List PlaceList) (m : ℕ) → 0 < spare_within n ls m → (0 < m) × ((i : ℕ) → i < n → 0 < spare_at ls i)
+spare_within-parts n ls m h =
+    elim (cases_lt (length ls) n) [
+      | inl a ↦ let none : 0 < 0 = rw (lt-ltb (length ls) n a) at h in absurd (omega arith)
+      | inr a ↦ let parts = least_spare-parts ls m (rw (le-ltb (length ls) n a) at h) in (parts.0, λ i k. parts.1 i (omega arith))
+    ]
+
+pub spare_within-from : (n : ℕ) (ls : List PlaceList) (m : ℕ) → length ls ≡ n → ((i : ℕ) → i < n → 0 < spare_at ls i) → 0 < m → 0 < spare_within n ls m
+spare_within-from n ls m e h a = rw (le-ltb (length ls) n (omega arith)) (least_spare-from ls m a (λ i k. h i (omega arith)))
+
+-- room for a rule is room in the list of rules, and for each item in both indexes
+pub room_for : (n : ℕ) (starts wakes : List PlaceList) (m : ℕ) → 0 < spare_within n starts (spare_within n wakes m) → (0 < m) × ((i : ℕ) → i < n → 0 < spare_at wakes i) × ((i : ℕ) → i < n → 0 < spare_at starts i)
+room_for n starts wakes m h = let a = spare_within-parts n starts (spare_within n wakes m) h in let b = spare_within-parts n wakes m a.0 in (b.0, b.1, a.1)
+
+-- ---- one list of the many is changed
+
+-- within the list no default is read
+pub no_default : {X : Type 0} (xs : List X) (i : ℕ) (x y : X) → i < length xs → get_or xs i x ≡ get_or xs i y
+no_default [] i x y h = absurd (omega arith)
+no_default (z ∷ xs) zero x y h = refl
+no_default (z ∷ xs) (suc i) x y h = no_default xs i x y (omega arith)
+
+-- a list with room is there
+pub room_within : (ls : List PlaceList) (i : ℕ) → 0 < spare_at ls i → i < length ls
+room_within ls i h = elim (cases_lt i (length ls)) [
+  | inl a ↦ a
+  | inr a ↦ let e : spare_at ls i ≡ 0 = ap (λ (l : PlaceList). l.spare) (get_or_past ls i no_places a) in absurd (omega arith)
+]
+
+at_same : {Y : Type 0} (f : PlaceList → Y) (ls : List PlaceList) (i : ℕ) (l : PlaceList) → i < length ls → f (get_or (set ls i l) i no_places) ≡ f l
+at_same f ls i l h = ap f (get_or-set_same ls i l no_places h)
+
+at_other : {Y : Type 0} (f : PlaceList → Y) (ls : List PlaceList) (i j : ℕ) (l : PlaceList) → j ≢ i → f (get_or (set ls i l) j no_places) ≡ f (get_or ls j no_places)
+at_other f ls i j l n = ap f (get_or-set_other ls i j l no_places n)
+
+-- of the items of the set, those that are not left have the place last
+pub record Pushing (old now : List PlaceList) (whole left : Items) (place : ℕ) : Type 0 where
+  pub places : (j : ℕ) → places_at now j ≡ cond (has whole j && not (has left j)) (places_at old j ++ place ∷ []) (places_at old j)
+  pub room : (j : ℕ) → has left j ≡ true → 0 < spare_at now j
+  pub within : IsWithin left whole
+
+pub Pushing-more : (old now : List PlaceList) (whole left : Items) (place i : ℕ) (l : PlaceList) → has left i ≡ true → l.places ≡ places_at now i ++ place ∷ [] → Pushing old now whole left place
+    → Pushing old (set now i l) whole (without left i) place
+Pushing-more old now whole left place i l h e p =
+    let here : i < length now = room_within now i (p.room i h) in
+    let none_yet : places_at now i ≡ places_at old i = p.places i ∙ rw (h, and-false (has whole i)) refl in
+    let other = λ (j : ℕ) (n : j ≢ i). has-without left i j ∙ ap (λ b. has left j && not b) (ne_eqb j i n) ∙ and-true (has left j) in
+    record {
+      places = λ j. elim (cases_eq j i) [
+        | inl q ↦ rw q (
+            at_same (λ l. l.places) now i l here ∙ e ∙ ap (λ (ps : List ℕ). ps ++ place ∷ []) none_yet
+            ∙ rw (has-without left i i, eq-eqb i i refl, h, p.within i h) refl)
+        | inr n ↦ at_other (λ l. l.places) now i j l n ∙ p.places j ∙ rw (other j n) refl
+      ];
+      room = λ j a. elim (cases_eq j i) [
+        | inl q ↦ absurd (true≢false (sym a ∙ rw (q, has-without left i i, eq-eqb i i refl, h) refl))
+        | inr n ↦ rw (at_other (λ l. l.spare) now i j l n) (p.room j (sym (other j n) ∙ a))
+      ];
+      within = λ j a. p.within j (without-within left i j a);
+    }
+
+pub Pushing-done : (old now : List PlaceList) (whole left : Items) (place : ℕ) → left ≡ empty → Pushing old now whole left place
+    → (j : ℕ) → places_at now j ≡ cond (has whole j) (places_at old j ++ place ∷ []) (places_at old j)
+Pushing-done old now whole left place e p j = p.places j ∙ rw (e, has-empty j, and-true (has whole j)) refl

@@ -1,0 +1,338 @@
+-- Looking at rules: what stays, what falls out, and that at the end no rule is broken.
+use Rattle.std.proofs.Common.{ℕ, ◌+◌, ◌*◌, ◌<◌, ◌≤◌, ◌≡◌, inl, inr, Bool, true, false, cond, not, ◌&&◌, ◌||◌, eqb, Option, List, [], ◌∷◌, map, filter, fold, None, Some, refl, sym, ap, ◌∙◌, subst, arith, true≢false, eq-eqb, ne_eqb, length, All, ltb-true, get_or, drop, drop-cons, add-one, ap₂, slice_get}
+use Rattle.std.specs.Option.{option_map_or}
+use Rattle.std.specs.List.{AllByRecursion, list_all}
+use Rattle.std.proofs.lemmas.Bool.{cases_Bool, cases_eq, and_parts, and_from, or_right, not-true, not_from_false, false_from_ne_true, eqb-false}
+use Rattle.std.proofs.lemmas.List.Elements.{All-cons, All-nil}
+use Rattle.ls_set.specs.ItemSet.{Items, has, empty, full, meet, minus, single, with, without, is_same, is_within, is_among, len, least, IsWithin, items}
+use Rattle.ls_set.specs.Query.{is_good}
+use Rattle.ls_set.specs.declared.query.Query.{Query}
+use Rattle.ls_set.proofs.Sets.{has-full, has-empty, has-meet, has-minus, has-single, has-with, has-without, without-within, union-left, or-false, same_set, is_within-from, Decides-is_same}
+use Rattle.ls_set.proofs.Members.{among-filter}
+use Rattle.ls_set.proofs.Sizes.{len-less, len-within}
+use Rattle.ls_set.proofs.Firsts.{items-none}
+use Rattle.ls_set.proofs.Ascending.{least-cases}
+use Rattle.ls_set.proofs.Order.{Each-both}
+use Rattle.ls_theory.specs.Queries.{breaks, breaks_none}
+use Rattle.ls_laws.proofs.Breaks.{IsGood, Breaks, Breaks-from, breaks-from, good-from}
+use Rattle.ls_theory.specs.Families.{interior}
+use Rattle.ls_laws.specs.Families.{IsFamily}
+use Rattle.ls_laws.proofs.Interiors.{is_within-interior, interior-within, interior-greatest, IsInterior-interior}
+use Rattle.ls_laws.proofs.Families.{ruled-IsFamily}
+use Rattle.ls_laws.proofs.Counts.{len-single, len-parts, len-zero, some_item, some_missing}
+use Rattle.ls_laws.proofs.Search.{All-list_all, list_all-All}
+use Rattle.std.proofs.lemmas.Option.{slice_get_read}
+use Rattle.ls_rules.specs.Places.{PlaceList, places_at, IsIndexOf}
+use Rattle.ls_rules.proofs.Indexing.{indexed_rules}
+use Rattle.ls_rules.specs.Waking.{look, look_at, rules_at, first_of, IsAwake, Settling, Settles}
+use Rattle.ls_rules.specs.declared.round.Round.{Round}
+
+-- ---- sets
+
+-- an item that two sets have in common
+common_item : (k a : Items) → is_same (meet k a) empty ≡ false → (i : ℕ) × (has k i ≡ true) × (has a i ≡ true)
+common_item k a h = elim (some_item (meet k a)) [
+  | inl e ↦ absurd (true≢false (sym ((Decides-is_same (meet k a) empty).1 e) ∙ h))
+  | inr x ↦ let p = and_parts (has k x.0) (has a x.0) (sym (has-meet k a x.0) ∙ x.1) in (x.0, p.0, p.1)
+]
+
+-- a set with no least item is empty
+pub no_least : (s : Items) → least s ≡ None → s ≡ empty
+unfolding len
+no_least s e = len-zero s (ap length (items-none s e))
+
+keep_with : (s : Items) (i j : ℕ) → has s j ≡ true → has (with s i) j ≡ true
+keep_with s i j h = has-with s i j ∙ ap (λ b. b || eqb j i) h
+
+kept_apart : (s : Items) (i j : ℕ) → has s j ≡ true → eqb j i ≡ false → has (without s i) j ≡ true
+kept_apart s i j h n = has-without s i j ∙ and_from (has s j) (not (eqb j i)) h (not_from_false (eqb j i) n)
+
+taken : (s : Items) (i : ℕ) → has (without s i) i ≡ false
+taken s i = has-without s i i ∙ ap (λ b. has s i && not b) (eq-eqb i i refl) ∙ elim (has s i) as (λ b. (b && false) ≡ false) [ true ↦ refl | false ↦ refl ]
+
+gone_is : (s : Items) (i j : ℕ) → has s j ≡ true → has (without s i) j ≡ false → j ≡ i
+gone_is s i j h g = elim (cases_eq j i) [ inl e ↦ e | inr n ↦ absurd (true≢false (sym (kept_apart s i j h (ne_eqb j i n)) ∙ g)) ]
+
+has_added : (s : Items) (i : ℕ) → has (with s i) i ≡ true
+has_added s i = has-with s i i ∙ or_right (has s i) (eqb i i) (eq-eqb i i refl)
+
+len-with : (s : Items) (i : ℕ) → len (with s i) ≤ len s + 1
+len-with s i = elim (cases_Bool (has s i)) [
+  | inl a ↦
+      let e : with s i ≡ s = same_set (with s i) s (λ j. has-with s i j ∙ elim (cases_eq j i) [
+        | inl q ↦ rw (q, a) refl
+        | inr n ↦ ap (λ b. has s j || b) (ne_eqb j i n) ∙ or-false (has s j)
+      ]) in
+      rw e (omega arith)
+  | inr a ↦
+      let e = len-parts s (single i) (with s i) (λ j. has-with s i j ∙ ap (λ b. has s j || b) (sym (has-single i j))) (λ j.
+      ap (λ b. has s j && b) (has-single i j) ∙ elim (cases_eq j i) [
+        | inl q ↦ rw (q, a) refl
+        | inr n ↦ ap (λ b. has s j && b) (ne_eqb j i n) ∙ elim (has s j) as (λ b. (b && false) ≡ false) [ true ↦ refl | false ↦ refl ]
+      ]) in
+      omega (arith, e, len-single i)
+]
+
+pub len-without : (s : Items) (i : ℕ) → has s i ≡ true → len (without s i) < len s
+len-without s i h = len-less (without s i) s i (without-within s i) (taken s i) h
+
+-- ---- breaking a rule
+
+-- a part that has the rule's item breaks what the whole breaks
+breaks-part : (t k : Items) (r : Query) → IsWithin t k → breaks k r ≡ true → has t r.q ≡ true → breaks t r ≡ true
+breaks-part t k r w h a = breaks-from t r (record { apart = λ i x. (Breaks-from k r h).apart i (w i x); has_q = a })
+
+-- a set with the item that does not break the rule has an item of its A
+pub meets_rule : (k : Items) (r : Query) → has k r.q ≡ true → breaks k r ≡ false → (i : ℕ) × (has k i ≡ true) × (has r.a i ≡ true)
+meets_rule k r h u = common_item k r.a (false_from_ne_true (is_same (meet k r.a) empty) (λ a. true≢false (sym (and_from (is_same (meet k r.a) empty) (has k r.q) a h) ∙ u)))
+
+-- a set that breaks the rule has no item of its A
+pub no_item : (k : Items) (r : Query) (i : ℕ) → breaks k r ≡ true → has r.a i ≡ true → has k i ≡ false
+no_item k r i h a = false_from_ne_true (has k i) (λ x. true≢false (sym a ∙ (Breaks-from k r h).apart i x))
+
+-- ---- looking
+
+-- what has happened between two rounds
+pub record After (from to : Round) : Type 0 where
+  pub within : IsWithin to.kept from.kept
+  pub grows : IsWithin from.fallen to.fallen
+  pub fell : (i : ℕ) → has from.kept i ≡ true → has to.kept i ≡ false → has to.fallen i ≡ true
+  pub lighter : 2 * len to.kept + len to.fallen ≤ 2 * len from.kept + len from.fallen
+
+pub After-same : (s : Round) → After s s
+After-same s = record { within = λ i h. h; grows = λ i h. h; fell = λ i h g. absurd (true≢false (sym h ∙ g)); lighter = omega arith }
+
+pub After-more : (s t u : Round) → After s t → After t u → After s u
+After-more s t u a b = record {
+  within = λ i h. a.within i (b.within i h);
+  grows = λ i h. b.grows i (a.grows i h);
+  fell = λ i h g. elim (cases_Bool (has t.kept i)) [ inl x ↦ b.fell i x g | inr x ↦ b.grows i (a.fell i h x) ];
+  lighter = omega (arith, a.lighter, b.lighter);
+}
+
+After-look : (s : Round) (r : Query) → After s (look s r)
+After-look s r =
+    elim (breaks s.kept r) as (λ b. breaks s.kept r ≡ b → After s (record { kept = cond b (without s.kept r.q) s.kept; fallen = cond b (with s.fallen r.q) s.fallen })) [
+      | true ↦ λ h.
+          let less = len-without s.kept r.q (Breaks-from s.kept r h).has_q in
+          let more = len-with s.fallen r.q in
+          record {
+            within = without-within s.kept r.q;
+            grows = λ i x. keep_with s.fallen r.q i x;
+            fell = λ i x g. subst (λ j. has (with s.fallen r.q) j ≡ true) (sym (gone_is s.kept r.q i x g)) (has_added s.fallen r.q);
+            lighter = omega arith;
+          }
+      | false ↦ λ _. After-same s
+    ] refl
+
+pub After-looks : (s : Round) (rs : List Query) → After s (fold look s rs)
+After-looks s [] = After-same s
+After-looks s (r ∷ rs) = After-more s (look s r) (fold look (look s r) rs) (After-look s r) (After-looks (look s r) rs)
+
+look-keeps : (t : Items) (s : Round) (r : Query) → breaks t r ≡ false → IsWithin t s.kept → IsWithin t (look s r).kept
+look-keeps t s r u w =
+    elim (breaks s.kept r) as (λ b. breaks s.kept r ≡ b → IsWithin t (cond b (without s.kept r.q) s.kept)) [
+      | true ↦ λ h i x. kept_apart s.kept r.q i (w i x) (false_from_ne_true (eqb i r.q) (λ e.
+          true≢false (sym (breaks-part t s.kept r w h (subst (λ j. has t j ≡ true) (eqb-is i r.q e) x)) ∙ u)))
+      | false ↦ λ _. w
+    ] refl
+  where
+    eqb-is : (i j : ℕ) → eqb i j ≡ true → i ≡ j
+    eqb-is i j e = elim (cases_eq i j) [ inl q ↦ q | inr n ↦ absurd (true≢false (sym e ∙ ne_eqb i j n)) ]
+
+-- a set that breaks none of the rules stays
+pub looks-keep : (t : Items) (s : Round) (rs : List Query) → breaks_none rs t ≡ true → IsWithin t s.kept → IsWithin t (fold look s rs).kept
+looks-keep t s [] h w = w
+looks-keep t s (r ∷ rs) h w =
+    let p = and_parts (not (breaks t r)) (breaks_none rs t) h in
+    looks-keep t (look s r) rs p.1 (look-keeps t s r (not-true (breaks t r) p.0) w)
+
+look-breaks : (k : Items) (s : Round) (r : Query) → IsWithin s.kept k → breaks k r ≡ true → has (look s r).kept r.q ≡ false
+look-breaks k s r w h = elim (cases_Bool (has s.kept r.q)) [
+  | inl a ↦ rw (breaks-part s.kept k r w h a) (taken s.kept r.q)
+  | inr a ↦ false_from_ne_true (has (look s r).kept r.q) (λ x. true≢false (sym ((After-look s r).within r.q x) ∙ a))
+]
+
+-- the item of each of the rules that was broken is gone
+looks-break : (k : Items) (s : Round) (rs : List Query) → IsWithin s.kept k → AllByRecursion (λ r. breaks k r ≡ true → has (fold look s rs).kept r.q ≡ false) rs
+looks-break k s [] w = tt
+looks-break k s (r ∷ rs) w = (
+  λ h. false_from_ne_true (has (fold look (look s r) rs).kept r.q) (λ x. true≢false (sym ((After-looks (look s r) rs).within r.q x) ∙ look-breaks k s r w h)),
+  looks-break k (look s r) rs (λ i h. w i ((After-look s r).within i h)),
+)
+
+All-passing : {X : Type 0} (P : X → Type 0) (p : X → Bool) (xs : List X) → AllByRecursion P (filter p xs) → AllByRecursion (λ x. p x ≡ true → P x) xs
+All-passing P p [] h = tt
+All-passing P p (x ∷ xs) h =
+    elim (p x) as (λ b. p x ≡ b → AllByRecursion P (cond b (x ∷ filter p xs) (filter p xs)) → AllByRecursion (λ x. p x ≡ true → P x) (x ∷ xs)) [
+      | true ↦ λ _ h. (λ _. h.0, All-passing P p xs h.1)
+      | false ↦ λ e h. (λ a. absurd (true≢false (sym a ∙ e)), All-passing P p xs h)
+    ] refl h
+
+-- the rules with the item were looked at
+pub looks-break_at : (k : Items) (s : Round) (p : Query → Bool) (rules : List Query) → IsWithin s.kept k
+    → AllByRecursion (λ r. p r ≡ true → breaks k r ≡ true → has (fold look s (filter p rules)).kept r.q ≡ false) rules
+looks-break_at k s p rules w = All-passing (λ r. breaks k r ≡ true → has (fold look s (filter p rules)).kept r.q ≡ false) p rules (looks-break k s (filter p rules) w)
+
+pub none_of_part : (t : Items) (p : Query → Bool) (rules : List Query) → breaks_none rules t ≡ true → breaks_none (filter p rules) t ≡ true
+none_of_part t p [] h = refl
+none_of_part t p (r ∷ rules) h =
+    let a = and_parts (not (breaks t r)) (breaks_none rules t) h in
+    elim (p r) as (λ b. breaks_none (cond b (r ∷ filter p rules) (filter p rules)) t ≡ true) [
+      | true ↦ and_from (not (breaks t r)) (breaks_none (filter p rules) t) a.0 (none_of_part t p rules a.1)
+      | false ↦ none_of_part t p rules a.1
+    ]
+
+-- ---- going on from the items that fell out
+
+-- the item i was taken out of what fell out
+abbrev pub woken : Round → ℕ → Round
+woken s i = record { kept = s.kept; fallen = without s.fallen i }
+
+stays_awake : (s to : Round) (i : ℕ) (r : Query) → After (woken s i) to → IsAwake s r → (has r.a i ≡ true → breaks s.kept r ≡ true → has to.kept r.q ≡ false) → IsAwake to r
+stays_awake s to i r after old looked h = elim (cases_Bool (breaks s.kept r)) [
+  | inl b ↦
+      let x = old b in
+      elim (cases_eq x.0 i) [
+        | inl e ↦ absurd (true≢false (sym (Breaks-from to.kept r h).has_q ∙ looked (subst (λ j. has r.a j ≡ true) e x.1) b))
+        | inr n ↦ (x.0, x.1, after.grows x.0 (kept_apart s.fallen i x.0 x.2 (ne_eqb x.0 i n)))
+      ]
+  | inr u ↦
+      let x = meets_rule s.kept r (after.within r.q (Breaks-from to.kept r h).has_q) u in
+      (x.0, x.2, after.fell x.0 x.1 (no_item to.kept r x.0 h x.2))
+]
+
+pub Settling-more : (rules : List Query) (from : Items) (s : Round) (i : ℕ) → Settling rules from s → Settling rules from (fold look (woken s i) (filter (λ r. has r.a i) rules))
+Settling-more rules from s i a =
+    let to = fold look (woken s i) (filter (λ r. has r.a i) rules) in
+    let after = After-looks (woken s i) (filter (λ r. has r.a i) rules) in
+    record {
+      within = λ j h. a.within j (after.within j h);
+      awake = Each-both (IsAwake s) (λ r. has r.a i ≡ true → breaks s.kept r ≡ true → has to.kept r.q ≡ false) (IsAwake to)
+          (λ r old looked. stays_awake s to i r after old looked) rules a.awake (looks-break_at s.kept (woken s i) (λ r. has r.a i) rules (λ j h. h));
+      greatest = λ t u w. looks-keep t (woken s i) (filter (λ r. has r.a i) rules) (none_of_part t (λ r. has r.a i) rules u) (a.greatest t u w);
+    }
+
+pub lighter : (s : Round) (i : ℕ) (rs : List Query) → has s.fallen i ≡ true → let to = fold look (woken s i) rs in 2 * len to.kept + len to.fallen < 2 * len s.kept + len s.fallen
+lighter s i rs h =
+    let a = (After-looks (woken s i) rs).lighter in
+    let b = len-without s.fallen i h in
+    omega arith
+
+none_broken : (s : Round) (rules : List Query) → s.fallen ≡ empty → AllByRecursion (IsAwake s) rules → breaks_none rules s.kept ≡ true
+none_broken s [] e a = refl
+none_broken s (r ∷ rules) e a =
+    and_from (not (breaks s.kept r)) (breaks_none rules s.kept)
+    (not_from_false (breaks s.kept r) (false_from_ne_true (breaks s.kept r) (λ b. let x = a.0 b in true≢false (sym x.2 ∙ ap (λ f. has f x.0) e ∙ has-empty x.0))))
+    (none_broken s rules e a.1)
+
+-- when nothing fell out, no rule is broken
+pub Settling-done : (rules : List Query) (from : Items) (s : Round) → least s.fallen ≡ None → Settling rules from s → Settles rules from s.kept
+Settling-done rules from s e a = record { within = a.within; unbroken = none_broken s rules (no_least s.fallen e) a.awake; greatest = a.greatest }
+
+-- ---- the first round
+
+-- the round with which the rules are looked at first
+abbrev pub begun : Items → Round
+begun k = record { kept = k; fallen = empty }
+
+-- each rule whose set A begins outside k, and not with an item that is left, was looked at
+pub record Started (rules : List Query) (n : ℕ) (k left : Items) (s : Round) : Type 0 where
+  pub after : After (begun k) s
+  pub looked : AllByRecursion (λ r. (i : ℕ) → has (first_of r.a) i ≡ true → has (minus (full n) k) i ≡ true → has left i ≡ false → breaks k r ≡ true → has s.kept r.q ≡ false) rules
+  pub greatest : (t : Items) → breaks_none rules t ≡ true → IsWithin t k → IsWithin t s.kept
+
+All-given : {X : Type 0} (P : X → Type 0) → ((x : X) → P x) → (xs : List X) → AllByRecursion P xs
+All-given P h [] = tt
+All-given P h (x ∷ xs) = (h x, All-given P h xs)
+
+pub Started-first : (rules : List Query) (n : ℕ) (k : Items) → Started rules n k (minus (full n) k) (begun k)
+Started-first rules n k = record {
+  after = After-same (begun k);
+  looked = All-given (λ r. (i : ℕ) → has (first_of r.a) i ≡ true → has (minus (full n) k) i ≡ true → has (minus (full n) k) i ≡ false → breaks k r ≡ true → has k r.q ≡ false)
+      (λ r i _ a b. absurd (true≢false (sym a ∙ b))) rules;
+  greatest = λ t _ w. w;
+}
+
+pub Started-more : (rules : List Query) (n : ℕ) (k left : Items) (s : Round) (i : ℕ) → Started rules n k left s → Started rules n k (without left i) (fold look s (filter (λ r. has (first_of r.a) i) rules))
+Started-more rules n k left s i a =
+    let p = λ (r : Query). has (first_of r.a) i in
+    let to = fold look s (filter p rules) in
+    let after = After-looks s (filter p rules) in
+    record {
+      after = After-more (begun k) s to a.after after;
+      looked = Each-both (λ r. (j : ℕ) → has (first_of r.a) j ≡ true → has (minus (full n) k) j ≡ true → has left j ≡ false → breaks k r ≡ true → has s.kept r.q ≡ false)
+          (λ r. p r ≡ true → breaks k r ≡ true → has to.kept r.q ≡ false)
+          (λ r. (j : ℕ) → has (first_of r.a) j ≡ true → has (minus (full n) k) j ≡ true → has (without left i) j ≡ false → breaks k r ≡ true → has to.kept r.q ≡ false)
+          (λ r old looked j f o g b. elim (cases_eq j i) [
+            | inl e ↦ looked (subst (λ x. has (first_of r.a) x ≡ true) e f) b
+            | inr n ↦ false_from_ne_true (has to.kept r.q) (λ x. true≢false (sym (after.within r.q x) ∙ old j f o (false_from_ne_true (has left j) (λ y. true≢false (sym (kept_apart left i j y (ne_eqb j i n)) ∙ g))) b))
+          ]) rules a.looked (looks-break_at k s p rules a.after.within);
+      greatest = λ t u w. looks-keep t s (filter p rules) (none_of_part t p rules u) (a.greatest t u w);
+    }
+
+-- a set that is not empty has its first item
+first_at : (a : Items) (o : Option ℕ) → least a ≡ o → is_same a empty ≡ false → (i : ℕ) × (has (option_map_or (λ i. with empty i) o empty) i ≡ true) × (has a i ≡ true)
+first_at a None e h = absurd (true≢false (sym ((Decides-is_same a empty).1 (no_least a e)) ∙ h))
+first_at a (Some i) e h = (i, has_added empty i, (least-cases a i e).0)
+
+first_item : (a : Items) → is_same a empty ≡ false → (i : ℕ) × (has (first_of a) i ≡ true) × (has a i ≡ true)
+first_item a h = first_at a (least a) refl h
+
+woken_first : (n : ℕ) (k : Items) (s : Round) (r : Query) → IsGood n r → After (begun k) s
+    → ((i : ℕ) → has (first_of r.a) i ≡ true → has (minus (full n) k) i ≡ true → breaks k r ≡ true → has s.kept r.q ≡ false) → IsAwake s r
+woken_first n k s r good after looked h = elim (cases_Bool (breaks k r)) [
+  | inl b ↦
+      let x = first_item r.a good.nonempty in
+      let out = has-minus (full n) k x.0 ∙ and_from (has (full n) x.0) (not (has k x.0)) (good.small x.0 x.2) (not_from_false (has k x.0) (no_item k r x.0 b x.2)) in
+      absurd (true≢false (sym (Breaks-from s.kept r h).has_q ∙ looked x.0 x.1 out b))
+  | inr u ↦
+      let x = meets_rule k r (after.within r.q (Breaks-from s.kept r h).has_q) u in
+      (x.0, x.2, after.fell x.0 x.1 (no_item s.kept r x.0 h x.2))
+]
+
+-- after it the items that fell out wake every rule that is broken
+pub Started-done : (rules : List Query) (n : ℕ) (k left : Items) (s : Round) → list_all (is_good n) rules ≡ true → least left ≡ None → Started rules n k left s → Settling rules k s
+Started-done rules n k left s good e a =
+    let none = no_least left e in
+    record {
+      within = a.after.within;
+      awake = Each-both (λ r. is_good n r ≡ true)
+          (λ r. (i : ℕ) → has (first_of r.a) i ≡ true → has (minus (full n) k) i ≡ true → has left i ≡ false → breaks k r ≡ true → has s.kept r.q ≡ false) (IsAwake s)
+          (λ r g looked. woken_first n k s r (good-from n r g) a.after (λ i f o b. looked i f o (ap (λ l. has l i) none ∙ has-empty i) b))
+          rules (list_all-All (is_good n) rules good) a.looked;
+      greatest = a.greatest;
+    }
+
+-- ---- the loop over places
+
+-- one more of the rules at the places is looked at
+pub look_at-step : (rules : List Query) (places : List ℕ) (i p : ℕ) (r : Query) (s all : Round) → i < length places → p ≡ get_or places i 0 → p < length rules → r ≡ get_or rules p r
+    → fold look s (rules_at rules (drop i places)) ≡ all → fold look (look s r) (rules_at rules (drop (i + 1) places)) ≡ all
+look_at-step rules places i p r s all l e m q h =
+    let rest : drop i places ≡ p ∷ drop (i + 1) places = drop-cons places i 0 l ∙ ap₂ (λ x n. x ∷ drop n places) (sym e) (sym (add-one i)) in
+    let found : slice_get rules p ≡ Some r = slice_get_read rules (length rules) p r refl m q in
+    let first : fold look s (rules_at rules (p ∷ drop (i + 1) places)) ≡ fold look (look s r) (rules_at rules (drop (i + 1) places)) = rw found refl in
+    sym first ∙ ap (λ ps. fold look s (rules_at rules ps)) (sym rest) ∙ h
+
+-- ---- the items of a set
+
+pub below : (n : ℕ) (s : Items) (i : ℕ) → IsWithin s (full n) → has s i ≡ true → i < n
+below n s i w h = ltb-true i n (sym (has-full n i) ∙ w i h)
+
+-- the first item of a set is in it
+pub first-within : (a : Items) → IsWithin (first_of a) a
+first-within a i h = first_in a i (least a) refl h
+  where
+    first_in : (a : Items) (i : ℕ) (o : Option ℕ) → least a ≡ o → has (option_map_or (λ i. with empty i) o empty) i ≡ true → has a i ≡ true
+    first_in a i None e h = absurd (true≢false (sym h ∙ has-empty i))
+    first_in a i (Some j) e h = elim (cases_eq i j) [
+      | inl q ↦ rw q (least-cases a j e).0
+      | inr n ↦ absurd (true≢false (sym h ∙ has-with empty j i ∙ ap (λ b. has empty i || b) (ne_eqb i j n) ∙ or-false (has empty i) ∙ has-empty i))
+    ]
+
+-- ---- one turn of the loop over fallen items
+
+pub turned : (rules : List Query) (key : Query → Items) (ls : List PlaceList) (i : ℕ) (ps : List ℕ) (s to : Round) → IsIndexOf ls (map key rules) → ps ≡ places_at ls i → to ≡ look_at rules ps s
+    → to ≡ fold look s (filter (λ r. has (key r) i) rules)
+turned rules key ls i ps s to index e h = h ∙ ap (fold look s) (indexed_rules rules key ls i ps index e)

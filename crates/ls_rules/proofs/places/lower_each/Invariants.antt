@@ -1,0 +1,7 @@
+use Rattle.std.proofs.Common.{◌≡◌, ℕ, get_or, ltb, cond}
+use Rattle.ls_rules.specs.Places.{lower}
+use Rattle.ls_rules.proofs.places.lower_each.Given as goal
+
+-- the places before the index are lowered
+abbrev pub invariant-loop-p : goal.invariant-loop-p
+invariant-loop-p l = (k : ℕ) → get_or l.list k 0 ≡ cond (ltb k l.p-index) (lower l.place (get_or l.initial.list k 0)) (get_or l.initial.list k 0)

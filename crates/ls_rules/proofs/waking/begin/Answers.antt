@@ -1,0 +1,28 @@
+use Rattle.std.proofs.Common.{sym, ap, ◌∙◌}
+use Rattle.ls_set.specs.ItemSet.{Items, minus}
+use Rattle.ls_set.proofs.Ascending.{least-cases}
+use Rattle.ls_rules.specs.Waking.{first_of}
+use Rattle.ls_rules.proofs.Indexing.{indexed_small}
+use Rattle.ls_rules.proofs.Rounds.{turned, len-without, Started-first, Started-more, Started-done}
+use Rattle.ls_rules.proofs.waking.begin.Goals as goal
+
+pub loop-i-init : goal.loop-i-init
+loop-i-init c =
+    rw (c.minus-left.ensures, c.full.ensures, c.empty.ensures) (Started-first c.args.rules.now c.args.n c.args.set)
+
+pub look_at-round-requires-clause-places : goal.look_at-round-requires-clause-places
+look_at-round-requires-clause-places c = indexed_small c.args.rules.now (λ r. first_of r.a) c.args.starts.now c.in-Some.i c.of.result.now c.requires.starts c.of.ensures
+
+pub loop-i-smaller : goal.loop-i-smaller
+loop-i-smaller c =
+    let here = least-cases c.loop-i.left c.in-Some.i (sym c.least.ensures.value ∙ c.in-Some.is) in
+    rw c.without-left.ensures (len-without c.loop-i.left c.in-Some.i here.0)
+
+pub loop-i-preserved : goal.loop-i-preserved
+loop-i-preserved c =
+    let looked = turned c.args.rules.now (λ r. first_of r.a) c.args.starts.now c.in-Some.i c.of.result.now c.loop-i.round c.look_at-round.result c.requires.starts c.of.ensures c.look_at-round.ensures in
+    rw (c.without-left.ensures, looked) (Started-more c.args.rules.now c.args.n c.args.set c.loop-i.left c.loop-i.round c.in-Some.i c.loop-i.invariant)
+
+pub returns : goal.returns
+returns c =
+    Started-done c.args.rules.now c.args.n c.args.set c.loop-i.left c.loop-i.round c.requires.good (sym c.least.ensures.value ∙ c.in_default.is) c.loop-i.invariant

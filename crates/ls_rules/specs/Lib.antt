@@ -1,0 +1,3 @@
+pub mod Ruled
+pub mod Places
+pub mod Waking

@@ -1,0 +1,53 @@
+-- Rules that are looked at again where an item of theirs fell out.
+use Rattle.std.specs.Prelude.{ℕ, ◌≤◌, ◌≡◌, true, if◌then◌else◌, List, length, map, slice_get, fold}
+use Rattle.std.specs.Option.{option_map_or}
+use Rattle.std.specs.List.{AllByRecursion, list_all, filter_map}
+use Rattle.ls_set.specs.ItemSet.{Items, has, empty, with, without, least, IsWithin}
+use Rattle.ls_set.specs.declared.query.Query.{Query}
+use Rattle.ls_set.specs.Query.{is_good}
+use Rattle.ls_theory.specs.Queries.{breaks, breaks_none}
+use Rattle.ls_rules.specs.Places.{PlaceList, IsIndexOf}
+use Rattle.ls_rules.specs.declared.round.Round.{Round}
+
+-- where the kept set breaks the rule, its item falls out
+abbrev pub look : Round → Query → Round
+look s r = record {
+  kept = if breaks s.kept r then without s.kept r.q else s.kept;
+  fallen = if breaks s.kept r then with s.fallen r.q else s.fallen;
+}
+
+-- the rules at the places
+abbrev pub rules_at : List Query → List ℕ → List Query
+rules_at rules places = filter_map (slice_get rules) places
+
+-- the rules at the places are looked at, one after another
+abbrev pub look_at : List Query → List ℕ → Round → Round
+look_at rules places s = fold look s (rules_at rules places)
+
+-- the least item of the set alone
+abbrev pub first_of : Items → Items
+first_of a = option_map_or (λ i. with empty i) (least a) empty
+
+-- if the kept set breaks the rule, then an item of its A has fallen out and was not looked at since
+abbrev pub IsAwake : Round → Query → Type 0
+IsAwake s r = breaks s.kept r ≡ true → (i : ℕ) × (has r.a i ≡ true) × (has s.fallen i ≡ true)
+
+-- the items that fell out wake every rule that is broken, and nothing of a set within the first that breaks no rule was lost
+pub record Settling (rules : List Query) (from : Items) (s : Round) : Type 0 where
+  pub within : IsWithin s.kept from
+  pub awake : AllByRecursion (IsAwake s) rules
+  pub greatest : (t : Items) → breaks_none rules t ≡ true → IsWithin t from → IsWithin t s.kept
+
+-- the rules can be asked about n items, and the places of their sets A, and of the least items of these, are kept
+pub record IsIndexed (n : ℕ) (rules : List Query) (wakes starts : List PlaceList) : Type 0 where
+  pub good : list_all (is_good n) rules ≡ true
+  pub wakes_are : IsIndexOf wakes (map (λ r. r.a) rules)
+  pub starts_are : IsIndexOf starts (map (λ r. first_of r.a) rules)
+  pub few_wakes : length wakes ≤ n
+  pub few_starts : length starts ≤ n
+
+-- the greatest set within the first that breaks no rule
+pub record Settles (rules : List Query) (from settled : Items) : Type 0 where
+  pub within : IsWithin settled from
+  pub unbroken : breaks_none rules settled ≡ true
+  pub greatest : (t : Items) → breaks_none rules t ≡ true → IsWithin t from → IsWithin t settled

@@ -1,0 +1,152 @@
+// Families with rules.
+ghost use Rattle.std.specs.Prelude.{◌≡◌, ◌<◌, ◌++◌, ◌∷◌, [], true, length, remove, OnOk};
+ghost use Rattle.ls_set.specs.Query.{is_good};
+ghost use Rattle.ls_rules.specs.Waking.{first_of};
+
+use crate::index::Index;
+use crate::round::Round;
+use crate::waking::{begin, settle};
+use ls_interior::Inside;
+use ls_set::{ItemSet, Query};
+use std::alloc::{AllocError, Global};
+use std::marker::Model;
+
+/// An inner family with a list of queries as its rules. Its members are the members of the inner
+/// family that break no rule. Contracts see the inner family, the rules in their order, and `spare`,
+/// the number of rules for which there is room.
+#[derive(Drop)]
+pub struct Ruled<F: Inside> {
+    inner: F,
+    rules: Vec<Query>,
+    // the places of the rules by the items of their sets A, and by the least of these alone
+    wakes: Index,
+    starts: Index,
+    alloc: Global,
+}
+
+impl<F: Inside> Model for Ruled<F> {
+    ghost use Rattle.std.specs.Prelude.{◌-◌, vec_len, vec_capacity};
+    ghost use Rattle.ls_rules.specs.Ruled.{RuledState};
+    ghost use Rattle.ls_rules.specs.Places.{spare_within};
+
+    ghost Value = { RuledState F };
+
+    ghost use Rattle.ls_rules.specs.Waking.{IsIndexed};
+
+    ghost view = { λ r. record {
+      inner = r.inner;
+      rules = r.rules.items;
+      spare = spare_within (F.item_count r.inner) r.starts (spare_within (F.item_count r.inner) r.wakes (vec_capacity r.rules - vec_len r.rules));
+    } };
+
+    ghost invariant = { λ r. IsIndexed (F.item_count r.inner) r.rules.items r.wakes r.starts };
+}
+
+// The set of the least item alone; the empty set, of the empty set.
+fn first_of(set: ItemSet) -> ItemSet
+    ensures { result ≡ first_of set }
+{
+    match set.least() {
+        Some(i) => ItemSet::empty().with(i),
+        None => ItemSet::empty(),
+    }
+}
+
+impl<F: Inside> Ruled<F> {
+    /// The inner family, with no rule. It takes no memory.
+    pub fn new(alloc: Global, inner: F) -> Ruled<F>
+        ensures inner { result.inner ≡ inner }
+        ensures rules { result.rules ≡ [] }
+    {
+        Ruled {
+            inner,
+            rules: Vec::new(alloc),
+            wakes: Index::new(alloc),
+            starts: Index::new(alloc),
+            alloc,
+        }
+    }
+
+    /// Makes room for one rule, unless memory runs out; the rules stay.
+    pub fn reserve(&mut self) -> Result<(), AllocError>
+        ensures ok { OnOk result (0 < self.new.spare) }
+        ensures rules { self.new.rules ≡ self.old.rules }
+        ensures inner { self.new.inner ≡ self.old.inner }
+    {
+        let n = self.inner.items();
+        self.wakes.reserve(self.alloc, n)?;
+        self.starts.reserve(self.alloc, n)?;
+        self.rules.reserve(1)
+    }
+
+    /// Puts a rule last, in the room that was made. It takes no memory.
+    pub fn push_reserved(&mut self, r: Query)
+        requires room { 0 < self.old.spare }
+        requires good { is_good (F.item_count self.old.inner) r ≡ true }
+        ensures rules { self.new.rules ≡ self.old.rules ++ r ∷ [] }
+        ensures inner { self.new.inner ≡ self.old.inner }
+    {
+        let place = self.rules.len();
+        self.wakes.push(r.a, place);
+        self.starts.push(first_of(r.a), place);
+        self.rules.push(r).unwrap()
+    }
+
+    /// Takes out the rule at a place, counted from 0. The others keep their order.
+    pub fn remove(&mut self, place: usize)
+        requires { place < length self.old.rules }
+        ensures rules { self.new.rules ≡ remove self.old.rules place }
+        ensures inner { self.new.inner ≡ self.old.inner }
+    {
+        self.wakes.remove(place);
+        self.starts.remove(place);
+        let _ = self.rules.remove(place);
+    }
+
+    /// The rules, in their order.
+    pub fn rules(&self) -> &[Query]
+        ensures { result.now ≡ self.now.rules }
+    {
+        &self.rules
+    }
+
+    /// The inner family.
+    pub fn inner(&self) -> &F
+        ensures { result.now ≡ self.now.inner }
+    {
+        &self.inner
+    }
+}
+
+impl<F: Inside> Inside for Ruled<F> {
+    ghost use Rattle.std.specs.Prelude.{filter};
+    ghost use Rattle.ls_theory.specs.Queries.{breaks_none};
+    ghost use Rattle.ls_laws.proofs.Families.{ruled-IsFamily};
+
+    ghost item_count = { λ r. F.item_count r.inner };
+
+    ghost members = { λ r. filter (breaks_none r.rules) (F.members r.inner) };
+
+    ghost is_family = { λ r. ruled-IsFamily r.rules (F.is_family r.inner) };
+
+    fn items(&self) -> u32 {
+        self.inner.items()
+    }
+
+    fn inside(&self, s: ItemSet) -> ItemSet {
+        let n = self.inner.items();
+        let first = begin(&self.rules, &self.starts, n, self.inner.inside(s));
+        let mut kept = settle(&self.rules, &self.wakes, n, first);
+        loop {
+            let next = self.inner.inside(kept);
+            if kept.is_within(next) {
+                return kept;
+            }
+            let lost = Round {
+                kept: next,
+                fallen: kept.minus(next),
+            };
+            kept = settle(&self.rules, &self.wakes, n, lost);
+        }
+    }
+}

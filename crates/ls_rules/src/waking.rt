@@ -1,0 +1,59 @@
+// Going on from the items that fell out to the rules that they wake.
+ghost use Rattle.std.specs.Prelude.{◌≡◌, ◌<◌, ◌≤◌, map, All, length, true};
+ghost use Rattle.std.specs.List.{AllByRecursion, list_all};
+ghost use Rattle.ls_set.specs.Query.{is_good};
+ghost use Rattle.ls_rules.specs.Places.{IsIndexOf};
+ghost use Rattle.ls_rules.specs.Waking.{look_at, first_of, IsAwake, Settling, Settles};
+
+use crate::index::Index;
+use crate::round::Round;
+use ls_set::{ItemSet, PLACES, Query};
+
+// Looks at the rules at the places.
+fn look_at(rules: &[Query], places: &[usize], round: Round) -> Round
+    requires items { All (λ r. r.q < PLACES) rules.now }
+    requires places { All (λ p. p < length rules.now) places.now }
+    ensures { result ≡ look_at rules.now places.now round }
+{
+    let mut round = round;
+    for place in places {
+        round = round.look(&rules[*place]);
+    }
+    round
+}
+
+/// Looks at each rule whose set A begins with one of the `n` items outside the set. Of the set there
+/// is kept what no rule takes out, and what fell out wakes each rule that is still broken.
+pub fn begin(rules: &[Query], starts: &Index, n: u32, set: ItemSet) -> Round
+    requires few { n ≤ PLACES }
+    requires good { list_all (is_good n) rules.now ≡ true }
+    requires starts { IsIndexOf starts.now (map (λ r. first_of r.a) rules.now) }
+    ensures { Settling rules.now set result }
+{
+    let mut left = ItemSet::full(n).minus(set);
+    let mut round = Round {
+        kept: set,
+        fallen: ItemSet::empty(),
+    };
+    while let Some(i) = left.least() {
+        left = left.without(i);
+        round = look_at(rules, starts.of(i), round);
+    }
+    round
+}
+
+/// Goes on from the items that fell out, until no rule is broken.
+pub fn settle(rules: &[Query], wakes: &Index, n: u32, round: Round) -> ItemSet
+    requires few { n ≤ PLACES }
+    requires good { list_all (is_good n) rules.now ≡ true }
+    requires wakes { IsIndexOf wakes.now (map (λ r. r.a) rules.now) }
+    requires awake { AllByRecursion (IsAwake round) rules.now }
+    ensures { Settles rules.now round.kept result }
+{
+    let mut round = round;
+    while let Some(i) = round.fallen.least() {
+        round.fallen = round.fallen.without(i);
+        round = look_at(rules, wakes.of(i), round);
+    }
+    round.kept
+}
