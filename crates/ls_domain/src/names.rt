@@ -54,10 +54,7 @@ impl Names {
         ensures within { IfSome result (λ i. i < length self.now) }
         ensures place { IfSome result (λ i. i < PLACES) }
     {
-        match self.set.get_index_of(name) {
-            Some(i) => Some(i as u32),
-            None => None,
-        }
+        self.set.get_index_of(name).map(|i| i as u32)
     }
 
     // The name with the number.
