@@ -1,0 +1,104 @@
+-- Names and their numbers.
+use Rattle.std.proofs.Common.{◌≡◌, ◌≢◌, ℕ, suc, ◌+◌, ◌<◌, ◌≤◌, inl, inr, Bool, true, false, not, ◌&&◌, List, [], ◌∷◌, ◌++◌, length, map, take, get_or, Some, None, is_some, refl, ap, ap₂, sym, ◌∙◌, arith, length-append, string_bytes, String, ltb, ltb-true}
+use Rattle.std.specs.declared.option.Option.{Option}
+use Rattle.std.specs.Cmp.Lexicographic.{same_text}
+use Rattle.std.specs.List.{position, position_or_len, list_any, list_all, IsDistinct, AllZip}
+use Rattle.std.specs.Str.{IsAscii, IsUtf8, bytes_eq}
+use Rattle.std.proofs.lemmas.Bool.{cases_Bool}
+use Rattle.std.proofs.lemmas.Bool.Decides.{nat_tests}
+use Rattle.std.proofs.lemmas.Cmp.{nat_list_eq_equiv}
+use Rattle.std.proofs.lemmas.List.{map-append, take_more}
+use Rattle.std.proofs.lemmas.List.Elements.{All-head}
+use Rattle.std.proofs.lemmas.List.Folds.{list_all-append}
+use Rattle.std.proofs.lemmas.List.Quantifiers.{position-Some}
+use Rattle.std.proofs.lemmas.List.Sums.{position_or_len_is}
+use Rattle.std.proofs.lemmas.Map.Keys.{IsDistinct-push}
+use Rattle.std.proofs.lemmas.Map.Made.{AllPairs-from_IsDistinct}
+use Rattle.std.proofs.lemmas.Slice.Eq.{bytes_eq-Decides}
+use Rattle.std.proofs.lemmas.Str.{IsUtf8-from_ascii}
+use Rattle.ls_set.specs.ItemSet.{Items, has, full, with, set_of, empty, items, IsWithin}
+use Rattle.ls_set.specs.declared.item_set.TheConstants.{PLACES}
+use Rattle.ls_set.proofs.Sets.{members, same_set, has-full}
+use Rattle.ls_set.proofs.Firsts.{listed-has}
+use Rattle.ls_lines.specs.Lines.{Text}
+use Rattle.ls_lines.specs.declared.form.Part.TheVariants.{One}
+use Rattle.ls_lines.specs.declared.kind.Kind.TheVariants.{Name}
+use Rattle.ls_lines.proofs.Ascii.{front-ascii}
+use Rattle.ls_domain.specs.Texts.{name_of}
+use Rattle.ls_domain.specs.Meanings.{is_named, number_of, item_of, items_of}
+use Rattle.ls_domain.specs.Domains.{is_name, AreNames, IsDomain}
+use Rattle.ls_domain.proofs.Positions.{is_some-position}
+
+-- ---- one to one
+
+differs : (v w : Text) → v ≢ w → bytes_eq w v ≡ false
+differs v w ne = elim (cases_Bool (bytes_eq w v)) [ inl e ↦ absurd (ne (sym ((bytes_eq-Decides w v).0 e))) | inr e ↦ e ]
+
+pub number_of-name_of : (names : List Text) (i : ℕ) → IsDistinct bytes_eq names → i < length names → number_of names (name_of names i) ≡ Some i
+number_of-name_of names i distinct lt =
+    let pairs = AllPairs-from_IsDistinct bytes_eq-Decides names distinct in
+    let w : Text = name_of names i in
+    let at : position_or_len (bytes_eq w) names ≡ i =
+    position_or_len_is (bytes_eq w) names i [] (omega arith) (λ k below. differs (get_or names k []) w (pairs k i [] below lt)) (λ _. (bytes_eq-Decides w w).1 refl) in
+    let within : ltb i (length names) ≡ true = grind (arith, nat_tests) in
+    rw (at, within) refl
+
+pub name_of-number_of : (names : List Text) (w : Text) (i : ℕ) → number_of names w ≡ Some i → name_of names i ≡ w
+name_of-number_of names w i e = sym ((bytes_eq-Decides w (name_of names i)).0 (position-Some (bytes_eq w) names i [] e).1)
+
+-- a word that has a number is a name, and has the item of that number
+pub is_named-some : (names : List Text) (w : Text) (i : ℕ) → number_of names w ≡ Some i → is_named names w ≡ true
+is_named-some names w i e = sym (is_some-position (bytes_eq w) names) ∙ ap is_some e
+
+pub is_named-none : (names : List Text) (w : Text) → number_of names w ≡ None → is_named names w ≡ false
+is_named-none names w e = sym (is_some-position (bytes_eq w) names) ∙ ap is_some e
+
+pub item_of-some : (names : List Text) (w : Text) (i : ℕ) → number_of names w ≡ Some i → item_of names w ≡ i
+item_of-some names w i e = rw e refl
+
+-- ---- one name more
+
+-- a name is text
+pub is_name-utf8 : (w : Text) → is_name w ≡ true → IsUtf8 w
+is_name-utf8 w e = IsUtf8-from_ascii w (All-head IsAscii w [] (front-ascii (One Name) (w ∷ []) 1 (rw e refl)))
+
+pub AreNames-nil : AreNames []
+unfolding IsDistinct
+AreNames-nil = record { few = omega arith; named = refl; distinct = tt }
+
+pub AreNames-push : (names : List Text) (w : Text) → AreNames names → is_name w ≡ true → is_named names w ≡ false → length names < PLACES → AreNames (names ++ w ∷ [])
+AreNames-push names w are name new room = record {
+  few = omega (arith, length-append names (w ∷ []));
+  named = list_all-append is_name names (w ∷ []) ∙ rw (are.named, name) refl;
+  distinct = IsDistinct-push nat_list_eq_equiv names w are.distinct new;
+}
+
+-- copies of texts have their bytes
+pub texts_of_clones : {Y : Type 0} (ks ls : List (String Y)) → AllZip (λ s t. string_bytes t ≡ string_bytes s) ks ls → map string_bytes ls ≡ map string_bytes ks
+texts_of_clones [] [] h = refl
+texts_of_clones [] (l ∷ ls) h = absurd h
+texts_of_clones (k ∷ ks) [] h = absurd h
+texts_of_clones (k ∷ ks) (l ∷ ls) h = ap₂ (λ b bs. b ∷ bs) h.0 (texts_of_clones ks ls h.1)
+
+-- ---- sets of items
+
+with-with : (s : Items) (i j : ℕ) → with (with s i) j ≡ with (with s j) i
+with-with s i j = same_set _ _ (λ k. grind (arith, members, nat_tests))
+
+set_of-append : (is : List ℕ) (i : ℕ) → set_of (is ++ i ∷ []) ≡ with (set_of is) i
+set_of-append [] i = refl
+set_of-append (j ∷ is) i = ap (λ s. with s j) (set_of-append is i) ∙ with-with (set_of is) i j
+
+-- the set of the items that one word more names
+pub items_of-next : (names words : List Text) (i : ℕ) (w : Text) (item : ℕ) (s : Items) → i < length words → w ≡ get_or words i w → number_of names w ≡ Some item → s ≡ items_of names (take i words)
+    → with s item ≡ items_of names (take (i + 1) words)
+items_of-next names words i w item s lt at number is =
+    let next : take (i + 1) words ≡ take i words ++ w ∷ [] = take_more words i w lt ∙ ap (λ v. take i words ++ v ∷ []) (sym at) in
+    ap₂ with is (sym (item_of-some names w item number)) ∙ sym (ap (items_of names) next ∙ ap set_of (map-append (item_of names) (take i words) (w ∷ [])) ∙ set_of-append (map (item_of names) (take i words)) (item_of names w))
+
+pub with-within : (s : Items) (i n : ℕ) → IsWithin s (full n) → i < n → IsWithin (with s i) (full n)
+with-within s i n within lt k h = elim (cases_Bool (has s k)) [ inl e ↦ within k e | inr e ↦ grind (arith, members, nat_tests) ]
+
+-- an item of a set of items below n is below n
+pub listed-below : (n : ℕ) (s : Items) (before : List ℕ) (i : ℕ) (rest : List ℕ) → IsWithin s (full n) → before ++ i ∷ rest ≡ items s → i < n
+listed-below n s before i rest within e = ltb-true i n (sym (has-full n i) ∙ within i (listed-has s before i rest e))

@@ -1,0 +1,13 @@
+use Rattle.std.proofs.Common.{◌≡◌, ◌++◌, map}
+use Rattle.std.specs.List.{join_with_byte}
+use Rattle.ls_set.specs.ItemSet.{items}
+use Rattle.ls_domain.specs.Texts.{name_of}
+use Rattle.ls_domain.proofs.Joins.{gap}
+use Rattle.ls_domain.proofs.domain.Domain.append_names.Given as goal
+
+abbrev pub invariant-loop-item : goal.invariant-loop-item
+invariant-loop-item l = record {
+  joined : l.out.items ≡ l.fn.out.items ++ join_with_byte 32 (map (name_of l.self) l.yielded);
+  parted : l.gap ≡ gap l.yielded;
+  split : l.yielded ++ items l.item-iterator.left ≡ items l.fn.s;
+}

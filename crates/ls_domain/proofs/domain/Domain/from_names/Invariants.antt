@@ -1,0 +1,6 @@
+use Rattle.std.proofs.Common.{◌≡◌, [], map, drop, Some}
+use Rattle.ls_domain.specs.Domains.{names_from}
+use Rattle.ls_domain.proofs.domain.Domain.from_names.Given as goal
+
+abbrev pub invariant-loop-word : goal.invariant-loop-word
+invariant-loop-word l = names_from [] (map Some l.names) ≡ names_from l.list (map Some (drop l.word-index l.names))

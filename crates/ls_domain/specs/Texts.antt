@@ -1,0 +1,21 @@
+-- The texts of items and sets, where a list of names gives the items.
+use Rattle.std.specs.Prelude.{ℕ, List, [], ◌∷◌, ◌++◌, map, slice_index_or}
+use Rattle.std.specs.List.{join_with_byte}
+use Rattle.ls_set.specs.ItemSet.{Items, items}
+use Rattle.ls_lines.specs.Lines.{Text}
+
+-- the name of an item
+abbrev pub name_of : List Text → ℕ → Text
+name_of names i = slice_index_or names i []
+
+-- the names of a set's items, in the order of items
+unfoldable pub names_of_set : List Text → Items → List Text
+names_of_set names s = map (name_of names) (items s)
+
+-- those names, joined by single spaces
+abbrev pub joined_names : List Text → Items → Text
+joined_names names s = join_with_byte 32 (names_of_set names s)
+
+-- a set: its names within braces
+abbrev pub set_text : List Text → Items → Text
+set_text names s = 123 ∷ joined_names names s ++ 125 ∷ []

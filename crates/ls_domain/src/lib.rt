@@ -1,0 +1,18 @@
+//! The names of the items: how they are read, which item has which name, and how sets are read and printed by
+//! them.
+#![tactic(auto)]
+
+mod domain;
+mod domain_fault;
+mod laws;
+mod names;
+mod table;
+mod unknown_at;
+
+pub use domain::Domain;
+pub use domain_fault::DomainFault;
+pub use laws::names_and_numbers_agree;
+pub use unknown_at::UnknownAt;
+
+#[cfg(test)]
+mod tests;

@@ -1,0 +1,97 @@
+// Domains that are read, and sets that are read and printed.
+use crate::{Domain, DomainFault, UnknownAt, names_and_numbers_agree};
+use ls_lines::{Word, WordList};
+use ls_set::ItemSet;
+use std::alloc::{AllocError, Global};
+use std::test::Fail;
+
+fn words(alloc: Global, texts: &[&str]) -> Result<WordList, AllocError> {
+    let mut list = WordList::new(alloc);
+    for text in texts {
+        list.push(Word::new(alloc, text)?)?;
+    }
+    Ok(list)
+}
+
+// The names of a domain, each behind a space; or why there is none.
+fn shown(alloc: Global, domain: Result<Domain, DomainFault>) -> Result<String, AllocError> {
+    match domain {
+        Ok(domain) => {
+            let mut text = String::new(alloc);
+            for i in 0..domain.count() {
+                text.push(' ')?;
+                text.push_str(domain.name(i))?;
+            }
+            Ok(text)
+        }
+        Err(DomainFault::NoItems) => String::from_str(alloc, "no items"),
+        Err(DomainFault::BadCsv { row }) => format!(in alloc; "csv {row}"),
+        Err(DomainFault::BadName { row }) => format!(in alloc; "name {row}"),
+        Err(DomainFault::Repeat { row, first }) => format!(in alloc; "repeat {row} {first}"),
+        Err(DomainFault::TooMany) => String::from_str(alloc, "many"),
+        Err(DomainFault::Memory(error)) => Err(error),
+    }
+}
+
+#[test]
+fn tables_are_read(rt: HostRuntime) -> Result<(), Fail> {
+    for (bytes, want) in [
+        (b"add\nsub\n".as_slice(), " add sub"),
+        (b"add,1\r\nsub,2\r\n", " add sub"),
+        (b"\xef\xbb\xbfadd\nsub", " add sub"),
+        (b"\n\nadd\n\nsub\n", " add sub"),
+        (b"\"add\",\"a, b\"\n\"sub\",\"\"\"x\n\"", " add sub"),
+        (b"add,\xff\nsub,\xfe", " add sub"),
+        (b"", "no items"),
+        (b"\xef\xbb\xbf", "no items"),
+        (b"add\nsub,1\nadd", "csv 2"),
+        (b"add\na b\n", "name 2"),
+        (b"add\n\xff\n", "name 2"),
+        (b"\xef\xbb\xbf\xef\xbb\xbfadd\n", "name 1"),
+        // The quote is never closed, so the second name has a line feed in it.
+        (b"add\n\"sub\nmul", "name 2"),
+        (b"add\nsub\nadd\n", "repeat 3 1"),
+        (b"add\n,\nadd\n", "csv 2"),
+    ] {
+        let domain = Domain::from_csv(rt.alloc(), bytes);
+        assert_eq!(rt; shown(rt.alloc(), domain)?.as_str(), want, "at {bytes:?}");
+    }
+    Ok(())
+}
+
+#[test]
+fn words_are_read(rt: HostRuntime) -> Result<(), Fail> {
+    names_and_numbers_agree();
+    for (texts, want) in [
+        (["b", "a", "c.2"].as_slice(), " b a c.2"),
+        (&[], "no items"),
+        (&["a", "b c", "a"], "name 2"),
+        (&["a", "b", "a", "b"], "repeat 3 1"),
+    ] {
+        let domain = Domain::from_names(rt.alloc(), &words(rt.alloc(), texts)?);
+        assert_eq!(rt; shown(rt.alloc(), domain)?.as_str(), want, "at {texts:?}");
+    }
+    Ok(())
+}
+
+#[test]
+fn sets_are_read_and_printed(rt: HostRuntime) -> Result<(), Fail> {
+    let domain = Domain::from_names(rt.alloc(), &words(rt.alloc(), &["b", "a", "c"])?)?;
+    let domain = domain.copy()?;
+    assert_eq!(rt; (domain.number("a"), domain.number("d")), (Some(1), None));
+    let two = domain.read_set(&words(rt.alloc(), &["c", "b", "c"])?);
+    let unknown = domain.read_set(&words(rt.alloc(), &["c", "d", "e"])?);
+    assert_eq!(rt;
+        (two, unknown),
+        (
+            Ok(ItemSet::empty().with(0).with(2)),
+            Err(UnknownAt { index: 1 })
+        )
+    );
+    let mut out = Vec::new(rt.alloc());
+    domain.print_set(two?, &mut out)?;
+    domain.print_set(ItemSet::empty(), &mut out)?;
+    domain.push_names(two?, &mut out)?;
+    assert_eq!(rt; out.as_slice(), b"{b c}{}b c".as_slice());
+    Ok(())
+}
