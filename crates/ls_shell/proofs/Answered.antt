@@ -74,7 +74,8 @@ module _ (m : Folder) where
   answers_line ended line old new start before after a s r w = (
     a.session ∙ ap (λ t. session_next m t line) s ∙ sym (session_after-snoc (started []) ended line),
     a.told ∙ ap (λ t. old.is_refused || is_refusal (line_reply m t line)) s ∙ ap (λ b. b || is_refusal (line_reply m (session_after m (started []) ended) line)) r ∙ sym (refuses-snoc (started []) ended line),
-    subst (Appends start after) (ap (λ t. replies m (started []) ended ++ line_reply m t line) s ∙ sym (replies-snoc (started []) ended line)) (appends_more start before after _ _ w a.written))
+    subst (Appends start after) (ap (λ t. replies m (started []) ended ++ line_reply m t line) s ∙ sym (replies-snoc (started []) ended line)) (appends_more start before after _ _ w a.written),
+  )
 
   whole : (ended : List (List ℕ)) (pending rest left : List ℕ) (all : List (List ℕ)) → left ≡ [] → lines rest ≡ rest ∷ [] → ended ++ ahead pending (lines rest) ≡ all → ended ++ ahead (pending ++ rest) (lines left) ≡ all
   unfolding lines

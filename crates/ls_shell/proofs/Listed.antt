@@ -31,8 +31,8 @@ module _ (names : List Text) where
   pub part_none : (start : Option (List ℕ)) (all : List Items) (count : ℕ) → WritesPart names start start all all (count - 0) count
   unfolding bytes_of
   part_none start all count =
-    let whole : count - 0 ≡ count = omega arith in
-    record { given = []; written = appends_none start; page = ap (λ n. take n all) whole; more = ap (λ n. ltb n (length all)) whole }
+      let whole : count - 0 ≡ count = omega arith in
+      record { given = []; written = appends_none start; page = ap (λ n. take n all) whole; more = ap (λ n. ltb n (length all)) whole }
 
   pub part_more : (a b c : Option (List ℕ)) (rest next all : List Items) (k : Items) (done count : ℕ) → done < count → rest ≡ k ∷ next
       → WritesPart names a b rest all (count - done) count → Appends b c (line_of (set_words names k)) → WritesPart names a c next all (count - (done + 1)) count

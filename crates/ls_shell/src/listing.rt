@@ -59,7 +59,15 @@ fn write_counted<F: Inside, K: Sink, L: Ledger>(
     ensures sink { MovesSink (K.written out.old) (K.written out.new) (K.faults out.old) (K.faults out.new) result }
 {
     let mut steps = Steps::<L>::new(blank);
-    write_page(alloc, &Counted::new(f), names, after, count, out, &mut steps)
+    write_page(
+        alloc,
+        &Counted::new(f),
+        names,
+        after,
+        count,
+        out,
+        &mut steps,
+    )
 }
 
 // The same of a family whose interiors are counted: as many as there are items and one, for each set and the last line.
@@ -121,7 +129,11 @@ fn say_more<K: Sink>(alloc: Global, is_more: bool, out: &mut K) -> Result<bool, 
 }
 
 /// Writes the refusal of a text that is no cursor.
-pub fn refuse_cursor<K: Sink>(alloc: Global, fault: CursorFault, out: &mut K) -> Result<bool, StepFault>
+pub fn refuse_cursor<K: Sink>(
+    alloc: Global,
+    fault: CursorFault,
+    out: &mut K,
+) -> Result<bool, StepFault>
     ensures said { IfOk result (Said (K.written out.old) (K.written out.new) (line_of (codes "no" ∷ codes "24" ∷ fault_words fault))) }
     ensures sink { MovesSink (K.written out.old) (K.written out.new) (K.faults out.old) (K.faults out.new) result }
 {
@@ -133,7 +145,12 @@ pub fn refuse_cursor<K: Sink>(alloc: Global, fault: CursorFault, out: &mut K) ->
 }
 
 // A fault of a cursor with a number.
-fn refuse_with<K: Sink>(alloc: Global, fault: &[u8], number: usize, out: &mut K) -> Result<bool, StepFault>
+fn refuse_with<K: Sink>(
+    alloc: Global,
+    fault: &[u8],
+    number: usize,
+    out: &mut K,
+) -> Result<bool, StepFault>
     ensures said { IfOk result (Said (K.written out.old) (K.written out.new) (line_of (codes "no" ∷ codes "24" ∷ fault.now ∷ decimal number ∷ []))) }
     ensures sink { MovesSink (K.written out.old) (K.written out.new) (K.faults out.old) (K.faults out.new) result }
 {

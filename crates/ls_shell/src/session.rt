@@ -150,7 +150,12 @@ impl Session {
     }
 
     // `yes NAMES : ITEM`
-    fn answer<K: Sink>(&mut self, names: &WordList, item: &Word, out: &mut K) -> Result<bool, StepFault>
+    fn answer<K: Sink>(
+        &mut self,
+        names: &WordList,
+        item: &Word,
+        out: &mut K,
+    ) -> Result<bool, StepFault>
         ensures answered { IfOk result (Gives (row_answer self.old (within_domain self.old (command.Yes names.now item.now) (answer_row self.old true names.now item.now))) self.new (K.written out.old) (K.written out.new)) }
         ensures sink { MovesSink (K.written out.old) (K.written out.new) (K.faults out.old) (K.faults out.new) result }
     {
@@ -207,7 +212,12 @@ impl Session {
     }
 
     // `states COUNT after CURSOR`
-    fn list<K: Sink>(&self, count: u32, after: &Option<Word>, out: &mut K) -> Result<bool, StepFault>
+    fn list<K: Sink>(
+        &self,
+        count: u32,
+        after: &Option<Word>,
+        out: &mut K,
+    ) -> Result<bool, StepFault>
         ensures answered { IfOk result (Gives (row_answer self.now (within_domain self.now (command.States count after.now) (states_row self.now count after.now))) self.now (K.written out.old) (K.written out.new)) }
         ensures sink { MovesSink (K.written out.old) (K.written out.new) (K.faults out.old) (K.faults out.new) result }
     {

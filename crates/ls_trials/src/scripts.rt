@@ -46,7 +46,11 @@ const SCRIPTS: [(&str, &str, Status); 12] = [
         "ok 3\nok 1\nmore no\nno 24 length 2\nno 24 digit 1\nno 24 spare\n",
         Status::Refused,
     ),
-    ("states 1 after 0\nstates 01\nstates 65537\nstates 1 before 0\n", "no 15 0\nno 10 2\nno 10 2\nno 10 3\n", Status::Refused),
+    (
+        "states 1 after 0\nstates 01\nstates 65537\nstates 1 before 0\n",
+        "no 15 0\nno 10 2\nno 10 2\nno 10 3\n",
+        Status::Refused,
+    ),
 ];
 
 #[test]

@@ -25,8 +25,12 @@ fn listings_begin_after_any_cursor(rt: HostRuntime) -> Result<(), Fail> {
     let without_first = names_from(alloc, 1)?;
     let fs = "fffffffffffffffffffffffffffffff";
     let zeros = "0000000000000000000000000000000";
-    let script = format!(in alloc; "items {all}\nstates 1\nyes i1 : i0\nstates 1 after c{zeros}\n")?;
-    let replies = format!(in alloc; "ok 128\nset f{fs} {{{all}}}\nmore yes\nok 1\nset 7{fs} {{{without_first}}}\nmore yes\n")?;
+    let script = format!(in alloc;
+        "items {all}\nstates 1\nyes i1 : i0\nstates 1 after c{zeros}\n"
+    )?;
+    let replies = format!(in alloc;
+        "ok 128\nset f{fs} {{{all}}}\nmore yes\nok 1\nset 7{fs} {{{without_first}}}\nmore yes\n"
+    )?;
     let outcome = run(
         &rt,
         Trial {

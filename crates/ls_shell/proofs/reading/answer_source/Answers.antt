@@ -49,9 +49,11 @@ pub returns-then-count-gt-LONGEST_SCRIPT-clause-long : goal.returns-then-count-g
 returns-then-count-gt-LONGEST_SCRIPT-clause-long g c = λ e.
     let read = c.pieces.invariant.read in
     let piece = take c.in-Ok.taken c.read.new.buf in
-    let within : c.in-Ok.taken ≤ length c.read.new.buf = c.in-Ok.ensures.bound.0 in
-    (read.taken ++ piece, Consumes-trans (g.S.Source.left c.args.src.now) (g.S.Source.left c.pieces.src) (g.S.Source.left c.read.new.self) read.taken piece read.consumed c.in-Ok.ensures.bytes.0,
-      omega (arith, length-append read.taken piece, c.in-Ok.ensures.bound.1, read.counted))
+    let within : c.in-Ok.taken ≤ length c.read.new.buf = c.in-Ok.ensures.bound.0 in (
+      read.taken ++ piece,
+      Consumes-trans (g.S.Source.left c.args.src.now) (g.S.Source.left c.pieces.src) (g.S.Source.left c.read.new.self) read.taken piece read.consumed c.in-Ok.ensures.bytes.0,
+      omega (arith, length-append read.taken piece, c.in-Ok.ensures.bound.1, read.counted),
+    )
 
 pub returns-in_err-take-clause-write : goal.returns-in_err-take-clause-write
 returns-in_err-take-clause-write g c = λ e.
@@ -59,10 +61,14 @@ returns-in_err-take-clause-write g c = λ e.
     let read = before.read in
     let piece = take c.in-Ok.taken c.read.new.buf in
     let within : c.in-Ok.taken ≤ length c.read.new.buf = c.in-Ok.ensures.bound.0 in
-    let failed : IsErrOf c.take.result fault.Write = grind (arith, common_steps) in
-    (rose_since (g.K.Sink.faults c.args.out.now) (g.K.Sink.faults c.pieces.out) (g.K.Sink.faults c.take.new.out) before.sink_later (c.take.ensures.sink.cause failed),
-      (read.taken ++ piece, Consumes-trans (g.S.Source.left c.args.src.now) (g.S.Source.left c.pieces.src) (g.S.Source.left c.read.new.self) read.taken piece read.consumed c.in-Ok.ensures.bytes.0,
-        omega (arith, length-append read.taken piece, c.in-Ok.ensures.bound.1, read.counted)))
+    let failed : IsErrOf c.take.result fault.Write = grind (arith, common_steps) in (
+      rose_since (g.K.Sink.faults c.args.out.now) (g.K.Sink.faults c.pieces.out) (g.K.Sink.faults c.take.new.out) before.sink_later (c.take.ensures.sink.cause failed),
+      (
+        read.taken ++ piece,
+        Consumes-trans (g.S.Source.left c.args.src.now) (g.S.Source.left c.pieces.src) (g.S.Source.left c.read.new.self) read.taken piece read.consumed c.in-Ok.ensures.bytes.0,
+        omega (arith, length-append read.taken piece, c.in-Ok.ensures.bound.1, read.counted),
+      ),
+    )
 
 pub returns-in_err-take-clause-kept : goal.returns-in_err-take-clause-kept
 returns-in_err-take-clause-kept g c =
