@@ -8,3 +8,4 @@ pub mod Moves
 pub mod Listed
 pub mod LineAnswers
 pub mod Taken
+pub mod Seen

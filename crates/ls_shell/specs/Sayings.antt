@@ -1,8 +1,11 @@
 -- What a command writes and leaves, by its row.
-use Rattle.std.specs.Prelude.{◌≡◌, ℕ, ◌≤◌, Bool, List, Result, IsErrOf}
+use Rattle.std.specs.Prelude.{◌≡◌, ℕ, ◌≤◌, Bool, true, List, Result, IsErrOf, Some}
 use Rattle.std.specs.declared.option.Option.{Option}
 use Rattle.std.specs.Io.KnownBytes.{Appends}
 use Rattle.ls_edge.specs.Causes.{Rose}
+use Rattle.ls_edge.specs.Files.{Folder}
+use Rattle.ls_lines.specs.Lines.{Text}
+use Rattle.ls_reply.specs.Scenes.{Files, files_of, Failed}
 use Rattle.ls_reply.specs.Texts.{bytes_of}
 use Rattle.ls_reply.specs.Sessions.{Session}
 use Rattle.ls_reply.specs.Refusals.{Answer, Row, outcome}
@@ -33,3 +36,19 @@ pub record MovesSink {T : Type 0} (old new : Option (List ℕ)) (before now : �
   pub kept : IsExtended old new
   pub later : before ≤ now
   pub cause : IsErrOf result fault.Write → Rose before now
+
+-- What a line saw of the folder: where the files are told, what these give, unless the call failed; and a call fails only where the count of faults rose.
+pub record Sees (files : Files) (folder : Option Folder) (before now : ℕ) : Type 0 where
+  pub told : (m : Folder) → folder ≡ Some m → (failed : Bool) × (failed ≡ true → Rose before now) × ((name : Text) → files name ≡ files_of m failed name)
+  pub failed : (name : Text) → files name ≡ Failed → Rose before now
+
+-- the answer to what was seen of the folder was given
+pub record Steps (answer : Files → Answer) (new : Session) (folder : Option Folder) (faults_before faults_now : ℕ) (before after : Option (List ℕ)) (refused : Bool) : Type 0 where
+  pub files : Files
+  pub sees : Sees files folder faults_before faults_now
+  pub gives : Gives (answer files) new before after refused
+
+-- told files stay as they were, and the count of faults never falls
+pub record LeavesShelf (old new : Option Folder) (before now : ℕ) : Type 0 where
+  pub stays : (m : Folder) → old ≡ Some m → new ≡ Some m
+  pub later : before ≤ now

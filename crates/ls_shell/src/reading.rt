@@ -6,7 +6,7 @@ ghost use Rattle.ls_shell.specs.Sayings.{IsExtended};
 
 use crate::run::Run;
 use crate::run_fault::RunFault;
-use ls_edge::{Failed, Sink, Source};
+use ls_edge::{Failed, Shelf, Sink, Source};
 use std::alloc::Global;
 
 /// The most bytes that a script has.
@@ -18,10 +18,11 @@ const PIECE: usize = 4096;
 /// Reads the script that a source has, and answers its lines as they come: those that have ended are answered before
 /// the next read. Says whether some reply begins with `no `. A read offers room for as many bytes as a script may still
 /// have, or for one byte where it has as many as it may.
-pub fn answer_source<S: Source, K: Sink>(
+pub fn answer_source<S: Source, K: Sink, H: Shelf>(
     alloc: Global,
     src: &mut S,
     out: &mut K,
+    shelf: &mut H,
 ) -> Result<bool, RunFault>
     ensures done { IfOk result (AnswersAll (S.left src.old) (S.left src.new) (K.written out.old) (K.written out.new)) }
     ensures long { IsErrOf result RunFault.Long → TakesMore LONGEST_SCRIPT (S.left src.old) (S.left src.new) }
@@ -40,12 +41,12 @@ pub fn answer_source<S: Source, K: Sink>(
             Err(Failed) => return Err(RunFault::Read),
         };
         if taken == 0 {
-            return Ok(run.finish(out)?);
+            return Ok(run.finish(out, shelf)?);
         }
         count += taken;
         if count > LONGEST_SCRIPT {
             return Err(RunFault::Long);
         }
-        run.take(&piece[..taken], out)?;
+        run.take(&piece[..taken], out, shelf)?;
     }
 }

@@ -13,7 +13,7 @@ ghost use Rattle.ls_shell.specs.Sayings.{Gives, MovesSink};
 
 use crate::StepFault;
 use crate::session::Session;
-use ls_edge::Sink;
+use ls_edge::{Shelf, Sink};
 use ls_lines::{Cutter, Ended};
 use std::alloc::{AllocError, Global};
 
@@ -41,7 +41,12 @@ impl Run {
     }
 
     /// Answers the lines that end within the bytes that follow.
-    pub fn take<K: Sink>(&mut self, piece: &[u8], out: &mut K) -> Result<(), StepFault>
+    pub fn take<K: Sink, H: Shelf>(
+        &mut self,
+        piece: &[u8],
+        out: &mut K,
+        shelf: &mut H,
+    ) -> Result<(), StepFault>
         ensures answered { OnOk result ((m : Folder) (taken : List ℕ) (start : Option (List ℕ)) → length (taken ++ piece.now) < 2 ^ 64
             → Answers m (lines taken) [] self.old start (K.written out.old) → Answers m (lines (taken ++ piece.now)) [] self.new start (K.written out.new)) }
         ensures sink { MovesSink (K.written out.old) (K.written out.new) (K.faults out.old) (K.faults out.new) result }
@@ -50,38 +55,52 @@ impl Run {
         while !rest.is_empty() {
             let (count, ended) = self.cutter.take(rest);
             (_, rest) = rest.split_at(count);
-            self.answer(ended, out)?;
+            self.answer(ended, out, shelf)?;
         }
         Ok(())
     }
 
     /// Answers the last line, where it has no line end, and says whether some reply begins with `no `.
-    pub fn finish<K: Sink>(&mut self, out: &mut K) -> Result<bool, StepFault>
+    pub fn finish<K: Sink, H: Shelf>(
+        &mut self,
+        out: &mut K,
+        shelf: &mut H,
+    ) -> Result<bool, StepFault>
         ensures answered { IfOk result (λ b. (m : Folder) (script : List ℕ) (start : Option (List ℕ)) → length script < 2 ^ 64
             → Answers m (lines script) [] self.old start (K.written out.old)
             → Appends start (K.written out.new) (transcript m script) × (b ≡ is_some_refused m script)) }
         ensures sink { MovesSink (K.written out.old) (K.written out.new) (K.faults out.old) (K.faults out.new) result }
     {
         let ended = self.cutter.finish();
-        self.answer(ended, out)?;
+        self.answer(ended, out, shelf)?;
         Ok(self.is_refused)
     }
 
     // Answers the line that ended, if one did.
-    fn answer<K: Sink>(&mut self, ended: Option<Ended>, out: &mut K) -> Result<(), StepFault>
+    fn answer<K: Sink, H: Shelf>(
+        &mut self,
+        ended: Option<Ended>,
+        out: &mut K,
+        shelf: &mut H,
+    ) -> Result<(), StepFault>
         ensures answered { OnOk result (AnswersEnded self.old self.new ended (K.written out.old) (K.written out.new)) }
         ensures sink { MovesSink (K.written out.old) (K.written out.new) (K.faults out.old) (K.faults out.new) result }
     {
         let Some(ended) = ended else {
             return Ok(());
         };
-        let is_refusal = self.step(ended, out)?;
+        let is_refusal = self.step(ended, out, shelf)?;
         self.is_refused |= is_refusal;
         Ok(())
     }
 
     // Answers the line that ended, and says whether the reply begins with `no `.
-    fn step<K: Sink>(&mut self, ended: Ended, out: &mut K) -> Result<bool, StepFault>
+    fn step<K: Sink, H: Shelf>(
+        &mut self,
+        ended: Ended,
+        out: &mut K,
+        shelf: &mut H,
+    ) -> Result<bool, StepFault>
         ensures answered { IfOk result (λ b. (line : List ℕ) → ended ≡ ended_of line → self.old.cutter.line ≡ kept line → (files : Files)
             → Gives (line_answer self.old.session files line) self.new.session (K.written out.old) (K.written out.new) b) }
         ensures cutter { self.new.cutter ≡ self.old.cutter }
@@ -89,7 +108,7 @@ impl Run {
         ensures sink { MovesSink (K.written out.old) (K.written out.new) (K.faults out.old) (K.faults out.new) result }
     {
         match ended {
-            Ended::Whole => self.session.step(self.cutter.line(), out),
+            Ended::Whole => self.session.step(self.cutter.line(), out, shelf),
             Ended::Long { bytes } => self.session.refuse_long(bytes, out),
         }
     }

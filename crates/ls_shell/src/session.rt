@@ -9,13 +9,13 @@ ghost use Rattle.ls_reply.specs.Scenes.{Files};
 ghost use Rattle.ls_reply.specs.Cursors.{cursor_set, cursor_faults, fault_words};
 ghost use Rattle.ls_reply.specs.Rows.{is_no_domain, items_row, query_of, query_row, answer_row, states_row, is_full, stands};
 ghost use Rattle.ls_reply.specs.Replies.{command_answer, line_answer, unnamed_at, within_domain};
-ghost use Rattle.ls_shell.specs.Sayings.{Gives, MovesSink, row_answer};
+ghost use Rattle.ls_shell.specs.Sayings.{Gives, Steps, LeavesShelf, MovesSink, row_answer};
 
 use crate::StepFault;
 use crate::listing::{refuse_cursor, write_listing};
 use crate::meaning::{is_no_domain, item_of, items_of, unnamed_place};
 use crate::say::{refuse_at, say};
-use ls_edge::Sink;
+use ls_edge::{Shelf, Sink};
 use ls_interior::Free;
 use ls_lines::{Command, LONGEST_LINE, LineFault, Word, WordList, read_command};
 use ls_rules::Ruled;
@@ -70,15 +70,21 @@ impl Session {
 
     /// Answers one line: writes its reply, and says whether that begins with `no `. After an `Err` the session
     /// isn't used again.
-    pub fn step<K: Sink>(&mut self, line: &[u8], out: &mut K) -> Result<bool, StepFault>
-        ensures answered { IfOk result (λ b. (files : Files) → Gives (line_answer self.old files line.now) self.new (K.written out.old) (K.written out.new) b) }
+    pub fn step<K: Sink, H: Shelf>(
+        &mut self,
+        line: &[u8],
+        out: &mut K,
+        shelf: &mut H,
+    ) -> Result<bool, StepFault>
+        ensures answered { IfOk result (Steps (λ files. line_answer self.old files line.now) self.new (H.files shelf.old) (H.faults shelf.old) (H.faults shelf.new) (K.written out.old) (K.written out.new)) }
+        ensures shelf { LeavesShelf (H.files shelf.old) (H.files shelf.new) (H.faults shelf.old) (H.faults shelf.new) }
         ensures sink { MovesSink (K.written out.old) (K.written out.new) (K.faults out.old) (K.faults out.new) result }
     {
         if line.len() > LONGEST_LINE {
             return self.refuse_long(line.len() as u64, out);
         }
         match read_command(self.alloc, line) {
-            Ok(command) => self.answer_command(command, out),
+            Ok(command) => self.answer_command(command, out, shelf),
             Err(LineFault::Shape { place }) => refuse_at(self.alloc, b"10", place as usize, out),
             Err(LineFault::Memory(e)) => Err(StepFault::Memory(e)),
         }
@@ -96,8 +102,14 @@ impl Session {
 
     // Answers one command.
     #[tactic(auto, unfolding(ls_reply::specs::Replies::row))]
-    fn answer_command<K: Sink>(&mut self, command: Command, out: &mut K) -> Result<bool, StepFault>
-        ensures answered { IfOk result (λ b. (files : Files) → Gives (command_answer self.old files command) self.new (K.written out.old) (K.written out.new) b) }
+    fn answer_command<K: Sink, H: Shelf>(
+        &mut self,
+        command: Command,
+        out: &mut K,
+        shelf: &mut H,
+    ) -> Result<bool, StepFault>
+        ensures answered { IfOk result (Steps (λ files. command_answer self.old files command) self.new (H.files shelf.old) (H.faults shelf.old) (H.faults shelf.new) (K.written out.old) (K.written out.new)) }
+        ensures shelf { LeavesShelf (H.files shelf.old) (H.files shelf.new) (H.faults shelf.old) (H.faults shelf.new) }
         ensures sink { MovesSink (K.written out.old) (K.written out.new) (K.faults out.old) (K.faults out.new) result }
     {
         match command {

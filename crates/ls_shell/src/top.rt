@@ -72,7 +72,7 @@ pub fn lspace<R: Threads + Sync, S: Source, K: Sink, H: Shelf>(
     if !words.is_empty() {
         return usage(out);
     }
-    match answer_source(alloc, src, out) {
+    match answer_source(alloc, src, out, shelf) {
         Ok(false) => Status::Done,
         Ok(true) => Status::Refused,
         Err(RunFault::Long) => Status::InputLong,
