@@ -1,22 +1,9 @@
--- What the words of a command mean, where a list of names gives the items.
-use Rattle.std.specs.Prelude.{ℕ, suc, ◌+◌, Bool, not, List, [], ◌∷◌, ◌++◌, map, filter, length, position, bytes_eq, unwrap_or}
-use Rattle.std.specs.List.{list_any}
-use Rattle.ls_set.specs.ItemSet.{Items, set_of}
+-- The words of a command that must name an item, where a list of names gives the items.
+use Rattle.std.specs.Prelude.{ℕ, suc, ◌+◌, not, List, [], ◌∷◌, ◌++◌, map, filter, length}
 use Rattle.ls_lines.specs.Lines.{Text}
+use Rattle.ls_domain.specs.Meanings.{is_named}
 use Rattle.ls_lines.specs.declared.command.Command.{Command}
 use Rattle.ls_lines.specs.declared.command.Command.TheVariants as command
-
--- whether the word is one of the names
-abbrev pub is_named : List Text → Text → Bool
-is_named names w = list_any (bytes_eq w) names
-
--- the item that has the name
-abbrev pub item_of : List Text → Text → ℕ
-item_of names w = unwrap_or (position (bytes_eq w) names) 0
-
--- the set of the items that have the names
-abbrev pub items_of : List Text → List Text → Items
-items_of names ws = set_of (map (item_of names) ws)
 
 -- words with their places, counted from p on
 abbrev pub placed : ℕ → List Text → List (ℕ × Text)

@@ -1,5 +1,5 @@
 -- A command's row: its refusals in their order, and otherwise its answer. A list of refusals has those that hold.
-use Rattle.std.specs.Prelude.{ℕ, Bool, if◌then◌else◌, List, [], ◌∷◌, map, codes, decimal}
+use Rattle.std.specs.Prelude.{ℕ, Bool, if◌then◌else◌, List, [], ◌∷◌, ◌++◌, map, codes, decimal}
 use Rattle.ls_lines.specs.Lines.{Text}
 use Rattle.ls_reply.specs.Sessions.{Session}
 
@@ -19,6 +19,11 @@ pub record Row : Type 0 where
 infix 3 ◌otherwise◌
 abbrev pub ◌otherwise◌ : List Refusal → Answer → Row
 refusals otherwise answer = record { refusals = refusals; answer = answer }
+
+-- refusals that come before those of a row
+infixr 2 ◌before◌
+abbrev pub ◌before◌ : List Refusal → Row → Row
+refusals before row = record row { refusals = refusals ++ row.refusals }
 
 -- the answer that is a refusal, with its code and details; a refused command changes nothing
 abbrev pub refused : Session → Refusal → Answer

@@ -9,8 +9,8 @@ use Rattle.ls_reply.specs.Texts.{bytes_of}
 use Rattle.ls_reply.specs.Sessions.{Session, has_domain}
 use Rattle.ls_reply.specs.Scenes.{Files}
 use Rattle.ls_reply.specs.Meanings.{unnamed_places}
-use Rattle.ls_reply.specs.Refusals.{Refusal, Answer, Row, ◌otherwise◌, outcome, refuse, faults, says}
-use Rattle.ls_reply.specs.Rows.{items_row, answer_row, states_row}
+use Rattle.ls_reply.specs.Refusals.{Refusal, Answer, Row, ◌otherwise◌, ◌before◌, outcome, refuse, faults, says}
+use Rattle.ls_reply.specs.Rows.{items_row, load_items_row, answer_row, states_row, not_built_row}
 
 -- the places at fault: 0 where no domain stands; otherwise those of the words that must name an item and don't
 abbrev pub unnamed_at : Session → Command → List ℕ
@@ -22,14 +22,16 @@ unnamed s c = faults 15 (map (λ p. decimal p ∷ []) (unnamed_at s c))
 
 -- a row of a command that needs a domain
 abbrev pub within_domain : Session → Command → Row → Row
-within_domain s c row = record row { refusals = unnamed s c ++ row.refusals }
+within_domain s c row = unnamed s c before row
 
 -- the row of each command, by what the session and the folder have
 unfoldable pub row : Session → Files → Command → Row
 row s files command.Nothing = [] otherwise says s []
 row s files (command.Items names) = items_row s names
+row s files (command.LoadItems file) = load_items_row s (files file)
 row s files (command.Yes names item) = within_domain s (command.Yes names item) (answer_row s true names item)
 row s files (command.States count after) = within_domain s (command.States count after) (states_row s count after)
+row s files c = not_built_row s
 
 abbrev pub command_answer : Session → Files → Command → Answer
 command_answer s files c = let r = row s files c in outcome s r.refusals r.answer

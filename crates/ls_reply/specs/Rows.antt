@@ -3,22 +3,22 @@ use Rattle.std.specs.Prelude.{ℕ, Bool, false, not, ◌&&◌, ◌||◌, ◌==�
 use Rattle.std.specs.List.{list_any}
 use Rattle.ls_set.specs.ItemSet.{Items, is_same, comes_before}
 use Rattle.ls_set.specs.Cursor.{cursor}
-use Rattle.ls_set.specs.declared.item_set.TheConstants.{PLACES}
 use Rattle.ls_set.specs.Query.{is_good}
 use Rattle.ls_set.specs.declared.query.Query.{Query}
 use Rattle.ls_theory.specs.Interviews.{Interview, accepted}
 use Rattle.ls_theory.specs.Pages.{Page, page}
 use Rattle.ls_lines.specs.Lines.{Text}
-use Rattle.ls_reply.specs.Texts.{set_text}
+use Rattle.ls_domain.specs.Texts.{set_text}
+use Rattle.ls_domain.specs.Meanings.{item_of, items_of}
+use Rattle.ls_domain.specs.Domains.{names_of_words, names_of_table}
+use Rattle.ls_domain.specs.declared.domain_fault.DomainFault.{DomainFault}
+use Rattle.ls_domain.specs.declared.domain_fault.DomainFault.TheVariants.{NoItems, BadCsv, BadName, Repeat, TooMany, Memory}
+use Rattle.ls_reply.specs.Scenes.{Fetched, Bytes, Missing, TooLarge, Failed}
 use Rattle.ls_reply.specs.Cursors.{cursor_faults, cursor_set}
 use Rattle.ls_reply.specs.Sessions.{Session, started, has_domain, states}
-use Rattle.ls_reply.specs.Meanings.{item_of, items_of}
-use Rattle.ls_reply.specs.Refusals.{Row, ◌otherwise◌, refuse, faults, says, becomes}
+use Rattle.ls_reply.specs.Refusals.{Refusal, Row, ◌otherwise◌, ◌before◌, refuse, faults, says, becomes}
 
 -- ---- limits
-
-abbrev pub most_items : ℕ
-most_items = PLACES
 
 abbrev pub most_answers : ℕ
 most_answers = 8192
@@ -27,21 +27,53 @@ most_answers = 8192
 abbrev pub not_built : ℕ
 not_built = 49
 
+-- the row of a command that is not built yet
+abbrev pub not_built_row : Session → Row
+not_built_row s = refuse not_built [] true otherwise says s []
+
 -- ---- items
 
--- whether some word stands twice
-abbrev pub repeats : List Text → Bool
-repeats [] = false
-repeats (w ∷ ws) = list_any (bytes_eq w) ws || repeats ws
+-- what is wrong with a domain
+abbrev pub domain_words : DomainFault → List Text
+domain_words NoItems = codes "none" ∷ []
+domain_words (BadCsv row) = codes "csv" ∷ decimal row ∷ []
+domain_words (BadName row) = codes "name" ∷ decimal row ∷ []
+domain_words (Repeat row first) = codes "repeat" ∷ decimal row ∷ decimal first ∷ []
+domain_words TooMany = codes "many" ∷ []
+domain_words (Memory e) = []
 
--- whether the names can't be a domain: there is none, there are too many, or one stands twice
-abbrev pub is_no_domain : List Text → Bool
-is_no_domain names = length names == 0 || nat_lt most_items (length names) || repeats names
+-- the fault of a reading of names, if it has one; and the names that were read
+abbrev pub domain_faults : Result (List Text) DomainFault → List (List Text)
+domain_faults (Ok names) = []
+domain_faults (Err fault) = domain_words fault ∷ []
+
+abbrev pub names_read : Result (List Text) DomainFault → List Text
+names_read (Ok names) = names
+names_read (Err fault) = []
+
+-- the session begins with the names that were read
+abbrev pub begins_with : Session → Result (List Text) DomainFault → Row
+begins_with s reading =
+    faults 12 (domain_faults reading)
+    otherwise becomes (started (names_read reading)) (decimal (length (names_read reading)) ∷ [])
 
 abbrev pub items_row : Session → List Text → Row
-items_row s names =
-    refuse not_built [] (has_domain s || is_no_domain names)
-    otherwise becomes (started names) (decimal (length names) ∷ [])
+items_row s names = refuse 11 [] (has_domain s) before begins_with s (names_of_words names)
+
+-- a file that is missing, is too large, or could not be fetched
+abbrev pub unfetched : Fetched → List Refusal
+unfetched (Bytes bytes) = []
+unfetched Missing = refuse 26 [] true
+unfetched (TooLarge length) = refuse 28 (decimal length ∷ []) true
+unfetched Failed = refuse 27 [] true
+
+abbrev pub bytes_fetched : Fetched → List ℕ
+bytes_fetched (Bytes bytes) = bytes
+bytes_fetched fetched = []
+
+abbrev pub load_items_row : Session → Fetched → Row
+load_items_row s fetched =
+    refuse 11 [] (has_domain s) before unfetched fetched before begins_with s (names_of_table (bytes_fetched fetched))
 
 -- ---- answers
 
