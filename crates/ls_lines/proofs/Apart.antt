@@ -11,8 +11,13 @@ use Rattle.ls_lines.specs.declared.kind.Kind.{Kind}
 use Rattle.ls_lines.specs.declared.keyword.Keyword.{Keyword}
 use Rattle.ls_lines.specs.declared.form.Form.{Form}
 use Rattle.ls_lines.specs.declared.form.Form.TheVariants as form
-use Rattle.ls_lines.specs.declared.form.Part.{Part}
-use Rattle.ls_lines.specs.declared.form.Part.TheVariants.{Fixed, One, Many}
+use Rattle.ls_lines.specs.declared.setting_form.SettingForm.TheVariants as setting
+use Rattle.ls_lines.specs.declared.interview_form.InterviewForm.TheVariants as interview
+use Rattle.ls_lines.specs.declared.listing_form.ListingForm.TheVariants as listing
+use Rattle.ls_lines.specs.declared.structure_form.StructureForm.TheVariants as structure
+use Rattle.ls_lines.specs.declared.pupil_form.PupilForm.TheVariants as pupil
+use Rattle.ls_lines.specs.declared.part.Part.{Part}
+use Rattle.ls_lines.specs.declared.part.Part.TheVariants.{Fixed, One, Many}
 use Rattle.ls_lines.proofs.Numbers.{never, both}
 
 -- whether the two may have a line in common: their fixed words agree as far as no `Many` stands before, and so do their lengths
@@ -53,17 +58,52 @@ shared ws done done = refl
 shared ws g h = refl
 
 -- the place of each form in the table
-abbrev place : Form → ℕ
+abbrev pub place : Form → ℕ
 place form.Nothing = 0
-place form.Items = 1
-place form.Yes = 2
-place form.States = 3
-place form.StatesUpTo = 4
-place form.StatesAfter = 5
+place (form.Setting setting.Items) = 1
+place (form.Setting setting.LoadItems) = 2
+place (form.Setting setting.StartSurmise) = 3
+place (form.Setting setting.StartBase) = 4
+place (form.Setting setting.Save) = 5
+place (form.Setting setting.Reopen) = 6
+place (form.Interview interview.Blocks) = 7
+place (form.Interview interview.Yes) = 8
+place (form.Interview interview.No) = 9
+place (form.Interview interview.Retract) = 10
+place (form.Interview interview.Known) = 11
+place (form.Interview interview.Ask) = 12
+place (form.Listing listing.States) = 13
+place (form.Listing listing.StatesUpTo) = 14
+place (form.Listing listing.StatesAfter) = 15
+place (form.Listing listing.Base) = 16
+place (form.Listing listing.Surmise) = 17
+place (form.Listing listing.Learning) = 18
+place (form.Listing listing.Project) = 19
+place (form.Listing listing.ProjectAfter) = 20
+place (form.Listing listing.ProjectBase) = 21
+place (form.Structure structure.Test) = 22
+place (form.Structure structure.Fringes) = 23
+place (form.Structure structure.StateOf) = 24
+place (form.Structure structure.Paths) = 25
+place (form.Structure structure.PathsAfter) = 26
+place (form.Pupil pupil.OddsAll) = 27
+place (form.Pupil pupil.OddsItem) = 28
+place (form.Pupil pupil.Limits) = 29
+place (form.Pupil pupil.Pupil) = 30
+place (form.Pupil pupil.Question) = 31
+place (form.Pupil pupil.Reply) = 32
+place (form.Pupil pupil.Report) = 33
+place (form.Pupil pupil.Close) = 34
+place (form.Pupil pupil.Class) = 35
 
-at_place : (f : Form) → slice_get forms (place f) ≡ Some f
+pub at_place : (f : Form) → slice_get forms (place f) ≡ Some f
 unfolding forms
 at_place form.Nothing = refl
+at_place (form.Setting setting.Items) = refl
+at_place (form.Interview interview.Blocks) = refl
+at_place (form.Listing listing.States) = refl
+at_place (form.Structure structure.Test) = refl
+at_place (form.Pupil pupil.OddsAll) = refl
 at_place f = refl
 
 -- a form clashes with none but itself: one test of the table

@@ -1,28 +1,25 @@
 -- The words of a command are ASCII.
-use Rattle.std.proofs.Common.{ℕ, suc, ◌+◌, ◌<◌, ◌≤◌, ◌≡◌, ◌⊎◌, inl, inr, sym, subst, arith, Bool, true, false, ◌&&◌, cond, nat_lt, List, [], ◌∷◌, length, take, Some, refl}
+use Rattle.std.proofs.Common.{ℕ, suc, ◌+◌, ◌<◌, ◌≤◌, ◌≡◌, ◌⊎◌, inl, inr, sym, subst, arith, Bool, true, false, ◌&&◌, cond, nat_lt, List, [], ◌∷◌, ◌++◌, length, take, Some, refl}
 use Rattle.std.specs.Prelude.{All}
 use Rattle.std.specs.List.{list_all, prefix_len, slice_get}
 use Rattle.std.specs.Str.{IsAscii}
 use Rattle.std.specs.Cmp.Lexicographic.{same_text}
 use Rattle.std.proofs.lemmas.Bool.Decides.{nat_tests}
 use Rattle.std.proofs.lemmas.Str.Ascii.{IsAscii-nil, IsAscii-cons}
-use Rattle.std.proofs.lemmas.List.Elements.{All-nil, All-cons}
+use Rattle.std.proofs.lemmas.List.Elements.{All-nil, All-cons, All-append}
 use Rattle.std.proofs.lemmas.List.Sums.{prefix_len-le-length}
 use Rattle.std.proofs.lemmas.Option.{same_Some, none-some, cond_some}
 use Rattle.ls_lines.specs.Lines.{Text}
-use Rattle.ls_lines.specs.Kinds.{is_of, is_name_byte, is_cursor_byte, most_counted}
+use Rattle.ls_lines.specs.Kinds.{is_of, is_cursor_byte}
 use Rattle.ls_lines.specs.Forms.{spelling}
 use Rattle.ls_lines.specs.Commands.{fits, front}
 use Rattle.ls_lines.specs.declared.kind.Kind.{Kind}
-use Rattle.ls_lines.specs.declared.kind.Kind.TheVariants as kind
 use Rattle.ls_lines.specs.declared.keyword.Keyword.{Keyword}
 use Rattle.ls_lines.specs.declared.keyword.Keyword.TheVariants as word
-use Rattle.ls_lines.specs.declared.form.Part.{Part}
-use Rattle.ls_lines.specs.declared.form.Part.TheVariants.{Fixed, One, Many}
-use Rattle.ls_lines.proofs.Numbers.{never, both, ascii_where, is_decimal-ascii, number_up_to-decimal}
-
-is_name_byte-ascii : (b : ℕ) → is_name_byte b ≡ true → b < 128
-is_name_byte-ascii b h = grind (arith, nat_tests)
+use Rattle.ls_lines.specs.declared.part.Part.{Part}
+use Rattle.ls_lines.specs.declared.part.Part.TheVariants.{Fixed, One, Many}
+use Rattle.ls_lines.proofs.Numbers.{ascii_where}
+use Rattle.ls_lines.proofs.Solid.{kind-solid}
 
 is_cursor_byte-ascii : (b : ℕ) → is_cursor_byte b ≡ true → b < 128
 is_cursor_byte-ascii b h = grind (arith, nat_tests)
@@ -31,11 +28,7 @@ below_128 : (b : ℕ) → nat_lt b 128 ≡ true → b < 128
 below_128 b h = grind (arith, nat_tests)
 
 is_of-ascii : (k : Kind) (w : Text) → is_of k w ≡ true → IsAscii w
-unfolding is_of
-is_of-ascii kind.Name w h = ascii_where is_name_byte is_name_byte-ascii w (both _ _ h).1
-is_of-ascii kind.Item w h = ascii_where is_name_byte is_name_byte-ascii w (both _ _ h).1
-is_of-ascii kind.Count w h = is_decimal-ascii w (number_up_to-decimal most_counted w h)
-is_of-ascii kind.Cursor w h = ascii_where is_cursor_byte is_cursor_byte-ascii w (both _ _ h).1
+is_of-ascii k w h = ascii_where is_cursor_byte is_cursor_byte-ascii w (kind-solid k w h).bytes
 
 spelling-ascii : (v : Keyword) → IsAscii (spelling v)
 unfolding spelling
@@ -67,6 +60,9 @@ front-ascii part [] m h = absurd (none-some m h)
 front-ascii part (w ∷ ws) m h =
     let parts = cond_some (fits part w) 1 m h in
     subst (λ n. All IsAscii (take n (w ∷ ws))) parts.1 (All-cons IsAscii w [] (fits-ascii part w parts.0) (All-nil IsAscii))
+
+pub all-ascii : (given : List (List Text)) (ws : List Text) → All (λ l. All IsAscii l) given → All IsAscii ws → All (λ l. All IsAscii l) (given ++ ws ∷ [])
+all-ascii given ws h k = All-append (λ l. All IsAscii l) given (ws ∷ []) h (All-cons (λ l. All IsAscii l) ws [] k (All-nil (λ l. All IsAscii l)))
 
 -- what `front` takes, by the kind of its part
 pub front_many : (part : Part) (k : Kind) (ws : List Text) → part ≡ Many k → front part ws ≡ Some (prefix_len (fits part) ws)

@@ -1,25 +1,62 @@
 -- The command is that of the first form that has the line.
-use Rattle.std.proofs.Common.{ℕ, ◌+◌, ◌<◌, ◌≤◌, ◌≡◌, refl, sym, List, length, drop, get_or, Option, None, Some, option_map}
-use Rattle.std.specs.List.{filter_map, slice_get}
-use Rattle.std.proofs.lemmas.List.{drop_more, drop_all}
+use Rattle.std.proofs.Common.{ℕ, zero, suc, ◌≡◌, refl, sym, ap, subst, ◌∙◌, Bool, true, false, cond, List, [], ◌∷◌, Option, None, Some, option_map, is_some}
+use Rattle.std.specs.List.{filter_map, cons_option, find, slice_get}
+use Rattle.std.proofs.lemmas.Option.{same_Some, none-some}
 use Rattle.ls_lines.specs.Lines.{Text}
 use Rattle.ls_lines.specs.Forms.{parts, command, forms}
 use Rattle.ls_lines.specs.Commands.{cut, command_of}
 use Rattle.ls_lines.specs.declared.form.Form.{Form}
 use Rattle.ls_lines.specs.declared.command.Command.{Command}
 
-abbrev pub first_command : List Form → List Text → Option Command
-first_command fs ws = slice_get (filter_map (λ f. option_map (command f) (cut (parts f) ws)) fs) 0
+-- whether the form has the words as a line
+abbrev pub has_line : List Text → Form → Bool
+has_line ws f = is_some (cut (parts f) ws)
 
-pub first_command-none : (ws : List Text) → first_command forms ws ≡ command_of ws
+-- the commands that the words are by the forms
+abbrev readings : List Form → List Text → List Command
+readings fs ws = filter_map (λ f. option_map (command f) (cut (parts f) ws)) fs
+
+pub found-passes : {X : Type 0} (test : X → Bool) (xs : List X) (x : X) → find test xs ≡ Some x → test x ≡ true
+found-passes test [] x h = absurd (none-some x h)
+found-passes test (y ∷ xs) x h =
+    elim (test y) as (λ t. test y ≡ t → cond t (Some y) (find test xs) ≡ Some x → test x ≡ true) [
+      | true ↦ λ e k. subst (λ z. test z ≡ true) (same_Some y x k) e
+      | false ↦ λ e k. found-passes test xs x k
+    ] refl h
+
+first_found : (fs : List Form) (ws : List Text) (f : Form) (given : List (List Text)) → find (has_line ws) fs ≡ Some f → cut (parts f) ws ≡ Some given → slice_get (readings fs ws) 0 ≡ Some (command f given)
+first_found [] ws f given h k = absurd (none-some f h)
+first_found (g ∷ fs) ws f given h k =
+    elim (cut (parts g) ws) as (λ o. cut (parts g) ws ≡ o → cond (is_some o) (Some g) (find (has_line ws) fs) ≡ Some f → slice_get (cons_option (option_map (command g) o) (readings fs ws)) 0 ≡ Some (command f given)) [
+      | None ↦ λ e here. first_found fs ws f given here k
+      | Some lists ↦ λ e here.
+          let same = same_Some g f here in
+          let given_same = same_Some lists given (sym e ∙ ap (λ d. cut (parts d) ws) same ∙ k) in
+          rw (same, given_same) refl
+    ] refl h
+
+none_found : (fs : List Form) (ws : List Text) → find (has_line ws) fs ≡ None → slice_get (readings fs ws) 0 ≡ None
+none_found [] ws h = refl
+none_found (g ∷ fs) ws h =
+    elim (cut (parts g) ws) as (λ o. cond (is_some o) (Some g) (find (has_line ws) fs) ≡ None → slice_get (cons_option (option_map (command g) o) (readings fs ws)) 0 ≡ None) [
+      | None ↦ λ e. none_found fs ws e
+      | Some lists ↦ λ e. absurd (none-some g (sym e))
+    ] h
+
+pub command_of-form : (ws : List Text) (f : Form) (given : List (List Text)) → find (has_line ws) forms ≡ Some f → cut (parts f) ws ≡ Some given → command_of ws ≡ Some (command f given)
 unfolding command_of
-first_command-none ws = refl
+command_of-form ws f given h k = first_found forms ws f given h k
 
-pub first_command-more : (fs : List Form) (i : ℕ) (d : Form) (ws : List Text) → i < length fs → cut (parts (get_or fs i d)) ws ≡ None → first_command (drop (i + 1) fs) ws ≡ first_command (drop i fs) ws
-first_command-more fs i d ws lt h = sym (rw (drop_more fs i d lt, h) refl)
+pub command_of-none : (ws : List Text) → find (has_line ws) forms ≡ None → command_of ws ≡ None
+unfolding command_of
+command_of-none ws h = none_found forms ws h
 
-pub first_command-here : (fs : List Form) (i : ℕ) (d : Form) (ws : List Text) (given : List (List Text)) → i < length fs → cut (parts (get_or fs i d)) ws ≡ Some given → first_command (drop i fs) ws ≡ Some (command (get_or fs i d) given)
-first_command-here fs i d ws given lt h = rw (drop_more fs i d lt, h) refl
-
-pub first_command-all : (fs : List Form) (i : ℕ) (ws : List Text) → length fs ≤ i → first_command (drop i fs) ws ≡ None
-first_command-all fs i ws le = rw drop_all refl
+-- a form that has the line, and none but which has it, is found
+pub only_found : (fs : List Form) (ws : List Text) (i : ℕ) (f : Form) → slice_get fs i ≡ Some f → has_line ws f ≡ true → ((g : Form) → has_line ws g ≡ true → g ≡ f) → find (has_line ws) fs ≡ Some f
+only_found [] ws i f at h only = absurd (none-some f at)
+only_found (g ∷ fs) ws zero f at h only = let same = same_Some g f at in rw (same, h) refl
+only_found (g ∷ fs) ws (suc i) f at h only =
+    elim (has_line ws g) as (λ t. has_line ws g ≡ t → cond t (Some g) (find (has_line ws) fs) ≡ Some f) [
+      | true ↦ λ e. ap Some (only g e)
+      | false ↦ λ e. only_found fs ws i f at h only
+    ] refl

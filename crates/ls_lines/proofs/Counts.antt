@@ -4,10 +4,15 @@ use Rattle.std.specs.List.{filter_map, cons_option, slice_get}
 use Rattle.std.proofs.lemmas.Option.{none-some, same_Some}
 use Rattle.ls_lines.specs.Lines.{Text}
 use Rattle.ls_lines.specs.Kinds.{most_counted}
-use Rattle.ls_lines.specs.Forms.{one, parts, command, forms}
+use Rattle.ls_lines.specs.Forms.{one, count, parts, command, forms}
 use Rattle.ls_lines.specs.Commands.{cut, command_of, count_of}
 use Rattle.ls_lines.specs.declared.form.Form.{Form}
 use Rattle.ls_lines.specs.declared.form.Form.TheVariants as form
+use Rattle.ls_lines.specs.declared.setting_form.SettingForm.TheVariants as setting
+use Rattle.ls_lines.specs.declared.interview_form.InterviewForm.TheVariants as interview
+use Rattle.ls_lines.specs.declared.listing_form.ListingForm.TheVariants as listing
+use Rattle.ls_lines.specs.declared.structure_form.StructureForm.TheVariants as structure
+use Rattle.ls_lines.specs.declared.pupil_form.PupilForm.TheVariants as pupil
 use Rattle.ls_lines.specs.declared.command.Command.{Command}
 use Rattle.ls_lines.proofs.Numbers.{number-within}
 
@@ -25,11 +30,23 @@ pub made_by_form : (ws : List Text) (c : Command) → command_of ws ≡ Some c �
 unfolding command_of
 made_by_form ws c h = made ws forms c h
 
+counted : (given : List (List Text)) (n : ℕ) → Some (count given 1) ≡ Some n → n ≤ most_counted
+counted given n h = subst (λ m. m ≤ most_counted) (same_Some (count given 1) n h) (number-within most_counted (one given 1))
+
 form_count-within : (f : Form) (given : List (List Text)) (n : ℕ) → count_of (command f given) ≡ Some n → n ≤ most_counted
 unfolding command
-form_count-within form.States given n h = subst (λ m. m ≤ most_counted) (same_Some most_counted n h) (omega arith)
-form_count-within form.StatesUpTo given n h = subst (λ m. m ≤ most_counted) (same_Some _ n h) (number-within most_counted (one given 1))
-form_count-within form.StatesAfter given n h = subst (λ m. m ≤ most_counted) (same_Some _ n h) (number-within most_counted (one given 1))
+form_count-within (form.Listing listing.States) given n h = subst (λ m. m ≤ most_counted) (same_Some most_counted n h) (omega arith)
+form_count-within (form.Listing listing.StatesUpTo) given n h = counted given n h
+form_count-within (form.Listing listing.StatesAfter) given n h = counted given n h
+form_count-within (form.Listing listing.Project) given n h = counted given n h
+form_count-within (form.Listing listing.ProjectAfter) given n h = counted given n h
+form_count-within (form.Structure structure.Paths) given n h = counted given n h
+form_count-within (form.Structure structure.PathsAfter) given n h = counted given n h
+form_count-within form.Nothing given n h = absurd (none-some n h)
+form_count-within (form.Setting setting.Items) given n h = absurd (none-some n h)
+form_count-within (form.Interview interview.Blocks) given n h = absurd (none-some n h)
+form_count-within (form.Structure structure.Test) given n h = absurd (none-some n h)
+form_count-within (form.Pupil pupil.OddsAll) given n h = absurd (none-some n h)
 form_count-within f given n h = absurd (none-some n h)
 
 pub count-within : (ws : List Text) (c : Command) (n : ℕ) → command_of ws ≡ Some c → count_of c ≡ Some n → n ≤ most_counted

@@ -1,13 +1,14 @@
 -- The words that stand at each part, found part by part.
-use Rattle.std.proofs.Common.{ℕ, ◌+◌, ◌<◌, ◌≤◌, ◌≡◌, inl, inr, refl, sym, ap, arith, Bool, true, false, cond, ◌==◌, List, [], ◌∷◌, ◌++◌, length, take, drop, get_or, Option, None, Some, option_map}
-use Rattle.std.specs.Bool.{then_some}
+use Rattle.std.proofs.Common.{ℕ, ◌+◌, ◌<◌, ◌≤◌, ◌≡◌, ◌∙◌, inl, inr, refl, sym, ap, arith, Bool, true, false, cond, ◌==◌, List, [], ◌∷◌, ◌++◌, length, take, drop, get_or, Option, None, Some, option_map, is_some, rules}
+use Rattle.std.specs.Option.{IsSome}
 use Rattle.std.proofs.lemmas.Bool.{cases_lt}
 use Rattle.std.proofs.lemmas.Bool.Decides.{nat_tests}
 use Rattle.std.proofs.lemmas.List.{append-nil, append_assoc, drop_more, drop_all, drop-drop}
 use Rattle.ls_lines.specs.Lines.{Text}
 use Rattle.ls_lines.specs.Commands.{front, cut}
 use Rattle.ls_lines.specs.Reading.{begun_length}
-use Rattle.ls_lines.specs.declared.form.Part.{Part}
+use Rattle.ls_lines.specs.declared.part.Part.{Part}
+use Rattle.ls_lines.proofs.Numbers.{never}
 
 abbrev onto : List (List Text) → Option (List (List Text)) → Option (List (List Text))
 onto given more = option_map (λ lists. given ++ lists) more
@@ -44,9 +45,40 @@ cut_end ps i ws start given le within =
       | inr ge ↦ let none_left : (start == length ws) ≡ true = grind (arith, nat_tests) in rw (drop_all i ps le, drop_all start ws ge, none_left) (ap Some (append-nil given))
     ]
 
-pub option_map-then_some : {A B : Type 0} (f : A → B) (b : Bool) (x : A) → option_map f (then_some b x) ≡ cond b (Some (f x)) None
-option_map-then_some f true x = refl
-option_map-then_some f false x = refl
+-- where the words are a line, each part can stand there, and all words are taken
+pub going_on : (ps : List Part) (i : ℕ) (d : Part) (rest : List Text) (given : List (List Text)) → i < length ps → is_some (onto given (cut (drop i ps) rest)) ≡ true →
+    (o : Option ℕ) → o ≡ front (get_or ps i d) rest → IsSome o
+going_on ps i d rest given lt h None e = never (sym (ap is_some (cut_stuck ps i d rest given lt (sym e))) ∙ h)
+going_on ps i d rest given lt h (Some m) e = search rules
+
+pub cut_whole : (ps : List Part) (i : ℕ) (ws : List Text) (start : ℕ) (given : List (List Text)) → length ps ≤ i → start ≤ length ws → is_some (cut ps ws) ≡ true →
+    onto given (cut (drop i ps) (drop start ws)) ≡ cut ps ws → cut ps ws ≡ Some given
+cut_whole ps i ws start given le within h e =
+    let ended = sym e ∙ cut_end ps i ws start given le within in
+    ended ∙ elim (start == length ws) as (λ t. is_some (cond t (Some given) None) ≡ true → cond t (Some given) None ≡ Some given) [
+      | true ↦ λ k. refl
+      | false ↦ λ k. never k
+    ] (sym (ap is_some ended) ∙ h)
+
+-- the same of whether the words are a line
+is_some-mapped : {X Y : Type 0} (f : X → Y) (o : Option X) → is_some (option_map f o) ≡ is_some o
+is_some-mapped f None = refl
+is_some-mapped f (Some x) = refl
+
+pub line_more : (ps : List Part) (i : ℕ) (d : Part) (ws : List Text) (start m : ℕ) → i < length ps → front (get_or ps i d) (drop start ws) ≡ Some m →
+    is_some (cut (drop (i + 1) ps) (drop (start + m) ws)) ≡ is_some (cut (drop i ps) (drop start ws))
+line_more ps i d ws start m lt h =
+    sym (is_some-mapped (λ lists. (take m (drop start ws) ∷ []) ++ lists) (cut (drop (i + 1) ps) (drop (start + m) ws)))
+    ∙ ap is_some (cut_more ps i d ws start m [] lt h) ∙ ap is_some (onto-nil (cut (drop i ps) (drop start ws)))
+
+pub line_stuck : (ps : List Part) (i : ℕ) (d : Part) (rest : List Text) → i < length ps → front (get_or ps i d) rest ≡ None → is_some (cut (drop i ps) rest) ≡ false
+unfolding cut
+line_stuck ps i d rest lt h = rw (drop_more ps i d lt, h) refl
+
+pub line_end : (ps : List Part) (i : ℕ) (ws : List Text) (start : ℕ) → length ps ≤ i → start ≤ length ws → is_some (cut (drop i ps) (drop start ws)) ≡ (start == length ws)
+line_end ps i ws start le within =
+    sym (is_some-mapped (λ lists. [] ++ lists) (cut (drop i ps) (drop start ws))) ∙ ap (is_some {T = List (List Text)}) (cut_end ps i ws start [] le within)
+    ∙ elim (start == length ws) as (λ t. is_some {T = List (List Text)} (cond t (Some []) None) ≡ t) [ true ↦ refl | false ↦ refl ]
 
 -- the loop of `begun_length`
 pub begun_more : (ps : List Part) (i : ℕ) (d : Part) (ws : List Text) (start m : ℕ) → i < length ps → front (get_or ps i d) (drop start ws) ≡ Some m →

@@ -9,13 +9,13 @@ use Rattle.ls_lines.specs.Forms.{spelling, parts}
 use Rattle.ls_lines.specs.Commands.{front, cut, is_begun}
 use Rattle.ls_lines.specs.Grammar.{IsLine, Completes, done, fixed, one, no_more}
 use Rattle.ls_lines.specs.declared.kind.Kind.{Kind}
-use Rattle.ls_lines.specs.declared.kind.Kind.TheVariants as kind
 use Rattle.ls_lines.specs.declared.form.Form.{Form}
-use Rattle.ls_lines.specs.declared.form.Part.{Part}
-use Rattle.ls_lines.specs.declared.form.Part.TheVariants.{Fixed, One, Many}
+use Rattle.ls_lines.specs.declared.part.Part.{Part}
+use Rattle.ls_lines.specs.declared.part.Part.TheVariants.{Fixed, One, Many}
 use Rattle.ls_lines.proofs.Numbers.{never}
+use Rattle.ls_lines.proofs.Solid.{sample}
 use Rattle.ls_lines.proofs.Places.{begun_by_none}
-use Rattle.ls_lines.proofs.Parted.{is_plain, plain, plain_rest, joined, parted}
+use Rattle.ls_lines.proofs.Parted.{many_end, forms_end, many_end-rest, joined, parted}
 
 -- a test of what `front` leaves
 passed : (test : ℕ → Bool) (o : Option ℕ) → option_map_or test o false ≡ true → (m : ℕ) × (o ≡ Some m) × (test m ≡ true)
@@ -53,27 +53,20 @@ cut_sound (part ∷ ps) ws h =
 emptied : {part : Part} {ps : List Part} → IsLine (part ∷ ps) [] → IsLine ps []
 emptied (no_more h) = h
 
-cut_complete : (ps : List Part) (ws : List Text) → is_plain ps ≡ true → IsLine ps ws → is_cut ps ws ≡ true
+cut_complete : (ps : List Part) (ws : List Text) → many_end ps ≡ true → IsLine ps ws → is_cut ps ws ≡ true
 unfolding cut
 cut_complete [] [] p done = refl
 cut_complete [] (w ∷ ws) p h = elim h [ ]
 cut_complete (Fixed v ∷ ps) [] p h = elim h [ ]
 cut_complete (One k ∷ ps) [] p h = elim h [ ]
-cut_complete (Many k ∷ ps) [] p (no_more h) = is_cut-cons (Many k) ps [] ∙ cut_complete ps [] (plain_rest (Many k) ps p) h
+cut_complete (Many k ∷ ps) [] p (no_more h) = is_cut-cons (Many k) ps [] ∙ cut_complete ps [] (many_end-rest (Many k) ps p) h
 cut_complete (part ∷ ps) (w ∷ ws) p h =
     let here = parted part ps w ws [] p (subst (λ l. IsLine (part ∷ ps) (w ∷ l)) (sym (append-nil ws)) h) in
-    let q = plain_rest part ps p in
+    let q = many_end-rest part ps p in
     is_cut-cons part ps (w ∷ ws) ∙ passes (λ m. is_cut ps (drop m (w ∷ ws))) (front part (w ∷ ws)) here.0 here.1 (elim here.2 [
       | inl nothing ↦ ap (is_cut ps) nothing.0 ∙ cut_complete ps [] q (emptied nothing.1)
       | inr rest ↦ cut_complete ps (drop here.0 (w ∷ ws)) q (subst (IsLine ps) (append-nil (drop here.0 (w ∷ ws))) rest)
     ])
-
--- each kind has a word
-sample : (k : Kind) → (w : Text) × (is_of k w ≡ true)
-unfolding is_of
-sample kind.Name = (codes "a", refl)
-sample kind.Count = (codes "0", refl)
-sample k = (codes "a", refl)
 
 some_line : (ps : List Part) → (ws : List Text) × IsLine ps ws
 some_line [] = ([], done)
@@ -90,7 +83,7 @@ begun_sound (part ∷ ps) (w ∷ ws) h =
     let rest = begun_sound ps (drop here.0 (w ∷ ws)) here.2 in
     (rest.0, joined part ps (w ∷ ws) rest.0 here.0 here.1 rest.1)
 
-begun_complete : (ps : List Part) (ws more : List Text) → is_plain ps ≡ true → IsLine ps (ws ++ more) → is_begun ps ws ≡ true
+begun_complete : (ps : List Part) (ws more : List Text) → many_end ps ≡ true → IsLine ps (ws ++ more) → is_begun ps ws ≡ true
 unfolding is_begun
 begun_complete ps [] more p h = begun_by_none ps
 begun_complete [] (w ∷ ws) more p h = elim h [ ]
@@ -98,11 +91,11 @@ begun_complete (part ∷ ps) (w ∷ ws) more p h =
     let here = parted part ps w ws more p h in
     passes (λ m. is_begun ps (drop m (w ∷ ws))) (front part (w ∷ ws)) here.0 here.1 (elim here.2 [
       | inl nothing ↦ ap (is_begun ps) nothing.0 ∙ begun_by_none ps
-      | inr rest ↦ begun_complete ps (drop here.0 (w ∷ ws)) more (plain_rest part ps p) rest
+      | inr rest ↦ begun_complete ps (drop here.0 (w ∷ ws)) more (many_end-rest part ps p) rest
     ])
 
 pub line_exact : (f : Form) (ws : List Text) → (is_some (cut (parts f) ws) ≡ true) ↔ IsLine (parts f) ws
-line_exact f ws = (cut_sound (parts f) ws, cut_complete (parts f) ws (plain f))
+line_exact f ws = (cut_sound (parts f) ws, cut_complete (parts f) ws (forms_end f))
 
 pub begun_exact : (f : Form) (ws : List Text) → (is_begun (parts f) ws ≡ true) ↔ Completes (parts f) ws
-begun_exact f ws = (begun_sound (parts f) ws, λ c. begun_complete (parts f) ws c.0 (plain f) c.1)
+begun_exact f ws = (begun_sound (parts f) ws, λ c. begun_complete (parts f) ws c.0 (forms_end f) c.1)

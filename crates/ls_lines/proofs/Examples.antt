@@ -1,9 +1,12 @@
 -- Examples: words, commands and the places of faults.
 use Rattle.std.proofs.Common.{ℕ, ◌≡◌, refl, List, [], ◌∷◌, ◌++◌, Some, codes, replicate, None}
+use Rattle.std.specs.Fmt.{digits}
 use Rattle.ls_lines.specs.Lines.{words}
 use Rattle.ls_lines.specs.Kinds.{is_of}
 use Rattle.ls_lines.specs.Forms.{spelling, parts, command, forms}
 use Rattle.ls_lines.specs.Commands.{cut, is_begun, command_of, fault_place}
+use Rattle.ls_lines.specs.Printing.{form_of, operands, placed, spelled, line_of}
+use Rattle.ls_lines.specs.declared.command.Command.{Command}
 use Rattle.ls_lines.specs.declared.command.Command.TheVariants as commands
 
 commas_and_colons : words (codes "yes a,b:c\r") ≡ codes "yes" ∷ codes "a" ∷ codes "b" ∷ codes ":" ∷ codes "c" ∷ []
@@ -34,6 +37,31 @@ page_after : command_of (words (codes "states 20 after a-b#")) ≡ Some (command
 unfolding words command_of forms parts command cut is_of spelling
 page_after = refl
 
+-- a path of no items to go on from, and a name that is spelled as a word of the language
+first_path : command_of (words (codes "paths 3 after")) ≡ Some (commands.Paths 3 (Some []))
+unfolding words command_of forms parts command cut is_of spelling
+first_path = refl
+
+item_after : command_of (words (codes "project 3 : after")) ≡ Some (commands.Project 3 None (codes "after" ∷ []))
+unfolding words command_of forms parts command cut is_of spelling
+item_after = refl
+
+-- a printed command
+abbrev printed : Command → List ℕ
+printed c = line_of (spelled c)
+
+printed_page : printed (commands.States 65536 None) ≡ codes "states 65536"
+unfolding spelled placed form_of operands parts spelling digits
+printed_page = refl
+
+printed_state : printed (commands.StateOf (codes "a" ∷ codes "b" ∷ []) []) ≡ codes "state-of a b |"
+unfolding spelled placed form_of operands parts spelling
+printed_state = refl
+
+printed_nothing : printed commands.Nothing ≡ []
+unfolding spelled placed form_of operands parts
+printed_nothing = refl
+
 -- the place of the fault in a line
 abbrev place : List ℕ → ℕ
 place line = fault_place (words line)
@@ -46,9 +74,9 @@ no_colon : place (codes "yes a b") ≡ 4
 unfolding words fault_place is_begun forms parts is_of spelling
 no_colon = refl
 
-unknown_with_colon : place (codes "known a : b") ≡ 1
+colon_twice : place (codes "known a : :") ≡ 4
 unfolding words fault_place is_begun forms parts is_of spelling
-unknown_with_colon = refl
+colon_twice = refl
 
 too_many_words : place (codes "states x") ≡ 2
 unfolding words fault_place is_begun forms parts is_of spelling

@@ -1,5 +1,6 @@
 pub mod Runs
 pub mod Numbers
+pub mod Solid
 pub mod Ascii
 pub mod Cutting
 pub mod Places
@@ -8,5 +9,9 @@ pub mod Counts
 pub mod Parted
 pub mod Exact
 pub mod Apart
+pub mod Printed
+pub mod Rewords
+pub mod Recut
+pub mod ReadBack
 pub mod Examples
 pub mod Cuts

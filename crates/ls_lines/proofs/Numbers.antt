@@ -1,12 +1,14 @@
 -- Decimal numbers are ASCII, and are read by `parse`.
-use Rattle.std.proofs.Common.{None, unwrap_or, ◌≤◌, not, ◌||◌, ◌==◌, nat_lt, slice_index, ℕ, ◌≡◌, ◌<◌, ◌^◌, inl, inr, refl, arith, rules, Bool, true, false, cond, ◌&&◌, nat_le, List, [], ◌∷◌, length, Some, None, Result, is_some}
+use Rattle.std.proofs.Common.{zero, suc, None, unwrap_or, ◌≤◌, not, ◌||◌, ◌==◌, nat_lt, slice_index, ℕ, ◌≡◌, ◌<◌, ◌^◌, inl, inr, refl, arith, rules, Bool, true, false, cond, ◌&&◌, nat_le, List, [], ◌∷◌, length, Some, None, Result, is_some}
 use Rattle.std.specs.List.{list_all}
+use Rattle.std.specs.Fmt.{decimal}
 use Rattle.std.specs.Str.{IsAscii}
 use Rattle.std.specs.Str.Parse.{digits_value, ParsesUnsigned}
 use Rattle.std.specs.Result.{OkIff}
+use Rattle.std.proofs.lemmas.Fmt.{decimal_nonempty, decimal_digit, first_decimal, digits_decimal, digits_value-decimal}
 use Rattle.std.proofs.lemmas.Str.Ascii.{IsAscii-nil, IsAscii-cons}
 use Rattle.std.proofs.lemmas.Str.Parse.{IsNumeralModel, IsDigitsTest, numerals_by_value, parse_digits}
-use Rattle.std.proofs.lemmas.Bool.{cases_lt, ltb-true, leb-true}
+use Rattle.std.proofs.lemmas.Bool.{cases_lt, ltb-true, leb-true, lt-ltb, le-leb}
 use Rattle.std.proofs.lemmas.Bool.Decides.{nat_tests}
 use Rattle.ls_lines.specs.Lines.{Text}
 use Rattle.ls_lines.specs.Numbers.{is_digit, is_decimal, number_up_to}
@@ -70,3 +72,21 @@ past_most most w fits d h =
 -- what `parse` gives of a decimal number
 pub parsed : {E : Type 0} (w : Text) (r : Result ℕ E) → ParsesUnsigned 32 10 w r → is_decimal w ≡ true → OkIff r ((0 < length w) × (digits_value 10 w < 2 ^ 32)) (digits_value 10 w)
 parsed w r h d = parse_digits digits 32 w r h (some_digits w d).1
+
+first-decimal : (n : ℕ) → n < 2 ^ 64 → (length (decimal n) == 1 || not (slice_index (decimal n) 0 == 48)) ≡ true
+first-decimal zero fits = rw (decimal_digit 0 (omega arith)) refl
+first-decimal (suc n) fits =
+    let high : 48 < slice_index (decimal (suc n)) 0 = first_decimal (suc n) (omega arith) fits in
+    grind (arith, nat_tests)
+
+-- a number's own decimal spelling
+pub is_decimal-decimal : (n : ℕ) → n < 2 ^ 64 → is_decimal (decimal n) ≡ true
+is_decimal-decimal n fits =
+    let long : nat_lt 0 (length (decimal n)) ≡ true = lt-ltb 0 (length (decimal n)) (decimal_nonempty n fits) in
+    rw (long, digits_decimal digits n fits) (first-decimal n fits)
+
+pub number_up_to-of_decimal : (most n : ℕ) → most < 2 ^ 64 → n ≤ most → number_up_to most (decimal n) ≡ Some n
+number_up_to-of_decimal most n fits le =
+    let small : n < 2 ^ 64 = omega arith in
+    let within : nat_le n most ≡ true = le-leb n most le in
+    rw (is_decimal-decimal n small, digits_value-decimal digits n small, within) refl

@@ -11,25 +11,36 @@ use Rattle.ls_lines.specs.Grammar.{IsLine, fixed, one, no_more, one_more}
 use Rattle.ls_lines.specs.declared.kind.Kind.{Kind}
 use Rattle.ls_lines.specs.declared.form.Form.{Form}
 use Rattle.ls_lines.specs.declared.form.Form.TheVariants as form
-use Rattle.ls_lines.specs.declared.form.Part.{Part}
-use Rattle.ls_lines.specs.declared.form.Part.TheVariants.{Fixed, One, Many}
+use Rattle.ls_lines.specs.declared.setting_form.SettingForm.TheVariants as setting
+use Rattle.ls_lines.specs.declared.interview_form.InterviewForm.TheVariants as interview
+use Rattle.ls_lines.specs.declared.listing_form.ListingForm.TheVariants as listing
+use Rattle.ls_lines.specs.declared.structure_form.StructureForm.TheVariants as structure
+use Rattle.ls_lines.specs.declared.pupil_form.PupilForm.TheVariants as pupil
+use Rattle.ls_lines.specs.declared.part.Part.{Part}
+use Rattle.ls_lines.specs.declared.part.Part.TheVariants.{Fixed, One, Many}
 use Rattle.ls_lines.proofs.Numbers.{never, both}
 
 -- whether any number of words of the kind end where these parts begin: at no part, or at a fixed word that is not of the kind
-abbrev ends : Kind → List Part → Bool
+abbrev pub ends : Kind → List Part → Bool
 ends k [] = true
 ends k (Fixed v ∷ ps) = not (is_of k (spelling v))
 ends k (p ∷ ps) = false
 
-abbrev pub is_plain : List Part → Bool
-is_plain [] = true
-is_plain (Many k ∷ ps) = ends k ps && is_plain ps
-is_plain (p ∷ ps) = is_plain ps
+-- any number of words of a kind end where the next part begins
+abbrev pub many_end : List Part → Bool
+many_end [] = true
+many_end (Many k ∷ ps) = ends k ps && many_end ps
+many_end (p ∷ ps) = many_end ps
 
-pub plain : (f : Form) → is_plain (parts f) ≡ true
+pub forms_end : (f : Form) → many_end (parts f) ≡ true
 unfolding parts is_of spelling
-plain form.Nothing = refl
-plain f = refl
+forms_end form.Nothing = refl
+forms_end (form.Setting setting.Items) = refl
+forms_end (form.Interview interview.Blocks) = refl
+forms_end (form.Listing listing.States) = refl
+forms_end (form.Structure structure.Test) = refl
+forms_end (form.Pupil pupil.OddsAll) = refl
+forms_end f = refl
 
 -- the words of a kind at the front, one more and none
 dropped : (k : Kind) (w : Text) (ws : List Text) → is_of k w ≡ true → drop (prefix_len (is_of k) (w ∷ ws)) (w ∷ ws) ≡ drop (prefix_len (is_of k) ws) ws
@@ -75,12 +86,12 @@ behind k ps (w ∷ ws) more p (no_more h) =
 behind k ps (w ∷ ws) more p (one_more e h) = subst (λ l. ((l ≡ []) × IsLine (Many k ∷ ps) more) ⊎ IsLine ps (l ++ more)) (sym (dropped k w ws e)) (behind k ps ws more p h)
 
 -- of a line with a word at its front `front` takes some words; they are all words in front of `more`, or the other parts have the rest
-pub parted : (part : Part) (ps : List Part) (w : Text) (ws more : List Text) → is_plain (part ∷ ps) ≡ true → IsLine (part ∷ ps) (w ∷ ws ++ more) →
+pub parted : (part : Part) (ps : List Part) (w : Text) (ws more : List Text) → many_end (part ∷ ps) ≡ true → IsLine (part ∷ ps) (w ∷ ws ++ more) →
     (m : ℕ) × (front part (w ∷ ws) ≡ Some m) × (((drop m (w ∷ ws) ≡ []) × IsLine (part ∷ ps) more) ⊎ IsLine ps (drop m (w ∷ ws) ++ more))
 parted (Fixed v) ps w ws more p (fixed e h) = (1, rw e refl, inr h)
 parted (One k) ps w ws more p (one e h) = (1, rw e refl, inr h)
-parted (Many k) ps w ws more p h = (prefix_len (is_of k) (w ∷ ws), refl, behind k ps (w ∷ ws) more (both (ends k ps) (is_plain ps) p).0 h)
+parted (Many k) ps w ws more p h = (prefix_len (is_of k) (w ∷ ws), refl, behind k ps (w ∷ ws) more (both (ends k ps) (many_end ps) p).0 h)
 
-pub plain_rest : (part : Part) (ps : List Part) → is_plain (part ∷ ps) ≡ true → is_plain ps ≡ true
-plain_rest (Many k) ps p = (both (ends k ps) (is_plain ps) p).1
-plain_rest part ps p = p
+pub many_end-rest : (part : Part) (ps : List Part) → many_end (part ∷ ps) ≡ true → many_end ps ≡ true
+many_end-rest (Many k) ps p = (both (ends k ps) (many_end ps) p).1
+many_end-rest part ps p = p

@@ -12,8 +12,8 @@ use Rattle.ls_lines.specs.Forms.{parts, forms}
 use Rattle.ls_lines.specs.Commands.{fits, front, is_begun, begins_command, least_from, fault_place}
 use Rattle.ls_lines.specs.Reading.{begun_length}
 use Rattle.ls_lines.specs.declared.form.Form.{Form}
-use Rattle.ls_lines.specs.declared.form.Part.{Part}
-use Rattle.ls_lines.specs.declared.form.Part.TheVariants.{Many}
+use Rattle.ls_lines.specs.declared.part.Part.{Part}
+use Rattle.ls_lines.specs.declared.part.Part.TheVariants.{Many}
 use Rattle.ls_lines.proofs.Ascii.{front-within}
 
 pub begun_by_none : (ps : List Part) → is_begun ps [] ≡ true

@@ -5,10 +5,10 @@ use Rattle.std.specs.Option.{option_map_or, option_and_then}
 use Rattle.ls_lines.specs.Lines.{Text}
 use Rattle.ls_lines.specs.Kinds.{is_of}
 use Rattle.ls_lines.specs.Forms.{spelling, parts, command, forms}
-use Rattle.ls_lines.specs.declared.form.Part.{Part}
-use Rattle.ls_lines.specs.declared.form.Part.TheVariants.{Fixed, One, Many}
+use Rattle.ls_lines.specs.declared.part.Part.{Part}
+use Rattle.ls_lines.specs.declared.part.Part.TheVariants.{Fixed, One, Many}
 use Rattle.ls_lines.specs.declared.command.Command.{Command}
-use Rattle.ls_lines.specs.declared.command.Command.TheVariants.{States}
+use Rattle.ls_lines.specs.declared.command.Command.TheVariants.{States, Project, Paths}
 
 -- whether the word can stand at the part
 abbrev pub fits : Part → Text → Bool
@@ -41,6 +41,8 @@ command_of ws = slice_get (filter_map (λ f. option_map (command f) (cut (parts 
 -- the count of the command, where it has one
 abbrev pub count_of : Command → Option ℕ
 count_of (States count after) = Some count
+count_of (Project count after names) = Some count
+count_of (Paths count after) = Some count
 count_of c = None
 
 -- whether some command begins with the words

@@ -4,8 +4,8 @@ use Rattle.ls_lines.specs.Lines.{Text}
 use Rattle.ls_lines.specs.Commands.{fits}
 use Rattle.ls_lines.specs.declared.kind.Kind.{Kind}
 use Rattle.ls_lines.specs.declared.keyword.Keyword.{Keyword}
-use Rattle.ls_lines.specs.declared.form.Part.{Part}
-use Rattle.ls_lines.specs.declared.form.Part.TheVariants.{Fixed, One, Many}
+use Rattle.ls_lines.specs.declared.part.Part.{Part}
+use Rattle.ls_lines.specs.declared.part.Part.TheVariants.{Fixed, One, Many}
 
 -- a fixed word and one word of a kind stand for one word, and any number of words of a kind for no word or one more
 pub data IsLine : List Part → List Text → Type 0 where

@@ -3,6 +3,8 @@ pub mod Numbers
 pub mod Kinds
 pub mod Forms
 pub mod Commands
+pub mod Printing
+pub mod Operands
 pub mod Grammar
 pub mod Reading
 pub mod Cutting

@@ -3,7 +3,7 @@ use Rattle.std.specs.Prelude.{ℕ, ◌+◌, List, [], ◌∷◌, drop}
 use Rattle.std.specs.Option.{option_map_or}
 use Rattle.ls_lines.specs.Lines.{Text}
 use Rattle.ls_lines.specs.Commands.{front}
-use Rattle.ls_lines.specs.declared.form.Part.{Part}
+use Rattle.ls_lines.specs.declared.part.Part.{Part}
 
 -- how many words at the front some line of the form begins with
 unfoldable pub begun_length : List Part → List Text → ℕ

@@ -1,45 +1,63 @@
 // The forms of commands.
+ghost use Rattle.std.specs.Prelude.{◌≡◌, All, IfOk};
+ghost use Rattle.std.specs.Str.{IsAscii};
 
-ghost use Rattle.std.specs.Prelude.{◌≡◌, [], slice_set};
-ghost use Rattle.ls_lines.specs.Forms.{all, one, count};
-
-use crate::kind::MOST_COUNTED;
-use crate::number::number_up_to;
-use crate::{Command, Keyword, Kind, Word, WordList};
-use std::alloc::Global;
-use std::mem;
-
-/// A part of a form: the word itself, one word of a kind, or any number of words of a kind.
-#[derive(Clone, Copy, Debug, PartialEq, Eq)]
-pub enum Part {
-    Fixed(Keyword),
-    One(Kind),
-    Many(Kind),
-}
+use crate::cut::Cut;
+use crate::{Command, InterviewForm, ListingForm, Part, PupilForm, SettingForm, StructureForm};
+use std::alloc::AllocError;
 
 /// The forms.
 #[derive(Clone, Copy, Debug, PartialEq, Eq)]
 pub enum Form {
     Nothing,
-    Items,
-    Yes,
-    States,
-    StatesUpTo,
-    StatesAfter,
+    Setting(SettingForm),
+    Interview(InterviewForm),
+    Listing(ListingForm),
+    Structure(StructureForm),
+    Pupil(PupilForm),
 }
 
 /// All forms.
-pub const FORMS: [Form; 6] = [
+pub const FORMS: [Form; 36] = [
     Form::Nothing,
-    Form::Items,
-    Form::Yes,
-    Form::States,
-    Form::StatesUpTo,
-    Form::StatesAfter,
+    Form::Setting(SettingForm::Items),
+    Form::Setting(SettingForm::LoadItems),
+    Form::Setting(SettingForm::StartSurmise),
+    Form::Setting(SettingForm::StartBase),
+    Form::Setting(SettingForm::Save),
+    Form::Setting(SettingForm::Reopen),
+    Form::Interview(InterviewForm::Blocks),
+    Form::Interview(InterviewForm::Yes),
+    Form::Interview(InterviewForm::No),
+    Form::Interview(InterviewForm::Retract),
+    Form::Interview(InterviewForm::Known),
+    Form::Interview(InterviewForm::Ask),
+    Form::Listing(ListingForm::States),
+    Form::Listing(ListingForm::StatesUpTo),
+    Form::Listing(ListingForm::StatesAfter),
+    Form::Listing(ListingForm::Base),
+    Form::Listing(ListingForm::Surmise),
+    Form::Listing(ListingForm::Learning),
+    Form::Listing(ListingForm::Project),
+    Form::Listing(ListingForm::ProjectAfter),
+    Form::Listing(ListingForm::ProjectBase),
+    Form::Structure(StructureForm::Test),
+    Form::Structure(StructureForm::Fringes),
+    Form::Structure(StructureForm::StateOf),
+    Form::Structure(StructureForm::Paths),
+    Form::Structure(StructureForm::PathsAfter),
+    Form::Pupil(PupilForm::OddsAll),
+    Form::Pupil(PupilForm::OddsItem),
+    Form::Pupil(PupilForm::Limits),
+    Form::Pupil(PupilForm::Pupil),
+    Form::Pupil(PupilForm::Question),
+    Form::Pupil(PupilForm::Reply),
+    Form::Pupil(PupilForm::Report),
+    Form::Pupil(PupilForm::Close),
+    Form::Pupil(PupilForm::Class),
 ];
 
 impl Form {
-    ghost use Rattle.std.specs.Prelude.{◌≡◌};
     ghost use Rattle.ls_lines.specs.Forms.{parts, command};
 
     /// The parts of the form's lines, in order.
@@ -49,81 +67,27 @@ impl Form {
     {
         match self {
             Form::Nothing => &[],
-            Form::Items => &[Part::Fixed(Keyword::Items), Part::Many(Kind::Name)],
-            Form::Yes => &[
-                Part::Fixed(Keyword::Yes),
-                Part::Many(Kind::Item),
-                Part::Fixed(Keyword::Colon),
-                Part::One(Kind::Item),
-            ],
-            Form::States => &[Part::Fixed(Keyword::States)],
-            Form::StatesUpTo => &[Part::Fixed(Keyword::States), Part::One(Kind::Count)],
-            Form::StatesAfter => &[
-                Part::Fixed(Keyword::States),
-                Part::One(Kind::Count),
-                Part::Fixed(Keyword::After),
-                Part::One(Kind::Cursor),
-            ],
+            Form::Setting(form) => form.parts(),
+            Form::Interview(form) => form.parts(),
+            Form::Listing(form) => form.parts(),
+            Form::Structure(form) => form.parts(),
+            Form::Pupil(form) => form.parts(),
         }
     }
 
-    // The command with the words given at the parts; a part or a word that is not there is empty.
+    // The command with the words at the parts; a part or a word that is not there is empty.
     #[tactic(auto, unfolding(crate::specs::Forms::command))]
-    pub(crate) fn command(self, alloc: Global, mut given: Vec<WordList>) -> Command
-        ensures { result ≡ command self given.items }
+    pub(crate) fn command(self, cut: &Cut) -> Result<Command, AllocError>
+        requires { All (λ ws. All IsAscii ws) cut.now }
+        ensures { IfOk result (λ c. c ≡ command self cut.now) }
     {
         match self {
-            Form::Nothing => Command::Nothing,
-            Form::Items => Command::Items {
-                names: take_all(alloc, &mut given, 1),
-            },
-            Form::Yes => Command::Yes {
-                names: take_all(alloc, &mut given, 1),
-                item: take_one(alloc, &mut given, 3),
-            },
-            Form::States => Command::States {
-                count: MOST_COUNTED,
-                after: None,
-            },
-            Form::StatesUpTo => Command::States {
-                count: take_count(alloc, &mut given, 1),
-                after: None,
-            },
-            Form::StatesAfter => Command::States {
-                count: take_count(alloc, &mut given, 1),
-                after: Some(take_one(alloc, &mut given, 3)),
-            },
+            Form::Nothing => Ok(Command::Nothing),
+            Form::Setting(form) => form.command(cut),
+            Form::Interview(form) => form.command(cut),
+            Form::Listing(form) => form.command(cut),
+            Form::Structure(form) => form.command(cut),
+            Form::Pupil(form) => form.command(cut),
         }
     }
-}
-
-// The words at a part.
-fn take_all(alloc: Global, given: &mut [WordList], place: usize) -> WordList
-    ensures value { result ≡ all given.old place }
-    ensures others { given.new ≡ slice_set given.old place [] }
-{
-    if place < given.len() {
-        mem::replace(&mut given[place], WordList::new(alloc))
-    } else {
-        WordList::new(alloc)
-    }
-}
-
-// The one word at a part.
-fn take_one(alloc: Global, given: &mut [WordList], place: usize) -> Word
-    ensures value { result ≡ one given.old place }
-    ensures others { given.new ≡ slice_set given.old place [] }
-{
-    take_all(alloc, given, place)
-        .into_first()
-        .unwrap_or(Word::empty(alloc))
-}
-
-// The number of the one word at a part, which is a count.
-fn take_count(alloc: Global, given: &mut [WordList], place: usize) -> u32
-    ensures value { result ≡ count given.old place }
-    ensures others { given.new ≡ slice_set given.old place [] }
-{
-    let word = take_one(alloc, given, place);
-    number_up_to(MOST_COUNTED, word.as_str().as_bytes()).unwrap_or(0)
 }

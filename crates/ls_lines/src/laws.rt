@@ -1,9 +1,10 @@
 // Laws of the forms.
 ghost use Rattle.std.specs.Prelude.{◌≡◌, ◌≤◌, ◌↔◌, ℕ, List, is_some, true};
-ghost use Rattle.ls_lines.specs.Lines.{Text};
+ghost use Rattle.ls_lines.specs.Lines.{Text, words};
 ghost use Rattle.ls_lines.specs.Forms.{parts};
 ghost use Rattle.ls_lines.specs.Commands.{cut, is_begun, command_of, count_of};
 ghost use Rattle.ls_lines.specs.Kinds.{most_counted};
+ghost use Rattle.ls_lines.specs.Printing.{is_plain, spelled, line_of};
 ghost use Rattle.ls_lines.specs.Grammar.{IsLine, Completes};
 ghost use Rattle.ls_lines.specs.declared.form.Form.{Form};
 ghost use Rattle.ls_lines.specs.declared.command.Command.{Command};
@@ -23,4 +24,11 @@ pub fn forms_are_told_apart()
 /// The count of a command that is read is at most 65536. Nothing is done.
 pub fn counts_are_bounded()
     ensures { (ws : List Text) (c : Command) (n : ℕ) → command_of ws ≡ Some c → count_of c ≡ Some n → n ≤ most_counted }
+{}
+
+/// A printed command is read back, where its words, numbers and counts are of their classes. Nothing
+/// is done.
+pub fn commands_read_back()
+    ensures words { (c : Command) → is_plain c ≡ true → words (line_of (spelled c)) ≡ spelled c }
+    ensures command { (c : Command) → is_plain c ≡ true → command_of (words (line_of (spelled c))) ≡ Some c }
 {}

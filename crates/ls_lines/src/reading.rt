@@ -1,12 +1,15 @@
 // Reading a line by the table of forms.
-ghost use Rattle.std.specs.Prelude.{◌≡◌, ◌≤◌, ◌+◌, ℕ, All, IfOk, IfSome, IsErrOf, None, Some, length, option_map, take};
+ghost use Rattle.std.specs.Prelude.{◌≡◌, ◌≤◌, ◌+◌, ℕ, All, IfOk, IfSome, IsErrOf, None, Some, length, is_some, take};
+ghost use Rattle.std.specs.List.{find};
 ghost use Rattle.std.specs.Str.{IsAscii};
 ghost use Rattle.ls_lines.specs.Lines.{words, longest_line};
+ghost use Rattle.ls_lines.specs.Forms.{parts, forms};
 ghost use Rattle.ls_lines.specs.Commands.{fits, front, cut, command_of, fault_place};
 ghost use Rattle.ls_lines.specs.Reading.{begun_length};
 
+use crate::cut::Cut;
 use crate::token::{Token, tokens};
-use crate::{Command, FORMS, LineFault, Part, WordList};
+use crate::{Command, FORMS, Form, LineFault, Part};
 use std::alloc::{AllocError, Global};
 
 /// The command that a line is. The line has no line feed, and at most as many bytes as are read.
@@ -18,30 +21,46 @@ pub fn read_command(alloc: Global, line: &[u8]) -> Result<Command, LineFault>
         → (command_of (words line.now) ≡ None) × (place ≡ fault_place (words line.now)) }
 {
     let words = tokens(alloc, line).map_err(LineFault::Memory)?;
-    for form in FORMS {
-        if let Some(given) = cut(alloc, form.parts(), &words).map_err(LineFault::Memory)? {
-            return Ok(form.command(alloc, given));
-        }
+    if let Some(command) = command_of(alloc, &words).map_err(LineFault::Memory)? {
+        return Ok(command);
     }
     let place = fault_place(&words) as u32;
     Err(LineFault::Shape { place })
 }
 
-// What stands at each part, where the words are a line of the form.
-fn cut(alloc: Global, parts: &[Part], words: &[Token]) -> Result<Option<Vec<WordList>>, AllocError>
-    ensures { IfOk result (λ given. option_map (λ v. v.items) given ≡ cut parts.now words.now) }
+// The command that the words are, if they are one.
+fn command_of(alloc: Global, words: &[Token]) -> Result<Option<Command>, AllocError>
+    ensures { IfOk result (λ read. read ≡ command_of words.now) }
 {
-    let mut given = Vec::new(alloc);
+    let Some(form) = form_with_line(words) else {
+        return Ok(None);
+    };
+    let cut = Cut::new(alloc, form.parts(), words)?;
+    Ok(Some(form.command(&cut)?))
+}
+
+// The first form that has the words as a line.
+fn form_with_line(words: &[Token]) -> Option<Form>
+    ensures { result ≡ find (λ f. is_some (cut (parts f) words.now)) forms }
+{
+    FORMS
+        .iter()
+        .find(|form| is_line(form.parts(), words))
+        .copied()
+}
+
+// Whether the words are a line of the form.
+fn is_line(form: &[Part], words: &[Token]) -> bool
+    ensures { result ≡ is_some (cut form.now words.now) }
+{
     let mut start = 0;
-    for part in parts {
+    for part in form {
         let Some(count) = front(*part, &words[start..]) else {
-            return Ok(None);
+            return false;
         };
-        let end = start + count;
-        given.push(WordList::from_tokens(alloc, &words[start..end])?)?;
-        start = end;
+        start += count;
     }
-    Ok((start == words.len()).then_some(given))
+    start == words.len()
 }
 
 // The place of a fault, in one pass for each form.
@@ -73,7 +92,7 @@ fn begun_length(parts: &[Part], words: &[Token]) -> usize
 }
 
 // How many words at the front stand at the part.
-fn front(part: Part, words: &[Token]) -> Option<usize>
+pub(crate) fn front(part: Part, words: &[Token]) -> Option<usize>
     ensures value { result ≡ front part words.now }
     ensures within { IfSome result (λ m. m ≤ length words.now) }
     ensures ascii { IfSome result (λ m. All IsAscii (take m words.now)) }

@@ -1,40 +1,22 @@
 // The lines of a script and what they are read as.
 use crate::{
-    Command, FORMS, Form, Keyword, Kind, LineFault, Part, Word, WordList, counts_are_bounded,
-    forms_are_exact, forms_are_told_apart, read_command,
+    FORMS, Form, InterviewForm, Keyword, Kind, LineFault, Part, SettingForm, Word, WordList,
+    commands_read_back, counts_are_bounded, forms_are_exact, forms_are_told_apart, print_command,
+    read_command,
 };
 use std::alloc::{AllocError, Global};
 use std::test::Fail;
 
-// The words of a list, each behind a space.
-fn joined(alloc: Global, list: &WordList) -> Result<String, AllocError> {
-    let mut text = String::new(alloc);
-    for word in list.as_slice() {
-        text.push(' ')?;
-        text.push_str(word.as_str())?;
-    }
-    Ok(text)
-}
-
-// The command of a line, or the place of its fault.
+// The command of a line, printed, or the place of its fault.
 fn shown(alloc: Global, line: &str) -> Result<String, AllocError> {
     if line.len() > 100 {
         return String::from_str(alloc, "too long a line for a test");
     }
     match read_command(alloc, line.as_bytes()) {
-        Ok(Command::Nothing) => String::from_str(alloc, "nothing"),
-        Ok(Command::Items { names }) => format!(in alloc; "items{}", joined(alloc, &names)?),
-        Ok(Command::Yes { names, item }) => {
-            let names = joined(alloc, &names)?;
-            format!(in alloc; "yes{names} : {}", item.as_str())
+        Ok(command) => {
+            let text = print_command(alloc, &command)?;
+            String::from_str(alloc, str::from_utf8(&text).unwrap_or("no text"))
         }
-        Ok(Command::States { count, after: None }) => format!(in alloc; "states {count}"),
-        Ok(
-            Command::States {
-                count,
-                after: Some(word),
-            },
-        ) => { format!(in alloc; "states {count} after {}", word.as_str()) }
         Err(LineFault::Shape { place }) => format!(in alloc; "fault {place}"),
         Err(LineFault::Memory(error)) => Err(error),
     }
@@ -46,27 +28,60 @@ fn lines_are_read(rt: HostRuntime) -> Result<(), Fail> {
         ("yes a,b:c\r", "yes a b : c"),
         (" yes\ta , b :c", "yes a b : c"),
         ("yes : b", "yes : b"),
+        ("no after : a", "no after : a"),
+        ("known a,a:b", "known a a : b"),
         ("items", "items"),
         ("items a b.2 C-3 d_4", "items a b.2 C-3 d_4"),
-        ("items\r\r", "fault 1"),
+        ("load-items a.csv", "load-items a.csv"),
+        ("start surmise f", "start surmise f"),
+        ("start base f", "start base f"),
+        ("blocks 2", "blocks 2"),
+        ("retract 999999999", "retract 999999999"),
+        ("ask", "ask"),
         ("states", "states 65536"),
         ("states 0", "states 0"),
-        ("states 65536", "states 65536"),
+        ("states 2 after ~!", "states 2 after ~!"),
+        ("base", "base"),
+        ("surmise", "surmise"),
+        ("learning", "learning"),
+        ("project 7:a b", "project 7 : a b"),
+        ("project 7 after 3f : a", "project 7 after 3f : a"),
+        ("project-base a", "project-base a"),
+        ("test f", "test f"),
+        ("fringes", "fringes"),
+        ("state-of a|b c", "state-of a | b c"),
+        ("paths 3", "paths 3"),
+        ("paths 3 after", "paths 3 after"),
+        ("paths 3 after a b", "paths 3 after a b"),
+        ("odds 8 8", "odds 8 8"),
+        ("odds 8 8 9", "odds 8 8 9"),
+        ("limits 30 90", "limits 30 90"),
+        ("pupil ann", "pupil ann"),
+        ("question ann", "question ann"),
+        ("reply ann a right", "reply ann a right"),
+        ("reply ann a wrong", "reply ann a wrong"),
+        ("report ann", "report ann"),
+        ("close ann", "close ann"),
+        ("class f", "class f"),
+        ("save f", "save f"),
+        ("open f", "open f"),
+        ("", ""),
+        ("\r", ""),
+        (" ,, ", ""),
+        (" \t# note", ""),
+        ("items\r\r", "fault 1"),
+        (",# note", "fault 1"),
+        ("foo", "fault 1"),
+        ("Items", "fault 1"),
+        ("states x", "fault 2"),
         ("states 65537", "fault 2"),
         ("states 07", "fault 2"),
         ("states +7", "fault 2"),
         ("states 2 after", "fault 4"),
-        ("states 2 after ~!", "states 2 after ~!"),
-        ("states after a", "fault 2"),
-        ("", "nothing"),
-        ("\r", "nothing"),
-        (" ,, ", "nothing"),
-        (" \t# note", "nothing"),
-        (",# note", "fault 1"),
-        ("foo", "fault 1"),
-        ("Items", "fault 1"),
-        ("known a : b", "fault 1"),
-        ("states x", "fault 2"),
+        ("retract 1000000000", "fault 2"),
+        ("save .f", "fault 2"),
+        ("reply ann a Right", "fault 4"),
+        ("project 3 after : a", "fault 4"),
         ("yes a b", "fault 4"),
         ("yes a : b c", "fault 5"),
         ("yes a|b", "fault 3"),
@@ -87,21 +102,22 @@ fn each_call_succeeds(rt: HostRuntime) -> Result<(), Fail> {
     forms_are_exact();
     forms_are_told_apart();
     counts_are_bounded();
+    commands_read_back();
 
     let mut words = WordList::new(rt.alloc());
     assert!(rt; words.is_empty());
     words.push(Word::new(rt.alloc(), "item")?.copy()?)?;
     let copied = words.copy(rt.alloc())?;
     assert_eq!(rt; copied.len(), 1);
-    assert_eq!(rt; joined(rt.alloc(), &copied)?.as_str(), " item");
+    assert_eq!(rt; copied.as_slice()[0].as_str(), "item");
 
     assert!(rt; Kind::Name.takes(b"a-1"));
     assert!(rt; !Kind::Item.takes(b":"));
     assert_eq!(rt; Keyword::Colon.text(), ":");
-    assert_eq!(rt; FORMS[2], Form::Yes);
+    assert_eq!(rt; FORMS[12], Form::Interview(InterviewForm::Ask));
     assert!(rt;
         matches!(
-            Form::Items.parts(),
+            Form::Setting(SettingForm::Items).parts(),
             [Part::Fixed(Keyword::Items), Part::Many(Kind::Name)]
         )
     );

@@ -1,0 +1,106 @@
+// A line, cut by a form.
+ghost use Rattle.std.specs.Prelude.{◌≡◌, true, All, IfOk, is_some};
+ghost use Rattle.std.specs.Str.{IsAscii};
+ghost use Rattle.ls_lines.specs.Commands.{cut};
+ghost use Rattle.ls_lines.specs.Forms.{all, one, count, number, is_right};
+
+use crate::number::number_up_to;
+use crate::reading::front;
+use crate::token::Token;
+use crate::{MOST_COUNTED, MOST_NUMBER, Part, Word, WordList};
+use std::alloc::{AllocError, Global};
+use std::marker::Model;
+
+/// The words at each part of a form, which stay in the line; seen as these lists of words.
+#[derive(Drop)]
+pub(crate) struct Cut<'a> {
+    alloc: Global,
+    parts: Vec<&'a [Token<'a>]>,
+}
+
+impl<'a> Model for Cut<'a> {
+    ghost use Rattle.std.specs.Prelude.{List, ℕ, map};
+
+    ghost Value = { List (List (List ℕ)) };
+
+    ghost view = { λ c. map (λ p. p.now) c.parts.items };
+}
+
+impl<'a> Cut<'a> {
+    // The words at the parts of a form, of which they are a line.
+    pub(crate) fn new(
+        alloc: Global,
+        form: &[Part],
+        words: &'a [Token<'a>],
+    ) -> Result<Cut<'a>, AllocError>
+        requires { is_some (cut form.now words.now) ≡ true }
+        ensures words { IfOk result (λ c. cut form.now words.now ≡ Some c) }
+        ensures ascii { IfOk result (λ c. All (λ ws. All IsAscii ws) c) }
+    {
+        let mut parts = Vec::new(alloc);
+        let mut start = 0;
+        for part in form {
+            let end = start + front(*part, &words[start..]).unwrap();
+            parts.push(&words[start..end])?;
+            start = end;
+        }
+        Ok(Cut { alloc, parts })
+    }
+
+    // The words at a part.
+    pub(crate) fn all(&self, place: usize) -> Result<WordList, AllocError>
+        requires { All (λ ws. All IsAscii ws) self.now }
+        ensures { IfOk result (λ l. l ≡ all self.now place) }
+    {
+        WordList::from_tokens(self.alloc, self.at(place))
+    }
+
+    // The one word at a part.
+    pub(crate) fn one(&self, place: usize) -> Result<Word, AllocError>
+        requires { All (λ ws. All IsAscii ws) self.now }
+        ensures { IfOk result (λ w. w ≡ one self.now place) }
+    {
+        Word::from_ascii(self.alloc, self.word(place))
+    }
+
+    // The number of the one word at a part, which is a count.
+    pub(crate) fn count(&self, place: usize) -> u32
+        ensures { result ≡ count self.now place }
+    {
+        number_up_to(MOST_COUNTED, self.word(place)).unwrap_or(0)
+    }
+
+    // The number of the one word at a part.
+    pub(crate) fn number(&self, place: usize) -> u32
+        ensures { result ≡ number self.now place }
+    {
+        number_up_to(MOST_NUMBER, self.word(place)).unwrap_or(0)
+    }
+
+    // Whether the one word at a part is `right`.
+    pub(crate) fn is_right(&self, place: usize) -> bool
+        ensures { result ≡ is_right self.now place }
+    {
+        self.word(place) == "right".as_bytes()
+    }
+
+    // The words at a part, as they stand in the line.
+    fn at(&self, place: usize) -> &[Token<'a>]
+        ensures { result.now ≡ all self.now place }
+    {
+        if place >= self.parts.len() {
+            return &[];
+        }
+        self.parts[place]
+    }
+
+    // The bytes of the one word at a part.
+    fn word(&self, place: usize) -> &[u8]
+        ensures { result.now ≡ one self.now place }
+    {
+        match self.at(place) {
+            [] => &[],
+            [word, ..] => word.as_bytes(),
+        }
+    }
+}

@@ -1,0 +1,49 @@
+// What stands at a part of a form.
+ghost use Rattle.std.specs.Prelude.{◌≡◌, ◌++◌, ◌∷◌, [], OnOk};
+ghost use Rattle.ls_lines.specs.Operands.{shown, with_spaces};
+
+use crate::{Word, WordList};
+use std::alloc::{AllocError, Global};
+
+// What a command has at a part of its form that is no fixed word.
+#[derive(Debug, Drop)]
+pub(crate) enum Operand<'a> {
+    One(&'a Word),
+    Many(&'a WordList),
+    Count(u32),
+    Number(u64),
+    Right(bool),
+}
+
+impl<'a> Operand<'a> {
+    // Puts its words behind the text, each with a space behind it.
+    pub(crate) fn push_to(&self, alloc: Global, text: &mut Vec<u8>) -> Result<(), AllocError>
+        ensures { OnOk result (text.new.items ≡ text.old.items ++ with_spaces (shown self.now)) }
+    {
+        match self {
+            Operand::One(word) => push_word(text, word.as_str()),
+            Operand::Many(words) => push_words(text, words),
+            Operand::Count(count) => push_word(text, count.to_string(alloc)?.as_str()),
+            Operand::Number(number) => push_word(text, number.to_string(alloc)?.as_str()),
+            Operand::Right(right) => push_word(text, if *right { "right" } else { "wrong" }),
+        }
+    }
+}
+
+fn push_words(text: &mut Vec<u8>, words: &WordList) -> Result<(), AllocError>
+    ensures { OnOk result (text.new.items ≡ text.old.items ++ with_spaces words.now) }
+{
+    for word in words.as_slice() {
+        push_word(text, word.as_str())?;
+    }
+    Ok(())
+}
+
+// The word, with a space behind it.
+pub(crate) fn push_word(text: &mut Vec<u8>, word: &str) -> Result<(), AllocError>
+    ensures { OnOk result (text.new.items ≡ text.old.items ++ (word.now ++ 32 ∷ [])) }
+{
+    text.extend_from_slice(word.as_bytes())?;
+    text.push(b' ')?;
+    Ok(())
+}
