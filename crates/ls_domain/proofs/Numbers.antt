@@ -21,7 +21,7 @@ use Rattle.ls_set.specs.declared.item_set.TheConstants.{PLACES}
 use Rattle.ls_set.proofs.Sets.{members, same_set, has-full}
 use Rattle.ls_set.proofs.Firsts.{listed-has}
 use Rattle.ls_lines.specs.Lines.{Text}
-use Rattle.ls_lines.specs.declared.form.Part.TheVariants.{One}
+use Rattle.ls_lines.specs.declared.part.Part.TheVariants.{One}
 use Rattle.ls_lines.specs.declared.kind.Kind.TheVariants.{Name}
 use Rattle.ls_lines.proofs.Ascii.{front-ascii}
 use Rattle.ls_domain.specs.Texts.{name_of}

@@ -9,7 +9,9 @@ use Rattle.ls_lines.specs.Lines.{lines, words}
 use Rattle.ls_lines.specs.Kinds.{is_of}
 use Rattle.ls_lines.specs.Forms.{spelling, parts, command, forms}
 use Rattle.ls_lines.specs.Commands.{cut, is_begun, command_of, fault_place}
-use Rattle.ls_reply.specs.Texts.{line_of, bytes_of, names_of_set}
+use Rattle.ls_domain.specs.Texts.{names_of_set}
+use Rattle.ls_domain.specs.Domains.{names_from}
+use Rattle.ls_reply.specs.Texts.{line_of, bytes_of}
 use Rattle.std.specs.FinMap as map
 use Rattle.ls_reply.specs.Sessions.{started}
 use Rattle.ls_reply.specs.Scenes.{files_of}
@@ -18,7 +20,7 @@ use Rattle.ls_reply.specs.Transcripts.{replies, refuses, transcript, is_some_ref
 
 -- an example that opens this opens each word
 unfoldable answering : ℕ
-unfolding digits has empty full with union meet single differing is_within is_same bound items least comes_before cursor cursor_set read_cursor compat lines words is_of spelling parts command forms cut is_begun command_of fault_place line_of bytes_of names_of_set row line_answer replies refuses
+unfolding digits has empty full with union meet single differing is_within is_same bound items least comes_before cursor cursor_set read_cursor compat lines words is_of spelling parts command forms cut is_begun command_of fault_place line_of bytes_of names_of_set names_from row line_answer replies refuses
 answering = 0
 
 -- three items, the answer that who fails a fails b, and the six states that it leaves
@@ -30,7 +32,7 @@ not_refused : is_some_refused map.empty (codes "items a b c\nyes a : b\nstates\n
 unfolding answering
 not_refused = refl
 
-refused : transcript map.empty (codes "items a a\nitems a b\nitems c\nyes a : a\nyes z : a\nknown a : b") ≡ codes "no 49\nok 2\nno 49\nno 18\nno 15 2\nno 10 1\n"
+refused : transcript map.empty (codes "items a a\nitems a b\nitems c\nyes a : a\nyes z : a\nknown a : b") ≡ codes "no 12 repeat 2 1\nok 2\nno 11\nno 18\nno 15 2\nno 49\n"
 unfolding answering
 refused = refl
 
@@ -39,7 +41,7 @@ unfolding answering
 some_refused = refl
 
 -- no domain, no names, notes, carriage returns, and an item named after a command
-others : transcript map.empty (codes "states\nfoo\nyes a b\nitems\n\n# note\nitems yes no\r\nyes yes : no\nyes yes,yes:no\nyes no : maybe\nyes : no") ≡ codes "no 15 0\nno 10 1\nno 10 4\nno 49\nok 2\nok 1\nno 49\nno 15 4\nno 18\n"
+others : transcript map.empty (codes "states\nfoo\nyes a b\nitems\n\n# note\nitems yes no\r\nyes yes : no\nyes yes,yes:no\nyes no : maybe\nyes : no") ≡ codes "no 15 0\nno 10 1\nno 10 4\nno 12 none\nok 2\nok 1\nno 49\nno 15 4\nno 18\n"
 unfolding answering
 others = refl
 
@@ -64,3 +66,8 @@ pages = refl
 no_cursors : transcript map.empty (codes "states 1 after 0\nitems a b c\nstates 5 after 00\nstates 5 after g\nstates 5 after 1\nstates 5 before 0\nstates x") ≡ codes "no 15 0\nok 3\nno 24 length 2\nno 24 digit 1\nno 24 spare\nno 10 3\nno 10 2\n"
 unfolding answering
 no_cursors = refl
+
+-- what isn't built yet comes before the domain, and a missing file after it
+not_built : transcript map.empty (codes "ask\nload-items none\nitems a\nload-items none\nask\npaths 1 after") ≡ codes "no 49\nno 26\nok 1\nno 11\nno 49\nno 49\n"
+unfolding answering
+not_built = refl
