@@ -1,5 +1,6 @@
 pub mod Positions
 pub mod Numbers
 pub mod Rows
+pub mod Readings
 mod Records
 mod Joins

@@ -17,10 +17,10 @@ use Rattle.ls_domain.specs.declared.domain_fault.DomainFault.{DomainFault}
 use Rattle.ls_domain.specs.declared.domain_fault.DomainFault.TheVariants.{NoItems, BadCsv, BadName, Repeat, TooMany, Memory}
 use Rattle.ls_domain.proofs.Numbers.{is_named-some, item_of-some}
 
-same_Ok : {T E : Type 0} {a b : T} → ◌≡◌ {A = Result T E} (Ok a) (Ok b) → a ≡ b
+pub same_Ok : {T E : Type 0} {a b : T} → ◌≡◌ {A = Result T E} (Ok a) (Ok b) → a ≡ b
 same_Ok e = cc
 
-ok-err : {T E : Type 0} {a : T} {b : E} → ◌≡◌ {A = Result T E} (Ok a) (Err b) → ⊥
+pub ok-err : {T E : Type 0} {a : T} {b : E} → ◌≡◌ {A = Result T E} (Ok a) (Err b) → ⊥
 ok-err e = cc
 
 -- ---- one row
@@ -64,20 +64,23 @@ fault-none earlier w name new room =
     let test : nat_le PLACES (length earlier) ≡ false = grind (arith, nat_tests) in
     rw (name, new, test) refl
 
--- a name that nothing is wrong with has a place
-room : (earlier : List Text) (w : Text) → name_fault earlier w ≡ None → length earlier < PLACES
-room earlier w none =
-    elim (cases_Bool (nat_le PLACES (length earlier))) [
-      | inl full ↦
-          let full : PLACES ≤ length earlier = grind (arith, nat_tests) in
-          elim (cases_Bool (is_name w)) [
-            | inl name ↦ elim (cases_Bool (is_named earlier w)) [
-              | inl again ↦ absurd (none-some _ (sym none ∙ fault-repeat earlier w name again))
-              | inr new ↦ absurd (none-some _ (sym none ∙ fault-many earlier w name new full))
-            ]
-            | inr no_name ↦ absurd (none-some _ (sym none ∙ fault-no_name earlier w no_name))
-          ]
-      | inr below ↦ grind (arith, nat_tests)
+-- what holds of a name that nothing is wrong with
+pub record IsFree (earlier : List Text) (w : Text) : Type 0 where
+  pub name : is_name w ≡ true
+  pub new : is_named earlier w ≡ false
+  pub room : length earlier < PLACES
+
+pub free : (earlier : List Text) (w : Text) → name_fault earlier w ≡ None → IsFree earlier w
+free earlier w none =
+    elim (cases_Bool (is_name w)) [
+      | inl name ↦ elim (cases_Bool (is_named earlier w)) [
+        | inl again ↦ absurd (none-some _ (sym none ∙ fault-repeat earlier w name again))
+        | inr new ↦ elim (cases_Bool (nat_le PLACES (length earlier))) [
+          | inl full ↦ absurd (none-some _ (sym none ∙ fault-many earlier w name new (grind (arith, nat_tests))))
+          | inr below ↦ record { name = name; new = new; room = grind (arith, nat_tests) }
+        ]
+      ]
+      | inr no_name ↦ absurd (none-some _ (sym none ∙ fault-no_name earlier w no_name))
     ]
 
 -- ---- all rows
@@ -109,7 +112,7 @@ names_from-take (suc n) earlier (Some w ∷ rows) above within =
     elim (name_fault earlier w) as (λ o. name_fault earlier w ≡ o → names_from earlier (Some w ∷ take n rows) ≡ names_from earlier (Some w ∷ rows)) [
       | None ↦ λ f.
           let longer = length-append earlier (w ∷ []) in
-          let place = room earlier w f in
+          let place = (free earlier w f).room in
           names_from-next earlier w (take n rows) f
           ∙ names_from-take n (earlier ++ w ∷ []) rows (omega (arith, longer, place)) (omega (arith, longer, place))
           ∙ sym (names_from-next earlier w rows f)

@@ -11,7 +11,7 @@ mod unknown_at;
 
 pub use domain::Domain;
 pub use domain_fault::DomainFault;
-pub use laws::names_and_numbers_agree;
+pub use laws::{domains_are_read, names_and_numbers_agree};
 pub use unknown_at::UnknownAt;
 
 #[cfg(test)]

@@ -1,7 +1,6 @@
 // Domains that are read, and sets that are read and printed.
-use crate::{Domain, DomainFault, UnknownAt, names_and_numbers_agree};
+use crate::{Domain, DomainFault, domains_are_read, names_and_numbers_agree};
 use ls_lines::{Word, WordList};
-use ls_set::ItemSet;
 use std::alloc::{AllocError, Global};
 use std::test::Fail;
 
@@ -61,6 +60,7 @@ fn tables_are_read(rt: HostRuntime) -> Result<(), Fail> {
 
 #[test]
 fn words_are_read(rt: HostRuntime) -> Result<(), Fail> {
+    domains_are_read();
     names_and_numbers_agree();
     for (texts, want) in [
         (["b", "a", "c.2"].as_slice(), " b a c.2"),
@@ -74,24 +74,24 @@ fn words_are_read(rt: HostRuntime) -> Result<(), Fail> {
     Ok(())
 }
 
+// The set of the words, within braces and then once more without.
+fn printed(alloc: Global, domain: &Domain, texts: &[&str]) -> Result<Vec<u8>, Fail> {
+    let set = domain.read_set(&words(alloc, texts)?)?;
+    let mut out = Vec::new(alloc);
+    domain.print_set(set, &mut out)?;
+    domain.push_names(set, &mut out)?;
+    Ok(out)
+}
+
 #[test]
 fn sets_are_read_and_printed(rt: HostRuntime) -> Result<(), Fail> {
-    let domain = Domain::from_names(rt.alloc(), &words(rt.alloc(), &["b", "a", "c"])?)?;
-    let domain = domain.copy()?;
-    assert_eq!(rt; (domain.number("a"), domain.number("d")), (Some(1), None));
-    let two = domain.read_set(&words(rt.alloc(), &["c", "b", "c"])?);
-    let unknown = domain.read_set(&words(rt.alloc(), &["c", "d", "e"])?);
-    assert_eq!(rt;
-        (two, unknown),
-        (
-            Ok(ItemSet::empty().with(0).with(2)),
-            Err(UnknownAt { index: 1 })
-        )
-    );
-    let mut out = Vec::new(rt.alloc());
-    domain.print_set(two?, &mut out)?;
-    domain.print_set(ItemSet::empty(), &mut out)?;
-    domain.push_names(two?, &mut out)?;
-    assert_eq!(rt; out.as_slice(), b"{b c}{}b c".as_slice());
+    let domain = Domain::from_names(rt.alloc(), &words(rt.alloc(), &["b", "a", "c"])?)?.copy()?;
+    for (texts, want) in [
+        (["c", "b", "c"].as_slice(), b"{b c}b c".as_slice()),
+        (&["a"], b"{a}a"),
+        (&[], b"{}"),
+    ] {
+        assert_eq!(rt; printed(rt.alloc(), &domain, texts)?.as_slice(), want);
+    }
     Ok(())
 }
