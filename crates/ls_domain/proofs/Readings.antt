@@ -10,7 +10,7 @@ use Rattle.std.proofs.lemmas.List.Folds.{list_all-append}
 use Rattle.std.proofs.lemmas.Option.{none-some, same_Some}
 use Rattle.ls_set.specs.declared.item_set.TheConstants.{PLACES}
 use Rattle.ls_lines.specs.Lines.{Text}
-use Rattle.ls_lines.proofs.Ascii.{both}
+use Rattle.std.proofs.lemmas.Bool.{and_parts}
 use Rattle.ls_domain.specs.Meanings.{is_named}
 use Rattle.ls_domain.specs.Domains.{AreNames, IsDomain, Row, first_field, is_name, name_fault, names_from, names_of, names_of_table, names_of_words, row_of, rows_of, table_records, width_of}
 use Rattle.ls_domain.specs.declared.domain_fault.DomainFault.{DomainFault}
@@ -85,7 +85,7 @@ absent (v ∷ earlier) rest w distinct =
 names_from-again : (earlier rest : List Text) → AreNames (earlier ++ rest) → names_from earlier (map Some rest) ≡ Ok (earlier ++ rest)
 names_from-again earlier [] are = names_from-nil earlier ∙ ap (λ l. Ok l) (sym (append-nil earlier))
 names_from-again earlier (w ∷ rest) are =
-    let name = (both (is_name w) (list_all is_name rest) (both (list_all is_name earlier) (list_all is_name (w ∷ rest)) (sym (list_all-append is_name earlier (w ∷ rest)) ∙ are.named)).1).0 in
+    let name = (and_parts (is_name w) (list_all is_name rest) (and_parts (list_all is_name earlier) (list_all is_name (w ∷ rest)) (sym (list_all-append is_name earlier (w ∷ rest)) ∙ are.named)).1).0 in
     let room : length earlier < PLACES = omega (arith, length-append earlier (w ∷ rest), are.few) in
     let same = append_assoc earlier (w ∷ []) rest in
     names_from-next earlier w (map Some rest) (fault-none earlier w name (absent earlier rest w are.distinct) room)

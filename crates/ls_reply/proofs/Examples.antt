@@ -1,5 +1,5 @@
 -- Examples: whole scripts, byte for byte.
-use Rattle.std.proofs.Common.{◌≡◌, refl, true, false, [], codes, replicate}
+use Rattle.std.proofs.Common.{◌≡◌, refl, true, false, [], ◌∷◌, codes, replicate}
 use Rattle.std.specs.Fmt.{digits}
 use Rattle.std.specs.Prelude.{ℕ}
 use Rattle.ls_set.specs.ItemSet.{has, empty, full, with, union, meet, single, differing, is_within, is_same, bound, items, least, comes_before}
@@ -14,7 +14,7 @@ use Rattle.ls_domain.specs.Domains.{names_from}
 use Rattle.ls_reply.specs.Texts.{line_of, bytes_of}
 use Rattle.std.specs.FinMap as map
 use Rattle.ls_reply.specs.Sessions.{started}
-use Rattle.ls_reply.specs.Scenes.{files_of}
+use Rattle.ls_reply.specs.Scenes.{files_of, Missing, TooLarge, Failed}
 use Rattle.ls_reply.specs.Replies.{row, line_answer, reply}
 use Rattle.ls_reply.specs.Transcripts.{replies, refuses, transcript, is_some_refused}
 
@@ -67,7 +67,24 @@ no_cursors : transcript map.empty (codes "states 1 after 0\nitems a b c\nstates 
 unfolding answering
 no_cursors = refl
 
--- what isn't built yet comes before the domain, and a missing file after it
-not_built : transcript map.empty (codes "ask\nload-items none\nitems a\nload-items none\nask\npaths 1 after") ≡ codes "no 49\nno 26\nok 1\nno 11\nno 49\nno 49\n"
+-- what isn't built yet comes before the domain
+not_built : transcript map.empty (codes "ask\nitems a\nask\npaths 1 after\nload-items a b") ≡ codes "no 49\nok 1\nno 49\nno 49\nno 10 3\n"
 unfolding answering
 not_built = refl
+
+-- a file that is missing, is too large, or can't be fetched; and one that isn't looked for
+missing : reply (started []) (λ name. Missing) (codes "load-items none") ≡ codes "no 26\n"
+unfolding answering
+missing = refl
+
+too_large : reply (started []) (λ name. TooLarge 16777217) (codes "load-items i") ≡ codes "no 28 16777217\n"
+unfolding answering
+too_large = refl
+
+failed : reply (started []) (λ name. Failed) (codes "load-items i") ≡ codes "no 27\n"
+unfolding answering
+failed = refl
+
+standing : reply (started (codes "a" ∷ [])) (λ name. Failed) (codes "load-items i") ≡ codes "no 11\n"
+unfolding answering
+standing = refl
