@@ -9,3 +9,4 @@ pub mod Listed
 pub mod LineAnswers
 pub mod Taken
 pub mod Seen
+pub mod Beginnings

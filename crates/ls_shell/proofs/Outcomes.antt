@@ -79,6 +79,26 @@ pub decimal_10 : decimal 10 ≡ codes "10"
 unfolding digits
 decimal_10 = refl
 
+pub decimal_11 : decimal 11 ≡ codes "11"
+unfolding digits
+decimal_11 = refl
+
+pub decimal_12 : decimal 12 ≡ codes "12"
+unfolding digits
+decimal_12 = refl
+
+pub decimal_26 : decimal 26 ≡ codes "26"
+unfolding digits
+decimal_26 = refl
+
+pub decimal_27 : decimal 27 ≡ codes "27"
+unfolding digits
+decimal_27 = refl
+
+pub decimal_28 : decimal 28 ≡ codes "28"
+unfolding digits
+decimal_28 = refl
+
 pub decimal_15 : decimal 15 ≡ codes "15"
 unfolding digits
 decimal_15 = refl

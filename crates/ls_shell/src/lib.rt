@@ -1,8 +1,10 @@
 //! The session and the top call.
 #![tactic(auto)]
 
+mod cursors;
+mod domains;
+mod files;
 mod listing;
-mod meaning;
 mod print;
 mod reading;
 mod run;

@@ -1,22 +1,21 @@
 // Listings of the members of a family, written set by set.
-ghost use Rattle.std.specs.Prelude.{◌≡◌, ◌≤◌, ◌+◌, ◌*◌, ◌∷◌, [], IfOk, OnOk, length, codes, decimal, if◌then◌else◌};
+ghost use Rattle.std.specs.Prelude.{◌≡◌, ◌≤◌, ◌+◌, ◌*◌, ◌∷◌, [], IfOk, OnOk, length, codes, if◌then◌else◌};
 ghost use Rattle.std.specs.Io.KnownBytes.{Appends};
 ghost use Rattle.std.specs.Option.{ForSome};
 ghost use Rattle.ls_set.specs.ItemSet.{full, IsWithin, comes_before};
 ghost use Rattle.ls_theory.specs.Pages.{page};
 ghost use Rattle.ls_reply.specs.Texts.{line_of, bytes_of};
-ghost use Rattle.ls_reply.specs.Cursors.{fault_words};
 ghost use Rattle.ls_reply.specs.Rows.{set_words, page_lines};
 ghost use Rattle.ls_shell.specs.Sayings.{Said, MovesSink};
 
 use crate::StepFault;
 use crate::print::push_set_line;
 use crate::say::say;
+use ls_domain::Domain;
 use ls_edge::{Sink, write_whole};
 use ls_enum::first_left;
 use ls_interior::{Counted, Inside, Interior, Steps};
-use ls_lines::Word;
-use ls_set::{CursorFault, ItemSet, PLACES};
+use ls_set::ItemSet;
 use std::alloc::Global;
 use std::marker::Brand;
 use std::sync::ledger::{Blank, Ledger};
@@ -25,44 +24,42 @@ use std::sync::ledger::{Blank, Ledger};
 pub fn write_listing<F: Inside, K: Sink>(
     alloc: Global,
     f: &F,
-    names: &[Word],
+    domain: &Domain,
     after: Option<ItemSet>,
     count: u32,
     out: &mut K,
 ) -> Result<bool, StepFault>
-    requires items { F.item_count f.now ≡ length names.now }
-    requires few { length names.now ≤ PLACES }
-    requires after { ForSome after (λ w. IsWithin w (full (length names.now))) }
-    ensures said { IfOk result (Said (K.written out.old) (K.written out.new) (bytes_of (page_lines names.now (page comes_before (F.members f.now) after count)))) }
+    requires items { F.item_count f.now ≡ length domain.now }
+    requires after { ForSome after (λ w. IsWithin w (full (length domain.now))) }
+    ensures said { IfOk result (Said (K.written out.old) (K.written out.new) (bytes_of (page_lines domain.now (page comes_before (F.members f.now) after count)))) }
     ensures sink { MovesSink (K.written out.old) (K.written out.new) (K.faults out.old) (K.faults out.new) result }
 {
-    write_counted::<F, K, Brand>(alloc, f, names, after, count, out, Blank::new(1))
+    write_counted::<F, K, Brand>(alloc, f, domain, after, count, out, Blank::new(1))
 }
 
 // The same, with a count of steps.
 fn write_counted<F: Inside, K: Sink, L: Ledger>(
     alloc: Global,
     f: &F,
-    names: &[Word],
+    domain: &Domain,
     after: Option<ItemSet>,
     count: u32,
     out: &mut K,
     blank: Blank,
 ) -> Result<bool, StepFault>
-    requires items { F.item_count f.now ≡ length names.now }
-    requires few { length names.now ≤ PLACES }
-    requires after { ForSome after (λ w. IsWithin w (full (length names.now))) }
+    requires items { F.item_count f.now ≡ length domain.now }
+    requires after { ForSome after (λ w. IsWithin w (full (length domain.now))) }
     requires name { blank.name ≡ L.name }
     requires parts { blank.parts ≡ L.parts }
     requires one { blank.parts ≡ 1 }
-    ensures said { IfOk result (Said (K.written out.old) (K.written out.new) (bytes_of (page_lines names.now (page comes_before (F.members f.now) after count)))) }
+    ensures said { IfOk result (Said (K.written out.old) (K.written out.new) (bytes_of (page_lines domain.now (page comes_before (F.members f.now) after count)))) }
     ensures sink { MovesSink (K.written out.old) (K.written out.new) (K.faults out.old) (K.faults out.new) result }
 {
     let mut steps = Steps::<L>::new(blank);
     write_page(
         alloc,
         &Counted::new(f),
-        names,
+        domain,
         after,
         count,
         out,
@@ -74,16 +71,15 @@ fn write_counted<F: Inside, K: Sink, L: Ledger>(
 fn write_page<I: Interior, K: Sink, L: Ledger>(
     alloc: Global,
     f: &I,
-    names: &[Word],
+    domain: &Domain,
     after: Option<ItemSet>,
     count: u32,
     out: &mut K,
     steps: &mut Steps<L>,
 ) -> Result<bool, StepFault>
-    requires items { I.item_count f.now ≡ length names.now }
-    requires few { length names.now ≤ PLACES }
-    requires after { ForSome after (λ w. IsWithin w (full (length names.now))) }
-    ensures said { IfOk result (Said (K.written out.old) (K.written out.new) (bytes_of (page_lines names.now (page comes_before (I.members f.now) after count)))) }
+    requires items { I.item_count f.now ≡ length domain.now }
+    requires after { ForSome after (λ w. IsWithin w (full (length domain.now))) }
+    ensures said { IfOk result (Said (K.written out.old) (K.written out.new) (bytes_of (page_lines domain.now (page comes_before (I.members f.now) after count)))) }
     ensures sink { MovesSink (K.written out.old) (K.written out.new) (K.faults out.old) (K.faults out.new) result }
     ensures cost { steps.new ≤ steps.old + (count + 1) * (I.item_count f.now + 1) }
 {
@@ -93,7 +89,7 @@ fn write_page<I: Interior, K: Sink, L: Ledger>(
         let Some(set) = first_left(f, cursor, steps) else {
             return say_more(alloc, false, out);
         };
-        write_set(alloc, names, set, &mut line, out)?;
+        write_set(alloc, domain, set, &mut line, out)?;
         cursor = Some(set);
     }
     let is_more = first_left(f, cursor, steps).is_some();
@@ -103,18 +99,17 @@ fn write_page<I: Interior, K: Sink, L: Ledger>(
 // Writes the line of a set, which is made in the given room.
 fn write_set<K: Sink>(
     alloc: Global,
-    names: &[Word],
+    domain: &Domain,
     set: ItemSet,
     line: &mut Vec<u8>,
     out: &mut K,
 ) -> Result<(), StepFault>
-    requires few { length names.now ≤ PLACES }
-    requires within { IsWithin set (full (length names.now)) }
-    ensures written { OnOk result (Appends (K.written out.old) (K.written out.new) (line_of (set_words names.now set))) }
+    requires within { IsWithin set (full (length domain.now)) }
+    ensures written { OnOk result (Appends (K.written out.old) (K.written out.new) (line_of (set_words domain.now set))) }
     ensures sink { MovesSink (K.written out.old) (K.written out.new) (K.faults out.old) (K.faults out.new) result }
 {
     line.clear();
-    push_set_line(alloc, names, set, line)?;
+    push_set_line(domain, set, line)?;
     write_whole(out, line)?;
     Ok(())
 }
@@ -126,34 +121,4 @@ fn say_more<K: Sink>(alloc: Global, is_more: bool, out: &mut K) -> Result<bool, 
 {
     let answer: &[u8] = if is_more { b"yes" } else { b"no" };
     say(alloc, &[b"more", answer], out)
-}
-
-/// Writes the refusal of a text that is no cursor.
-pub fn refuse_cursor<K: Sink>(
-    alloc: Global,
-    fault: CursorFault,
-    out: &mut K,
-) -> Result<bool, StepFault>
-    ensures said { IfOk result (Said (K.written out.old) (K.written out.new) (line_of (codes "no" ∷ codes "24" ∷ fault_words fault))) }
-    ensures sink { MovesSink (K.written out.old) (K.written out.new) (K.faults out.old) (K.faults out.new) result }
-{
-    match fault {
-        CursorFault::Length { had } => refuse_with(alloc, b"length", had, out),
-        CursorFault::Digit { place } => refuse_with(alloc, b"digit", place, out),
-        CursorFault::Spare => say(alloc, &[b"no", b"24", b"spare"], out),
-    }
-}
-
-// A fault of a cursor with a number.
-fn refuse_with<K: Sink>(
-    alloc: Global,
-    fault: &[u8],
-    number: usize,
-    out: &mut K,
-) -> Result<bool, StepFault>
-    ensures said { IfOk result (Said (K.written out.old) (K.written out.new) (line_of (codes "no" ∷ codes "24" ∷ fault.now ∷ decimal number ∷ []))) }
-    ensures sink { MovesSink (K.written out.old) (K.written out.new) (K.faults out.old) (K.faults out.new) result }
-{
-    let number = number.to_string(alloc)?;
-    say(alloc, &[b"no", b"24", fault, number.as_bytes()], out)
 }

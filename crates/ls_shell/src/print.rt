@@ -1,13 +1,13 @@
 // The lines of replies.
-ghost use Rattle.std.specs.Prelude.{◌≡◌, ◌<◌, ◌≤◌, ◌++◌, ◌∷◌, [], map, length, OnOk, IfOk, if◌then◌else◌};
+ghost use Rattle.std.specs.Prelude.{◌≡◌, ◌++◌, ◌∷◌, [], map, length, OnOk, if◌then◌else◌};
 ghost use Rattle.std.specs.List.{join_with_byte};
 ghost use Rattle.ls_set.specs.ItemSet.{full, IsWithin};
-ghost use Rattle.ls_reply.specs.Texts.{line_of, set_text, names_of_set};
+ghost use Rattle.ls_reply.specs.Texts.{line_of};
 ghost use Rattle.ls_reply.specs.Rows.{set_words};
 
-use ls_lines::Word;
+use ls_domain::Domain;
 use ls_set::{ItemSet, PLACES, cursor_length};
-use std::alloc::{AllocError, Global};
+use std::alloc::AllocError;
 
 // How many digits a cursor has at most.
 const MOST_DIGITS: usize = (PLACES as usize + 3) / 4;
@@ -42,53 +42,20 @@ pub fn push_line(words: &[&[u8]], out: &mut Vec<u8>) -> Result<(), AllocError>
     Ok(())
 }
 
-// The names of a set's items, in the order of items.
-#[tactic(auto, unfolding(ls_reply::specs::Texts::names_of_set))]
-fn names_of_set(alloc: Global, names: &[Word], s: ItemSet) -> Result<Vec<&[u8]>, AllocError>
-    requires few { length names.now ≤ PLACES }
-    requires within { IsWithin s (full (length names.now)) }
-    ensures { IfOk result (λ v. map (λ w. w.now) v.items ≡ names_of_set names.now s) }
-{
-    let mut words = Vec::new(alloc);
-    for i in s.items() {
-        words.push(names[i as usize].as_str().as_bytes())?;
-    }
-    Ok(words)
-}
-
-/// Appends a set: the names of its items in braces, joined by single spaces.
-pub fn push_set(
-    alloc: Global,
-    names: &[Word],
-    s: ItemSet,
-    out: &mut Vec<u8>,
-) -> Result<(), AllocError>
-    requires few { length names.now ≤ PLACES }
-    requires within { IsWithin s (full (length names.now)) }
-    ensures { OnOk result (out.new.items ≡ out.old.items ++ set_text names.now s) }
-{
-    let words = names_of_set(alloc, names, s)?;
-    out.push(b'{')?;
-    push_joined(&words, out)?;
-    out.push(b'}')?;
-    Ok(())
-}
-
 /// Appends the line of a set: its cursor and its names.
-pub fn push_set_line(
-    alloc: Global,
-    names: &[Word],
-    s: ItemSet,
-    out: &mut Vec<u8>,
-) -> Result<(), AllocError>
-    requires few { length names.now ≤ PLACES }
-    requires within { IsWithin s (full (length names.now)) }
-    ensures { OnOk result (out.new.items ≡ out.old.items ++ line_of (set_words names.now s)) }
+#[tactic(auto, unfolding(ls_reply::specs::Texts::line_of))]
+pub fn push_set_line(domain: &Domain, s: ItemSet, out: &mut Vec<u8>) -> Result<(), AllocError>
+    requires { IsWithin s (full (length domain.now)) }
+    ensures { OnOk result (out.new.items ≡ out.old.items ++ line_of (set_words domain.now s)) }
 {
+    let n = domain.count();
     let mut digits = [0u8; MOST_DIGITS];
-    let cursor = &mut digits[..cursor_length(names.len() as u32)];
-    s.to_cursor(names.len() as u32, cursor);
-    let mut set = Vec::new(alloc);
-    push_set(alloc, names, s, &mut set)?;
-    push_line(&[b"set", cursor, &set], out)
+    let cursor = &mut digits[..cursor_length(n)];
+    s.to_cursor(n, cursor);
+    out.extend_from_slice(b"set ")?;
+    out.extend_from_slice(cursor)?;
+    out.push(b' ')?;
+    domain.print_set(s, out)?;
+    out.push(b'\n')?;
+    Ok(())
 }

@@ -6,6 +6,7 @@ ghost use Rattle.ls_shell.specs.Sayings.{Said, MovesSink};
 use crate::StepFault;
 use crate::print::push_line;
 use ls_edge::{Sink, write_whole};
+use ls_lines::Command;
 use std::alloc::Global;
 
 /// Writes a line, the words joined by single spaces, and says whether it begins with `no `.
@@ -31,4 +32,13 @@ pub fn refuse_at<K: Sink>(
 {
     let place = place.to_string(alloc)?;
     say(alloc, &[b"no", code, place.as_bytes()], out)
+}
+
+/// Writes the refusal of a command that isn't built yet, and lets the command go.
+pub fn refuse_unbuilt<K: Sink>(alloc: Global, command: Command, out: &mut K) -> Result<bool, StepFault>
+    ensures said { IfOk result (Said (K.written out.old) (K.written out.new) (line_of (codes "no" ∷ codes "49" ∷ []))) }
+    ensures sink { MovesSink (K.written out.old) (K.written out.new) (K.faults out.old) (K.faults out.new) result }
+{
+    drop(command);
+    say(alloc, &[b"no", b"49"], out)
 }

@@ -1,25 +1,27 @@
 // A session.
-ghost use Rattle.std.specs.Prelude.{◌^◌, IfOk, IfErr, Some, ◌≡◌, ◌<◌, ◌≤◌, ◌||◌, true, List, ℕ, [], ◌∷◌, slice_get, length, OnOk};
-ghost use Rattle.std.specs.Option.{ForSome};
-ghost use Rattle.ls_set.specs.ItemSet.{full, IsWithin};
+ghost use Rattle.std.specs.Prelude.{◌≡◌, ◌||◌, true, List, ℕ, [], ◌∷◌, length, decimal, IfOk};
 ghost use Rattle.ls_lines.specs.Lines.{is_long};
 ghost use Rattle.ls_lines.specs.declared.command.Command.TheVariants as command;
-ghost use Rattle.ls_reply.specs.Sessions.{started, has_domain};
+ghost use Rattle.ls_domain.specs.Domains.{names_of_table};
+ghost use Rattle.ls_reply.specs.Sessions.{started};
 ghost use Rattle.ls_reply.specs.Scenes.{Files};
-ghost use Rattle.ls_reply.specs.Cursors.{cursor_set, cursor_faults, fault_words};
-ghost use Rattle.ls_reply.specs.Rows.{is_no_domain, items_row, query_of, query_row, answer_row, states_row, is_full, stands};
-ghost use Rattle.ls_reply.specs.Replies.{command_answer, line_answer, unnamed_at, within_domain};
+ghost use Rattle.ls_reply.specs.Refusals.{becomes};
+ghost use Rattle.ls_reply.specs.Rows.{items_row, begins_with, load_items_row, query_row, answer_row, states_row, is_full, stands};
+ghost use Rattle.ls_reply.specs.Replies.{command_answer, line_answer, within_domain};
 ghost use Rattle.ls_shell.specs.Sayings.{Gives, Steps, LeavesShelf, MovesSink, row_answer};
 
 use crate::StepFault;
-use crate::listing::{refuse_cursor, write_listing};
-use crate::meaning::{is_no_domain, item_of, items_of, unnamed_place};
-use crate::say::{refuse_at, say};
+use crate::domains::{query_of, refuse_domain};
+use crate::cursors::{cursor_set, refuse_cursor};
+use crate::files::refuse_fetch;
+use crate::listing::write_listing;
+use crate::say::{refuse_at, refuse_unbuilt, say};
+use ls_domain::Domain;
 use ls_edge::{Shelf, Sink};
-use ls_interior::Free;
+use ls_interior::{Free, Inside};
 use ls_lines::{Command, LONGEST_LINE, LineFault, Word, WordList, read_command};
 use ls_rules::Ruled;
-use ls_set::{CursorFault, ItemSet, Query};
+use ls_set::Query;
 use ls_theory::Answer;
 use std::alloc::Global;
 use std::marker::Model;
@@ -27,12 +29,12 @@ use std::marker::Model;
 /// The most answers that stand.
 const MOST_ANSWERS: usize = 8192;
 
-/// The names of the items, none where no domain stands; the standing answers; the next answer's number; and the
-/// family of the sets that the Yes answers leave.
+/// The names of the items, if a domain stands; the standing answers; the next answer's number; and the family of the
+/// sets that the Yes answers leave.
 #[derive(Drop)]
 pub struct Session {
     alloc: Global,
-    names: WordList,
+    domain: Option<Domain>,
     answers: Vec<Answer>,
     next: u64,
     family: Ruled<Free>,
@@ -40,18 +42,18 @@ pub struct Session {
 
 impl Model for Session {
     ghost use Rattle.ls_reply.specs.Sessions.{Session as State};
-    ghost use Rattle.std.specs.Prelude.{length};
+    ghost use Rattle.std.specs.Prelude.{length, unwrap_or, []};
     ghost use Rattle.ls_theory.specs.Starts.{Free};
     ghost use Rattle.ls_shell.specs.Kept.{IsKept};
 
     ghost Value = { State };
 
     ghost view = { λ s. record {
-      names = s.names;
-      interview = record { count = length s.names; start = Free; block = 1; answers = s.answers.items; next = s.next };
+      names = unwrap_or s.domain [];
+      interview = record { count = length (unwrap_or s.domain []); start = Free; block = 1; answers = s.answers.items; next = s.next };
     } };
 
-    ghost invariant = { λ s. IsKept s.names s.answers.items s.next s.family.inner s.family.rules };
+    ghost invariant = { λ s. IsKept s.domain s.answers.items s.next s.family.inner s.family.rules };
 }
 
 impl Session {
@@ -61,7 +63,7 @@ impl Session {
     {
         Session {
             alloc,
-            names: WordList::new(alloc),
+            domain: None,
             answers: Vec::new(alloc),
             next: 1,
             family: Ruled::new(alloc, Free::new(0)),
@@ -114,51 +116,71 @@ impl Session {
     {
         match command {
             Command::Nothing => Ok(false),
-            Command::Items { names } => self.begin(names, out),
+            Command::Items { names } => self.begin(&names, out),
+            Command::LoadItems { file } => self.load(&file, out, shelf),
             Command::Yes { names, item } => self.answer(&names, &item, out),
             Command::States { count, after } => self.list(count, &after, out),
+            other => refuse_unbuilt(self.alloc, other, out),
         }
     }
 
     // `items NAMES`
-    fn begin<K: Sink>(&mut self, names: WordList, out: &mut K) -> Result<bool, StepFault>
-        ensures answered { IfOk result (Gives (row_answer self.old (items_row self.old names)) self.new (K.written out.old) (K.written out.new)) }
+    fn begin<K: Sink>(&mut self, names: &WordList, out: &mut K) -> Result<bool, StepFault>
+        ensures answered { IfOk result (Gives (row_answer self.old (items_row self.old names.now)) self.new (K.written out.old) (K.written out.new)) }
         ensures sink { MovesSink (K.written out.old) (K.written out.new) (K.faults out.old) (K.faults out.new) result }
     {
-        if self.cannot_begin(&names) {
-            return say(self.alloc, &[b"no", b"49"], out);
+        if self.domain.is_some() {
+            return say(self.alloc, &[b"no", b"11"], out);
         }
-        let count = names.len().to_string(self.alloc)?;
-        self.family = Ruled::new(self.alloc, Free::new(names.len() as u32));
-        self.names = names;
+        match Domain::from_names(self.alloc, names) {
+            Ok(domain) => self.start(domain, out),
+            Err(fault) => refuse_domain(self.alloc, fault, out),
+        }
+    }
+
+    // `load-items FILE`
+    fn load<K: Sink, H: Shelf>(
+        &mut self,
+        file: &Word,
+        out: &mut K,
+        shelf: &mut H,
+    ) -> Result<bool, StepFault>
+        ensures answered { IfOk result (Steps (λ files. row_answer self.old (load_items_row self.old (files file.now))) self.new (H.files shelf.old) (H.faults shelf.old) (H.faults shelf.new) (K.written out.old) (K.written out.new)) }
+        ensures shelf { LeavesShelf (H.files shelf.old) (H.files shelf.new) (H.faults shelf.old) (H.faults shelf.new) }
+        ensures sink { MovesSink (K.written out.old) (K.written out.new) (K.faults out.old) (K.faults out.new) result }
+    {
+        if self.domain.is_some() {
+            return say(self.alloc, &[b"no", b"11"], out);
+        }
+        match shelf.fetch(file.as_str()) {
+            Ok(bytes) => self.read_table(&bytes, out),
+            Err(fault) => refuse_fetch(self.alloc, fault, out),
+        }
+    }
+
+    // Begins with the names of a table.
+    fn read_table<K: Sink>(&mut self, bytes: &[u8], out: &mut K) -> Result<bool, StepFault>
+        ensures answered { IfOk result (Gives (row_answer self.old (begins_with self.old (names_of_table bytes.now))) self.new (K.written out.old) (K.written out.new)) }
+        ensures sink { MovesSink (K.written out.old) (K.written out.new) (K.faults out.old) (K.faults out.new) result }
+    {
+        match Domain::from_csv(self.alloc, bytes) {
+            Ok(domain) => self.start(domain, out),
+            Err(fault) => refuse_domain(self.alloc, fault, out),
+        }
+    }
+
+    // Begins with a domain.
+    fn start<K: Sink>(&mut self, domain: Domain, out: &mut K) -> Result<bool, StepFault>
+        ensures answered { IfOk result (Gives (becomes (started domain) (decimal (length domain) ∷ [])) self.new (K.written out.old) (K.written out.new)) }
+        ensures sink { MovesSink (K.written out.old) (K.written out.new) (K.faults out.old) (K.faults out.new) result }
+    {
+        let count = domain.count();
+        let text = count.to_string(self.alloc)?;
+        self.family = Ruled::new(self.alloc, Free::new(count));
+        self.domain = Some(domain);
         self.answers = Vec::new(self.alloc);
         self.next = 1;
-        say(self.alloc, &[b"ok", count.as_bytes()], out)
-    }
-
-    fn cannot_begin(&self, names: &WordList) -> bool
-        ensures { result ≡ (has_domain self.now || is_no_domain names.now) }
-    {
-        !self.names.is_empty() || is_no_domain(names.as_slice())
-    }
-
-    // The query of `yes NAMES : ITEM`, or the place of the first word that must name an item and doesn't.
-    fn query_of(&self, names: &WordList, item: &Word) -> Result<Query, usize>
-        ensures query { IfOk result (λ r. r ≡ query_of self.now.names names.now item.now) }
-        ensures named { OnOk result (unnamed_at self.now (command.Yes names.now item.now) ≡ []) }
-        ensures unnamed { IfErr result (λ p. slice_get (unnamed_at self.now (command.Yes names.now item.now)) 0 ≡ Some p) }
-    {
-        let known = self.names.as_slice();
-        if known.is_empty() {
-            return Err(0);
-        }
-        match unnamed_place(known, names.as_slice(), item) {
-            Some(place) => Err(place),
-            None => Ok(Query {
-                a: items_of(known, names.as_slice()),
-                q: item_of(known, item),
-            }),
-        }
+        say(self.alloc, &[b"ok", text.as_bytes()], out)
     }
 
     // `yes NAMES : ITEM`
@@ -171,7 +193,7 @@ impl Session {
         ensures answered { IfOk result (Gives (row_answer self.old (within_domain self.old (command.Yes names.now item.now) (answer_row self.old true names.now item.now))) self.new (K.written out.old) (K.written out.new)) }
         ensures sink { MovesSink (K.written out.old) (K.written out.new) (K.faults out.old) (K.faults out.new) result }
     {
-        match self.query_of(names, item) {
+        match query_of(&self.domain, names, item) {
             Ok(query) => self.accept(query, out),
             Err(place) => refuse_at(self.alloc, b"15", place, out),
         }
@@ -182,7 +204,7 @@ impl Session {
         ensures answered { IfOk result (Gives (row_answer self.old (query_row self.old true query)) self.new (K.written out.old) (K.written out.new)) }
         ensures sink { MovesSink (K.written out.old) (K.written out.new) (K.faults out.old) (K.faults out.new) result }
     {
-        if !query.is_good(self.names.len() as u32) {
+        if !query.is_good(self.family.items()) {
             return say(self.alloc, &[b"no", b"18"], out);
         }
         if self.cannot_accept(&query) {
@@ -233,35 +255,12 @@ impl Session {
         ensures answered { IfOk result (Gives (row_answer self.now (within_domain self.now (command.States count after.now) (states_row self.now count after.now))) self.now (K.written out.old) (K.written out.new)) }
         ensures sink { MovesSink (K.written out.old) (K.written out.new) (K.faults out.old) (K.faults out.new) result }
     {
-        if self.names.is_empty() {
+        let Some(domain) = &self.domain else {
             return refuse_at(self.alloc, b"15", 0, out);
-        }
-        match self.cursor(after) {
-            Ok(after) => write_listing(
-                self.alloc,
-                &self.family,
-                self.names.as_slice(),
-                after,
-                count,
-                out,
-            ),
+        };
+        match cursor_set(domain.count(), after) {
+            Ok(after) => write_listing(self.alloc, &self.family, domain, after, count, out),
             Err(fault) => refuse_cursor(self.alloc, fault, out),
-        }
-    }
-
-    // The set of the cursor after which a page begins, if there is one.
-    fn cursor(&self, after: &Option<Word>) -> Result<Option<ItemSet>, CursorFault>
-        ensures set { IfOk result (λ c. c ≡ cursor_set (length self.now.names) after.now) }
-        ensures found { OnOk result (cursor_faults (length self.now.names) after.now ≡ []) }
-        ensures fault { IfErr result (λ e. cursor_faults (length self.now.names) after.now ≡ fault_words e ∷ []) }
-        ensures within { IfOk result (λ c. ForSome c (λ w. IsWithin w (full (length self.now.names)))) }
-    {
-        match after {
-            None => Ok(None),
-            Some(word) => {
-                let text = word.as_str().as_bytes();
-                Ok(Some(ItemSet::from_cursor(self.names.len() as u32, text)?))
-            }
         }
     }
 }
