@@ -1,5 +1,5 @@
 -- Lines that are answered one after another.
-use Rattle.std.proofs.Common.{◌≡◌, ℕ, ◌+◌, ◌-◌, ◌<◌, ◌≤◌, ◌^◌, ◌||◌, Bool, true, false, cond, List, [], ◌∷◌, ◌++◌, length, take, drop, Some, None, MatchOption, refl, sym, ap, ◌∙◌, subst, append-nil, append_assoc, arith, drop_of_length-le}
+use Rattle.std.proofs.Common.{◌≡◌, ℕ, ◌+◌, ◌-◌, ◌<◌, ◌^◌, ◌||◌, Bool, true, false, cond, List, [], ◌∷◌, ◌++◌, length, take, drop, Some, None, MatchOption, refl, sym, ap, ◌∙◌, subst, append-nil, append_assoc, arith, drop_of_length-le}
 use Rattle.std.proofs.Math.Bool.{or_assoc, or-false}
 use Rattle.std.proofs.Math.Path.{fun_ext}
 use Rattle.std.specs.declared.option.Option.{Option}
@@ -7,11 +7,11 @@ use Rattle.std.specs.Io.KnownBytes.{Appends}
 use Rattle.ls_edge.specs.Causes.{Rose}
 use Rattle.ls_edge.specs.Files.{Folder}
 use Rattle.ls_edge.proofs.Known.{appends_more, appends_keep, appends_none}
-use Rattle.ls_lines.specs.Lines.{Text, is_long, lines, words}
+use Rattle.ls_lines.specs.Lines.{is_long, lines, words}
 use Rattle.ls_lines.specs.Kinds.{is_of}
 use Rattle.ls_lines.specs.Forms.{spelling, parts, command, forms}
 use Rattle.ls_lines.specs.Commands.{cut, is_begun, command_of}
-use Rattle.ls_lines.specs.Cutting.{Cut, Holds, IsTaken, Ends, kept, ended_of, ahead}
+use Rattle.ls_lines.specs.Cutting.{Holds, IsTaken, Ends, kept, ended_of, ahead}
 use Rattle.ls_lines.specs.declared.ended.Ended.{Ended}
 use Rattle.ls_lines.specs.declared.ended.Ended.TheVariants.{Whole, Long}
 use Rattle.ls_lines.proofs.Cuts.{goes_on, ahead-lines}
@@ -31,7 +31,7 @@ pub empty_line : (s : Session) (files : Files) → line_answer s files [] ≡ sa
 unfolding line_answer words is_of spelling parts command forms cut is_begun command_of row
 empty_line s files = refl
 
--- a call that can only fail where the count of faults rises, and where it did not, did not fail
+-- a call that fails only where the count of faults rose did not fail where that did not rise
 unfailed : (failed : Bool) {P : Type 0} → (failed ≡ true → P) → (P → ⊥) → failed ≡ false
 unfailed true rose quiet = absurd (quiet (rose refl))
 unfailed false rose quiet = refl

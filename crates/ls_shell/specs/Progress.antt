@@ -1,5 +1,5 @@
 -- How far a run over a script has come.
-use Rattle.std.specs.Prelude.{ℕ, ◌≡◌, Bool, ◌||◌, List, [], ◌∷◌, ◌++◌, Option, Some, None}
+use Rattle.std.specs.Prelude.{ℕ, ◌≡◌, ◌||◌, List, [], ◌++◌, Option, Some, None}
 use Rattle.std.specs.Io.KnownBytes.{Appends, Keeps}
 use Rattle.ls_edge.specs.Causes.{Rose}
 use Rattle.ls_edge.specs.Files.{Folder}

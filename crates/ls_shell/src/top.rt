@@ -40,7 +40,7 @@ pub fn lspace<R: Threads + Sync, S: Source, K: Sink, H: Shelf>(
     out: &mut K,
     shelf: &mut H,
 ) -> Status
-    // Every script is answered by its transcript, by the files of the folder, unless memory runs out.
+    // Every script is answered by the transcript that it has over the folder's files, unless memory runs out.
     ensures headline { words.now ≡ [] → (script : List ℕ) (folder : Folder) → S.left src.old ≡ Some script → H.files shelf.old ≡ Some folder
         → TakesFew script (S.left src.new) → (Rose (S.faults src.old) (S.faults src.new) → ⊥) → (Rose (K.faults out.old) (K.faults out.new) → ⊥)
         → (Rose (H.faults shelf.old) (H.faults shelf.new) → ⊥) → AnswersScript folder script (K.written out.old) (K.written out.new) result }

@@ -1,11 +1,11 @@
-use Rattle.std.proofs.Common.{◌≡◌, ◌<◌, ◌≤◌, ◌++◌, length, take, drop, refl, ap, sym, subst, arith, length-append, Err, IsErrOf}
+use Rattle.std.proofs.Common.{◌≡◌, ◌<◌, ◌≤◌, ◌++◌, length, take, drop, refl, ap, sym, subst, arith, length-append, IsErrOf}
 use Rattle.std.proofs.lemmas.List.{take-append-le}
 use Rattle.std.proofs.lemmas.Grind.{common_steps}
 use Rattle.std.proofs.KnownBytes.{Consumes-trans}
 use Rattle.std.specs.Io.KnownBytes.{Consumes}
 use Rattle.ls_edge.proofs.Known.{appends_more}
 use Rattle.ls_shell.specs.declared.step_fault.StepFault.TheVariants as fault
-use Rattle.ls_shell.proofs.Pieces.{read_none, read_more, read_end}
+use Rattle.ls_shell.proofs.Pieces.{read_more, read_end}
 use Rattle.ls_shell.proofs.Moves.{rose_since}
 use Rattle.ls_shell.proofs.Taken.{leaves_more}
 use Rattle.ls_shell.proofs.reading.answer_source.Goals as goal

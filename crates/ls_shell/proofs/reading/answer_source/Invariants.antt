@@ -1,4 +1,4 @@
-use Rattle.std.proofs.Common.{◌≤◌, ◌+◌, ◌-◌}
+use Rattle.std.proofs.Common.{◌≤◌, ◌-◌}
 use Rattle.ls_shell.specs.Sayings.{IsExtended, LeavesShelf}
 use Rattle.ls_shell.proofs.Pieces.{HasRead}
 use Rattle.ls_shell.proofs.reading.answer_source.Given as goal

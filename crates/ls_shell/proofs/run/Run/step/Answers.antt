@@ -1,4 +1,4 @@
-use Rattle.std.proofs.Common.{◌∙◌, List, ℕ, sym, subst, false}
+use Rattle.std.proofs.Common.{◌∙◌, List, ℕ, subst, false}
 use Rattle.ls_reply.specs.Replies.{line_answer}
 use Rattle.ls_reply.specs.Scenes.{files_of}
 use Rattle.ls_shell.specs.Sayings.{Gives}
