@@ -1,6 +1,7 @@
 -- How far a run over a script has come.
-use Rattle.std.specs.Prelude.{ℕ, ◌≡◌, Bool, ◌||◌, List, [], ◌∷◌, ◌++◌, Option, Some, None}
+use Rattle.std.specs.Prelude.{ℕ, ◌≡◌, ◌||◌, List, [], ◌++◌, Option, Some, None}
 use Rattle.std.specs.Io.KnownBytes.{Appends, Keeps}
+use Rattle.ls_edge.specs.Causes.{Rose}
 use Rattle.ls_edge.specs.Files.{Folder}
 use Rattle.ls_lines.specs.Lines.{lines}
 use Rattle.ls_lines.specs.Cutting.{Holds, kept, ended_of, ahead}
@@ -27,8 +28,9 @@ pub record AnswersLine (folder : Folder) (line : List ℕ) (old new : Run) (befo
   pub written : Appends before after (line_reply folder old.session line)
   pub cutter : new.cutter ≡ old.cutter
 
--- the line that ended was answered, if one did
-abbrev pub AnswersEnded : Run → Run → Option Ended → Option (List ℕ) → Option (List ℕ) → Type 0
-AnswersEnded old new None before after = (new ≡ old) × Keeps before after
-AnswersEnded old new (Some ended) before after =
-    (line : List ℕ) → ended ≡ ended_of line → old.cutter.line ≡ kept line → (folder : Folder) → AnswersLine folder line old new before after
+-- the line that ended was answered, if one did, by the files of a shelf that are told and where the count of its faults did not rise
+abbrev pub AnswersEnded : Run → Run → Option Ended → Option Folder → ℕ → ℕ → Option (List ℕ) → Option (List ℕ) → Type 0
+AnswersEnded old new None files faults_before faults_now before after = (new ≡ old) × Keeps before after
+AnswersEnded old new (Some ended) files faults_before faults_now before after =
+    (line : List ℕ) → ended ≡ ended_of line → old.cutter.line ≡ kept line
+    → (folder : Folder) → files ≡ Some folder → (Rose faults_before faults_now → ⊥) → AnswersLine folder line old new before after

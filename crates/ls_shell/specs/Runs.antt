@@ -2,6 +2,7 @@
 use Rattle.std.specs.Prelude.{◌≡◌, ℕ, ◌+◌, ◌<◌, ◌≤◌, ◌⊎◌, Bool, true, false, List, length, codes, Some}
 use Rattle.std.specs.declared.option.Option.{Option}
 use Rattle.std.specs.Io.KnownBytes.{Appends, Consumes, IsAtEnd}
+use Rattle.ls_edge.specs.Causes.{Rose}
 use Rattle.ls_edge.specs.Files.{Folder}
 use Rattle.ls_reply.specs.Transcripts.{transcript, is_some_refused}
 use Rattle.ls_shell.specs.declared.reading.TheConstants.{LONGEST_SCRIPT}
@@ -24,14 +25,15 @@ TakesMore most old new = (taken : List ℕ) × Consumes old new taken × (most <
 abbrev pub TakesFew : List ℕ → Option (List ℕ) → Type 0
 TakesFew script new = (left : List ℕ) → new ≡ Some left → length script ≤ length left + LONGEST_SCRIPT
 
--- a script was taken to its end and its whole transcript written, whatever the folder has; and it is told whether some reply begins with `no `
-pub record AnswersAll (left_before left_after before after : Option (List ℕ)) (refused : Bool) : Type 0 where
+-- A script was taken to its end. Where the files of a shelf are told and the count of its faults did not rise, the whole transcript was written, and it is told
+-- whether some reply begins with `no `.
+pub record AnswersAll (left_before left_after : Option (List ℕ)) (files : Option Folder) (faults_before faults_now : ℕ) (before after : Option (List ℕ)) (refused : Bool) : Type 0 where
   pub script : List ℕ
   pub taken : Consumes left_before left_after script
   pub at_end : IsAtEnd left_after
   pub few : length script ≤ LONGEST_SCRIPT
-  pub written : (folder : Folder) → Appends before after (transcript folder script)
-  pub told : (folder : Folder) → refused ≡ is_some_refused folder script
+  pub written : (folder : Folder) → files ≡ Some folder → (Rose faults_before faults_now → ⊥) → Appends before after (transcript folder script)
+  pub told : (folder : Folder) → files ≡ Some folder → (Rose faults_before faults_now → ⊥) → refused ≡ is_some_refused folder script
 
 -- the whole transcript was written, and no reply to the script begins with `no `; the same where one does
 abbrev pub WritesTranscript : Folder → List ℕ → Option (List ℕ) → Option (List ℕ) → Type 0

@@ -2,7 +2,7 @@
 ghost use Rattle.std.specs.Prelude.{◌≡◌, ◌≤◌, IfOk, IsErrOf};
 ghost use Rattle.ls_edge.specs.Causes.{Rose};
 ghost use Rattle.ls_shell.specs.Runs.{TakesAtMost, TakesMore, AnswersAll};
-ghost use Rattle.ls_shell.specs.Sayings.{IsExtended};
+ghost use Rattle.ls_shell.specs.Sayings.{IsExtended, LeavesShelf};
 
 use crate::run::Run;
 use crate::run_fault::RunFault;
@@ -24,10 +24,11 @@ pub fn answer_source<S: Source, K: Sink, H: Shelf>(
     out: &mut K,
     shelf: &mut H,
 ) -> Result<bool, RunFault>
-    ensures done { IfOk result (AnswersAll (S.left src.old) (S.left src.new) (K.written out.old) (K.written out.new)) }
+    ensures done { IfOk result (AnswersAll (S.left src.old) (S.left src.new) (H.files shelf.old) (H.faults shelf.old) (H.faults shelf.new) (K.written out.old) (K.written out.new)) }
     ensures long { IsErrOf result RunFault.Long → TakesMore LONGEST_SCRIPT (S.left src.old) (S.left src.new) }
     ensures read { IsErrOf result RunFault.Read → Rose (S.faults src.old) (S.faults src.new) × TakesAtMost LONGEST_SCRIPT (S.left src.old) (S.left src.new) }
     ensures write { IsErrOf result RunFault.Write → Rose (K.faults out.old) (K.faults out.new) × TakesAtMost LONGEST_SCRIPT (S.left src.old) (S.left src.new) }
+    ensures shelf { LeavesShelf (H.files shelf.old) (H.files shelf.new) (H.faults shelf.old) (H.faults shelf.new) }
     ensures kept { IsExtended (K.written out.old) (K.written out.new) }
     ensures later { S.faults src.old ≤ S.faults src.new }
 {

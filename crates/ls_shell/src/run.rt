@@ -1,15 +1,16 @@
 // A run over a script as it comes.
-ghost use Rattle.std.specs.Prelude.{◌≡◌, ◌+◌, ◌<◌, ◌^◌, ◌++◌, false, List, ℕ, [], length, IfOk, OnOk};
+ghost use Rattle.std.specs.Prelude.{◌≡◌, ◌<◌, ◌^◌, ◌++◌, false, List, ℕ, [], length, Some, IfOk, OnOk};
 ghost use Rattle.std.specs.declared.option.Option.{Option};
 ghost use Rattle.std.specs.Io.KnownBytes.{Appends};
+ghost use Rattle.ls_edge.specs.Causes.{Rose};
 ghost use Rattle.ls_edge.specs.Files.{Folder};
 ghost use Rattle.ls_lines.specs.Lines.{lines};
 ghost use Rattle.ls_lines.specs.Cutting.{Holds, kept, ended_of};
 ghost use Rattle.ls_reply.specs.Sessions.{started};
-ghost use Rattle.ls_reply.specs.Scenes.{Files};
+ghost use Rattle.ls_reply.specs.Scenes.{files_of};
 ghost use Rattle.ls_reply.specs.Replies.{line_answer};
 ghost use Rattle.ls_reply.specs.Transcripts.{transcript, is_some_refused};
-ghost use Rattle.ls_shell.specs.Sayings.{Gives, MovesSink};
+ghost use Rattle.ls_shell.specs.Sayings.{Gives, LeavesShelf, MovesSink};
 
 use crate::StepFault;
 use crate::session::Session;
@@ -48,7 +49,9 @@ impl Run {
         shelf: &mut H,
     ) -> Result<(), StepFault>
         ensures answered { OnOk result ((m : Folder) (taken : List ℕ) (start : Option (List ℕ)) → length (taken ++ piece.now) < 2 ^ 64
+            → H.files shelf.old ≡ Some m → (Rose (H.faults shelf.old) (H.faults shelf.new) → ⊥)
             → Answers m (lines taken) [] self.old start (K.written out.old) → Answers m (lines (taken ++ piece.now)) [] self.new start (K.written out.new)) }
+        ensures shelf { LeavesShelf (H.files shelf.old) (H.files shelf.new) (H.faults shelf.old) (H.faults shelf.new) }
         ensures sink { MovesSink (K.written out.old) (K.written out.new) (K.faults out.old) (K.faults out.new) result }
     {
         let mut rest = piece;
@@ -67,8 +70,10 @@ impl Run {
         shelf: &mut H,
     ) -> Result<bool, StepFault>
         ensures answered { IfOk result (λ b. (m : Folder) (script : List ℕ) (start : Option (List ℕ)) → length script < 2 ^ 64
+            → H.files shelf.old ≡ Some m → (Rose (H.faults shelf.old) (H.faults shelf.new) → ⊥)
             → Answers m (lines script) [] self.old start (K.written out.old)
             → Appends start (K.written out.new) (transcript m script) × (b ≡ is_some_refused m script)) }
+        ensures shelf { LeavesShelf (H.files shelf.old) (H.files shelf.new) (H.faults shelf.old) (H.faults shelf.new) }
         ensures sink { MovesSink (K.written out.old) (K.written out.new) (K.faults out.old) (K.faults out.new) result }
     {
         let ended = self.cutter.finish();
@@ -83,7 +88,8 @@ impl Run {
         out: &mut K,
         shelf: &mut H,
     ) -> Result<(), StepFault>
-        ensures answered { OnOk result (AnswersEnded self.old self.new ended (K.written out.old) (K.written out.new)) }
+        ensures answered { OnOk result (AnswersEnded self.old self.new ended (H.files shelf.old) (H.faults shelf.old) (H.faults shelf.new) (K.written out.old) (K.written out.new)) }
+        ensures shelf { LeavesShelf (H.files shelf.old) (H.files shelf.new) (H.faults shelf.old) (H.faults shelf.new) }
         ensures sink { MovesSink (K.written out.old) (K.written out.new) (K.faults out.old) (K.faults out.new) result }
     {
         let Some(ended) = ended else {
@@ -101,10 +107,12 @@ impl Run {
         out: &mut K,
         shelf: &mut H,
     ) -> Result<bool, StepFault>
-        ensures answered { IfOk result (λ b. (line : List ℕ) → ended ≡ ended_of line → self.old.cutter.line ≡ kept line → (files : Files)
-            → Gives (line_answer self.old.session files line) self.new.session (K.written out.old) (K.written out.new) b) }
+        ensures answered { IfOk result (λ b. (line : List ℕ) → ended ≡ ended_of line → self.old.cutter.line ≡ kept line
+            → (folder : Folder) → H.files shelf.old ≡ Some folder → (Rose (H.faults shelf.old) (H.faults shelf.new) → ⊥)
+            → Gives (line_answer self.old.session (files_of folder false) line) self.new.session (K.written out.old) (K.written out.new) b) }
         ensures cutter { self.new.cutter ≡ self.old.cutter }
         ensures before { self.new.is_refused ≡ self.old.is_refused }
+        ensures shelf { LeavesShelf (H.files shelf.old) (H.files shelf.new) (H.faults shelf.old) (H.faults shelf.new) }
         ensures sink { MovesSink (K.written out.old) (K.written out.new) (K.faults out.old) (K.faults out.new) result }
     {
         match ended {
