@@ -1,4 +1,4 @@
-use Rattle.std.proofs.Common.{◌≡◌, refl, ap, sym, ◌∙◌, subst, false, Ok, ⊥, absurd, ℕ, List, [], ◌∷◌, Option, codes}
+use Rattle.std.proofs.Common.{◌≡◌, refl, ap, sym, ◌∙◌, subst, false, Ok, ℕ, List, [], ◌∷◌, Option, codes}
 use Rattle.ls_edge.proofs.Known.{appends_none}
 use Rattle.ls_lines.specs.declared.command.Command.{Command}
 use Rattle.ls_lines.specs.declared.command.Command.TheVariants as command
@@ -48,7 +48,7 @@ returns-in-LoadItems-clause-answered g c =
     IfOk_map c.load.result (λ b h. steps_as _ _ _ _ _ _ _ _ b (λ files. ap (command_answer c.args.self.now files) c.in-LoadItems.is) h) c.load.ensures.answered
 
 -- the row of a command that is not one of those built
-private other_row : (s : Session) (files : Files) (c : Command) → (c ≡ command.Nothing → ⊥) → ((x : List Text) → c ≡ command.Items x → ⊥) → ((x : Text) → c ≡ command.LoadItems x → ⊥)
+other_row : (s : Session) (files : Files) (c : Command) → (c ≡ command.Nothing → ⊥) → ((x : List Text) → c ≡ command.Items x → ⊥) → ((x : Text) → c ≡ command.LoadItems x → ⊥)
     → ((x : List Text) (y : Text) → c ≡ command.Yes x y → ⊥) → ((x : ℕ) (y : Option Text) → c ≡ command.States x y → ⊥) → row s files c ≡ not_built_row s
 unfolding row
 other_row s files command.Nothing a b d e f = absurd (a refl)
