@@ -1,5 +1,6 @@
 -- Binomial coefficients: each from the one before it, and how they grow.
-use Rattle.std.proofs.Common.{ℕ, zero, suc, ◌+◌, ◌*◌, ◌-◌, ◌/◌, ◌<◌, ◌≤◌, ◌≡◌, refl, sym, ap, ◌∙◌, arith}
+use Rattle.std.proofs.Common.{ℕ, zero, suc, ◌+◌, ◌*◌, ◌-◌, ◌/◌, ◌<◌, ◌≤◌, ◌≡◌, inl, inr, refl, sym, ap, ◌∙◌, arith}
+use Rattle.std.proofs.lemmas.Bool.{cases_lt}
 use Rattle.std.proofs.lemmas.Nat.{div-mul-add}
 use Rattle.ls_query.specs.Blocks.{choose}
 
@@ -36,9 +37,19 @@ absorbed (suc m) (suc j) = rw (choose-more m (suc j), choose-more m j) (omega (a
 times : (m j d : ℕ) → m ≡ j + d → choose m j * d ≡ choose m (suc j) * suc j
 times m j d e = let h = absorbed m j in let k : m * choose m j ≡ (j + d) * choose m j = ap (λ x. x * choose m j) e in omega (arith, h, k)
 
+choose-above : (m j : ℕ) → m < j → choose m j ≡ 0
+choose-above m zero h = absurd (omega arith)
+choose-above zero (suc j) h = choose-zero_more j
+choose-above (suc m) (suc j) h = rw (choose-more m j) (omega (arith, choose-above m j (omega arith), choose-above m (suc j) (omega arith)))
+
 -- the next coefficient in a row
-pub choose-next : (m j : ℕ) → j ≤ m → choose m j * (m - j) / (j + 1) ≡ choose m (j + 1)
-choose-next m j h =
-    let e : choose m j * (m - j) ≡ choose m (suc j) * suc j + 0 = omega (arith, times m j (m - j) (omega arith)) in
+pub choose-next : (m j : ℕ) → choose m j * (m - j) / (j + 1) ≡ choose m (j + 1)
+choose-next m j =
+    let e : choose m j * (m - j) ≡ choose m (suc j) * suc j + 0 = elim (cases_lt m j) [
+      | inr l ↦ omega (arith, times m j (m - j) (omega arith))
+      | inl l ↦
+          let z : m - j ≡ 0 = omega arith in
+          rw (z, choose-above m (suc j) (omega arith)) (omega arith)
+    ] in
     let s : j + 1 ≡ suc j = omega arith in
     rw (s, e) (div-mul-add (choose m (suc j)) (suc j) 0 (omega arith))

@@ -114,14 +114,17 @@ pub length-blocks_none : (n : ℕ) → length (blocks n 0) ≡ 0
 unfolding blocks
 length-blocks_none n = refl
 
-pub length-blocks_grows : (n k d : ℕ) → length (blocks n k) ≤ length (blocks n (k + d))
+length-blocks_grows : (n k d : ℕ) → length (blocks n k) ≤ length (blocks n (k + d))
 length-blocks_grows n k zero = rw (let e : k + 0 ≡ k = omega arith in e) (omega arith)
 length-blocks_grows n k (suc d) = rw (let e : k + suc d ≡ suc (k + d) = omega arith in e) (omega (arith, length-blocks_grows n k d, length-blocks_more n (k + d)))
+
+pub length-blocks_shorter : (n j k : ℕ) → j ≤ k → length (blocks n j) ≤ length (blocks n k)
+length-blocks_shorter n j k h =
+    let e : j + (k - j) ≡ k = omega arith in
+    rw (sym e) (length-blocks_grows n j (k - j))
 
 -- the sets of any size of the blocks are no more than the blocks
 pub choose-within : (n size k : ℕ) → 0 < size → size ≤ k → choose n size ≤ length (blocks n k)
 choose-within n zero k some h = absurd (omega arith)
 choose-within n (suc size) k some h =
-    let e : suc size + (k - suc size) ≡ k = omega arith in
-    let g : length (blocks n (suc size)) ≤ length (blocks n k) = rw (sym e) (length-blocks_grows n (suc size) (k - suc size)) in
-    omega (arith, g, length-blocks_more n size)
+    omega (arith, length-blocks_shorter n (suc size) k h, length-blocks_more n size)

@@ -1,5 +1,6 @@
 -- What the count of the blocks keeps as it goes on, and what is made of it.
-use Rattle.std.proofs.Common.{ℕ, zero, suc, ◌+◌, ◌-◌, ◌<◌, ◌≤◌, ◌≡◌, ◌≢◌, ◌⊎◌, inl, inr, Bool, true, false, ltb, max, List, length, find, Some, None, Ok, Err, refl, sym, ap, ◌∙◌, arith, lt-ltb, le-ltb, eq-eqb, ne_eqb}
+use Rattle.std.proofs.Common.{ℕ, zero, suc, ◌+◌, ◌-◌, ◌<◌, ◌≤◌, ◌≡◌, ◌≢◌, ◌⊎◌, inl, inr, Bool, true, false, ltb, max, List, length, find, Some, None, Result, Ok, Err, refl, sym, ap, ◌∙◌, arith, lt-ltb, le-ltb, eq-eqb, ne_eqb}
+use Rattle.std.specs.Result.{IsOk}
 use Rattle.ls_set.specs.ItemSet.{numbers_from}
 use Rattle.ls_set.proofs.Ascending.{find_none}
 use Rattle.ls_theory.specs.Queries.{blocks}
@@ -7,7 +8,7 @@ use Rattle.ls_query.specs.Blocks.{choose, is_too_wide, made}
 use Rattle.ls_query.specs.declared.block_fault.BlockFault.TheVariants.{BadBlock, TooWide}
 use Rattle.ls_query.specs.declared.block_fault.TheConstants.{MOST_SETS}
 use Rattle.ls_query.proofs.Binomials.{choose-none}
-use Rattle.ls_query.proofs.BySize.{length-blocks_more, length-blocks_grows, choose-within}
+use Rattle.ls_query.proofs.BySize.{length-blocks_more, length-blocks_shorter, choose-within}
 
 pub length-blocks_next : (n size : ℕ) → length (blocks n (size + 1)) ≡ length (blocks n size) + choose n (size + 1)
 length-blocks_next n size = let e : size + 1 ≡ suc size = omega arith in rw e (length-blocks_more n size)
@@ -28,9 +29,12 @@ not_too_wide n size h = le-ltb MOST_SETS (length (blocks n size)) h
 pub none_too_wide : (n k : ℕ) → length (blocks n k) ≤ MOST_SETS → find (is_too_wide n) (numbers_from 1 k) ≡ None
 none_too_wide n k h =
     find_none (is_too_wide n) 1 k (λ j l m.
-    let e : j + (k - j) ≡ k = omega arith in
-    let g : length (blocks n j) ≤ length (blocks n k) = rw (sym e) (length-blocks_grows n j (k - j)) in
-    not_too_wide n j (omega (arith, g, h)))
+    not_too_wide n j (omega (arith, length-blocks_shorter n j k (omega arith), h)))
+
+-- so the count of them succeeds
+pub counted : (n k : ℕ) (r : Result ℕ ℕ) → length (blocks n k) ≤ MOST_SETS → ((size : ℕ) → r ≡ Err size → find (is_too_wide n) (numbers_from 1 k) ≡ Some size) → IsOk r
+counted n k (Ok x) h past = refl
+counted n k (Err size) h past = let e = sym (none_too_wide n k h) ∙ past size refl in cc
 
 -- ---- what is made
 

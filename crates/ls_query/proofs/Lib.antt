@@ -6,3 +6,4 @@ pub mod BlockSets
 pub mod Steps
 pub mod Counted
 pub mod QuerySets
+pub mod Placed

@@ -11,6 +11,7 @@ use crate::asking::{query_after, query_after_set};
 use crate::block_fault::{BlockFault, MOST_SETS};
 use crate::counting::count_sets;
 use crate::moving::set_after;
+use crate::placing;
 use ls_set::{ItemSet, PLACES, Query};
 use std::alloc::AllocError;
 use std::marker::Model;
@@ -78,6 +79,14 @@ impl Blocks {
             // The empty set comes before all of them.
             None => set_after(self.n, self.k, ItemSet::empty()),
         }
+    }
+
+    /// The place of a set among the sets of the blocks, counted from 0, or `None` where it is not one
+    /// of them.
+    pub fn place_of(&self, a: ItemSet) -> Option<u32>
+        ensures { result ≡ position (is_same a) (sets_of self.now) }
+    {
+        placing::place_of(self.n, self.k, a)
     }
 
     /// The first good query of the blocks that comes after the given one, or the first of all. The

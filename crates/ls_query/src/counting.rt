@@ -8,15 +8,15 @@ use crate::block_fault::MOST_SETS;
 use ls_set::PLACES;
 
 // How many sets of `size + 1` of `n` items there are, from how many of `size` there are.
-fn of_next_size(n: u32, size: u32, of_size: u32) -> u32
+pub fn of_next_size(n: u32, size: u32, of_size: u32) -> u32
     requires items { n ≤ PLACES }
-    requires size { size < n }
+    requires size { size < PLACES }
     requires sets { of_size ≡ choose n size }
     requires few { of_size ≤ MOST_SETS }
     ensures value { result ≡ choose n (size + 1) }
     ensures small { result ≤ of_size * PLACES }
 {
-    of_size * (n - size) / (size + 1)
+    of_size * n.saturating_sub(size) / (size + 1)
 }
 
 // How many sets of 1 to `k` of `n` items there are, or the least size up to which there are too many.

@@ -7,6 +7,7 @@ mod block_fault;
 mod blocks;
 mod counting;
 mod moving;
+mod placing;
 
 pub use block_fault::{BlockFault, MOST_SETS};
 pub use blocks::Blocks;

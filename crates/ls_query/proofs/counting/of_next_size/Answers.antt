@@ -10,7 +10,7 @@ small x d s n p l m =
     omega (arith, h, g)
 
 pub returns-clause-value : goal.returns-clause-value
-returns-clause-value c = rw c.requires.sets (choose-next c.args.n c.args.size (omega arith))
+returns-clause-value c = rw (c.saturating_sub.ensures, c.requires.sets) (choose-next c.args.n c.args.size)
 
 pub returns-clause-small : goal.returns-clause-small
-returns-clause-small c = small c.args.of_size (c.args.n - c.args.size) (c.args.size + 1) c.args.n _ (omega arith) c.requires.items
+returns-clause-small c = rw c.saturating_sub.ensures (small c.args.of_size (c.args.n - c.args.size) (c.args.size + 1) c.args.n _ (omega arith) c.requires.items)
