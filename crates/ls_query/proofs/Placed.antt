@@ -1,9 +1,10 @@
 -- The place of a set in the blocks: the sets of smaller sizes, and those of its size before it.
-use Rattle.std.proofs.Common.{ℕ, zero, suc, ◌+◌, ◌-◌, ◌<◌, ◌≤◌, ◌≡◌, ◌≢◌, inl, inr, Bool, true, false, not, cond, ◌||◌, ◌&&◌, eqb, List, [], ◌∷◌, ◌++◌, map, length, slice_get, Some, None, refl, sym, ap, ◌∙◌, arith, true≢false, lt-ltb, le-ltb, eq-eqb}
+use Rattle.std.proofs.Common.{ℕ, zero, suc, ◌+◌, ◌-◌, ◌<◌, ◌≤◌, ◌≡◌, ◌≢◌, inl, inr, Bool, true, false, not, cond, ◌||◌, ◌&&◌, eqb, List, [], ◌∷◌, ◌++◌, map, length, get_or, slice_get, Some, None, refl, sym, ap, ◌∙◌, arith, true≢false, lt-ltb, le-ltb, eq-eqb}
 use Rattle.std.specs.List.{position, prefix_len}
 use Rattle.std.proofs.lemmas.Bool.{cases_Bool, cases_eq, false_from_ne_true}
 use Rattle.std.proofs.lemmas.Bool.Decides.{nat_tests}
-use Rattle.std.proofs.lemmas.Option.{slice_get_within}
+use Rattle.std.proofs.lemmas.Option.{slice_get_within, slice_get-get_or}
+use Rattle.std.proofs.lemmas.List.Quantifiers.{position-Some}
 use Rattle.ls_set.specs.ItemSet.{Items, has, empty, full, with, without, len, is_same, subsets_from, IsWithin}
 use Rattle.ls_set.proofs.Sets.{members, same_set, has-empty, has-without, has-full, Decides-is_same}
 use Rattle.ls_set.proofs.Order.{IsBetween}
@@ -12,7 +13,7 @@ use Rattle.ls_laws.proofs.Counts.{len-zero, len-empty}
 use Rattle.ls_query.specs.Blocks.{choose}
 use Rattle.ls_query.specs.Places.{with_first, place_from}
 use Rattle.ls_query.specs.declared.block_fault.TheConstants.{MOST_SETS}
-use Rattle.ls_query.proofs.Sorted.{IsIn, IsSorted}
+use Rattle.ls_query.proofs.Sorted.{IsIn, IsSorted, get-in}
 use Rattle.ls_query.proofs.Binomials.{choose-grows, choose-none}
 use Rattle.ls_query.proofs.BySize.{of_size, of_size-more, of_size-none, length-of_size, len-with, blocks-more, length-blocks_shorter}
 use Rattle.ls_query.proofs.BlockOrder.{before-asymmetric}
@@ -36,11 +37,6 @@ module _ {X : Type 0} where
   get-map f (z ∷ xs) zero x e = let same : z ≡ x = cc in ap (λ y. Some (f y)) same
   get-map f (z ∷ xs) (suc i) x e = get-map f xs i x e
 
-  pub get-in : (xs : List X) (i : ℕ) (x : X) → slice_get xs i ≡ Some x → IsIn x xs
-  get-in [] i x e = cc
-  get-in (z ∷ xs) zero x e = let same : z ≡ x = cc in inl (sym same)
-  get-in (z ∷ xs) (suc i) x e = inr (get-in xs i x e)
-
 -- ---- the position of a set in a sorted list
 
 prefix-at : (xs : List Items) (a : Items) (i : ℕ) → IsSorted block_before xs → slice_get xs i ≡ Some a → prefix_len (λ x. not (is_same a x)) xs ≡ i
@@ -60,6 +56,12 @@ prefix-all (x ∷ xs) a h = rw (h x (inl refl), prefix-all xs a (λ y c. h y (in
 -- a set that stands at a place is found there
 pub position-at : (n k : ℕ) (a : Items) (i : ℕ) → slice_get (blocks n k) i ≡ Some a → position (is_same a) (blocks n k) ≡ Some i
 position-at n k a i e = rw (prefix-at (blocks n k) a i (sorted-blocks n k) e, lt-ltb i (length (blocks n k)) (slice_get_within (blocks n k) i a e)) refl
+
+-- and stands where it is found
+pub position-get : (n k : ℕ) (a : Items) (i : ℕ) → position (is_same a) (blocks n k) ≡ Some i → slice_get (blocks n k) i ≡ Some a
+position-get n k a i e =
+    let h = position-Some (is_same a) (blocks n k) i a e in
+    slice_get-get_or (blocks n k) i a h.0 ∙ ap Some (sym ((Decides-is_same a (get_or (blocks n k) i a)).0 h.1))
 
 pub position-none : (n k : ℕ) (a : Items) → (IsOfBlocks n k a → ⊥) → position (is_same a) (blocks n k) ≡ None
 position-none n k a h =

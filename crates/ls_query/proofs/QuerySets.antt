@@ -189,3 +189,18 @@ find-full n k a b e l =
 pub find-none_after : (n k : ℕ) (a : Items) → find (block_before a) (blocks n k) ≡ None → find (λ s. block_before a s.a) (queries n k) ≡ None
 find-none_after n k a e =
     find-no_element (λ s. block_before a s.a) (queries n k) (λ c in_queries. find-none_is (block_before a) (blocks n k) e c.a (queries-in n k c in_queries).1)
+
+-- ---- the order of queries is asymmetric
+
+pub query_before-asymmetric : (r s : Query) → query_before r s ≡ true → query_before s r ≡ false
+query_before-asymmetric r s h = false_from_ne_true (query_before s r) (λ g.
+    elim (query_before-cases r s h) [
+      | inl x ↦ elim (query_before-cases s r g) [
+        | inl y ↦ true≢false (sym y ∙ before-asymmetric r.a s.a x)
+        | inr y ↦ never_before r.a s.a (sym y.0) x
+      ]
+      | inr x ↦ elim (query_before-cases s r g) [
+        | inl y ↦ never_before s.a r.a (sym x.0) y
+        | inr y ↦ let l = x.1 in let m = y.1 in omega arith
+      ]
+    ])

@@ -175,3 +175,29 @@ module _ {X : Type 0} where
         | true ↦ λ _ e. cc
         | false ↦ λ here e. elim c [ inl q ↦ ap p q ∙ here | inr a ↦ find-none_is p xs e x a ]
       ] refl e
+
+-- ---- a walk from each element to the first that comes after it
+
+module _ {X : Type 0} where
+  pub get-in : (xs : List X) (i : ℕ) (x : X) → slice_get xs i ≡ Some x → IsIn x xs
+  get-in [] i x e = cc
+  get-in (z ∷ xs) zero x e = let same : z ≡ x = cc in inl (sym same)
+  get-in (z ∷ xs) (suc i) x e = inr (get-in xs i x e)
+
+  -- the first that comes after an element is the next
+  pub find-next : (before : X → X → Bool) (xs : List X) (i : ℕ) (x : X) → IsSorted before xs → ((x y : X) → before x y ≡ true → before y x ≡ false) → slice_get xs i ≡ Some x → find (before x) xs ≡ slice_get xs (suc i)
+  find-next before [] i x s asymmetric e = cc
+  find-next before (y ∷ xs) zero x s asymmetric e =
+      let same : y ≡ x = cc in
+      let out : before x x ≡ false = false_from_ne_true (before x x) (λ h. true≢false (sym h ∙ asymmetric x x h)) in
+      rw (same, out) (first xs (λ z c. ap (λ w. before w z) (sym same) ∙ s.0 z c))
+    where
+      first : (xs : List X) → ((z : X) → IsIn z xs → before x z ≡ true) → find (before x) xs ≡ slice_get xs 0
+      first [] h = refl
+      first (z ∷ xs) h = rw (h z (inl refl)) refl
+  find-next before (y ∷ xs) (suc i) x s asymmetric e =
+      rw (asymmetric y x (s.0 x (get-in xs i x e))) (find-next before xs i x s.1 asymmetric e)
+
+pub find-any : {X : Type 0} (xs : List X) → find (λ x. true) xs ≡ slice_get xs 0
+find-any [] = refl
+find-any (x ∷ xs) = refl

@@ -8,6 +8,8 @@ mod blocks;
 mod counting;
 mod moving;
 mod placing;
+mod turns;
 
 pub use block_fault::{BlockFault, MOST_SETS};
 pub use blocks::Blocks;
+pub use turns::each_comes_in_turn;
