@@ -1,8 +1,8 @@
 -- The order of the sets A: of one size it is the order of sets.
-use Rattle.std.proofs.Common.{ℕ, zero, suc, ◌+◌, ◌<◌, ◌≤◌, ◌≡◌, ◌≢◌, ◌⊎◌, inl, inr, Bool, true, false, not, ◌&&◌, ◌||◌, eqb, ltb, List, [], ◌∷◌, length, Option, Some, None, refl, sym, ap, ◌∙◌, arith, true≢false, lt-ltb, le-ltb, eq-eqb, ne_eqb}
-use Rattle.std.proofs.lemmas.Bool.{cases_Bool, cases_order, cases_lt}
+use Rattle.std.proofs.Common.{ℕ, zero, suc, ◌<◌, ◌≡◌, ◌≢◌, ◌⊎◌, inl, inr, true, false, not, ◌&&◌, eqb, List, [], ◌∷◌, length, Some, None, refl, sym, ap, ◌∙◌, arith, true≢false, lt-ltb, le-ltb, eq-eqb, ne_eqb}
+use Rattle.std.proofs.lemmas.Bool.{cases_Bool, cases_order}
 use Rattle.std.proofs.lemmas.Bool.Decides.{nat_tests}
-use Rattle.ls_set.specs.ItemSet.{Items, has, empty, without, items, len, least, comes_before, DiffersFirstAt}
+use Rattle.ls_set.specs.ItemSet.{Items, has, without, items, len, least, comes_before}
 use Rattle.ls_set.proofs.Sets.{members, has-without, both_ways, without-within}
 use Rattle.ls_set.proofs.Ascending.{least-cases}
 use Rattle.ls_set.proofs.Firsts.{items-least, items-none}

@@ -1,7 +1,6 @@
 -- The sets of the blocks: which they are, and that they stand in the order.
-use Rattle.std.proofs.Common.{ℕ, ◌+◌, ◌<◌, ◌≤◌, ◌≡◌, inl, inr, Bool, true, eqb, ltb, List, [], ◌∷◌, filter, find, Option, None, Some, refl, sym, ap, ◌∙◌, subst, arith, true≢false, ltb-true, eqb-true, eq-eqb}
-use Rattle.std.specs.List.{flat_map}
-use Rattle.ls_set.specs.ItemSet.{Items, empty, full, len, numbers_from, subsets, is_among, is_within, comes_before, IsWithin, IsInOrder}
+use Rattle.std.proofs.Common.{ℕ, ◌<◌, ◌≤◌, ◌≡◌, inl, inr, true, eqb, ltb, List, [], ◌∷◌, find, None, refl, sym, ◌∙◌, arith, true≢false, ltb-true, eqb-true, eq-eqb}
+use Rattle.ls_set.specs.ItemSet.{Items, empty, full, len, numbers_from, subsets, is_among, comes_before, IsWithin, IsInOrder}
 use Rattle.ls_set.proofs.Sets.{IsWithin-from, is_within-from}
 use Rattle.ls_set.proofs.Members.{among-here, among-there, among-cases}
 use Rattle.ls_set.proofs.Order.{among-subsets, subsets_from-in_order}

@@ -1,12 +1,12 @@
 -- The sets of one size: how many there are, and so how many the blocks have.
-use Rattle.std.proofs.Common.{ℕ, zero, suc, ◌+◌, ◌-◌, ◌<◌, ◌≤◌, ◌≡◌, ◌≢◌, Bool, true, false, cond, ◌||◌, eqb, ltb, List, [], ◌∷◌, ◌++◌, map, filter, length, refl, sym, ap, ap₂, ◌∙◌, arith, length-append, append-nil, eq-eqb, ne_eqb, le-ltb}
+use Rattle.std.proofs.Common.{ℕ, zero, suc, ◌+◌, ◌-◌, ◌<◌, ◌≤◌, ◌≡◌, Bool, true, false, cond, ◌||◌, eqb, List, [], ◌∷◌, ◌++◌, map, filter, length, refl, sym, ap, ap₂, ◌∙◌, arith, length-append, append-nil, ne_eqb, le-ltb}
 use Rattle.std.specs.List.{AllByRecursion, flat_map}
-use Rattle.std.proofs.lemmas.Bool.{cases_eq, false_from_ne_true}
+use Rattle.std.proofs.lemmas.Bool.{false_from_ne_true}
 use Rattle.std.proofs.lemmas.Bool.Decides.{nat_tests}
 use Rattle.std.proofs.lemmas.Grind.{flat_map-append}
 use Rattle.std.proofs.lemmas.List.Elements.{filter-append}
-use Rattle.ls_set.specs.ItemSet.{Items, has, empty, full, with, single, minus, len, numbers_from, subsets_from, subsets}
-use Rattle.ls_set.proofs.Sets.{members, same_set, has-with, has-single, has-full, has-empty}
+use Rattle.ls_set.specs.ItemSet.{Items, has, empty, full, with, single, minus, len, numbers_from, subsets_from}
+use Rattle.ls_set.proofs.Sets.{members, same_set, has-with, has-single, has-full}
 use Rattle.ls_set.proofs.Order.{IsBetween, Each-weaker, subsets_from-between}
 use Rattle.ls_theory.specs.Queries.{blocks}
 use Rattle.ls_laws.proofs.Counts.{len-parts, len-single, len-empty}

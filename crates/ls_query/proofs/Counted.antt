@@ -1,5 +1,5 @@
 -- What the count of the blocks keeps as it goes on, and what is made of it.
-use Rattle.std.proofs.Common.{ℕ, zero, suc, ◌+◌, ◌-◌, ◌<◌, ◌≤◌, ◌≡◌, ◌≢◌, ◌⊎◌, inl, inr, Bool, true, false, ltb, max, List, length, find, Some, None, Result, Ok, Err, refl, sym, ap, ◌∙◌, arith, lt-ltb, le-ltb, eq-eqb, ne_eqb}
+use Rattle.std.proofs.Common.{ℕ, zero, suc, ◌+◌, ◌-◌, ◌<◌, ◌≤◌, ◌≡◌, ◌≢◌, ◌⊎◌, inl, inr, true, false, max, length, find, Some, None, Result, Ok, Err, refl, sym, ◌∙◌, arith, lt-ltb, le-ltb, eq-eqb, ne_eqb}
 use Rattle.std.specs.Result.{IsOk}
 use Rattle.ls_set.specs.ItemSet.{numbers_from}
 use Rattle.ls_set.proofs.Ascending.{find_none}

@@ -1,20 +1,20 @@
 -- The place of a set in the blocks: the sets of smaller sizes, and those of its size before it.
-use Rattle.std.proofs.Common.{ℕ, zero, suc, ◌+◌, ◌-◌, ◌<◌, ◌≤◌, ◌≡◌, ◌≢◌, inl, inr, Bool, true, false, not, cond, ◌||◌, ◌&&◌, eqb, List, [], ◌∷◌, ◌++◌, map, length, get_or, slice_get, Some, None, refl, sym, ap, ◌∙◌, arith, true≢false, lt-ltb, le-ltb, eq-eqb}
+use Rattle.std.proofs.Common.{ℕ, zero, suc, ◌+◌, ◌-◌, ◌<◌, ◌≤◌, ◌≡◌, ◌≢◌, inl, inr, true, false, not, List, [], ◌∷◌, ◌++◌, map, length, get_or, slice_get, Some, None, refl, sym, ap, ◌∙◌, arith, true≢false, lt-ltb, le-ltb, eq-eqb}
 use Rattle.std.specs.List.{position, prefix_len}
-use Rattle.std.proofs.lemmas.Bool.{cases_Bool, cases_eq, false_from_ne_true}
+use Rattle.std.proofs.lemmas.Bool.{cases_Bool, false_from_ne_true}
 use Rattle.std.proofs.lemmas.Bool.Decides.{nat_tests}
 use Rattle.std.proofs.lemmas.Option.{slice_get_within, slice_get-get_or}
 use Rattle.std.proofs.lemmas.List.Quantifiers.{position-Some}
-use Rattle.ls_set.specs.ItemSet.{Items, has, empty, full, with, without, len, is_same, subsets_from, IsWithin}
+use Rattle.ls_set.specs.ItemSet.{Items, has, empty, with, without, len, is_same}
 use Rattle.ls_set.proofs.Sets.{members, same_set, has-empty, has-without, has-full, Decides-is_same}
 use Rattle.ls_set.proofs.Order.{IsBetween}
 use Rattle.ls_theory.specs.Queries.{blocks, block_before}
-use Rattle.ls_laws.proofs.Counts.{len-zero, len-empty}
+use Rattle.ls_laws.proofs.Counts.{len-empty}
 use Rattle.ls_query.specs.Blocks.{choose}
 use Rattle.ls_query.specs.Places.{with_first, place_from}
 use Rattle.ls_query.specs.declared.block_fault.TheConstants.{MOST_SETS}
 use Rattle.ls_query.proofs.Sorted.{IsIn, IsSorted, get-in}
-use Rattle.ls_query.proofs.Binomials.{choose-grows, choose-none}
+use Rattle.ls_query.proofs.Binomials.{choose-grows}
 use Rattle.ls_query.proofs.BySize.{of_size, of_size-more, of_size-none, length-of_size, len-with, blocks-more, length-blocks_shorter}
 use Rattle.ls_query.proofs.BlockOrder.{before-asymmetric}
 use Rattle.ls_query.proofs.BlockSets.{IsOfBlocks, blocks-in, sorted-blocks}

@@ -1,8 +1,7 @@
 -- The good queries of the blocks: which they are, that they stand in the order, and the next of them.
-use Rattle.std.proofs.Common.{ℕ, zero, suc, ◌+◌, ◌<◌, ◌≤◌, ◌≡◌, ◌≢◌, ◌⊎◌, inl, inr, Bool, true, false, not, ◌&&◌, ◌||◌, ltb, List, map, find, slice_get, Option, None, Some, refl, sym, ap, ◌∙◌, subst, arith, true≢false, lt-ltb, ltb-true}
+use Rattle.std.proofs.Common.{ℕ, zero, suc, ◌<◌, ◌≤◌, ◌≡◌, ◌⊎◌, inl, inr, true, false, not, ◌&&◌, ltb, map, find, None, Some, refl, sym, ap, ◌∙◌, subst, arith, true≢false, lt-ltb, ltb-true}
 use Rattle.std.specs.List.{flat_map}
-use Rattle.std.proofs.lemmas.Bool.{cases_Bool, and_parts, and_from, or_cases, or_left, or_right, false_from_ne_true}
-use Rattle.std.proofs.lemmas.Bool.Decides.{nat_tests}
+use Rattle.std.proofs.lemmas.Bool.{and_parts, and_from, or_cases, or_left, or_right, false_from_ne_true}
 use Rattle.ls_set.specs.ItemSet.{Items, has, empty, full, minus, len, least, next_item, items, bound, is_same, numbers_from, IsWithin}
 use Rattle.ls_set.specs.Query.{is_good}
 use Rattle.ls_set.specs.declared.query.Query.{Query}
@@ -13,9 +12,9 @@ use Rattle.ls_theory.specs.Queries.{blocks, block_before, queries, query_before}
 use Rattle.ls_theory.specs.Pages.{comes_after}
 use Rattle.ls_laws.proofs.Breaks.{IsGood, good-from, good-to}
 use Rattle.ls_laws.proofs.Counts.{len-zero, len-empty}
-use Rattle.ls_query.proofs.Sorted.{IsIn, IsSorted, in-filter, filter-in, in-flat_map, flat_map-in, in-map, map-in, in-numbers, numbers-in, sorted-map, sorted-filter, sorted-flat_map, sorted-numbers, find-same, find-first, find-is, find-none_is, find-no_element}
+use Rattle.ls_query.proofs.Sorted.{IsIn, IsSorted, in-filter, filter-in, in-flat_map, flat_map-in, in-map, map-in, in-numbers, sorted-map, sorted-filter, sorted-flat_map, sorted-numbers, find-same, find-first, find-is, find-none_is, find-no_element}
 use Rattle.ls_query.proofs.BlockOrder.{before-smaller, before-cases, before-asymmetric}
-use Rattle.ls_query.proofs.BlockSets.{IsOfBlocks, in-blocks, blocks-in, sorted-blocks}
+use Rattle.ls_query.proofs.BlockSets.{in-blocks, blocks-in, sorted-blocks}
 
 -- ---- items of a set
 

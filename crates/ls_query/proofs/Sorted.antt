@@ -1,7 +1,7 @@
 -- Lists in an order, their elements, and the first element that comes after a given one.
-use Rattle.std.proofs.Common.{ℕ, zero, suc, ◌+◌, ◌<◌, ◌≤◌, ◌≡◌, ◌⊎◌, inl, inr, Bool, true, false, cond, ltb, List, [], ◌∷◌, ◌++◌, map, filter, find, slice_get, Option, Some, None, refl, sym, ap, ◌∙◌, subst, arith, true≢false, lt-ltb}
+use Rattle.std.proofs.Common.{ℕ, zero, suc, ◌+◌, ◌<◌, ◌≤◌, ◌≡◌, ◌⊎◌, inl, inr, Bool, true, false, cond, ltb, List, [], ◌∷◌, ◌++◌, map, filter, find, slice_get, Some, None, refl, sym, ap, ◌∙◌, subst, arith, true≢false, lt-ltb}
 use Rattle.std.specs.List.{AllByRecursion, list_any, flat_map}
-use Rattle.std.proofs.lemmas.Bool.{cases_Bool, cases_lt, or_cases, false_from_ne_true}
+use Rattle.std.proofs.lemmas.Bool.{cases_lt, or_cases, false_from_ne_true}
 use Rattle.ls_set.specs.ItemSet.{numbers_from}
 
 -- x is an element of the list

@@ -1,8 +1,8 @@
 -- The next set of the blocks: of the same size where an item can move up, and otherwise the first set of the next size.
-use Rattle.std.proofs.Common.{ℕ, zero, suc, ◌+◌, ◌-◌, ◌<◌, ◌≤◌, ◌≡◌, ◌≢◌, inl, inr, Bool, true, false, not, ◌&&◌, ◌||◌, eqb, ltb, find, Some, None, refl, sym, ap, ◌∙◌, arith, true≢false, lt-ltb, le-ltb, ltb-true}
-use Rattle.std.proofs.lemmas.Bool.{cases_Bool, cases_order, cases_lt, cases_eq, false_from_ne_true}
+use Rattle.std.proofs.Common.{ℕ, zero, suc, ◌+◌, ◌-◌, ◌<◌, ◌≤◌, ◌≡◌, inl, inr, Bool, true, false, not, ◌&&◌, ◌||◌, ltb, find, Some, None, refl, sym, ap, ◌∙◌, arith, true≢false, lt-ltb, le-ltb, ltb-true}
+use Rattle.std.proofs.lemmas.Bool.{cases_order, cases_lt, false_from_ne_true}
 use Rattle.std.proofs.lemmas.Bool.Decides.{nat_tests}
-use Rattle.ls_set.specs.ItemSet.{Items, has, full, union, minus, with, keep_before, len, comes_before, DiffersFirstAt, IsWithin}
+use Rattle.ls_set.specs.ItemSet.{Items, has, full, minus, with, keep_before, len, comes_before, DiffersFirstAt, IsWithin}
 use Rattle.ls_set.proofs.Sets.{members, has-full, has-minus, has-union, has-keep_before, keep_before-within}
 use Rattle.ls_set.proofs.Sizes.{len-within, len-less}
 use Rattle.ls_set.proofs.Order.{comes_before-at, differs_first}
@@ -12,7 +12,7 @@ use Rattle.ls_query.specs.Moves.{IsLastMove, HasNoMove, moved}
 use Rattle.ls_query.proofs.Sorted.{find-first, find-no_element}
 use Rattle.ls_query.proofs.BySize.{len-with, len-full, len-range}
 use Rattle.ls_query.proofs.BlockOrder.{before-smaller, before-same, before-cases}
-use Rattle.ls_query.proofs.BlockSets.{IsOfBlocks, in-blocks, blocks-in, sorted-blocks}
+use Rattle.ls_query.proofs.BlockSets.{in-blocks, blocks-in, sorted-blocks}
 
 -- ---- items that cannot move up
 

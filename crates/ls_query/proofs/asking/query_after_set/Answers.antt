@@ -1,5 +1,4 @@
 use Rattle.std.proofs.Common.{sym, ◌∙◌, rules}
-use Rattle.ls_set.specs.ItemSet.{least, full, minus}
 use Rattle.ls_query.proofs.QuerySets.{find-after_set, find-full, find-none_after}
 use Rattle.ls_query.proofs.asking.query_after_set.Goals as goal
 

@@ -1,5 +1,4 @@
-use Rattle.std.proofs.Common.{ℕ, ◌+◌, ◌-◌, ◌≡◌, sym, ap, ◌∙◌, arith}
-use Rattle.ls_set.specs.ItemSet.{has}
+use Rattle.std.proofs.Common.{◌-◌, ◌≡◌, sym, ap, ◌∙◌, arith}
 use Rattle.ls_query.specs.Places.{place_from}
 use Rattle.ls_query.proofs.Placed.{place_from-none, further-has, further-lacks}
 use Rattle.ls_query.proofs.placing.place_in_size.Goals as goal

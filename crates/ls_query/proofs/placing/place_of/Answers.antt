@@ -1,8 +1,7 @@
-use Rattle.std.proofs.Common.{ℕ, ◌-◌, ◌<◌, ◌≤◌, ◌≡◌, true, false, length, Some, sym, ap, ap₂, ◌∙◌, arith, rules, true≢false}
+use Rattle.std.proofs.Common.{◌-◌, ◌≤◌, ◌≡◌, true, false, length, sym, ◌∙◌, arith, rules, true≢false}
 use Rattle.ls_set.specs.ItemSet.{full, is_within}
 use Rattle.ls_set.proofs.Sets.{IsWithin-from, is_within-from}
 use Rattle.ls_theory.specs.Queries.{blocks}
-use Rattle.ls_query.specs.declared.block_fault.TheConstants.{MOST_SETS}
 use Rattle.ls_query.proofs.BySize.{length-blocks_shorter}
 use Rattle.ls_query.proofs.Counted.{counted}
 use Rattle.ls_query.proofs.Placed.{position-none, find-place, choose-bounded}

@@ -1,4 +1,4 @@
-use Rattle.std.proofs.Common.{ℕ, suc, ◌+◌, ◌≡◌, arith, add-one}
+use Rattle.std.proofs.Common.{add-one}
 use Rattle.ls_theory.specs.Queries.{blocks, block_before, queries, query_before}
 use Rattle.ls_query.proofs.Sorted.{find-next, find-any}
 use Rattle.ls_query.proofs.BlockOrder.{before-asymmetric}

@@ -1,4 +1,3 @@
-use Rattle.std.proofs.Common.{sym, ◌∙◌, true≢false}
 use Rattle.ls_set.proofs.Sets.{empty-within}
 use Rattle.ls_set.specs.ItemSet.{full}
 use Rattle.ls_query.proofs.BlockSets.{first-blocks}
