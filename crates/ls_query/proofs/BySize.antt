@@ -5,6 +5,7 @@ use Rattle.std.proofs.lemmas.Bool.{false_from_ne_true}
 use Rattle.std.proofs.lemmas.Bool.Decides.{nat_tests}
 use Rattle.std.proofs.lemmas.Grind.{flat_map-append}
 use Rattle.std.proofs.lemmas.List.Elements.{filter-append}
+use Rattle.std.proofs.lemmas.List.{length-map}
 use Rattle.ls_set.specs.ItemSet.{Items, has, empty, full, with, single, minus, len, numbers_from, subsets_from}
 use Rattle.ls_set.proofs.Sets.{members, same_set, has-with, has-single, has-full}
 use Rattle.ls_set.proofs.Order.{IsBetween, Each-weaker, subsets_from-between}
@@ -49,10 +50,6 @@ filter-nothing : {X : Type 0} (xs : List X) → filter (λ x. false) xs ≡ []
 filter-nothing [] = refl
 filter-nothing (x ∷ xs) = filter-nothing xs
 
-length-map : {X Y : Type 0} (f : X → Y) (xs : List X) → length (map f xs) ≡ length xs
-length-map f [] = refl
-length-map f (x ∷ xs) = ap suc (length-map f xs)
-
 -- ---- the sets of one size
 
 -- the sets of `size` of the m items from i on, in the order
@@ -92,7 +89,7 @@ length-of_size i zero (suc size) = rw (len-empty, ne_eqb 0 (suc size) (λ e. ome
 length-of_size i (suc m) zero = ap length (of_size-none i m) ∙ length-of_size (suc i) m 0 ∙ choose-none m ∙ sym (choose-none (suc m))
 length-of_size i (suc m) (suc size) =
     ap length (of_size-more i m size) ∙ length-append (map (λ s. with s i) (of_size (suc i) m size)) (of_size (suc i) m (suc size))
-    ∙ ap₂ (λ x y. x + y) (length-map (λ s. with s i) (of_size (suc i) m size) ∙ length-of_size (suc i) m size) (length-of_size (suc i) m (suc size)) ∙ sym (choose-more m size)
+    ∙ ap₂ (λ x y. x + y) (length-map (of_size (suc i) m size) (λ s. with s i) ∙ length-of_size (suc i) m size) (length-of_size (suc i) m (suc size)) ∙ sym (choose-more m size)
 
 -- ---- the blocks
 

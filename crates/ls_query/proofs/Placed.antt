@@ -5,6 +5,7 @@ use Rattle.std.proofs.lemmas.Bool.{cases_Bool, false_from_ne_true}
 use Rattle.std.proofs.lemmas.Bool.Decides.{nat_tests}
 use Rattle.std.proofs.lemmas.Option.{slice_get_within, slice_get-get_or}
 use Rattle.std.proofs.lemmas.List.Quantifiers.{position-Some}
+use Rattle.std.proofs.lemmas.List.{length-map}
 use Rattle.ls_set.specs.ItemSet.{Items, has, empty, with, without, len, is_same}
 use Rattle.ls_set.proofs.Sets.{members, same_set, has-empty, has-without, has-full, Decides-is_same}
 use Rattle.ls_set.proofs.Order.{IsBetween}
@@ -81,10 +82,6 @@ pub place_from-lacks : (a : Items) (i m size : ℕ) → has a i ≡ false → pl
 unfolding place_from
 place_from-lacks a i m size h = rw h refl
 
-length-map : {X Y : Type 0} (f : X → Y) (xs : List X) → length (map f xs) ≡ length xs
-length-map f [] = refl
-length-map f (x ∷ xs) = ap suc (length-map f xs)
-
 rest_between : (i m : ℕ) (s : Items) → IsBetween i (suc m) s → IsBetween (suc i) m (without s i)
 rest_between i m s h j c =
     let n : j ≢ i = λ e. let x = sym (has-without s i j) ∙ c in grind (arith, nat_tests) in
@@ -120,7 +117,7 @@ at-place i (suc m) size a s b e same =
             rw (place_from-lacks a i m 0 (same i (omega arith) ∙ h), of_size-none i m, let z : 0 + place_from a (suc i) m 0 ≡ place_from a (suc i) m 0 = omega arith in z) rest
         | suc z ↦ λ e.
             let rest = at-place (suc i) m (suc z) a s (same_between i m s b h) e (λ j l. same j (omega arith)) in
-            let before : length (map (λ t. with t i) (of_size (suc i) m z)) ≡ choose m z = length-map (λ t. with t i) (of_size (suc i) m z) ∙ length-of_size (suc i) m z in
+            let before : length (map (λ t. with t i) (of_size (suc i) m z)) ≡ choose m z = length-map (of_size (suc i) m z) (λ t. with t i) ∙ length-of_size (suc i) m z in
             rw (place_from-lacks a i m (suc z) (same i (omega arith) ∙ h), of_size-more i m z, sym before)
             (get-append_right (map (λ t. with t i) (of_size (suc i) m z)) (of_size (suc i) m (suc z)) (place_from a (suc i) m (suc z)) s rest)
       ] e
