@@ -1,0 +1,205 @@
+-- The good queries of the blocks: which they are, that they stand in the order, and the next of them.
+use Rattle.std.proofs.Common.{ℕ, zero, suc, ◌<◌, ◌≤◌, ◌≡◌, ◌⊎◌, inl, inr, true, false, not, ◌&&◌, ltb, map, find, None, Some, refl, sym, ap, ◌∙◌, subst, arith, true≢false, lt-ltb, ltb-true}
+use Rattle.std.specs.List.{flat_map}
+use Rattle.std.proofs.lemmas.Bool.{and_parts, and_from, or_cases, or_left, or_right, false_from_ne_true}
+use Rattle.ls_set.specs.ItemSet.{Items, has, empty, full, minus, len, least, next_item, items, bound, is_same, numbers_from, IsWithin}
+use Rattle.ls_set.specs.Query.{is_good}
+use Rattle.ls_set.specs.declared.query.Query.{Query}
+use Rattle.ls_set.proofs.Sets.{members, has-full, has-minus, Decides-is_same, or-false}
+use Rattle.ls_set.proofs.Sizes.{len-less}
+use Rattle.ls_set.proofs.Ascending.{slice_get-filter, find-filter, find_some, bound-has, least-cases}
+use Rattle.ls_theory.specs.Queries.{blocks, block_before, queries, query_before}
+use Rattle.ls_theory.specs.Pages.{comes_after}
+use Rattle.ls_laws.proofs.Breaks.{IsGood, good-from, good-to}
+use Rattle.ls_laws.proofs.Counts.{len-zero, len-empty}
+use Rattle.ls_query.proofs.Sorted.{IsIn, IsSorted, in-filter, filter-in, in-flat_map, flat_map-in, in-map, map-in, in-numbers, sorted-map, sorted-filter, sorted-flat_map, sorted-numbers, find-same, find-first, find-is, find-none_is, find-no_element}
+use Rattle.ls_query.proofs.BlockOrder.{before-smaller, before-cases, before-asymmetric}
+use Rattle.ls_query.proofs.BlockSets.{in-blocks, blocks-in, sorted-blocks}
+
+-- ---- items of a set
+
+next_item-cases : (s : Items) (a i : ℕ) → next_item s a ≡ Some i → (a < i) × (has s i ≡ true) × ((j : ℕ) → a < j → j < i → has s j ≡ false)
+unfolding next_item items
+next_item-cases s a i e =
+    let h = find_some (λ j. has s j && ltb a j) 0 (bound s) i (sym (find-filter (has s) (λ j. ltb a j) (numbers_from 0 (bound s))) ∙ e) in
+    let p = and_parts (has s i) (ltb a i) h.0 in (
+      ltb-true a i p.1,
+      p.0,
+      λ j l m. false_from_ne_true (has s j) (λ k. true≢false (sym (and_from (has s j) (ltb a j) k (lt-ltb a j l)) ∙ h.1 j (omega arith) m)),
+    )
+
+next_item-none_left : (s : Items) (a j : ℕ) → next_item s a ≡ None → a < j → has s j ≡ false
+unfolding next_item items
+next_item-none_left s a j e l = false_from_ne_true (has s j) (λ k.
+    let inside : j < bound s = bound-has s j k in
+    true≢false (sym (and_from (has s j) (ltb a j) k (lt-ltb a j l))
+    ∙ find-none_is (λ j. has s j && ltb a j) (numbers_from 0 (bound s)) (sym (find-filter (has s) (λ j. ltb a j) (numbers_from 0 (bound s))) ∙ e) j (in-numbers 0 (bound s) j (omega arith) (omega arith))))
+
+least-none_left : (s : Items) (j : ℕ) → least s ≡ None → has s j ≡ false
+unfolding least items
+least-none_left s j e = false_from_ne_true (has s j) (λ k.
+    let inside : j < bound s = bound-has s j k in
+    true≢false (sym k ∙ find-none_is (has s) (numbers_from 0 (bound s)) (sym (slice_get-filter (has s) (numbers_from 0 (bound s))) ∙ e) j (in-numbers 0 (bound s) j (omega arith) (omega arith))))
+
+-- ---- the queries
+
+abbrev asked_of : Items → ℕ → Query
+asked_of a q = record { a = a; q = q }
+
+some_items : (n : ℕ) (r : Query) → IsGood n r → 0 < len r.a
+some_items n r good = elim (cases_size (len r.a)) [
+  | inl e ↦ absurd (true≢false (sym ((Decides-is_same r.a empty).1 (len-zero r.a e)) ∙ good.nonempty))
+  | inr l ↦ l
+]
+  where
+    cases_size : (m : ℕ) → (m ≡ 0) ⊎ (0 < m)
+    cases_size zero = inl refl
+    cases_size (suc m) = inr (omega arith)
+
+pub in-queries : (n k : ℕ) (r : Query) → IsGood n r → len r.a ≤ k → IsIn r (queries n k)
+unfolding queries
+in-queries n k r good few =
+    let item = good.item in
+    in-filter (is_good n) (flat_map (λ a. map (asked_of a) (numbers_from 0 n)) (blocks n k)) r
+    (in-flat_map (λ a. map (asked_of a) (numbers_from 0 n)) (blocks n k) r.a r (in-blocks n k r.a (record { within = good.small; some = some_items n r good; few = few }))
+    (in-map (asked_of r.a) (numbers_from 0 n) r.q (in-numbers 0 n r.q (omega arith) (omega arith))))
+    (good-to n r good)
+
+pub queries-in : (n k : ℕ) (r : Query) → IsIn r (queries n k) → IsGood n r × IsIn r.a (blocks n k)
+unfolding queries
+queries-in n k r c =
+    let f = filter-in (is_good n) (flat_map (λ a. map (asked_of a) (numbers_from 0 n)) (blocks n k)) r c in
+    let m = flat_map-in (λ a. map (asked_of a) (numbers_from 0 n)) (blocks n k) r f.0 in
+    let p = map-in (asked_of m.0) (numbers_from 0 n) r m.2 in
+    (good-from n r f.1, subst (λ a. IsIn a (blocks n k)) (sym (ap (λ s. s.a) p.2)) m.1)
+
+before-by_set : (r s : Query) → block_before r.a s.a ≡ true → query_before r s ≡ true
+unfolding query_before
+before-by_set r s h = or_left (block_before r.a s.a) (is_same r.a s.a && ltb r.q s.q) h
+
+before-by_item : (r s : Query) → r.a ≡ s.a → r.q < s.q → query_before r s ≡ true
+unfolding query_before
+before-by_item r s e l = or_right (block_before r.a s.a) (is_same r.a s.a && ltb r.q s.q) (and_from (is_same r.a s.a) (ltb r.q s.q) ((Decides-is_same r.a s.a).1 e) (lt-ltb r.q s.q l))
+
+query_before-cases : (r s : Query) → query_before r s ≡ true → (block_before r.a s.a ≡ true) ⊎ ((r.a ≡ s.a) × (r.q < s.q))
+unfolding query_before
+query_before-cases r s h = elim (or_cases (block_before r.a s.a) (is_same r.a s.a && ltb r.q s.q) h) [
+  | inl a ↦ inl a
+  | inr a ↦ let p = and_parts (is_same r.a s.a) (ltb r.q s.q) a in inr ((Decides-is_same r.a s.a).0 p.0, ltb-true r.q s.q p.1)
+]
+
+pub sorted-queries : (n k : ℕ) → IsSorted query_before (queries n k)
+unfolding queries
+sorted-queries n k =
+    sorted-filter query_before (is_good n) (flat_map (λ a. map (asked_of a) (numbers_from 0 n)) (blocks n k))
+    (sorted-flat_map block_before query_before (λ a. map (asked_of a) (numbers_from 0 n)) (blocks n k) (sorted-blocks n k)
+    (λ a _. sorted-map ltb query_before (asked_of a) (numbers_from 0 n) (sorted-numbers 0 n) (λ x y _ _ l. before-by_item (asked_of a x) (asked_of a y) refl (ltb-true x y l)))
+    (λ a b u v h c d.
+    let p = map-in (asked_of a) (numbers_from 0 n) u c in
+    let q = map-in (asked_of b) (numbers_from 0 n) v d in
+    rw (p.2, q.2) (before-by_set (asked_of a p.0) (asked_of b q.0) h)))
+
+-- ---- the next query
+
+never_before : (a b : Items) → a ≡ b → block_before a b ≡ true → ⊥
+never_before a b e h = true≢false (sym h ∙ ap (block_before a) (sym e) ∙ before-asymmetric a a (ap (block_before a) e ∙ h))
+
+-- the item of a good query is one of those that its set lacks
+lacking : (n : ℕ) (r : Query) → IsGood n r → has (minus (full n) r.a) r.q ≡ true
+lacking n r good = has-minus (full n) r.a r.q ∙ rw (has-full n r.q, lt-ltb r.q n good.item, good.outside) refl
+
+lacking-good : (n : ℕ) (a : Items) (q : ℕ) → IsWithin a (full n) → 0 < len a → has (minus (full n) a) q ≡ true → IsGood n (asked_of a q)
+lacking-good n a q within some h =
+    let p = and_parts (has (full n) q) (not (has a q)) (sym (has-minus (full n) a q) ∙ h) in
+    record {
+      small = within;
+      nonempty = false_from_ne_true (is_same a empty) (λ s. let e : len a ≡ len empty = ap len ((Decides-is_same a empty).0 s) in let z : len empty ≡ 0 = len-empty in absurd (omega arith));
+      item = ltb-true q n (sym (has-full n q) ∙ p.0);
+      outside = let x = p.1 in grind (arith, members);
+    }
+
+pub find-with_same : (n k : ℕ) (r : Query) (q : ℕ) → IsGood n r → len r.a ≤ k → next_item (minus (full n) r.a) r.q ≡ Some q → find (query_before r) (queries n k) ≡ Some (record { a = r.a; q = q })
+find-with_same n k r q good few e =
+    let h = next_item-cases (minus (full n) r.a) r.q q e in
+    find-first query_before (query_before r) (queries n k) (asked_of r.a q) (sorted-queries n k)
+    (in-queries n k (asked_of r.a q) (lacking-good n r.a q good.small (some_items n r good) h.1) few)
+    (before-by_item r (asked_of r.a q) refl h.0)
+    (λ c in_queries g. false_from_ne_true (query_before r c) (λ f.
+    elim (query_before-cases c (asked_of r.a q) g) [
+      | inl x ↦ elim (query_before-cases r c f) [
+        | inl y ↦ true≢false (sym x ∙ before-asymmetric r.a c.a y)
+        | inr y ↦ never_before c.a r.a (sym y.0) x
+      ]
+      | inr x ↦ elim (query_before-cases r c f) [
+        | inl y ↦ never_before r.a c.a (sym x.0) y
+        | inr y ↦ true≢false (sym (lacking n c (queries-in n k c in_queries).0) ∙ ap (λ a. has (minus (full n) a) c.q) x.0 ∙ h.2 c.q y.1 x.1)
+      ]
+    ]))
+
+-- where the set of a query has no further one, the next is the first with a later set
+pub find-no_more : (n k : ℕ) (r : Query) → next_item (minus (full n) r.a) r.q ≡ None → find (λ s. block_before r.a s.a) (queries n k) ≡ find (query_before r) (queries n k)
+unfolding query_before
+find-no_more n k r e =
+    find-same (λ s. block_before r.a s.a) (query_before r) (queries n k) (λ c in_queries.
+    let out : (is_same r.a c.a && ltb r.q c.q) ≡ false = false_from_ne_true (is_same r.a c.a && ltb r.q c.q) (λ h.
+    let p = and_parts (is_same r.a c.a) (ltb r.q c.q) h in
+    let same : r.a ≡ c.a = (Decides-is_same r.a c.a).0 p.0 in
+    true≢false (sym (lacking n c (queries-in n k c in_queries).0) ∙ ap (λ a. has (minus (full n) a) c.q) (sym same) ∙ next_item-none_left (minus (full n) r.a) r.q c.q e (ltb-true r.q c.q p.1))) in
+    sym (rw out (or-false (block_before r.a c.a))))
+
+pub find-larger : (n k : ℕ) (r : Query) → k < len r.a → find (query_before r) (queries n k) ≡ None
+find-larger n k r many =
+    find-no_element (query_before r) (queries n k) (λ c in_queries. false_from_ne_true (query_before r c) (λ h.
+    let few = (blocks-in n k c.a (queries-in n k c in_queries).1).few in
+    elim (query_before-cases r c h) [
+      | inl x ↦ elim (before-cases r.a c.a x) [ inl l ↦ omega arith | inr l ↦ let e = l.0 in omega arith ]
+      | inr x ↦ let e : len r.a ≡ len c.a = ap len x.0 in omega arith
+    ]))
+
+pub first-queries : (n k : ℕ) → find (λ s. block_before empty s.a) (queries n k) ≡ find (comes_after query_before None) (queries n k)
+first-queries n k = find-same (λ s. block_before empty s.a) (λ s. true) (queries n k) (λ s c. let l = (blocks-in n k s.a (queries-in n k s c).1).some in before-smaller empty s.a (omega (arith, len-empty)))
+
+-- ---- the first query with a later set
+
+pub find-after_set : (n k : ℕ) (a b : Items) (q : ℕ) → find (block_before a) (blocks n k) ≡ Some b → least (minus (full n) b) ≡ Some q → find (λ s. block_before a s.a) (queries n k) ≡ Some (record { a = b; q = q })
+find-after_set n k a b q e l =
+    let h = find-is block_before (block_before a) (blocks n k) b (sorted-blocks n k) before-asymmetric e in
+    let x = blocks-in n k b h.0 in
+    let y = least-cases (minus (full n) b) q l in
+    find-first query_before (λ s. block_before a s.a) (queries n k) (asked_of b q) (sorted-queries n k)
+    (in-queries n k (asked_of b q) (lacking-good n b q x.within x.some y.0) x.few) h.1
+    (λ c in_queries g.
+    let d = queries-in n k c in_queries in
+    elim (query_before-cases c (asked_of b q) g) [
+      | inl z ↦ h.2 c.a d.1 z
+      | inr z ↦ absurd (true≢false (sym (lacking n c d.0) ∙ ap (λ t. has (minus (full n) t) c.q) z.0 ∙ y.1 c.q z.1))
+    ])
+
+-- the set of all items is last, and has no query
+pub find-full : (n k : ℕ) (a b : Items) → find (block_before a) (blocks n k) ≡ Some b → least (minus (full n) b) ≡ None → find (λ s. block_before a s.a) (queries n k) ≡ None
+find-full n k a b e l =
+    let h = find-is block_before (block_before a) (blocks n k) b (sorted-blocks n k) before-asymmetric e in
+    find-no_element (λ s. block_before a s.a) (queries n k) (λ c in_queries.
+    let d = queries-in n k c in_queries in
+    let good = d.0 in
+    let all : (j : ℕ) → has (full n) j ≡ true → has b j ≡ true = λ j m. let none = least-none_left (minus (full n) b) j l in grind (arith, members) in
+    h.2 c.a d.1 (before-smaller c.a b (len-less c.a b c.q (λ j m. all j (good.small j m)) good.outside (all c.q (has-full n c.q ∙ lt-ltb c.q n good.item)))))
+
+pub find-none_after : (n k : ℕ) (a : Items) → find (block_before a) (blocks n k) ≡ None → find (λ s. block_before a s.a) (queries n k) ≡ None
+find-none_after n k a e =
+    find-no_element (λ s. block_before a s.a) (queries n k) (λ c in_queries. find-none_is (block_before a) (blocks n k) e c.a (queries-in n k c in_queries).1)
+
+-- ---- the order of queries is asymmetric
+
+pub query_before-asymmetric : (r s : Query) → query_before r s ≡ true → query_before s r ≡ false
+query_before-asymmetric r s h = false_from_ne_true (query_before s r) (λ g.
+    elim (query_before-cases r s h) [
+      | inl x ↦ elim (query_before-cases s r g) [
+        | inl y ↦ true≢false (sym y ∙ before-asymmetric r.a s.a x)
+        | inr y ↦ never_before r.a s.a (sym y.0) x
+      ]
+      | inr x ↦ elim (query_before-cases s r g) [
+        | inl y ↦ never_before s.a r.a (sym x.0) y
+        | inr y ↦ let l = x.1 in let m = y.1 in omega arith
+      ]
+    ])

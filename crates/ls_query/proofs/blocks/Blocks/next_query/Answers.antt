@@ -1,0 +1,10 @@
+use Rattle.ls_set.proofs.Sets.{empty-within}
+use Rattle.ls_set.specs.ItemSet.{full}
+use Rattle.ls_query.proofs.QuerySets.{first-queries}
+use Rattle.ls_query.proofs.blocks.Blocks.next_query.Goals as goal
+
+pub query_after_set-requires-clause-within : goal.query_after_set-requires-clause-within
+query_after_set-requires-clause-within c = rw c.empty.ensures (empty-within (full c.self.inside.n))
+
+pub returns-in-None : goal.returns-in-None
+returns-in-None c = rw (← c.self.view_is, c.in-None.is, c.query_after_set.ensures, c.empty.ensures) (first-queries c.self.inside.n c.self.inside.k)

@@ -1,0 +1,103 @@
+// The blocks of an interview.
+ghost use Rattle.std.specs.Prelude.{◌≡◌, ◌<◌, ◌≤◌, ℕ, true, Err, length, find};
+ghost use Rattle.std.specs.Option.{ForSome, option_map};
+ghost use Rattle.std.specs.List.{position};
+ghost use Rattle.ls_set.specs.ItemSet.{full, IsWithin, is_same};
+ghost use Rattle.ls_set.specs.Query.{is_good};
+ghost use Rattle.ls_theory.specs.Queries.{block_before, query_before};
+ghost use Rattle.ls_theory.specs.Pages.{comes_after};
+
+use crate::asking::{query_after, query_after_set};
+use crate::block_fault::{BlockFault, MOST_SETS};
+use crate::counting::count_sets;
+use crate::moving::set_after;
+use crate::placing;
+use ls_set::{ItemSet, PLACES, Query};
+use std::alloc::AllocError;
+use std::marker::Model;
+
+/// The blocks up to a size: the sets A of 1 to that many items, of which an interview asks the good
+/// queries (A, q). Contracts see the number of items and the greatest size.
+///
+/// The sets stand in the order of queries: by size, and those of one size by their ascending lists.
+#[derive(Clone, Copy, Debug, PartialEq, Eq)]
+pub struct Blocks {
+    n: u32,
+    k: u32,
+}
+
+impl Model for Blocks {
+    ghost use Rattle.ls_query.specs.Blocks.{BlockRange, AreBounded};
+
+    ghost Value = { BlockRange };
+
+    ghost view = { λ b. record { item_count = b.n; largest = b.k } };
+
+    ghost invariant = { λ b. AreBounded (record { item_count = b.n; largest = b.k }) };
+
+    ghost inverse = { λ b. record { n = b.item_count; k = b.largest } };
+}
+
+impl Blocks {
+    ghost use Rattle.ls_query.specs.Blocks.{made, sets_of, queries_of};
+    ghost use Rattle.ls_query.specs.declared.block_fault.BlockFault.TheVariants.{Memory};
+
+    /// The sets of 1 to `k` of `n` items. `BadBlock` comes exactly where `k` is 0, or above both 1 and
+    /// `n - 1`; then `TooWide` exactly where they are more than [`MOST_SETS`], with the least size up
+    /// to which they are.
+    pub fn new(n: u32, k: u32) -> Result<Blocks, BlockFault>
+        requires some { 0 < n }
+        requires items { n ≤ PLACES }
+        ensures value { result ≡ made n k }
+        ensures never_memory { (e : AllocError) → result ≡ Err (Memory e) → ⊥ }
+    {
+        if k == 0 || k > (n - 1).max(1) {
+            return Err(BlockFault::BadBlock);
+        }
+        match count_sets(n, k) {
+            Ok(_) => Ok(Blocks { n, k }),
+            Err(size) => Err(BlockFault::TooWide { size }),
+        }
+    }
+
+    /// How many sets there are.
+    pub fn count(&self) -> u32
+        ensures value { result ≡ length (sets_of self.now) }
+        ensures few { result ≤ MOST_SETS }
+    {
+        count_sets(self.n, self.k).unwrap()
+    }
+
+    /// The first set of the blocks that comes after the given one, or the first of all. The given one
+    /// need not be of the blocks.
+    pub fn next_set(&self, after: Option<ItemSet>) -> Option<ItemSet>
+        requires { ForSome after (λ a. IsWithin a (full self.now.item_count)) }
+        ensures { result ≡ find (comes_after block_before after) (sets_of self.now) }
+    {
+        match after {
+            Some(a) => set_after(self.n, self.k, a),
+            // The empty set comes before all of them.
+            None => set_after(self.n, self.k, ItemSet::empty()),
+        }
+    }
+
+    /// The place of a set among the sets of the blocks, counted from 0, or `None` where it is not one
+    /// of them.
+    pub fn place_of(&self, a: ItemSet) -> Option<u32>
+        ensures { result ≡ position (is_same a) (sets_of self.now) }
+    {
+        placing::place_of(self.n, self.k, a)
+    }
+
+    /// The first good query of the blocks that comes after the given one, or the first of all. The
+    /// given one need not be of the blocks.
+    pub fn next_query(&self, after: Option<&Query>) -> Option<Query>
+        requires { ForSome after (λ r. is_good self.now.item_count r.now ≡ true) }
+        ensures { result ≡ find (comes_after query_before (option_map (λ r. r.now) after.entry)) (queries_of self.now) }
+    {
+        match after {
+            Some(r) => query_after(self.n, self.k, *r),
+            None => query_after_set(self.n, self.k, ItemSet::empty()),
+        }
+    }
+}

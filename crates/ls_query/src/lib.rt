@@ -1,0 +1,15 @@
+//! The blocks of an interview: the sets of the first sizes in the order of queries, and their good
+//! queries, one after another without memory.
+#![tactic(auto)]
+
+mod asking;
+mod block_fault;
+mod blocks;
+mod counting;
+mod moving;
+mod placing;
+mod turns;
+
+pub use block_fault::{BlockFault, MOST_SETS};
+pub use blocks::Blocks;
+pub use turns::each_comes_in_turn;
