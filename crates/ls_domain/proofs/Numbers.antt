@@ -1,8 +1,6 @@
 -- Names and their numbers.
-use Rattle.std.proofs.Common.{◌≡◌, ◌≢◌, ℕ, suc, ◌+◌, ◌<◌, ◌≤◌, inl, inr, Bool, true, false, not, ◌&&◌, List, [], ◌∷◌, ◌++◌, length, map, take, get_or, Some, None, is_some, refl, ap, ap₂, sym, ◌∙◌, arith, length-append, string_bytes, String, ltb, ltb-true}
-use Rattle.std.specs.declared.option.Option.{Option}
-use Rattle.std.specs.Cmp.Lexicographic.{same_text}
-use Rattle.std.specs.List.{position, position_or_len, list_any, list_all, IsDistinct, AllZip}
+use Rattle.std.proofs.Common.{◌≡◌, ◌≢◌, ℕ, ◌+◌, ◌<◌, inl, inr, true, false, List, [], ◌∷◌, ◌++◌, length, map, take, get_or, Some, None, is_some, refl, ap, ap₂, sym, ◌∙◌, arith, length-append, string_bytes, String, ltb, ltb-true}
+use Rattle.std.specs.List.{position_or_len, IsDistinct, AllZip}
 use Rattle.std.specs.Str.{IsAscii, IsUtf8, bytes_eq}
 use Rattle.std.proofs.lemmas.Bool.{cases_Bool}
 use Rattle.std.proofs.lemmas.Bool.Decides.{nat_tests}
@@ -16,7 +14,7 @@ use Rattle.std.proofs.lemmas.Map.Keys.{IsDistinct-push}
 use Rattle.std.proofs.lemmas.Map.Made.{AllPairs-from_IsDistinct}
 use Rattle.std.proofs.lemmas.Slice.Eq.{bytes_eq-Decides}
 use Rattle.std.proofs.lemmas.Str.{IsUtf8-from_ascii}
-use Rattle.ls_set.specs.ItemSet.{Items, has, full, with, set_of, empty, items, IsWithin}
+use Rattle.ls_set.specs.ItemSet.{Items, has, full, with, set_of, items, IsWithin}
 use Rattle.ls_set.specs.declared.item_set.TheConstants.{PLACES}
 use Rattle.ls_set.proofs.Sets.{members, same_set, has-full}
 use Rattle.ls_set.proofs.Firsts.{listed-has}
@@ -26,7 +24,7 @@ use Rattle.ls_lines.specs.declared.kind.Kind.TheVariants.{Name}
 use Rattle.ls_lines.proofs.Ascii.{front-ascii}
 use Rattle.ls_domain.specs.Texts.{name_of}
 use Rattle.ls_domain.specs.Meanings.{is_named, number_of, item_of, items_of}
-use Rattle.ls_domain.specs.Domains.{is_name, AreNames, IsDomain}
+use Rattle.ls_domain.specs.Domains.{is_name, AreNames}
 use Rattle.ls_domain.proofs.Positions.{is_some-position}
 
 -- ---- one to one

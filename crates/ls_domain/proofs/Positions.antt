@@ -1,5 +1,5 @@
 -- Where the first element that passes stands.
-use Rattle.std.proofs.Common.{◌≡◌, ℕ, suc, ◌+◌, ◌<◌, ◌≤◌, inl, inr, Bool, true, false, not, ◌||◌, cond, ltb, nat_lt, List, [], ◌∷◌, length, map, drop, get_or, Some, None, refl, ap, sym, ◌∙◌, arith, option_map, is_some}
+use Rattle.std.proofs.Common.{◌≡◌, ℕ, suc, ◌+◌, ◌<◌, ◌≤◌, inl, inr, Bool, true, false, ◌||◌, cond, ltb, List, [], ◌∷◌, length, map, drop, get_or, Some, None, refl, ap, sym, ◌∙◌, arith, option_map, is_some}
 use Rattle.std.specs.declared.option.Option.{Option}
 use Rattle.std.specs.List.{position, position_or_len, list_any}
 use Rattle.std.proofs.lemmas.Bool.{cases_Bool, cases_lt}

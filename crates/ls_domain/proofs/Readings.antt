@@ -1,7 +1,6 @@
 -- What is read is a domain, and a domain is read from its names.
-use Rattle.std.proofs.Common.{◌≡◌, ℕ, ◌+◌, ◌<◌, ◌≤◌, inl, inr, Bool, true, false, ◌&&◌, List, [], ◌∷◌, ◌++◌, length, map, Some, None, Ok, Err, Result, refl, ap, ap₂, sym, ◌∙◌, subst, arith, length-append, append_assoc, append-nil, ◌==◌}
-use Rattle.std.specs.declared.option.Option.{Option}
-use Rattle.std.specs.List.{list_any, list_all, AllByRecursion, IsDistinct}
+use Rattle.std.proofs.Common.{◌≡◌, ℕ, ◌+◌, ◌<◌, inl, inr, false, List, [], ◌∷◌, ◌++◌, length, map, Some, None, Ok, refl, ap, ap₂, sym, ◌∙◌, subst, arith, length-append, append_assoc, append-nil, ◌==◌}
+use Rattle.std.specs.List.{list_all, AllByRecursion, IsDistinct}
 use Rattle.std.specs.Str.{bytes_eq}
 use Rattle.std.proofs.lemmas.Bool.{cases_Bool}
 use Rattle.std.proofs.lemmas.Cmp.{nat_list_eq_equiv}
@@ -13,8 +12,6 @@ use Rattle.ls_lines.specs.Lines.{Text}
 use Rattle.std.proofs.lemmas.Bool.{and_parts}
 use Rattle.ls_domain.specs.Meanings.{is_named}
 use Rattle.ls_domain.specs.Domains.{AreNames, IsDomain, Row, first_field, is_name, name_fault, names_from, names_of, names_of_table, names_of_words, row_of, rows_of, table_records, width_of}
-use Rattle.ls_domain.specs.declared.domain_fault.DomainFault.{DomainFault}
-use Rattle.ls_domain.specs.declared.domain_fault.DomainFault.TheVariants.{NoItems, BadCsv}
 use Rattle.ls_domain.proofs.Numbers.{AreNames-nil, AreNames-push}
 use Rattle.ls_domain.proofs.Rows.{fault-none, free, length-names_from, names_from-bad, names_from-fault, names_from-next, names_from-nil, ok-err, same_Ok}
 

@@ -1,8 +1,6 @@
 -- The reading of rows, row by row.
-use Rattle.std.proofs.Common.{◌≡◌, ◌≢◌, ℕ, zero, suc, ◌+◌, ◌<◌, ◌≤◌, inl, inr, Bool, true, false, not, List, [], ◌∷◌, ◌++◌, length, map, take, drop, get_or, slice_get, eq-eqb, ne_eqb, ◌==◌, Some, None, Ok, Err, Result, refl, ap, ap₂, sym, ◌∙◌, arith, nat_le, cond, subst}
+use Rattle.std.proofs.Common.{◌≡◌, ◌≢◌, ℕ, zero, suc, ◌+◌, ◌<◌, ◌≤◌, inl, inr, true, false, List, [], ◌∷◌, ◌++◌, length, map, take, drop, get_or, slice_get, eq-eqb, ne_eqb, ◌==◌, Some, None, Ok, Err, Result, refl, ap, ap₂, sym, ◌∙◌, arith, nat_le}
 use Rattle.std.specs.declared.option.Option.{Option}
-use Rattle.std.specs.Str.{bytes_eq}
-use Rattle.std.specs.List.{slice_index_or}
 use Rattle.std.proofs.lemmas.Bool.{cases_Bool}
 use Rattle.std.proofs.lemmas.Bool.Decides.{nat_tests}
 use Rattle.std.proofs.lemmas.List.{length-append, length-map, take-map, drop_more, drop_all}
@@ -12,7 +10,7 @@ use Rattle.csv.specs.Records as records
 use Rattle.ls_set.specs.declared.item_set.TheConstants.{PLACES}
 use Rattle.ls_lines.specs.Lines.{Text}
 use Rattle.ls_domain.specs.Meanings.{is_named, number_of, item_of}
-use Rattle.ls_domain.specs.Domains.{is_name, Row, IsNameFault, IsFaultOf, name_fault, names_from, names_of, names_of_words, names_of_table, table_records, first_field, row_of, rows_of, width_of}
+use Rattle.ls_domain.specs.Domains.{is_name, Row, IsNameFault, IsFaultOf, name_fault, names_from, names_of, names_of_words, names_of_table, table_records, first_field, row_of, rows_of}
 use Rattle.ls_domain.specs.declared.domain_fault.DomainFault.{DomainFault}
 use Rattle.ls_domain.specs.declared.domain_fault.DomainFault.TheVariants.{NoItems, BadCsv, BadName, Repeat, TooMany, Memory}
 use Rattle.ls_domain.proofs.Numbers.{is_named-some, item_of-some}

@@ -1,12 +1,10 @@
-use Rattle.std.proofs.Common.{Bor, List, ℕ, ◌≡◌, ◌≤◌, ◌+◌, ◌∙◌, sym, refl, rules, inl, inr, true, map, length, Some, ◌∷◌, [], arith}
-use Rattle.std.specs.Result.{is_ok}
+use Rattle.std.proofs.Common.{Bor, List, ℕ, ◌∙◌, sym, refl, inl, inr, map, Some, ◌∷◌, [], arith}
 use Rattle.std.proofs.lemmas.Grind.{common_steps}
 use Rattle.std.proofs.lemmas.List.{length-map, map-append}
 use Rattle.csv.specs.Reading.{Reached, default_config, strip_bom}
 use Rattle.csv.specs.Records.{fields_of}
 use Rattle.csv.specs.declared.parser.State.TheVariants as st
 use Rattle.csv.proofs.ReadFacts.{rows-end, rows-more}
-use Rattle.ls_set.specs.declared.item_set.TheConstants.{PLACES}
 use Rattle.ls_domain.proofs.Records.{all_records, front_records}
 use Rattle.ls_domain.proofs.table.first_records.Goals as goal
 

@@ -1,8 +1,8 @@
-use Rattle.std.proofs.Common.{◌≡◌, ◌∙◌, ◌≤◌, ◌<◌, ◌+◌, length, map, take, drop, slice_get, ap, sym, arith, Some, Err}
+use Rattle.std.proofs.Common.{◌≡◌, ◌∙◌, ◌+◌, length, map, take, drop, slice_get, ap, sym, arith, Some, Err}
 use Rattle.std.proofs.lemmas.Grind.{common_steps}
 use Rattle.csv.specs.Records.{fields_of}
 use Rattle.ls_set.specs.declared.item_set.TheConstants.{PLACES}
-use Rattle.ls_domain.specs.Domains.{IsFaultOf, IsNameFault, name_fault, names_from, names_of_table, table_records}
+use Rattle.ls_domain.specs.Domains.{IsFaultOf, names_from, names_of_table, table_records}
 use Rattle.ls_domain.specs.declared.domain_fault.DomainFault.TheVariants.{BadCsv}
 use Rattle.ls_domain.proofs.Rows.{record_row, loop-next, loop-bad, loop-fault, loop-end, some_rows, table-begun, begun-some, row_of-good, row_of-bad}
 use Rattle.ls_domain.proofs.domain.Domain.from_csv.Goals as goal

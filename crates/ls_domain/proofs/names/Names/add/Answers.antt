@@ -1,8 +1,7 @@
-use Rattle.std.proofs.Common.{◌≡◌, ◌∙◌, ◌≤◌, ◌<◌, length, ap, sym, arith, subst, true, false, None, Some}
+use Rattle.std.proofs.Common.{◌∙◌, ◌≤◌, ◌<◌, length, ap, sym, arith}
 use Rattle.std.proofs.lemmas.Grind.{common_steps}
 use Rattle.ls_set.specs.declared.item_set.TheConstants.{PLACES}
-use Rattle.ls_domain.specs.Domains.{is_name, name_fault}
-use Rattle.ls_domain.specs.Meanings.{is_named, number_of}
+use Rattle.ls_domain.specs.Meanings.{number_of}
 use Rattle.ls_domain.proofs.Numbers.{is_name-utf8, is_named-none}
 use Rattle.ls_domain.proofs.Rows.{fault-again, fault-many, fault-none}
 use Rattle.ls_domain.proofs.names.Names.add.Goals as goal
