@@ -1,7 +1,7 @@
 //! The program: the top call over the standard streams.
 #![tactic(auto)]
 
-use ls_edge::{StdSink, StdSource, SureShelf};
+use ls_edge::{FolderShelf, StdSink, StdSource};
 use ls_shell::{Status, lspace};
 use std::alloc::AllocError;
 use std::env;
@@ -22,7 +22,7 @@ fn command_words<R: Env + AllocGlobal>(rt: &R) -> Result<Option<Vec<String>>, Al
 
 fn run<R>(rt: &R) -> Result<Status, AllocError>
 where
-    R: Input + Print + Env + AllocGlobal + Threads + Sync,
+    R: Files + Input + Print + Env + AllocGlobal + Threads + Sync,
 {
     let alloc = rt.alloc();
     let Some(owned) = command_words(rt)? else {
@@ -34,7 +34,7 @@ where
     }
     let mut src = StdSource::new(rt);
     let mut out = StdSink::new(rt);
-    let mut shelf = SureShelf::new(alloc);
+    let mut shelf = FolderShelf::new(rt, ".")?;
     Ok(lspace(rt, alloc, &words, &mut src, &mut out, &mut shelf))
 }
 
