@@ -7,7 +7,7 @@ use std::alloc::AllocError;
 use std::env;
 use std::io::ErrorKind;
 use std::process::ExitCode;
-use std::rt::Env;
+use std::rt::{Env, Files};
 use std::thread::Threads;
 
 // The words after the program's name. `None` where one isn't UTF-8.

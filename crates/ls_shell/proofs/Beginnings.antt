@@ -4,7 +4,6 @@ use Rattle.std.specs.Option.{ForSome}
 use Rattle.std.specs.declared.alloc.AllocError.{AllocError}
 use Rattle.std.specs.declared.alloc.Global.{Global}
 use Rattle.std.specs.FinMap as map
-use Rattle.ls_edge.specs.Causes.{Rose}
 use Rattle.ls_edge.specs.Files.{Folder, Fetches, FetchCause, FetchedFrom, GivesBytes}
 use Rattle.ls_edge.specs.declared.traits.TheConstants.{LONGEST_FILE}
 use Rattle.ls_edge.specs.declared.traits.FetchFault.{FetchFault}
@@ -16,9 +15,9 @@ use Rattle.ls_domain.specs.declared.domain_fault.DomainFault.{DomainFault}
 use Rattle.ls_domain.specs.declared.domain_fault.DomainFault.TheVariants as domain
 use Rattle.ls_reply.specs.Texts.{line_of}
 use Rattle.ls_reply.specs.Sessions.{Session, started, has_domain}
-use Rattle.ls_reply.specs.Scenes.{Fetched, Bytes, Missing, TooLarge, Failed, fetched_from, Files, files_of}
-use Rattle.ls_reply.specs.Refusals.{Answer, refused, becomes, refuse}
-use Rattle.ls_reply.specs.Rows.{domain_words, begins_with, load_items_row, unfetched}
+use Rattle.ls_reply.specs.Scenes.{Fetched, Bytes, TooLarge, Failed, fetched_from, Files, files_of}
+use Rattle.ls_reply.specs.Refusals.{Answer, becomes}
+use Rattle.ls_reply.specs.Rows.{domain_words, begins_with, load_items_row}
 use Rattle.ls_reply.specs.Meanings.{unnamed_places}
 use Rattle.ls_reply.specs.Replies.{unnamed_at}
 use Rattle.ls_shell.specs.Named.{places_at_fault}

@@ -1,8 +1,7 @@
 -- A page that is written set by set.
-use Rattle.std.proofs.Common.{◌≡◌, ℕ, ◌+◌, ◌-◌, ◌<◌, ◌≤◌, Bool, true, false, cond, ltb, List, [], ◌∷◌, ◌++◌, length, map, take, codes, Some, None, is_some, find, lt-ltb, refl, sym, ap, ◌∙◌, subst, arith, append-nil, append_assoc}
+use Rattle.std.proofs.Common.{◌≡◌, ℕ, ◌+◌, ◌-◌, ◌<◌, Bool, false, cond, ltb, List, [], ◌∷◌, ◌++◌, length, map, take, codes, Some, None, is_some, find, lt-ltb, refl, sym, ap, ◌∙◌, subst, arith, append-nil, append_assoc}
 use Rattle.std.specs.declared.option.Option.{Option}
 use Rattle.std.specs.Io.KnownBytes.{Appends}
-use Rattle.std.proofs.lemmas.List.{map-append}
 use Rattle.ls_set.specs.ItemSet.{Items, comes_before, IsInOrder}
 use Rattle.ls_theory.specs.Pages.{Page, comes_after}
 use Rattle.ls_edge.proofs.Known.{appends_more, appends_none}

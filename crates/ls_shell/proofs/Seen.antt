@@ -1,11 +1,11 @@
 -- What is seen of the folder where no call is made there.
-use Rattle.std.proofs.Common.{◌≡◌, ℕ, Bool, true, false, cond, ltb, List, length, Result, Ok, Err, IfOk, Some, None, refl, sym, ap, subst, arith}
+use Rattle.std.proofs.Common.{◌≡◌, ℕ, Bool, true, false, cond, ltb, List, length, Result, Ok, Err, IfOk, Some, None, sym, ap, subst, arith}
 use Rattle.std.specs.declared.option.Option.{Option}
 use Rattle.std.specs.FinMap as map
 use Rattle.ls_edge.specs.Files.{Folder}
 use Rattle.ls_edge.specs.declared.traits.TheConstants.{LONGEST_FILE}
 use Rattle.ls_reply.specs.Sessions.{Session}
-use Rattle.ls_reply.specs.Scenes.{Fetched, Bytes, Missing, TooLarge, Failed, fetched_from, Files, files_of}
+use Rattle.ls_reply.specs.Scenes.{Bytes, Missing, TooLarge, Failed, fetched_from, Files, files_of}
 use Rattle.ls_reply.specs.Refusals.{Answer}
 use Rattle.ls_shell.specs.Sayings.{Gives, Sees, Steps, LeavesShelf}
 use Rattle.ls_shell.specs.declared.step_fault.StepFault.{StepFault}

@@ -68,7 +68,12 @@ pub fn refuse_domain<K: Sink>(
 }
 
 // A fault at a row.
-fn refuse_row<K: Sink>(alloc: Global, fault: &[u8], row: u32, out: &mut K) -> Result<bool, StepFault>
+fn refuse_row<K: Sink>(
+    alloc: Global,
+    fault: &[u8],
+    row: u32,
+    out: &mut K,
+) -> Result<bool, StepFault>
     ensures said { IfOk result (Said (K.written out.old) (K.written out.new) (line_of (codes "no" ∷ codes "12" ∷ fault.now ∷ decimal row ∷ []))) }
     ensures sink { MovesSink (K.written out.old) (K.written out.new) (K.faults out.old) (K.faults out.new) result }
 {
@@ -77,11 +82,20 @@ fn refuse_row<K: Sink>(alloc: Global, fault: &[u8], row: u32, out: &mut K) -> Re
 }
 
 // A name that an earlier row has.
-fn refuse_repeat<K: Sink>(alloc: Global, row: u32, first: u32, out: &mut K) -> Result<bool, StepFault>
+fn refuse_repeat<K: Sink>(
+    alloc: Global,
+    row: u32,
+    first: u32,
+    out: &mut K,
+) -> Result<bool, StepFault>
     ensures said { IfOk result (Said (K.written out.old) (K.written out.new) (line_of (codes "no" ∷ codes "12" ∷ codes "repeat" ∷ decimal row ∷ decimal first ∷ []))) }
     ensures sink { MovesSink (K.written out.old) (K.written out.new) (K.faults out.old) (K.faults out.new) result }
 {
     let row = row.to_string(alloc)?;
     let first = first.to_string(alloc)?;
-    say(alloc, &[b"no", b"12", b"repeat", row.as_bytes(), first.as_bytes()], out)
+    say(
+        alloc,
+        &[b"no", b"12", b"repeat", row.as_bytes(), first.as_bytes()],
+        out,
+    )
 }

@@ -35,7 +35,11 @@ pub fn refuse_at<K: Sink>(
 }
 
 /// Writes the refusal of a command that isn't built yet, and lets the command go.
-pub fn refuse_unbuilt<K: Sink>(alloc: Global, command: Command, out: &mut K) -> Result<bool, StepFault>
+pub fn refuse_unbuilt<K: Sink>(
+    alloc: Global,
+    command: Command,
+    out: &mut K,
+) -> Result<bool, StepFault>
     ensures said { IfOk result (Said (K.written out.old) (K.written out.new) (line_of (codes "no" ∷ codes "49" ∷ []))) }
     ensures sink { MovesSink (K.written out.old) (K.written out.new) (K.faults out.old) (K.faults out.new) result }
 {

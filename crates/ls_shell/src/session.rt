@@ -11,8 +11,8 @@ ghost use Rattle.ls_reply.specs.Replies.{command_answer, line_answer, within_dom
 ghost use Rattle.ls_shell.specs.Sayings.{Gives, Steps, LeavesShelf, MovesSink, row_answer};
 
 use crate::StepFault;
-use crate::domains::{query_of, refuse_domain};
 use crate::cursors::{cursor_set, refuse_cursor};
+use crate::domains::{query_of, refuse_domain};
 use crate::files::refuse_fetch;
 use crate::listing::write_listing;
 use crate::say::{refuse_at, refuse_unbuilt, say};

@@ -1,4 +1,4 @@
-use Rattle.std.proofs.Common.{sym, ap, ◌∙◌, subst, arith, ◌+◌, ◌-◌, ◌≡◌, ltb, Some, length}
+use Rattle.std.proofs.Common.{sym, ap, ◌∙◌, subst, arith, ◌+◌, ◌-◌, ◌≡◌, ltb, length}
 use Rattle.std.proofs.lemmas.Grind.{common_steps}
 use Rattle.ls_set.specs.ItemSet.{full, IsWithin}
 use Rattle.ls_enum.specs.Listings.{left_after}

@@ -1,6 +1,6 @@
 use Rattle.std.proofs.Common.{◌≡◌, ◌∷◌, [], true, false, ap, sym, ◌∙◌, codes}
 use Rattle.ls_lines.specs.Lines.{Text}
-use Rattle.ls_reply.specs.Sessions.{Session, has_domain}
+use Rattle.ls_reply.specs.Sessions.{has_domain}
 use Rattle.ls_reply.specs.Refusals as reply
 use Rattle.ls_shell.proofs.Outcomes.{gives_line, gives_same, refused_by, passed_by, decimal_11}
 use Rattle.ls_shell.proofs.Beginnings.{has_domain-is, begins_ok, domain_refused}

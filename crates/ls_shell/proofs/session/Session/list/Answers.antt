@@ -1,9 +1,9 @@
-use Rattle.std.proofs.Common.{◌≡◌, ℕ, List, [], eqb, not, length, true, false, ap, sym, ◌∙◌, subst, slice_get, unwrap_or, is_some, Option}
+use Rattle.std.proofs.Common.{◌≡◌, List, [], eqb, length, true, false, ap, sym, ◌∙◌, subst, slice_get, unwrap_or, is_some, Option}
 use Rattle.std.proofs.lemmas.Bool.{not-true}
 use Rattle.ls_lines.specs.Lines.{Text}
 use Rattle.ls_lines.specs.declared.command.Command.TheVariants as command
 use Rattle.ls_reply.specs.Sessions.{Session, has_domain, states}
-use Rattle.ls_reply.specs.Cursors.{cursor_faults, cursor_set, fault_words}
+use Rattle.ls_reply.specs.Cursors.{cursor_faults, cursor_set}
 use Rattle.ls_reply.specs.Replies.{unnamed_at}
 use Rattle.ls_shell.specs.Named.{places_at_fault}
 use Rattle.ls_shell.proofs.Moves.{IfOk_map}
