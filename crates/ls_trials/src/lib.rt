@@ -2,6 +2,8 @@
 #![tactic(auto)]
 
 #[cfg(test)]
+mod files;
+#[cfg(test)]
 mod plain_programs;
 #[cfg(test)]
 mod plain_pupils;

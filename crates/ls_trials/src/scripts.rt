@@ -1,10 +1,10 @@
 // Scripts and their replies, line for line.
-use crate::trial::{Trial, run};
+use crate::trial::{PLAIN, Trial, run};
 use ls_shell::Status;
 use std::test::Fail;
 
 // A script, its replies, and whether one of them is a refusal.
-const SCRIPTS: [(&str, &str, Status); 12] = [
+const SCRIPTS: [(&str, &str, Status); 15] = [
     // Three items, a Yes, and the six states that it leaves.
     (
         "items a b c\nyes a : b\nstates\n",
@@ -13,8 +13,13 @@ const SCRIPTS: [(&str, &str, Status); 12] = [
     ),
     // Refusals, each with its cause.
     (
-        "items a a\nitems a b\nitems c\nyes a : a\nyes z : a\nknown a : b\n",
-        "no 49\nok 2\nno 49\nno 18\nno 15 2\nno 10 1\n",
+        "items a a\nitems a b\nitems c\nyes a : a\nyes : b\nyes z : a\nyes a : z\nknown a : b\n",
+        "no 12 repeat 2 1\nok 2\nno 11\nno 18\nno 18\nno 15 2\nno 15 4\nno 49\n",
+        Status::Refused,
+    ),
+    (
+        "items\nstates\nitems a b a b\nitems a\nitems\nitems a a\n",
+        "no 12 none\nno 15 0\nno 12 repeat 3 1\nok 1\nno 11\nno 11\n",
         Status::Refused,
     ),
     (
@@ -47,10 +52,56 @@ const SCRIPTS: [(&str, &str, Status); 12] = [
         Status::Refused,
     ),
     (
-        "states 1 after 0\nstates 01\nstates 65537\nstates 1 before 0\n",
-        "no 15 0\nno 10 2\nno 10 2\nno 10 3\n",
+        "states 1 after 0\nstates 01\nstates 65537\nstates x\nstates 1 before 0\n",
+        "no 15 0\nno 10 2\nno 10 2\nno 10 2\nno 10 3\n",
         Status::Refused,
     ),
+    // Lines that have no form, though they begin as commands.
+    (
+        "asks\nask a\nknown a b\nretract a\nstart base\nreply p a maybe\nitems a : b\nstate-of a | b | c\n",
+        "no 10 1\nno 10 2\nno 10 4\nno 10 2\nno 10 3\nno 10 4\nno 10 3\nno 10 5\n",
+        Status::Refused,
+    ),
+    // Names of files.
+    (
+        "load-items\nload-items .a\nload-items a/b\nload-items a b\n",
+        "no 10 2\nno 10 2\nno 10 2\nno 10 3\n",
+        Status::Refused,
+    ),
+];
+
+// The forms of commands that aren't built.
+const UNBUILT: [&str; 30] = [
+    "start surmise f",
+    "start base f",
+    "blocks 2",
+    "no a : b",
+    "retract 1",
+    "known a : b",
+    "ask",
+    "base",
+    "surmise",
+    "learning",
+    "project 10 : b c",
+    "project 10 after c : b c",
+    "project-base b c",
+    "test f",
+    "fringes a",
+    "state-of a | b c",
+    "paths 10",
+    "paths 1 after a b c",
+    "odds 8 8",
+    "odds a 8 8",
+    "limits 30 90",
+    "pupil p",
+    "question p",
+    "reply p a right",
+    "reply p a wrong",
+    "report p",
+    "close p",
+    "class f",
+    "save f",
+    "open f",
 ];
 
 #[test]
@@ -58,11 +109,9 @@ fn scripts_are_answered_in_any_pieces(rt: HostRuntime) -> Result<(), Fail> {
     for (script, replies, status) in SCRIPTS {
         for piece in [1, 7, 12, 4096] {
             let trial = Trial {
-                words: &[],
                 script: script.as_bytes(),
                 piece,
-                failing_reads: &[],
-                failing_writes: &[],
+                ..PLAIN
             };
             let outcome = run(&rt, trial)?;
             assert_eq!(rt;
@@ -71,6 +120,33 @@ fn scripts_are_answered_in_any_pieces(rt: HostRuntime) -> Result<(), Fail> {
                 "for {script:?} in pieces of {piece}"
             );
             assert_eq!(rt; outcome.status, status, "for {script:?}");
+        }
+    }
+    Ok(())
+}
+
+// Without a domain, in a domain that lacks the names, and in one that has them.
+#[test]
+fn commands_that_are_not_built_are_refused(rt: HostRuntime) -> Result<(), Fail> {
+    for command in UNBUILT {
+        for (domain, begun) in [
+            ("", ""),
+            ("items z\n", "ok 1\n"),
+            ("items a b c\n", "ok 3\n"),
+        ] {
+            let script = format!(in rt.alloc(); "{domain}{command}\n")?;
+            let replies = format!(in rt.alloc(); "{begun}no 49\n")?;
+            let trial = Trial {
+                script: script.as_bytes(),
+                ..PLAIN
+            };
+            let outcome = run(&rt, trial)?;
+            assert_eq!(rt;
+                outcome.written.as_slice(),
+                replies.as_bytes(),
+                "for {script:?}"
+            );
+            assert_eq!(rt; outcome.status, Status::Refused, "for {script:?}");
         }
     }
     Ok(())

@@ -1,17 +1,19 @@
 // How runs end.
-use crate::trial::{Trial, run};
+use crate::trial::{PLAIN, Trial, run};
 use ls_shell::Status;
 use std::test::Fail;
 
-const SIX_STATES: &[u8] = b"items a b c\nyes a : b\nstates\n";
-
-const PLAIN: Trial = Trial {
-    words: &[],
-    script: SIX_STATES,
+// The six states that a Yes leaves, in pieces of 12 bytes.
+const SIX_STATES: Trial = Trial {
+    script: b"items a b c\nyes a : b\nstates\n",
     piece: 12,
-    failing_reads: &[],
-    failing_writes: &[],
+    ..PLAIN
 };
+
+// The most bytes of a line, and of a script.
+const LONGEST_LINE: usize = 65_536;
+
+const LONGEST_SCRIPT: usize = 67_108_864;
 
 #[test]
 fn a_failing_read_ends_the_run(rt: HostRuntime) -> Result<(), Fail> {
@@ -19,11 +21,11 @@ fn a_failing_read_ends_the_run(rt: HostRuntime) -> Result<(), Fail> {
         &rt,
         Trial {
             failing_reads: &[3],
-            ..PLAIN
+            ..SIX_STATES
         },
     )?;
     assert_eq!(rt; outcome.status, Status::ReadFault);
-    assert_eq!(rt; outcome.written.len(), 0);
+    assert_eq!(rt; outcome.written.as_slice(), b"ok 3\nok 1\n".as_slice());
     Ok(())
 }
 
@@ -33,7 +35,7 @@ fn a_failing_write_ends_the_run(rt: HostRuntime) -> Result<(), Fail> {
         &rt,
         Trial {
             failing_writes: &[2],
-            ..PLAIN
+            ..SIX_STATES
         },
     )?;
     assert_eq!(rt; outcome.status, Status::WriteFault);
@@ -44,7 +46,13 @@ fn a_failing_write_ends_the_run(rt: HostRuntime) -> Result<(), Fail> {
 #[test]
 fn words_are_answered_by_the_usage_line(rt: HostRuntime) -> Result<(), Fail> {
     for words in [["--help"].as_slice(), ["--script", "none"].as_slice()] {
-        let outcome = run(&rt, Trial { words, ..PLAIN })?;
+        let outcome = run(
+            &rt,
+            Trial {
+                words,
+                ..SIX_STATES
+            },
+        )?;
         assert_eq!(rt; outcome.status, Status::Usage);
         assert_eq!(rt;
             outcome.written.as_slice(),
@@ -55,9 +63,12 @@ fn words_are_answered_by_the_usage_line(rt: HostRuntime) -> Result<(), Fail> {
 }
 
 #[test]
-fn a_script_has_a_limit(rt: HostRuntime) -> Result<(), Fail> {
-    let blanks = vec![in rt.alloc(); b' '; 65537]?;
-    for (length, status) in [(65536, Status::Done), (65537, Status::InputLong)] {
+fn a_line_has_a_limit(rt: HostRuntime) -> Result<(), Fail> {
+    let blanks = vec![in rt.alloc(); b' '; LONGEST_LINE + 1]?;
+    for (length, replies, status) in [
+        (LONGEST_LINE, "", Status::Done),
+        (LONGEST_LINE + 1, "no 10 long 65537\n", Status::Refused),
+    ] {
         assert!(rt; length <= blanks.len());
         let outcome = run(
             &rt,
@@ -66,8 +77,36 @@ fn a_script_has_a_limit(rt: HostRuntime) -> Result<(), Fail> {
                 ..PLAIN
             },
         )?;
+        assert_eq!(rt; outcome.written.as_slice(), replies.as_bytes());
         assert_eq!(rt; outcome.status, status, "for {length} bytes");
-        assert_eq!(rt; outcome.written.len(), 0);
+    }
+    Ok(())
+}
+
+// A line, and then another that goes on to the script's end.
+#[test]
+fn a_script_has_a_limit(rt: HostRuntime) -> Result<(), Fail> {
+    let mut script = Vec::new(rt.alloc());
+    script.extend_from_slice(b"items a\n")?;
+    script.resize(LONGEST_SCRIPT + 1, b' ')?;
+    for (length, replies, status) in [
+        (
+            LONGEST_SCRIPT,
+            "ok 1\nno 10 long 67108856\n",
+            Status::Refused,
+        ),
+        (LONGEST_SCRIPT + 1, "ok 1\n", Status::InputLong),
+    ] {
+        assert!(rt; length <= script.len());
+        let outcome = run(
+            &rt,
+            Trial {
+                script: &script[..length],
+                ..PLAIN
+            },
+        )?;
+        assert_eq!(rt; outcome.written.as_slice(), replies.as_bytes());
+        assert_eq!(rt; outcome.status, status, "for {length} bytes");
     }
     Ok(())
 }
@@ -79,7 +118,6 @@ fn sixteen_items_have_all_their_states_listed(rt: HostRuntime) -> Result<(), Fai
         &rt,
         Trial {
             script: script.as_bytes(),
-            piece: 4096,
             ..PLAIN
         },
     )?;

@@ -1,5 +1,5 @@
 // As many items as there can be.
-use crate::trial::{Trial, run};
+use crate::trial::{PLAIN, Trial, run};
 use ls_set::PLACES;
 use ls_shell::Status;
 use std::alloc::{AllocError, Global};
@@ -34,11 +34,8 @@ fn listings_begin_after_any_cursor(rt: HostRuntime) -> Result<(), Fail> {
     let outcome = run(
         &rt,
         Trial {
-            words: &[],
             script: script.as_bytes(),
-            piece: 4096,
-            failing_reads: &[],
-            failing_writes: &[],
+            ..PLAIN
         },
     )?;
     assert_eq!(rt; outcome.written.as_slice(), replies.as_bytes());
@@ -46,22 +43,26 @@ fn listings_begin_after_any_cursor(rt: HostRuntime) -> Result<(), Fail> {
     Ok(())
 }
 
+// Name 129 is one too many, unless it is a name that came before.
 #[test]
 fn one_item_too_many_is_refused(rt: HostRuntime) -> Result<(), Fail> {
     let alloc = rt.alloc();
     let all = names_from(alloc, 0)?;
-    let script = format!(in alloc; "items {all} more\n")?;
-    let outcome = run(
-        &rt,
-        Trial {
-            words: &[],
-            script: script.as_bytes(),
-            piece: 4096,
-            failing_reads: &[],
-            failing_writes: &[],
-        },
-    )?;
-    assert_eq!(rt; outcome.written.as_slice(), b"no 49\n".as_slice());
-    assert_eq!(rt; outcome.status, Status::Refused);
+    for (name, replies) in [
+        ("more", "no 12 many\n"),
+        ("i0", "no 12 repeat 129 1\n"),
+        ("i127", "no 12 repeat 129 128\n"),
+    ] {
+        let script = format!(in alloc; "items {all} {name}\n")?;
+        let outcome = run(
+            &rt,
+            Trial {
+                script: script.as_bytes(),
+                ..PLAIN
+            },
+        )?;
+        assert_eq!(rt; outcome.written.as_slice(), replies.as_bytes());
+        assert_eq!(rt; outcome.status, Status::Refused);
+    }
     Ok(())
 }
