@@ -6,7 +6,11 @@ use Rattle.ls_set.specs.Cursor.{cursor}
 use Rattle.ls_set.specs.Query.{is_good}
 use Rattle.ls_set.specs.declared.query.Query.{Query}
 use Rattle.ls_theory.specs.Interviews.{Interview, accepted}
+use Rattle.ls_theory.specs.Queries.{blocks}
 use Rattle.ls_theory.specs.Pages.{Page, page}
+use Rattle.ls_query.specs.Blocks.{BlockRange, made}
+use Rattle.ls_query.specs.declared.block_fault.BlockFault.{BlockFault}
+use Rattle.ls_query.specs.declared.block_fault.BlockFault.TheVariants as block
 use Rattle.ls_lines.specs.Lines.{Text}
 use Rattle.ls_domain.specs.Texts.{set_text}
 use Rattle.ls_domain.specs.Meanings.{item_of, items_of}
@@ -100,6 +104,22 @@ query_row s is_yes r =
 
 abbrev pub answer_row : Session → Bool → List Text → Text → Row
 answer_row s is_yes ws w = query_row s is_yes (query_of s.names ws w)
+
+-- ---- blocks
+
+-- what is wrong with blocks
+abbrev pub block_refusals : Result BlockRange BlockFault → List Refusal
+block_refusals (Ok b) = []
+block_refusals (Err block.BadBlock) = refuse 17 [] true
+block_refusals (Err (block.TooWide size)) = refuse 16 (decimal size ∷ []) true
+block_refusals (Err (block.Memory e)) = []
+
+-- the interview goes on with blocks of sets of up to `size` items, and their number is told
+abbrev pub blocks_row : Session → ℕ → Row
+blocks_row s size =
+    let n = length s.names in
+    block_refusals (made n size)
+    otherwise becomes (record s { interview = record s.interview { block = size } }) (decimal (length (blocks n size)) ∷ [])
 
 -- ---- listings
 

@@ -10,3 +10,4 @@ pub mod LineAnswers
 pub mod Taken
 pub mod Seen
 pub mod Beginnings
+pub mod Blocked

@@ -82,10 +82,10 @@ module _ (s : Session) (count : ℕ) (after : Option Text) (some : eqb (length s
 
 -- ---- the members under the Yes answers are the states
 
-pub members_are : (names : List Text) (answers : List Answered) (next free : ℕ) (rules : List Query) → free ≡ length names → rules ≡ yes_queries answers
-    → filter (breaks_none rules) (subsets free) ≡ states (let x : Session = record { names = names; interview = record { count = length names; start = Free; block = 1; answers = answers; next = next } } in x)
+pub members_are : (names : List Text) (block : ℕ) (answers : List Answered) (next free : ℕ) (rules : List Query) → free ≡ length names → rules ≡ yes_queries answers
+    → filter (breaks_none rules) (subsets free) ≡ states (let x : Session = record { names = names; interview = record { count = length names; start = Free; block = block; answers = answers; next = next } } in x)
 unfolding compat
-members_are names answers next free rules e f = rw (e, f) refl
+members_are names block answers next free rules e f = rw (e, f) refl
 
 pub listing_said : (a b : Option (List ℕ)) (names shown : List Text) (f g : List Items) (w v : Option Items) (count : ℕ) (r : Bool) → names ≡ shown → f ≡ g → w ≡ v
     → Said a b (bytes_of (page_lines names (page comes_before f w count))) r → Said a b (bytes_of (page_lines shown (page comes_before g v count))) r

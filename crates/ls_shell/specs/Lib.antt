@@ -5,4 +5,5 @@ pub mod Runs
 pub mod Kept
 pub mod Named
 pub mod Fetches
+pub mod Blocked
 pub mod Faults

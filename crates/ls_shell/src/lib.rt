@@ -1,6 +1,7 @@
 //! The session and the top call.
 #![tactic(auto)]
 
+mod blocks;
 mod cursors;
 mod domains;
 mod files;

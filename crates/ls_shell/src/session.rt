@@ -6,11 +6,12 @@ ghost use Rattle.ls_domain.specs.Domains.{names_of_table};
 ghost use Rattle.ls_reply.specs.Sessions.{started};
 ghost use Rattle.ls_reply.specs.Scenes.{Files};
 ghost use Rattle.ls_reply.specs.Refusals.{becomes};
-ghost use Rattle.ls_reply.specs.Rows.{items_row, begins_with, load_items_row, query_row, answer_row, states_row, is_full, stands};
+ghost use Rattle.ls_reply.specs.Rows.{items_row, begins_with, load_items_row, query_row, blocks_row, answer_row, states_row, is_full, stands};
 ghost use Rattle.ls_reply.specs.Replies.{command_answer, line_answer, within_domain};
 ghost use Rattle.ls_shell.specs.Sayings.{Gives, Steps, LeavesShelf, MovesSink, row_answer};
 
 use crate::StepFault;
+use crate::blocks::refuse_blocks;
 use crate::cursors::{cursor_set, refuse_cursor};
 use crate::domains::{query_of, refuse_domain};
 use crate::files::refuse_fetch;
@@ -20,6 +21,7 @@ use ls_domain::Domain;
 use ls_edge::{Shelf, Sink};
 use ls_interior::{Free, Inside};
 use ls_lines::{Command, LONGEST_LINE, LineFault, Word, WordList, read_command};
+use ls_query::Blocks;
 use ls_rules::Ruled;
 use ls_set::Query;
 use ls_theory::Answer;
@@ -29,12 +31,13 @@ use std::marker::Model;
 /// The most answers that stand.
 const MOST_ANSWERS: usize = 8192;
 
-/// The names of the items, if a domain stands; the standing answers; the next answer's number; and the family of the
+/// The names of the items, if a domain stands; the greatest size of the blocks; the standing answers; the next answer's number; and the family of the
 /// sets that the Yes answers leave.
 #[derive(Drop)]
 pub struct Session {
     alloc: Global,
     domain: Option<Domain>,
+    block: u32,
     answers: Vec<Answer>,
     next: u64,
     family: Ruled<Free>,
@@ -50,7 +53,7 @@ impl Model for Session {
 
     ghost view = { λ s. record {
       names = unwrap_or s.domain [];
-      interview = record { count = length (unwrap_or s.domain []); start = Free; block = 1; answers = s.answers.items; next = s.next };
+      interview = record { count = length (unwrap_or s.domain []); start = Free; block = s.block; answers = s.answers.items; next = s.next };
     } };
 
     ghost invariant = { λ s. IsKept s.domain s.answers.items s.next s.family.inner s.family.rules };
@@ -64,6 +67,7 @@ impl Session {
         Session {
             alloc,
             domain: None,
+            block: 1,
             answers: Vec::new(alloc),
             next: 1,
             family: Ruled::new(alloc, Free::new(0)),
@@ -118,6 +122,7 @@ impl Session {
             Command::Nothing => Ok(false),
             Command::Items { names } => self.begin(&names, out),
             Command::LoadItems { file } => self.load(&file, out, shelf),
+            Command::Blocks { size } => self.set_blocks(size, out),
             Command::Yes { names, item } => self.answer(&names, &item, out),
             Command::States { count, after } => self.list(count, &after, out),
             other => refuse_unbuilt(self.alloc, other, out),
@@ -178,8 +183,33 @@ impl Session {
         let text = count.to_string(self.alloc)?;
         self.family = Ruled::new(self.alloc, Free::new(count));
         self.domain = Some(domain);
+        self.block = 1;
         self.answers = Vec::new(self.alloc);
         self.next = 1;
+        say(self.alloc, &[b"ok", text.as_bytes()], out)
+    }
+
+    // `blocks SIZE`
+    fn set_blocks<K: Sink>(&mut self, size: u32, out: &mut K) -> Result<bool, StepFault>
+        ensures answered { IfOk result (Gives (row_answer self.old (within_domain self.old (command.Blocks size) (blocks_row self.old size))) self.new (K.written out.old) (K.written out.new)) }
+        ensures sink { MovesSink (K.written out.old) (K.written out.new) (K.faults out.old) (K.faults out.new) result }
+    {
+        let Some(domain) = &self.domain else {
+            return refuse_at(self.alloc, b"15", 0, out);
+        };
+        match Blocks::new(domain.count(), size) {
+            Ok(blocks) => self.take_blocks(size, blocks.count(), out),
+            Err(fault) => refuse_blocks(self.alloc, fault, out),
+        }
+    }
+
+    // The blocks up to the size, of so many sets.
+    fn take_blocks<K: Sink>(&mut self, size: u32, count: u32, out: &mut K) -> Result<bool, StepFault>
+        ensures answered { IfOk result (Gives (becomes (record self.old { interview = record self.old.interview { block = size } }) (decimal count ∷ [])) self.new (K.written out.old) (K.written out.new)) }
+        ensures sink { MovesSink (K.written out.old) (K.written out.new) (K.faults out.old) (K.faults out.new) result }
+    {
+        let text = count.to_string(self.alloc)?;
+        self.block = size;
         say(self.alloc, &[b"ok", text.as_bytes()], out)
     }
 

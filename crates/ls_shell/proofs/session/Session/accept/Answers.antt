@@ -31,6 +31,6 @@ returns-clause-answered g c =
     gives_line _ _ _ _ _ _
     (query_row-accepted c.args.self.now c.args.query good (sym c.cannot_accept.ensures ∙ c.if-cannot_accept.false)
     ∙ ap (λ (s : Session). becomes (record s { interview = accepted s.interview c.args.query true }) (decimal s.interview.next ∷ [])) (sym c.self.view_is)
-    ∙ ap₂ (λ (w : Text) (done : List Answer). let x : reply.Answer = record { lines = (codes "ok" ∷ w ∷ []) ∷ []; session = record { names = names; interview = record { count = length names; start = Free; block = 1; answers = done; next = next + 1 } } } in x)
+    ∙ ap₂ (λ (w : Text) (done : List Answer). let x : reply.Answer = record { lines = (codes "ok" ∷ w ∷ []) ∷ []; session = record { names = names; interview = record { count = length names; start = Free; block = c.self.inside.block; answers = done; next = next + 1 } } } in x)
     told (sym pushed))
     c.say-2.ensures.said

@@ -30,6 +30,12 @@ returns-in-Items-clause-answered g c =
     steps_row c.begin.result (λ files. command_answer c.args.self.now files c.args.command) _ c.begin.new.self (g.H.Shelf.files c.args.shelf.now) (g.H.Shelf.faults c.args.shelf.now) (g.K.Sink.written c.args.out.now) (g.K.Sink.written c.begin.new.out)
     (λ files. ap (command_answer c.args.self.now files) c.in-Items.is) c.begin.ensures.answered
 
+pub returns-in-Blocks-clause-answered : goal.returns-in-Blocks-clause-answered
+unfolding row
+returns-in-Blocks-clause-answered g c =
+    steps_row c.set_blocks.result (λ files. command_answer c.args.self.now files c.args.command) _ c.set_blocks.new.self (g.H.Shelf.files c.args.shelf.now) (g.H.Shelf.faults c.args.shelf.now) (g.K.Sink.written c.args.out.now) (g.K.Sink.written c.set_blocks.new.out)
+    (λ files. ap (command_answer c.args.self.now files) c.in-Blocks.is) c.set_blocks.ensures.answered
+
 pub returns-in-Yes-clause-answered : goal.returns-in-Yes-clause-answered
 unfolding row
 returns-in-Yes-clause-answered g c =
@@ -49,14 +55,15 @@ returns-in-LoadItems-clause-answered g c =
 
 -- the row of a command that is not one of those built
 other_row : (s : Session) (files : Files) (c : Command) → (c ≡ command.Nothing → ⊥) → ((x : List Text) → c ≡ command.Items x → ⊥) → ((x : Text) → c ≡ command.LoadItems x → ⊥)
-    → ((x : List Text) (y : Text) → c ≡ command.Yes x y → ⊥) → ((x : ℕ) (y : Option Text) → c ≡ command.States x y → ⊥) → row s files c ≡ not_built_row s
+    → ((x : ℕ) → c ≡ command.Blocks x → ⊥) → ((x : List Text) (y : Text) → c ≡ command.Yes x y → ⊥) → ((x : ℕ) (y : Option Text) → c ≡ command.States x y → ⊥) → row s files c ≡ not_built_row s
 unfolding row
-other_row s files command.Nothing a b d e f = absurd (a refl)
-other_row s files (command.Items x) a b d e f = absurd (b x refl)
-other_row s files (command.LoadItems x) a b d e f = absurd (d x refl)
-other_row s files (command.Yes x y) a b d e f = absurd (e x y refl)
-other_row s files (command.States x y) a b d e f = absurd (f x y refl)
-other_row s files c a b d e f = refl
+other_row s files command.Nothing a b d k e f = absurd (a refl)
+other_row s files (command.Items x) a b d k e f = absurd (b x refl)
+other_row s files (command.LoadItems x) a b d k e f = absurd (d x refl)
+other_row s files (command.Blocks x) a b d k e f = absurd (k x refl)
+other_row s files (command.Yes x y) a b d k e f = absurd (e x y refl)
+other_row s files (command.States x y) a b d k e f = absurd (f x y refl)
+other_row s files c a b d k e f = refl
 
 pub returns-in_default-clause-answered : goal.returns-in_default-clause-answered
 returns-in_default-clause-answered g c =
@@ -66,5 +73,5 @@ returns-in_default-clause-answered g c =
     let said : Answer = record { lines = (codes "no" ∷ codes "49" ∷ []) ∷ []; session = s } in
     let told = (λ (code : Text). let x : Answer = record { lines = (codes "no" ∷ code ∷ []) ∷ []; session = s } in x) in
     steps_row c.refuse_unbuilt.result (λ files. command_answer s files c.args.command) said s (g.H.Shelf.files c.args.shelf.now) (g.H.Shelf.faults c.args.shelf.now) written after
-    (λ files. ap (λ (r : Row). outcome s r.refusals r.answer) (other_row s files c.args.command c.in_default.not-Nothing c.in_default.not-Items c.in_default.not-LoadItems c.in_default.not-Yes c.in_default.not-States) ∙ ap told decimal_49)
+    (λ files. ap (λ (r : Row). outcome s r.refusals r.answer) (other_row s files c.args.command c.in_default.not-Nothing c.in_default.not-Items c.in_default.not-LoadItems c.in_default.not-Blocks c.in_default.not-Yes c.in_default.not-States) ∙ ap told decimal_49)
     (gives_line c.refuse_unbuilt.result said s written after _ refl c.refuse_unbuilt.ensures.said)

@@ -29,7 +29,7 @@ returns-in-Ok-clause-answered g c =
     let some : eqb (length s.names) 0 ≡ false = not-true (eqb (length s.names) 0) stands in
     let names = ap (λ (d : Option (List Text)). unwrap_or d []) (sym c.in-Some.is) ∙ ap (λ (s : Session). s.names) c.self.view_is in
     let n : c.count.result ≡ length s.names = c.count.ensures.value ∙ ap length names in
-    let members = members_are (unwrap_or c.self.inside.domain []) c.self.inside.answers.items c.self.inside.next c.self.inside.family.inner c.self.inside.family.rules kept.all_items kept.all_yes ∙ ap states c.self.view_is in
+    let members = members_are (unwrap_or c.self.inside.domain []) c.self.inside.block c.self.inside.answers.items c.self.inside.next c.self.inside.family.inner c.self.inside.family.rules kept.all_items kept.all_yes ∙ ap states c.self.view_is in
     IfOk_map c.write_listing.result
     (λ r said. gives_all _ _ _ _ _ r (states_listed s c.args.count c.args.after.now some (subst (λ k. cursor_faults k c.args.after.now ≡ []) n c.in-Ok.ensures.found))
     (listing_said _ _ _ _ _ _ _ _ c.args.count r names members (c.in-Ok.ensures.set ∙ ap (λ k. cursor_set k c.args.after.now) n) said))
