@@ -2,9 +2,11 @@
 use Rattle.std.proofs.Common.{◌≡◌, refl, true, false, [], ◌∷◌, codes, replicate}
 use Rattle.std.specs.Fmt.{digits}
 use Rattle.std.specs.Prelude.{ℕ}
-use Rattle.ls_set.specs.ItemSet.{has, empty, full, with, union, meet, single, differing, is_within, is_same, bound, items, least, comes_before}
+use Rattle.ls_set.specs.ItemSet.{has, empty, full, with, union, meet, single, differing, is_within, is_same, bound, items, least, comes_before, len}
 use Rattle.ls_set.specs.Cursor.{cursor, cursor_set, read_cursor}
 use Rattle.ls_theory.specs.Compatible.{compat}
+use Rattle.ls_theory.specs.Queries.{blocks}
+use Rattle.ls_query.specs.Blocks.{is_too_wide, made}
 use Rattle.ls_lines.specs.Lines.{lines, words}
 use Rattle.ls_lines.specs.Kinds.{is_of}
 use Rattle.ls_lines.specs.Forms.{spelling, parts, command, forms}
@@ -20,7 +22,7 @@ use Rattle.ls_reply.specs.Transcripts.{replies, refuses, transcript, is_some_ref
 
 -- an example that opens this opens each word
 unfoldable answering : ℕ
-unfolding digits has empty full with union meet single differing is_within is_same bound items least comes_before cursor cursor_set read_cursor compat lines words is_of spelling parts command forms cut is_begun command_of fault_place line_of bytes_of names_of_set names_from row line_answer replies refuses
+unfolding digits has empty full with union meet single differing is_within is_same bound items least comes_before cursor cursor_set read_cursor compat lines words is_of spelling parts command forms cut is_begun command_of fault_place line_of bytes_of names_of_set names_from row line_answer replies refuses is_too_wide made blocks len
 answering = 0
 
 -- three items, the answer that who fails a fails b, and the six states that it leaves
@@ -39,6 +41,11 @@ refused = refl
 some_refused : is_some_refused map.empty (codes "items a a\nitems a b\nitems c\nyes a : a\nyes z : a\nknown a : b") ≡ true
 unfolding answering
 some_refused = refl
+
+-- blocks of three items
+blocked : transcript map.empty (codes "blocks 1\nitems a b c\nblocks 2\nblocks 3\nblocks 0") ≡ codes "no 15 0\nok 3\nok 6\nno 17\nno 17\n"
+unfolding answering
+blocked = refl
 
 -- no domain, no names, notes, carriage returns, and an item named after a command
 others : transcript map.empty (codes "states\nfoo\nyes a b\nitems\n\n# note\nitems yes no\r\nyes yes : no\nyes yes,yes:no\nyes no : maybe\nyes : no") ≡ codes "no 15 0\nno 10 1\nno 10 4\nno 12 none\nok 2\nok 1\nno 49\nno 15 4\nno 18\n"

@@ -4,7 +4,7 @@ use ls_shell::Status;
 use std::test::Fail;
 
 // A script, its replies, and whether one of them is a refusal.
-const SCRIPTS: [(&str, &str, Status); 15] = [
+const SCRIPTS: [(&str, &str, Status); 16] = [
     // Three items, a Yes, and the six states that it leaves.
     (
         "items a b c\nyes a : b\nstates\n",
@@ -62,6 +62,12 @@ const SCRIPTS: [(&str, &str, Status); 15] = [
         "no 10 1\nno 10 2\nno 10 4\nno 10 2\nno 10 3\nno 10 4\nno 10 3\nno 10 5\n",
         Status::Refused,
     ),
+    // Blocks of three items.
+    (
+        "blocks 1\nitems a b c\nblocks 2\nblocks 3\nblocks 0\nblocks 1\nblocks 01\n",
+        "no 15 0\nok 3\nok 6\nno 17\nno 17\nok 3\nno 10 2\n",
+        Status::Refused,
+    ),
     // Names of files.
     (
         "load-items\nload-items .a\nload-items a/b\nload-items a b\n",
@@ -71,10 +77,9 @@ const SCRIPTS: [(&str, &str, Status); 15] = [
 ];
 
 // The forms of commands that aren't built.
-const UNBUILT: [&str; 30] = [
+const UNBUILT: [&str; 29] = [
     "start surmise f",
     "start base f",
-    "blocks 2",
     "no a : b",
     "retract 1",
     "known a : b",

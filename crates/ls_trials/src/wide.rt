@@ -66,3 +66,23 @@ fn one_item_too_many_is_refused(rt: HostRuntime) -> Result<(), Fail> {
     }
     Ok(())
 }
+
+#[test]
+fn blocks_have_a_limit(rt: HostRuntime) -> Result<(), Fail> {
+    let alloc = rt.alloc();
+    let all = names_from(alloc, 0)?;
+    let script = format!(in alloc; "items {all}\nblocks 3\nblocks 4\nblocks 127\nblocks 128\n")?;
+    let outcome = run(
+        &rt,
+        Trial {
+            script: script.as_bytes(),
+            ..PLAIN
+        },
+    )?;
+    assert_eq!(rt;
+        outcome.written.as_slice(),
+        b"ok 128\nok 349632\nno 16 4\nno 16 4\nno 17\n".as_slice()
+    );
+    assert_eq!(rt; outcome.status, Status::Refused);
+    Ok(())
+}
