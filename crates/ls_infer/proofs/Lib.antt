@@ -1,1 +1,4 @@
 mod Places
+mod Kept
+mod Opens
+mod Told

@@ -29,7 +29,7 @@ fn enough_for<I: Interior, L: Ledger>(
     steps: &mut Steps<L>,
 ) -> ItemSet
     requires within { IsWithin closed (full (I.item_count f.now)) }
-    requires item { q < PLACES }
+    requires item { q < I.item_count f.now }
     ensures value { result ≡ enough_for (I.item_count f.now) (I.members f.now) closed q }
     ensures cost { steps.new ≡ steps.old + I.item_count f.now }
 {

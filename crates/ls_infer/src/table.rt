@@ -17,7 +17,7 @@ use crate::closures::{closures_of, standing_of};
 use crate::standing_no::{StandingNo, forced_items, forcing};
 use ls_interior::{Interior, Steps, closure};
 use ls_query::Blocks;
-use ls_set::{ItemSet, Query};
+use ls_set::{ItemSet, PLACES, Query};
 use ls_theory::{Known, No};
 use std::alloc::{AllocError, Global};
 use std::marker::Model;
@@ -89,6 +89,7 @@ impl Table {
         requires within { IsWithin a (full self.now.blocks.item_count) }
         ensures value { result ≡ option_map_or (λ i. closed_of self.now a) (position (is_same a) (sets_of self.now.blocks)) (closure (full (I.item_count f.now)) (I.members f.now) a) }
         ensures cost { steps.new ≤ steps.old + 1 }
+        ensures few { self.now.blocks.item_count ≤ PLACES }
     {
         match self.blocks.place_of(a) {
             Some(place) => closure_at(&self.closures, place),
