@@ -11,6 +11,7 @@ use Rattle.ls_set.specs.declared.query.Query.{Query}
 use Rattle.ls_theory.specs.declared.no.No.{No}
 use Rattle.ls_theory.specs.Families.{closure}
 use Rattle.ls_query.specs.Blocks.{BlockRange, sets_of}
+use Rattle.ls_query.specs.declared.block_fault.TheConstants.{MOST_SETS}
 use Rattle.ls_infer.specs.declared.standing_no.StandingNo.{StandingNo}
 
 -- the items r below n such that q is in the closure of the closed set with r
@@ -49,8 +50,9 @@ closed_of t a = option_map_or (λ i. unwrap_or (slice_get t.closures i) empty) (
 abbrev pub is_open_in : TableState → Query → Bool
 is_open_in t r = not (has (closed_of t r.a) r.q) && not (list_any (forces r) t.standing)
 
--- the number of items, and a closure for each block set
+-- the number of items, and a closure for each block set, of which there are not too many
 pub record IsTable (n : ℕ) (t : TableState) : Type 0 where
   pub items : n ≡ t.blocks.item_count
   pub few : n ≤ PLACES
   pub each : length t.closures ≡ length (sets_of t.blocks)
+  pub few_sets : length t.closures ≤ MOST_SETS

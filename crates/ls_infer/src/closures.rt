@@ -9,7 +9,7 @@ ghost use Rattle.ls_infer.specs.Tables.{standing};
 
 use crate::standing_no::StandingNo;
 use ls_interior::{Interior, Steps, closure};
-use ls_query::Blocks;
+use ls_query::{Blocks, MOST_SETS};
 use ls_set::ItemSet;
 use ls_theory::No;
 use std::alloc::{AllocError, Global};
@@ -25,6 +25,7 @@ pub fn closures_of<I: Interior, L: Ledger>(
     requires { I.item_count f.now ≡ blocks.item_count }
     ensures list { IfOk result (λ v. v.items ≡ map (closure (full (I.item_count f.now)) (I.members f.now)) (sets_of blocks)) }
     ensures cost { steps.new ≤ steps.old + length (sets_of blocks) }
+    ensures few { length (sets_of blocks) ≤ MOST_SETS }
 {
     let mut closures = Vec::new(alloc);
     let mut last = ItemSet::empty();

@@ -1,5 +1,5 @@
 // Tables of closures.
-ghost use Rattle.std.specs.Prelude.{◌≡◌, ◌+◌, ◌*◌, ◌<◌, ◌≤◌, ◌&&◌, ℕ, true, Some, length, find, slice_get, IfOk};
+ghost use Rattle.std.specs.Prelude.{◌≡◌, ◌+◌, ◌*◌, ◌<◌, ◌≤◌, ◌&&◌, ℕ, true, Some, length, filter, find, slice_get, IfOk};
 ghost use Rattle.std.specs.List.{list_all, list_any, position};
 ghost use Rattle.std.specs.Option.{ForSome, option_map, option_map_or};
 ghost use Rattle.ls_set.specs.ItemSet.{Items, full, has, is_same, IsWithin};
@@ -152,14 +152,10 @@ impl Table {
         None
     }
 
-    /// The first open query of the blocks that comes after the given one, or the first of all: no
-    /// closure decides it and no standing answer forces it No. It takes no memory and no step.
-    pub fn next_unsettled(&self, after: Option<&Query>) -> Option<Query>
+    // The first query after the given one, or of all, that is open by the table.
+    fn first_open(&self, after: Option<&Query>) -> Option<Query>
         requires { ForSome after (λ r. is_good self.now.blocks.item_count r.now ≡ true) }
-        ensures next { (i : Interview) → IsSound i → i.count ≡ self.now.blocks.item_count →
-            i.block ≡ self.now.blocks.largest →
-            self.now ≡ table_of self.now.blocks (compatible_sets i) (nos i.answers) →
-            result ≡ next_question i (option_map (λ r. r.now) after.entry) }
+        ensures { result ≡ find (is_open_in self.now) (filter (comes_after query_before (option_map (λ r. r.now) after.entry)) (queries_of self.now.blocks)) }
     {
         let Some(r) = after else {
             return self.open_from(0, ItemSet::empty());
@@ -169,5 +165,17 @@ impl Table {
             Some(q) => Some(Query { a: r.a, q }),
             None => self.open_from(place + 1, r.a),
         }
+    }
+
+    /// The first open query of the blocks that comes after the given one, or the first of all: no
+    /// closure decides it and no standing answer forces it No. It takes no memory and no step.
+    pub fn next_unsettled(&self, after: Option<&Query>) -> Option<Query>
+        requires { ForSome after (λ r. is_good self.now.blocks.item_count r.now ≡ true) }
+        ensures next { (i : Interview) → IsSound i → i.count ≡ self.now.blocks.item_count →
+            i.block ≡ self.now.blocks.largest →
+            self.now ≡ table_of self.now.blocks (compatible_sets i) (nos i.answers) →
+            result ≡ next_question i (option_map (λ r. r.now) after.entry) }
+    {
+        self.first_open(after)
     }
 }
