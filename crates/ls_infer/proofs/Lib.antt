@@ -2,3 +2,4 @@ mod Places
 mod Kept
 mod Opens
 mod Told
+mod Questions
