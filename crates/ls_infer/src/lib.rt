@@ -6,3 +6,6 @@ mod standing_no;
 mod table;
 
 pub use table::Table;
+
+#[cfg(test)]
+mod tests;
