@@ -3,3 +3,4 @@ mod Kept
 mod Opens
 mod Told
 mod Questions
+mod Made

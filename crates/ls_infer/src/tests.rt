@@ -26,6 +26,7 @@ fn asked(rt: &impl Abort, a: u32, q: u32) -> Query
     query
 }
 
+#[tactic(auto, using(crate::proofs::Made::made_of))]
 fn assert_answers<L: Ledger>(rt: &impl Abort, alloc: Global, blank: Blank) -> Result<(), Fail>
     requires name { blank.name ≡ L.name }
     requires parts { blank.parts ≡ L.parts }
@@ -37,7 +38,7 @@ fn assert_answers<L: Ledger>(rt: &impl Abort, alloc: Global, blank: Blank) -> Re
     let (first, second) = (asked(rt, 0, 1), asked(rt, 0, 2));
     let third = asked(rt, 1, 0);
     let Ok(blocks) = Blocks::new(3, 1) else {
-        return Ok(());
+        panic!(rt; "no blocks")
     };
     let answer = No {
         number: 2,
