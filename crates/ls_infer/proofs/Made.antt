@@ -1,9 +1,8 @@
 -- Blocks that were made are those that were asked for.
-use Rattle.std.proofs.Common.{ℕ, ◌-◌, ◌≡◌, true, false, cond, ◌||◌, eqb, ltb, max, find, Some, None, Ok, Err, refl, sym, ap, ◌∙◌}
+use Rattle.std.proofs.Common.{ℕ, ◌-◌, ◌≡◌, true, false, cond, ◌||◌, eqb, ltb, max, find, Some, None, Ok, Err, sym, ap}
 use Rattle.std.specs.Option.{option_map_or}
 use Rattle.ls_set.specs.ItemSet.{numbers_from}
 use Rattle.ls_query.specs.Blocks.{BlockRange, is_too_wide, made}
-use Rattle.ls_query.specs.declared.block_fault.BlockFault.{BlockFault}
 use Rattle.ls_query.specs.declared.block_fault.BlockFault.TheVariants.{BadBlock, TooWide}
 
 pub made_of : (n k : ℕ) (b : BlockRange) → made n k ≡ Ok b → b.item_count ≡ n

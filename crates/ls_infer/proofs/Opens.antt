@@ -1,8 +1,8 @@
 -- The first open query of the blocks, set by set.
-use Rattle.std.proofs.Common.{ℕ, zero, suc, ◌<◌, ◌≤◌, ◌≡◌, ◌⊎◌, inl, inr, Bool, true, false, not, ◌&&◌, ltb, List, [], ◌∷◌, filter, find, slice_get, Option, Some, None, refl, sym, ap, ap₂, ◌∙◌, subst, arith, true≢false, lt-ltb, ltb-true}
+use Rattle.std.proofs.Common.{ℕ, zero, suc, ◌<◌, ◌≤◌, ◌≡◌, ◌⊎◌, inl, inr, Bool, true, false, not, ◌&&◌, ltb, List, [], ◌∷◌, filter, find, slice_get, Some, None, refl, sym, ap, ap₂, ◌∙◌, arith, true≢false, lt-ltb, ltb-true}
 use Rattle.std.specs.List.{list_any, position}
 use Rattle.std.proofs.lemmas.Bool.{and_parts, and_from, or_cases, or_left, or_right, false_from_ne_true}
-use Rattle.ls_set.specs.ItemSet.{Items, has, empty, full, minus, len, least, next_item, items, bound, is_same, is_within, numbers_from, IsWithin}
+use Rattle.ls_set.specs.ItemSet.{Items, has, empty, full, minus, len, least, next_item, items, bound, is_same, is_within, numbers_from}
 use Rattle.ls_set.specs.Query.{is_good}
 use Rattle.ls_set.specs.declared.query.Query.{Query}
 use Rattle.ls_set.proofs.Sets.{both_ways, has-full, has-minus, Decides-is_same, is_within-from}

@@ -1,11 +1,10 @@
 -- The first query that is open by the table is the next question.
-use Rattle.std.proofs.Common.{ℕ, ◌<◌, ◌≡◌, Bool, true, not, ◌&&◌, ◌||◌, List, [], ◌∷◌, map, filter, find, Option, refl, sym, ap, ap₂, ◌∙◌}
+use Rattle.std.proofs.Common.{ℕ, ◌<◌, ◌≡◌, true, not, ◌&&◌, ◌||◌, List, [], ◌∷◌, map, filter, find, Option, refl, sym, ap, ap₂, ◌∙◌}
 use Rattle.std.specs.List.{list_any}
 use Rattle.ls_set.specs.ItemSet.{Items, has, full}
 use Rattle.ls_set.specs.Query.{is_good}
 use Rattle.ls_set.specs.declared.query.Query.{Query}
 use Rattle.ls_theory.specs.declared.answer.Answer.{Answer}
-use Rattle.ls_theory.specs.declared.no.No.{No}
 use Rattle.ls_theory.specs.Queries.{queries, query_before}
 use Rattle.ls_theory.specs.Families.{closure}
 use Rattle.ls_theory.specs.Interviews.{Interview, nos, no_queries}
@@ -19,7 +18,7 @@ use Rattle.ls_laws.proofs.Answering.{forced_yes_is, forced_no_by}
 use Rattle.ls_query.specs.Blocks.{BlockRange, queries_of}
 use Rattle.ls_query.proofs.Sorted.{IsIn, filter-in, find-same}
 use Rattle.ls_query.proofs.QuerySets.{queries-in}
-use Rattle.ls_infer.specs.Tables.{TableState, standing, forces, closed_of, is_open_in, table_of}
+use Rattle.ls_infer.specs.Tables.{TableState, standing, forces, is_open_in, table_of}
 use Rattle.ls_infer.proofs.Told.{forces-standing, closed_of-table}
 use Rattle.ls_infer.proofs.Opens.{block_place}
 

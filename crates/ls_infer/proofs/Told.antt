@@ -1,24 +1,22 @@
 -- What a table tells is what the answers tell.
-use Rattle.std.proofs.Common.{ℕ, ◌<◌, ◌≡◌, Bool, true, false, cond, not, ◌&&◌, ◌||◌, List, [], ◌∷◌, map, filter, find, Option, Some, None, refl, sym, ap, ap₂, ◌∙◌, lt-ltb}
-use Rattle.std.specs.List.{list_any, position}
+use Rattle.std.proofs.Common.{ℕ, ◌<◌, ◌≡◌, Bool, true, false, cond, ◌&&◌, List, [], ◌∷◌, map, find, Option, Some, None, refl, sym, ap, ap₂, ◌∙◌, lt-ltb}
+use Rattle.std.specs.List.{position}
 use Rattle.std.specs.Option.{option_map, option_map_or}
 use Rattle.ls_set.specs.ItemSet.{Items, has, full, with, is_same, is_within}
 use Rattle.ls_set.specs.Query.{is_good}
 use Rattle.ls_set.specs.declared.query.Query.{Query}
-use Rattle.ls_theory.specs.declared.answer.Answer.{Answer}
 use Rattle.ls_theory.specs.declared.no.No.{No}
 use Rattle.ls_theory.specs.declared.known.Known.{Known}
 use Rattle.ls_theory.specs.Families.{closure}
-use Rattle.ls_theory.specs.Interviews.{Interview, nos, no_queries}
+use Rattle.ls_theory.specs.Interviews.{Interview, nos}
 use Rattle.ls_theory.specs.Compatible.{compatible_sets}
 use Rattle.ls_theory.specs.Forced.{known}
 use Rattle.ls_laws.specs.Forced.{IsSound, is_forced_by_closures}
 use Rattle.ls_laws.proofs.Breaks.{good-from}
 use Rattle.ls_laws.proofs.Answering.{known_is}
 use Rattle.ls_query.specs.Blocks.{BlockRange, sets_of}
-use Rattle.ls_query.proofs.Placed.{position-at, position-get}
-use Rattle.ls_infer.specs.declared.standing_no.StandingNo.{StandingNo}
-use Rattle.ls_infer.specs.Tables.{TableState, enough_for, standing, forces, closed_of, table_of}
+use Rattle.ls_query.proofs.Placed.{position-get}
+use Rattle.ls_infer.specs.Tables.{TableState, standing, forces, closed_of, table_of}
 use Rattle.ls_infer.proofs.Places.{get-map}
 use Rattle.ls_infer.proofs.Kept.{has-enough}
 

@@ -79,12 +79,7 @@ impl Table {
     }
 
     // The closure of a set: that which is kept of a block set, or else by one interior.
-    fn closure_in<I: Interior, L: Ledger>(
-        &self,
-        f: &I,
-        a: ItemSet,
-        steps: &mut Steps<L>,
-    ) -> ItemSet
+    fn closure_in<I: Interior, L: Ledger>(&self, f: &I, a: ItemSet, steps: &mut Steps<L>) -> ItemSet
         requires count { I.item_count f.now ≡ self.now.blocks.item_count }
         requires within { IsWithin a (full self.now.blocks.item_count) }
         ensures value { result ≡ option_map_or (λ i. closed_of self.now a) (position (is_same a) (sets_of self.now.blocks)) (closure (full (I.item_count f.now)) (I.members f.now) a) }
@@ -99,12 +94,7 @@ impl Table {
 
     /// What the standing answers tell of the query, in at most one step. `f` is the family of the
     /// table. Where several answers force it No, the first of them is named.
-    pub fn answer_of<I: Interior, L: Ledger>(
-        &self,
-        f: &I,
-        q: &Query,
-        steps: &mut Steps<L>,
-    ) -> Known
+    pub fn answer_of<I: Interior, L: Ledger>(&self, f: &I, q: &Query, steps: &mut Steps<L>) -> Known
         requires count { I.item_count f.now ≡ self.now.blocks.item_count }
         requires good { is_good self.now.blocks.item_count q.now ≡ true }
         ensures known { (i : Interview) → IsSound i → i.count ≡ self.now.blocks.item_count →

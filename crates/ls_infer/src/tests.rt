@@ -45,8 +45,14 @@ fn assert_answers<L: Ledger>(rt: &impl Abort, alloc: Global, blank: Blank) -> Re
         query: second,
     };
     let table = Table::build(alloc, blocks, &counted, &[answer], &mut steps)?;
-    assert_eq!(rt; table.answer_of(&counted, &second, &mut steps), Known::No { by: 2 });
-    assert_eq!(rt; table.answer_of(&counted, &third, &mut steps), Known::Unsettled);
+    assert_eq!(rt;
+        table.answer_of(&counted, &second, &mut steps),
+        Known::No { by: 2 }
+    );
+    assert_eq!(rt;
+        table.answer_of(&counted, &third, &mut steps),
+        Known::Unsettled
+    );
     assert_eq!(rt; table.next_unsettled(None), Some(first));
     assert_eq!(rt; table.next_unsettled(Some(&first)), Some(third));
     Ok(())

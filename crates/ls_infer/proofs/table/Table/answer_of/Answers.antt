@@ -1,4 +1,4 @@
-use Rattle.std.proofs.Common.{◌≡◌, true, false, find, Some, None, refl, sym, ap, ◌∙◌}
+use Rattle.std.proofs.Common.{true, false, find, Some, None, refl, sym, ap, ◌∙◌}
 use Rattle.std.specs.Option.{option_map}
 use Rattle.ls_laws.proofs.Breaks.{good-from}
 use Rattle.ls_infer.specs.Tables.{forces}

@@ -8,7 +8,7 @@ use Rattle.ls_query.specs.Blocks.{sets_of, queries_of}
 use Rattle.ls_query.proofs.Sorted.{get-in}
 use Rattle.ls_query.proofs.Placed.{position-get}
 use Rattle.ls_infer.specs.Tables.{is_open_in}
-use Rattle.ls_infer.proofs.Places.{first_place, next_place, place-within}
+use Rattle.ls_infer.proofs.Places.{first_place, next_place}
 use Rattle.ls_infer.proofs.Opens.{open-all, open-same, open-later, open-outside}
 use Rattle.ls_infer.proofs.table.Table.first_open.Goals as goal
 

@@ -1,4 +1,4 @@
-use Rattle.std.proofs.Common.{◌≡◌, ◌≤◌, length, find, slice_get, Some, None, sym, ap, ◌∙◌, arith}
+use Rattle.std.proofs.Common.{◌≡◌, ◌≤◌, length, find, slice_get, Some, sym, ap, ◌∙◌, arith}
 use Rattle.ls_theory.specs.Queries.{block_before}
 use Rattle.ls_query.specs.Blocks.{sets_of}
 use Rattle.ls_infer.specs.Tables.{is_open_in}

@@ -1,4 +1,4 @@
-use Rattle.std.proofs.Common.{◌≡◌, Some, slice_get, sym, ap, ap₂, ◌∙◌}
+use Rattle.std.proofs.Common.{◌≡◌, Some, slice_get, sym, ap, ◌∙◌}
 use Rattle.ls_set.specs.ItemSet.{has, full, minus}
 use Rattle.std.specs.List.{list_any}
 use Rattle.ls_infer.specs.Tables.{forces}
