@@ -1,0 +1,46 @@
+-- What is kept of standing answers.
+use Rattle.std.proofs.Common.{ℕ, ◌+◌, ◌<◌, ◌≡◌, inl, inr, Bool, true, false, ◌&&◌, ◌||◌, eqb, ltb, List, ◌∷◌, drop, length, get_or, refl, sym, ap, ◌∙◌, arith, le-leb, lt-ltb, eqb-true, zero-add}
+use Rattle.std.specs.List.{list_any}
+use Rattle.std.proofs.lemmas.List.{drop_more}
+use Rattle.std.proofs.lemmas.Bool.{or_cases}
+use Rattle.std.proofs.lemmas.Bool.Decides.{nat_tests}
+use Rattle.ls_set.specs.ItemSet.{Items, has, full, with, is_within, IsWithin}
+use Rattle.ls_set.proofs.Sets.{has-with, has-full}
+use Rattle.ls_set.proofs.Cursors.{has-set_of-filter}
+use Rattle.ls_theory.specs.Families.{closure}
+use Rattle.ls_infer.specs.declared.standing_no.StandingNo.{StandingNo}
+use Rattle.ls_infer.specs.Tables.{enough_for, forces}
+
+-- ---- the items that are enough
+
+pub has-enough : (n : ℕ) (f : List Items) (closed : Items) (q i : ℕ) → has (enough_for n f closed q) i ≡ (ltb i n && has (closure (full n) f (with closed i)) q)
+has-enough n f closed q i = has-set_of-filter (λ r. has (closure (full n) f (with closed r)) q) 0 n i ∙ rw (le-leb 0 i (omega arith), zero-add) refl
+
+pub with-within : (n : ℕ) (s : Items) (r : ℕ) → IsWithin s (full n) → r < n → IsWithin (with s r) (full n)
+with-within n s r w l i h = elim (or_cases (has s i) (eqb i r) (sym (has-with s r i) ∙ h)) [
+  | inl a ↦ w i a
+  | inr e ↦ has-full n i ∙ lt-ltb i n (let same : i ≡ r = eqb-true i r e in omega arith)
+]
+
+-- the next number, where it passes, and where it does not
+pub taken : (k i : ℕ) (q : Bool) → (i ≡ k → q ≡ true) → (ltb i k && q || eqb i k) ≡ (ltb i (k + 1) && q)
+taken k i q h = grind (arith, nat_tests)
+
+pub left : (k i : ℕ) (q : Bool) → (i ≡ k → q ≡ false) → (ltb i k && q) ≡ (ltb i (k + 1) && q)
+left k i q h = grind (arith, nat_tests)
+
+-- ---- the items that are forced
+
+pub or_next : (a b c : Bool) → ((a || b) || c) ≡ (a || (b || c))
+or_next true b c = refl
+or_next false b c = refl
+
+left_next : {X : Type 0} (xs : List X) (i : ℕ) (x : X) → i < length xs → x ≡ get_or xs i x → drop i xs ≡ x ∷ drop (i + 1) xs
+left_next xs i x l e = drop_more xs i x l ∙ ap (λ y. y ∷ drop (i + 1) xs) (sym e)
+
+-- what the next answer adds, where it is told whether A is within its closure
+pub forced-next : (ss : List StandingNo) (i : ℕ) (s : StandingNo) (a : Items) (q : ℕ) (f w : Bool) → i < length ss → s ≡ get_or ss i s → is_within a s.closed ≡ w
+    → (f || list_any (forces (record { a = a; q = q })) (drop i ss)) ≡ (f || ((w && has s.enough q) || list_any (forces (record { a = a; q = q })) (drop (i + 1) ss)))
+forced-next ss i s a q f w l e h =
+    ap (λ xs. f || list_any (forces (record { a = a; q = q })) xs) (left_next ss i s l e)
+    ∙ ap (λ b. f || ((b && has s.enough q) || list_any (forces (record { a = a; q = q })) (drop (i + 1) ss))) h

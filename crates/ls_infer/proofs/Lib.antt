@@ -1,0 +1,6 @@
+mod Places
+mod Kept
+mod Opens
+mod Told
+mod Questions
+mod Made

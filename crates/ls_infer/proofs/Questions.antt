@@ -1,0 +1,56 @@
+-- The first query that is open by the table is the next question.
+use Rattle.std.proofs.Common.{ℕ, ◌<◌, ◌≡◌, true, not, ◌&&◌, ◌||◌, List, [], ◌∷◌, map, filter, find, Option, refl, sym, ap, ap₂, ◌∙◌}
+use Rattle.std.specs.List.{list_any}
+use Rattle.ls_set.specs.ItemSet.{Items, has, full}
+use Rattle.ls_set.specs.Query.{is_good}
+use Rattle.ls_set.specs.declared.query.Query.{Query}
+use Rattle.ls_theory.specs.declared.answer.Answer.{Answer}
+use Rattle.ls_theory.specs.Queries.{queries, query_before}
+use Rattle.ls_theory.specs.Families.{closure}
+use Rattle.ls_theory.specs.Interviews.{Interview, nos, no_queries}
+use Rattle.ls_theory.specs.Compatible.{compatible_sets}
+use Rattle.ls_theory.specs.Fitting.{spaces_of}
+use Rattle.ls_theory.specs.Forced.{is_open, next_question}
+use Rattle.ls_theory.specs.Pages.{comes_after}
+use Rattle.ls_laws.specs.Forced.{IsSound, is_forced_by_closures}
+use Rattle.ls_laws.proofs.Breaks.{good-to}
+use Rattle.ls_laws.proofs.Answering.{forced_yes_is, forced_no_by}
+use Rattle.ls_query.specs.Blocks.{BlockRange, queries_of}
+use Rattle.ls_query.proofs.Sorted.{IsIn, filter-in, find-same}
+use Rattle.ls_query.proofs.QuerySets.{queries-in}
+use Rattle.ls_infer.specs.Tables.{TableState, standing, forces, is_open_in, table_of}
+use Rattle.ls_infer.proofs.Told.{forces-standing, closed_of-table}
+use Rattle.ls_infer.proofs.Opens.{block_place}
+
+-- some standing No forces the query exactly where closures say so
+any-standing : (n : ℕ) (f : List Items) (r : Query) (given : List Answer) → r.q < n
+    → list_any (forces r) (map (standing n f) (map (λ a. record { number = a.number; query = a.query }) given)) ≡ list_any (is_forced_by_closures n f r) (map (λ a. a.query) given)
+any-standing n f r [] l = refl
+any-standing n f r (a ∷ given) l = ap₂ (λ b c. b || c) (forces-standing n f r (record { number = a.number; query = a.query }) l) (any-standing n f r given l)
+
+-- a query of the blocks is open by the table exactly where it is open
+open-told : (i : Interview) (b : BlockRange) (r : Query) → IsSound i → i.count ≡ b.item_count → IsIn r (queries_of b)
+    → is_open_in (table_of b (compatible_sets i) (nos i.answers)) r ≡ is_open (spaces_of i) r
+open-told i b r sound count here =
+    let f = compatible_sets i in
+    let d = queries-in b.item_count b.largest r here in
+    let good : is_good i.count r ≡ true = ap (λ m. is_good m r) count ∙ good-to b.item_count r d.0 in
+    let item : r.q < b.item_count = d.0.item in
+    let item_here : r.q < i.count = rw count item in
+    let place = block_place b.item_count b.largest r.a d.1 in
+    let table = table_of b f (nos i.answers) in
+    ap₂ (λ u v. not u && not v)
+    (ap (λ s. has s r.q) (closed_of-table b f (nos i.answers) place.0 r.a place.1 ∙ ap (λ m. closure (full m) f r.a) (sym count)) ∙ sym (forced_yes_is i r sound.some_fits item_here))
+    (any-standing b.item_count f r (filter (λ a. not a.yes) i.answers) item
+    ∙ ap (λ m. list_any (is_forced_by_closures m f r) (no_queries i.answers)) (sym count) ∙ sym (forced_no_by i r sound good))
+
+pub next-told : (i : Interview) (t : TableState) (last : Option Query) → IsSound i → i.count ≡ t.blocks.item_count → i.block ≡ t.blocks.largest
+    → t ≡ table_of t.blocks (compatible_sets i) (nos i.answers)
+    → find (is_open_in t) (filter (comes_after query_before last) (queries_of t.blocks)) ≡ next_question i last
+unfolding next_question
+next-told i t last sound count block table =
+    let b = t.blocks in
+    ap (λ u. find (is_open_in u) (filter (comes_after query_before last) (queries_of b))) table
+    ∙ find-same (is_open_in (table_of b (compatible_sets i) (nos i.answers))) (is_open (spaces_of i)) (filter (comes_after query_before last) (queries_of b))
+    (λ r c. open-told i b r sound count (filter-in (comes_after query_before last) (queries_of b) r c).0)
+    ∙ ap₂ (λ m k. find (is_open (spaces_of i)) (filter (comes_after query_before last) (queries m k))) (sym count) (sym block)

@@ -1,0 +1,11 @@
+use Rattle.std.proofs.Common.{◌≡◌, ◌+◌, ℕ, ◌&&◌, nat_lt}
+use Rattle.ls_set.specs.ItemSet.{has, full, with}
+use Rattle.ls_theory.specs.Families.{closure}
+use Rattle.ls_infer.proofs.standing_no.enough_for.Given as goal
+
+-- the items so far are those that are enough, and each was one step
+abbrev pub invariant-loop-r : goal.invariant-loop-r
+invariant-loop-r g l = record {
+  enough : (i : ℕ) → has l.enough i ≡ (nat_lt i l.r && has (closure (full (g.I.Interior.item_count l.f)) (g.I.Interior.members l.f) (with l.closed i)) l.q);
+  cost : l.steps ≡ l.fn.steps + l.r;
+}

@@ -1,0 +1,59 @@
+// The lists that make up a table.
+ghost use Rattle.std.specs.Prelude.{◌≡◌, ◌+◌, ◌*◌, ◌≤◌, true, map, length, IfOk};
+ghost use Rattle.std.specs.List.{list_all};
+ghost use Rattle.ls_set.specs.ItemSet.{full};
+ghost use Rattle.ls_set.specs.Query.{is_good};
+ghost use Rattle.ls_theory.specs.Families.{closure};
+ghost use Rattle.ls_query.specs.Blocks.{sets_of};
+ghost use Rattle.ls_infer.specs.Tables.{standing};
+
+use crate::standing_no::StandingNo;
+use ls_interior::{Interior, Steps, closure};
+use ls_query::{Blocks, MOST_SETS};
+use ls_set::ItemSet;
+use ls_theory::No;
+use std::alloc::{AllocError, Global};
+use std::sync::ledger::Ledger;
+
+/// The closures of the sets of the blocks, in their order, in a step for each.
+pub fn closures_of<I: Interior, L: Ledger>(
+    alloc: Global,
+    blocks: Blocks,
+    f: &I,
+    steps: &mut Steps<L>,
+) -> Result<Vec<ItemSet>, AllocError>
+    requires { I.item_count f.now ≡ blocks.item_count }
+    ensures list { IfOk result (λ v. v.items ≡ map (closure (full (I.item_count f.now)) (I.members f.now)) (sets_of blocks)) }
+    ensures cost { steps.new ≤ steps.old + length (sets_of blocks) }
+    ensures few { length (sets_of blocks) ≤ MOST_SETS }
+{
+    let mut closures = Vec::new(alloc);
+    let mut last = ItemSet::empty();
+    for _place in 0..blocks.count() {
+        let Some(set) = blocks.next_set(Some(last)) else {
+            return Ok(closures);
+        };
+        closures.push(closure(f, set, steps))?;
+        last = set;
+    }
+    Ok(closures)
+}
+
+/// What is kept of each of the answers, in their order, in a step for each item and one more for
+/// each answer.
+pub fn standing_of<I: Interior, L: Ledger>(
+    alloc: Global,
+    f: &I,
+    answers: &[No],
+    steps: &mut Steps<L>,
+) -> Result<Vec<StandingNo>, AllocError>
+    requires { list_all (λ a. is_good (I.item_count f.now) a.query) answers.now ≡ true }
+    ensures list { IfOk result (λ v. v.items ≡ map (standing (I.item_count f.now) (I.members f.now)) answers.now) }
+    ensures cost { steps.new ≤ steps.old + (I.item_count f.now + 1) * length answers.now }
+{
+    let mut kept = Vec::new(alloc);
+    for answer in answers {
+        kept.push(StandingNo::new(f, answer, steps))?;
+    }
+    Ok(kept)
+}

@@ -1,0 +1,11 @@
+//! What the standing answers of an interview tell, by the closures of its block sets.
+#![tactic(auto)]
+
+mod closures;
+mod standing_no;
+mod table;
+
+pub use table::Table;
+
+#[cfg(test)]
+mod tests;

@@ -1,0 +1,171 @@
+// Tables of closures.
+ghost use Rattle.std.specs.Prelude.{◌≡◌, ◌+◌, ◌*◌, ◌<◌, ◌≤◌, ◌&&◌, ℕ, true, Some, length, filter, find, slice_get, IfOk};
+ghost use Rattle.std.specs.List.{list_all, list_any, position};
+ghost use Rattle.std.specs.Option.{ForSome, option_map, option_map_or};
+ghost use Rattle.ls_set.specs.ItemSet.{Items, full, has, is_same, IsWithin};
+ghost use Rattle.ls_set.specs.Query.{is_good};
+ghost use Rattle.ls_theory.specs.Queries.{block_before, query_before};
+ghost use Rattle.ls_theory.specs.Families.{closure};
+ghost use Rattle.ls_theory.specs.Interviews.{Interview, nos};
+ghost use Rattle.ls_theory.specs.Compatible.{compatible_sets};
+ghost use Rattle.ls_theory.specs.Forced.{known, next_question};
+ghost use Rattle.ls_theory.specs.Pages.{comes_after};
+ghost use Rattle.ls_laws.specs.Forced.{IsSound};
+ghost use Rattle.ls_query.specs.Blocks.{sets_of, queries_of};
+
+use crate::closures::{closures_of, standing_of};
+use crate::standing_no::{StandingNo, forced_items, forcing};
+use ls_interior::{Interior, Steps, closure};
+use ls_query::Blocks;
+use ls_set::{ItemSet, PLACES, Query};
+use ls_theory::{Known, No};
+use std::alloc::{AllocError, Global};
+use std::marker::Model;
+use std::sync::ledger::Ledger;
+
+/// The closures of the block sets in a family, and what is kept of the standing answers that are No.
+/// With them queries are answered by at most one interior, and block queries by none.
+#[derive(Drop)]
+pub struct Table {
+    n: u32,
+    blocks: Blocks,
+    closures: Vec<ItemSet>,
+    standing: Vec<StandingNo>,
+}
+
+impl Model for Table {
+    ghost use Rattle.ls_infer.specs.Tables.{TableState, IsTable};
+
+    ghost Value = { TableState };
+
+    ghost view = { λ t. record { blocks = t.blocks; closures = t.closures.items; standing = t.standing.items } };
+
+    ghost invariant = { λ t. IsTable t.n (record { blocks = t.blocks; closures = t.closures.items; standing = t.standing.items }) };
+}
+
+// The closure at a place of the list.
+fn closure_at(closures: &[ItemSet], place: u32) -> ItemSet
+    requires { place < length closures.now }
+    ensures { slice_get closures.now place ≡ Some result }
+{
+    closures[place as usize]
+}
+
+impl Table {
+    ghost use Rattle.ls_infer.specs.Tables.{table_of, closed_of, forces, is_open_in};
+
+    /// The table of a family, for blocks of its items and the standing answers that are No, in a step
+    /// for each block set, and for each answer a step for each item and one more.
+    pub fn build<I: Interior, L: Ledger>(
+        alloc: Global,
+        blocks: Blocks,
+        f: &I,
+        answers: &[No],
+        steps: &mut Steps<L>,
+    ) -> Result<Table, AllocError>
+        requires items { I.item_count f.now ≡ blocks.item_count }
+        requires good { list_all (λ a. is_good (I.item_count f.now) a.query) answers.now ≡ true }
+        ensures built { IfOk result (λ t. t ≡ table_of blocks (I.members f.now) answers.now) }
+        ensures cost { steps.new ≤ steps.old + (length (sets_of blocks) + (I.item_count f.now + 1) * length answers.now) }
+    {
+        let closures = closures_of(alloc, blocks, f, steps)?;
+        let standing = standing_of(alloc, f, answers, steps)?;
+        Ok(Table {
+            n: f.items(),
+            blocks,
+            closures,
+            standing,
+        })
+    }
+
+    // The closure of a set: that which is kept of a block set, or else by one interior.
+    fn closure_in<I: Interior, L: Ledger>(&self, f: &I, a: ItemSet, steps: &mut Steps<L>) -> ItemSet
+        requires count { I.item_count f.now ≡ self.now.blocks.item_count }
+        requires within { IsWithin a (full self.now.blocks.item_count) }
+        ensures value { result ≡ option_map_or (λ i. closed_of self.now a) (position (is_same a) (sets_of self.now.blocks)) (closure (full (I.item_count f.now)) (I.members f.now) a) }
+        ensures cost { steps.new ≤ steps.old + 1 }
+        ensures few { self.now.blocks.item_count ≤ PLACES }
+    {
+        match self.blocks.place_of(a) {
+            Some(place) => closure_at(&self.closures, place),
+            None => closure(f, a, steps),
+        }
+    }
+
+    /// What the standing answers tell of the query, in at most one step. `f` is the family of the
+    /// table. Where several answers force it No, the first of them is named.
+    pub fn answer_of<I: Interior, L: Ledger>(&self, f: &I, q: &Query, steps: &mut Steps<L>) -> Known
+        requires count { I.item_count f.now ≡ self.now.blocks.item_count }
+        requires good { is_good self.now.blocks.item_count q.now ≡ true }
+        ensures known { (i : Interview) → IsSound i → i.count ≡ self.now.blocks.item_count →
+            I.members f.now ≡ compatible_sets i →
+            self.now ≡ table_of self.now.blocks (compatible_sets i) (nos i.answers) →
+            result ≡ known i q.now }
+        ensures bound { steps.new ≤ steps.old + 1 }
+    {
+        let closed = self.closure_in(f, q.a, steps);
+        if closed.has(q.q) {
+            return Known::Yes;
+        }
+        match forcing(&self.standing, q) {
+            Some(by) => Known::No { by },
+            None => Known::Unsettled,
+        }
+    }
+
+    // The items q for which the query (a, q) is open, where `a` is the block set at a place.
+    fn open_items(&self, place: u32, a: ItemSet) -> ItemSet
+        requires { slice_get (sets_of self.now.blocks) place ≡ Some a }
+        ensures { (q : ℕ) → has result q ≡ (is_good self.now.blocks.item_count (record { a = a; q = q }) && is_open_in self.now (record { a = a; q = q })) }
+    {
+        let closed = closure_at(&self.closures, place);
+        ItemSet::full(self.n)
+            .minus(a)
+            .minus(closed)
+            .minus(forced_items(&self.standing, a))
+    }
+
+    // The first open query from the place on, where `last` is the set before it.
+    fn open_from(&self, start: u32, last: ItemSet) -> Option<Query>
+        requires within { IsWithin last (full self.now.blocks.item_count) }
+        requires place { find (block_before last) (sets_of self.now.blocks) ≡ slice_get (sets_of self.now.blocks) start }
+        ensures { result ≡ find (λ s. block_before last s.a && is_open_in self.now s) (queries_of self.now.blocks) }
+    {
+        let mut last = last;
+        for place in start..self.blocks.count() {
+            let set = self.blocks.next_set(Some(last))?;
+            if let Some(q) = self.open_items(place, set).least() {
+                return Some(Query { a: set, q });
+            }
+            last = set;
+        }
+        None
+    }
+
+    // The first query after the given one, or of all, that is open by the table.
+    fn first_open(&self, after: Option<&Query>) -> Option<Query>
+        requires { ForSome after (λ r. is_good self.now.blocks.item_count r.now ≡ true) }
+        ensures { result ≡ find (is_open_in self.now) (filter (comes_after query_before (option_map (λ r. r.now) after.entry)) (queries_of self.now.blocks)) }
+    {
+        let Some(r) = after else {
+            return self.open_from(0, ItemSet::empty());
+        };
+        let place = self.blocks.place_of(r.a)?;
+        match self.open_items(place, r.a).next_member(r.q) {
+            Some(q) => Some(Query { a: r.a, q }),
+            None => self.open_from(place + 1, r.a),
+        }
+    }
+
+    /// The first open query of the blocks that comes after the given one, or the first of all: no
+    /// closure decides it and no standing answer forces it No. It takes no memory and no step.
+    pub fn next_unsettled(&self, after: Option<&Query>) -> Option<Query>
+        requires { ForSome after (λ r. is_good self.now.blocks.item_count r.now ≡ true) }
+        ensures next { (i : Interview) → IsSound i → i.count ≡ self.now.blocks.item_count →
+            i.block ≡ self.now.blocks.largest →
+            self.now ≡ table_of self.now.blocks (compatible_sets i) (nos i.answers) →
+            result ≡ next_question i (option_map (λ r. r.now) after.entry) }
+    {
+        self.first_open(after)
+    }
+}
