@@ -54,8 +54,9 @@ fn closure_at(closures: &[ItemSet], place: u32) -> ItemSet
 impl Table {
     ghost use Rattle.ls_infer.specs.Tables.{table_of, closed_of, forces, is_open_in};
 
-    /// The table of a family, for blocks of its items and the standing answers that are No, in a step
-    /// for each block set, and for each answer a step for each item and one more.
+    /// The table of a family, for blocks of its items and the standing answers that are No, whose
+    /// queries are good. It takes at most a step for each block set, and for each answer a step for
+    /// each item and one more. It fails only where memory runs out.
     pub fn build<I: Interior, L: Ledger>(
         alloc: Global,
         blocks: Blocks,
@@ -92,8 +93,8 @@ impl Table {
         }
     }
 
-    /// What the standing answers tell of the query, in at most one step. `f` is the family of the
-    /// table. Where several answers force it No, the first of them is named.
+    /// What the standing answers tell of the good query `q`, in at most one step and without memory.
+    /// `f` is the family of the table. Where several answers force the query No, the first is named.
     pub fn answer_of<I: Interior, L: Ledger>(&self, f: &I, q: &Query, steps: &mut Steps<L>) -> Known
         requires count { I.item_count f.now ≡ self.now.blocks.item_count }
         requires good { is_good self.now.blocks.item_count q.now ≡ true }
@@ -157,8 +158,9 @@ impl Table {
         }
     }
 
-    /// The first open query of the blocks that comes after the given one, or the first of all: no
-    /// closure decides it and no standing answer forces it No. It takes no memory and no step.
+    /// The first open query of the blocks that comes after the given good one, or the first of all: no
+    /// closure decides it and no standing answer forces it No. The given one need not be of the
+    /// blocks. It takes no memory and no step.
     pub fn next_unsettled(&self, after: Option<&Query>) -> Option<Query>
         requires { ForSome after (λ r. is_good self.now.blocks.item_count r.now ≡ true) }
         ensures next { (i : Interview) → IsSound i → i.count ≡ self.now.blocks.item_count →
