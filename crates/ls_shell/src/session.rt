@@ -204,7 +204,12 @@ impl Session {
     }
 
     // The blocks up to the size, of so many sets.
-    fn take_blocks<K: Sink>(&mut self, size: u32, count: u32, out: &mut K) -> Result<bool, StepFault>
+    fn take_blocks<K: Sink>(
+        &mut self,
+        size: u32,
+        count: u32,
+        out: &mut K,
+    ) -> Result<bool, StepFault>
         ensures answered { IfOk result (Gives (becomes (record self.old { interview = record self.old.interview { block = size } }) (decimal count ∷ [])) self.new (K.written out.old) (K.written out.new)) }
         ensures sink { MovesSink (K.written out.old) (K.written out.new) (K.faults out.old) (K.faults out.new) result }
     {

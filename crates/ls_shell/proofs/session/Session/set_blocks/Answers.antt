@@ -32,9 +32,9 @@ returns-in-Ok-clause-answered g c =
     let n : c.count.result ≡ length s.names = c.count.ensures.value ∙ ap length names in
     let is : made (length s.names) c.args.size ≡ Ok c.in-Ok.blocks = ap (λ k. made k c.args.size) (sym n) ∙ sym c.new.ensures.value ∙ c.in-Ok.is in
     let told =
-        ap (λ k. becomes (record s { interview = record s.interview { block = c.args.size } }) (decimal k ∷ []))
-        (c.count-in-Ok.ensures.value ∙ ap (λ (b : BlockRange). length (sets_of b)) (sym (made_of (length s.names) c.args.size c.in-Ok.blocks is)))
-        ∙ sym (blocks_made s c.args.size some c.in-Ok.blocks is) in
+    ap (λ k. becomes (record s { interview = record s.interview { block = c.args.size } }) (decimal k ∷ []))
+    (c.count-in-Ok.ensures.value ∙ ap (λ (b : BlockRange). length (sets_of b)) (sym (made_of (length s.names) c.args.size c.in-Ok.blocks is)))
+    ∙ sym (blocks_made s c.args.size some c.in-Ok.blocks is) in
     IfOk_map c.take_blocks.result
     (λ r said. subst (λ (a : Answer). Gives a c.take_blocks.new.self (g.K.Sink.written c.args.out.now) (g.K.Sink.written c.take_blocks.new.out) r) told said)
     c.take_blocks.ensures.answered
