@@ -1,6 +1,6 @@
 -- The row of blocks.
 use Rattle.std.specs.Fmt.{digits}
-use Rattle.std.proofs.Common.{◌≡◌, ◌||◌, ◌-◌, ℕ, Bool, true, false, cond, not, eqb, find, List, [], ◌∷◌, Option, Some, None, Result, Ok, Err, length, codes, decimal, refl, ap, ◌∙◌, sym, max, nat_lt}
+use Rattle.std.proofs.Common.{◌≡◌, ◌||◌, ◌-◌, ℕ, Bool, true, false, cond, not, eqb, find, List, [], ◌∷◌, Option, Some, None, Result, Ok, Err, length, codes, decimal, refl, ap, ◌∙◌, max, nat_lt}
 use Rattle.std.specs.declared.alloc.AllocError.{AllocError}
 use Rattle.std.specs.Option.{option_map_or}
 use Rattle.ls_set.specs.ItemSet.{numbers_from}
