@@ -1,0 +1,100 @@
+-- What an interview keeps, through its beginning and its changes.
+use Rattle.std.proofs.Common.{Bool, true, false, cond, eqb, ◌||◌, nat_lt, find, Option, Some, None, Result, Err, ℕ, zero, suc, ◌+◌, ◌-◌, ◌<◌, ◌≤◌, ◌≡◌, ◌≢◌, max, length, List, [], Ok, refl, sym, ap, ap₂, ◌∙◌, subst, arith}
+use Rattle.std.specs.Option.{option_map_or}
+use Rattle.ls_set.specs.ItemSet.{full, numbers_from}
+use Rattle.ls_set.specs.declared.item_set.TheConstants.{PLACES}
+use Rattle.ls_set.specs.declared.query.Query.{Query}
+use Rattle.ls_theory.specs.Starts as theory
+use Rattle.ls_theory.specs.Queries.{blocks}
+use Rattle.ls_theory.specs.Families.{is_space}
+use Rattle.ls_theory.specs.Compatible.{compat}
+use Rattle.ls_theory.specs.Interviews.{Interview, begun, yes_queries, nos}
+use Rattle.ls_theory.specs.declared.answer.Answer.{Answer}
+use Rattle.ls_laws.proofs.Compat.{compat-space}
+use Rattle.ls_laws.proofs.Accepting.{begun-sound}
+use Rattle.ls_laws.proofs.Numbered.{begun-numbered}
+use Rattle.ls_query.specs.Blocks.{BlockRange, choose, is_too_wide, made}
+use Rattle.ls_query.specs.declared.block_fault.BlockFault.{BlockFault}
+use Rattle.ls_query.specs.declared.block_fault.BlockFault.TheVariants.{BadBlock, TooWide}
+use Rattle.ls_query.specs.declared.block_fault.TheConstants.{MOST_SETS}
+use Rattle.ls_query.proofs.Binomials.{choose-none, choose-more, choose-zero_more}
+use Rattle.ls_query.proofs.BySize.{length-blocks_more, length-blocks_none}
+use Rattle.ls_query.proofs.Counted.{made-ok, none_too_wide}
+use Rattle.ls_infer.specs.Tables.{TableState, table_of}
+use Rattle.ls_expert.specs.declared.start.Start.{Start}
+use Rattle.ls_expert.specs.declared.start.Start.TheVariants.{Free}
+use Rattle.ls_expert.specs.Starts.{start_of}
+use Rattle.ls_expert.specs.Held.{blocks_of, closures_of, IsHeld}
+
+-- ---- blocks of single items
+
+choose-one : (n : ℕ) → choose n 1 ≡ n
+choose-one zero = choose-zero_more 0
+choose-one (suc n) = choose-more n 0 ∙ omega (arith, choose-none n, choose-one n)
+
+-- n sets of one item, which are never too many
+pub made-one : (n : ℕ) → 0 < n → n ≤ PLACES → made n 1 ≡ Ok (record { item_count = n; largest = 1 })
+made-one n some few =
+    let sets : length (blocks n 1) ≡ length (blocks n 0) + choose n 1 = length-blocks_more n 0 in
+    let many : length (blocks n 1) ≤ MOST_SETS = omega (arith, sets, length-blocks_none n, choose-one n) in
+    made-ok n 1 (λ e. cc) (omega arith) (none_too_wide n 1 many)
+
+chosen : (bad : Bool) (wide : Option ℕ) (x b : BlockRange)
+    → cond bad (Err BadBlock) (option_map_or (λ (size : ℕ). let r : Result BlockRange BlockFault = Err (TooWide size) in r) wide (Ok x)) ≡ Ok b → x ≡ b
+chosen true wide x b e = absurd (cc e)
+chosen false (Some size) x b e = absurd (cc e)
+chosen false None x b e = cc e
+
+made_of : (n k : ℕ) (b : BlockRange) → made n k ≡ Ok b → (let x : BlockRange = record { item_count = n; largest = k } in x) ≡ b
+unfolding made
+made_of n k b e = chosen (eqb k 0 || nat_lt (max 1 (n - 1)) k) (find (is_too_wide n) (numbers_from 1 k)) (record { item_count = n; largest = k }) b e
+
+-- the blocks that are made are those that are asked for
+pub range-of : (n k : ℕ) (b : BlockRange) → made n k ≡ Ok b → b ≡ (let x : BlockRange = record { item_count = n; largest = k } in x)
+range-of n k b e = sym (made_of n k b e)
+
+-- ---- tables
+
+-- a table that was built for the blocks, the start, the rules and the answers of an interview is its table
+pub tabled-by : (i : Interview) (b : BlockRange) (s : theory.Start) (rules : List Query) (answers : List Answer) (t : TableState)
+    → t ≡ table_of b (compat b.item_count s rules) (nos answers) → b ≡ blocks_of i → s ≡ i.start → rules ≡ yes_queries i.answers → answers ≡ i.answers → t ≡ closures_of i
+tabled-by i b s rules answers t h eb es er ea =
+    h ∙ ap (λ (b : BlockRange). table_of b (compat b.item_count s rules) (nos answers)) eb
+    ∙ ap (λ (s : theory.Start). table_of (blocks_of i) (compat i.count s rules) (nos answers)) es
+    ∙ ap₂ (λ (rs : List Query) (done : List Answer). table_of (blocks_of i) (compat i.count i.start rs) (nos done)) er ea
+
+-- ---- the beginning
+
+pub begun-as : (n m : ℕ) (s t : theory.Start) (answers : List Answer) → n ≡ m → s ≡ t → answers ≡ [] → begun n s ≡ (let i : Interview = record { count = m; start = t; block = 1; answers = answers; next = 1 } in i)
+begun-as n m s t answers en es ea = cc
+
+start-whole : (start : Start) (n : ℕ) → is_space (full n) (compat n (start_of start) []) ≡ true
+start-whole Free n = compat-space n theory.Free [] refl refl
+
+pub held-begun : (n : ℕ) (start : Start) (i : Interview) (rules : List Query) (t : TableState) → 0 < n → n ≤ PLACES → begun n (start_of start) ≡ i → rules ≡ [] → t ≡ closures_of i → IsHeld i rules t
+held-begun n start i rules t some few e none table =
+    subst (λ (j : Interview). t ≡ closures_of j → IsHeld j rules t) e (λ table. record {
+      some_items = some;
+      few_items = few;
+      ruled = none;
+      tabled = table;
+      sound = begun-sound n (start_of start) (start-whole start n);
+      good = refl;
+      numbered = begun-numbered n (start_of start);
+      few_answers = omega arith;
+      numbers_left = omega arith;
+    }) table
+
+-- other blocks, with their table
+pub held-blocks : (i : Interview) (k : ℕ) (rules : List Query) (t new : TableState) → IsHeld i rules t → new ≡ closures_of (record i { block = k }) → IsHeld (record i { block = k }) rules new
+held-blocks i k rules t new h table = record {
+  some_items = h.some_items;
+  few_items = h.few_items;
+  ruled = h.ruled;
+  tabled = table;
+  sound = record { some_fits = h.sound.some_fits; are_good = h.sound.are_good };
+  good = h.good;
+  numbered = record { in_order = h.numbered.in_order; below_next = h.numbered.below_next };
+  few_answers = h.few_answers;
+  numbers_left = h.numbers_left;
+}

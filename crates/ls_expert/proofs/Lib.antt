@@ -1,0 +1,2 @@
+mod Ruling
+mod Holding

@@ -1,0 +1,94 @@
+-- The compatible sets as a family with rules, and the lists of an interview's answers.
+use Rattle.std.proofs.Common.{ℕ, ◌≡◌, ◌⊎◌, inl, inr, Bool, true, false, cond, not, ◌&&◌, List, [], ◌∷◌, ◌++◌, map, filter, find, Option, Some, None, IfSome, is_some, Result, Ok, Err, IfOk, refl, sym, ap, ◌∙◌, true≢false}
+use Rattle.std.specs.List.{list_all}
+use Rattle.std.proofs.lemmas.Bool.{and_from, and_parts, false_from_ne_true}
+use Rattle.ls_set.specs.ItemSet.{Items, full, is_within, subsets, IsWithin}
+use Rattle.ls_set.specs.Query.{is_good}
+use Rattle.ls_set.specs.declared.query.Query.{Query}
+use Rattle.ls_set.proofs.Sets.{and-true, is_within-from}
+use Rattle.ls_theory.specs.declared.answer.Answer.{Answer}
+use Rattle.ls_theory.specs.declared.no.No.{No}
+use Rattle.ls_theory.specs.Queries.{breaks_none, queries, query_before}
+use Rattle.ls_theory.specs.Interviews.{Interview, nos}
+use Rattle.ls_theory.specs.Starts as theory
+use Rattle.ls_theory.specs.Starts.{meets}
+use Rattle.ls_theory.specs.Compatible.{is_compatible, compat, compatible_sets}
+use Rattle.ls_theory.specs.Fitting.{spaces_of}
+use Rattle.ls_theory.specs.Forced.{is_open, next_question, is_settled}
+use Rattle.ls_theory.specs.Pages.{comes_after}
+use Rattle.ls_theory.specs.Families.{interior}
+use Rattle.ls_laws.proofs.Lists.{filter-both, filter-same}
+use Rattle.ls_laws.proofs.Interiors.{interior-member}
+use Rattle.ls_laws.proofs.Breaks.{good-to}
+use Rattle.ls_laws.proofs.Compat.{among-compat}
+use Rattle.ls_laws.proofs.Answering.{no_question}
+use Rattle.ls_query.proofs.Sorted.{IsIn, filter-in}
+use Rattle.ls_query.proofs.QuerySets.{queries-in}
+use Rattle.ls_query.specs.Blocks.{BlockRange}
+use Rattle.ls_infer.specs.Tables.{TableState, table_of}
+use Rattle.ls_expert.specs.declared.start.Start.{Start}
+use Rattle.ls_expert.specs.declared.start.Start.TheVariants.{Free}
+use Rattle.ls_expert.specs.Starts.{start_of}
+use Rattle.ls_expert.specs.Held.{closures_of}
+
+-- the sets of the start that break none of the queries are the compatible ones
+pub ruled-compat : (n : ℕ) (start : theory.Start) (yeses : List Query) → filter (breaks_none yeses) (compat n start []) ≡ compat n start yeses
+unfolding compat
+ruled-compat n start yeses =
+    filter-both (is_compatible start []) (breaks_none yeses) (subsets n)
+    ∙ filter-same (λ k. is_compatible start [] k && breaks_none yeses k) (is_compatible start yeses) (subsets n) (λ k. ap (λ b. b && breaks_none yeses k) (and-true (meets start k)))
+
+-- every set of the items meets the free start
+pub start-inside : (start : Start) (n : ℕ) (s : Items) → IsWithin s (full n) → s ≡ interior (compat n (start_of start) []) s
+start-inside Free n s w =
+    sym (interior-member (compat n theory.Free []) s (among-compat n theory.Free [] s ∙ and_from (is_within s (full n)) true (is_within-from s (full n) w) refl))
+
+-- a table of the interview, told by its own blocks
+pub own_blocks : (i : Interview) (t : TableState) → t ≡ closures_of i → t ≡ table_of t.blocks (compatible_sets i) (nos i.answers)
+own_blocks i t h = h ∙ ap (λ (b : BlockRange). table_of b (compatible_sets i) (nos i.answers)) (sym (ap (λ (t : TableState). t.blocks) h))
+
+-- ---- answers
+
+-- what holds of each answer holds of each that is No
+pub good-nos : (q : Query → Bool) (answers : List Answer) → list_all (λ a. q a.query) answers ≡ true → list_all (λ a. q a.query) (nos answers) ≡ true
+good-nos q [] h = refl
+good-nos q (a ∷ answers) h =
+    let p = and_parts (q a.query) (list_all (λ a. q a.query) answers) h in
+    elim a.yes as (λ b. list_all (λ x. q x.query) (map (λ x. let n : No = record { number = x.number; query = x.query } in n) (cond (not b) (a ∷ filter (λ x. not x.yes) answers) (filter (λ x. not x.yes) answers))) ≡ true) [
+      | true ↦ good-nos q answers p.1
+      | false ↦ and_from (q a.query) (list_all (λ x. q x.query) (nos answers)) p.0 (good-nos q answers p.1)
+    ]
+
+-- ---- questions
+
+found-in : {X : Type 0} (p : X → Bool) (xs : List X) (x : X) → find p xs ≡ Some x → IsIn x xs
+found-in p [] x e = cc
+found-in p (y ∷ ys) x e = elim (p y) as (λ b. cond b (Some y) (find p ys) ≡ Some x → IsIn x (y ∷ ys)) [
+  | true ↦ λ e. let same : y ≡ x = cc in inl (sym same)
+  | false ↦ λ e. inr (found-in p ys x e)
+] e
+
+nothing : {X : Type 0} (o : Option X) → is_some o ≡ false → o ≡ None
+nothing None h = refl
+nothing (Some x) h = absurd (true≢false h)
+
+-- the next question can be asked
+pub question-good : (i : Interview) (last : Option Query) → IfSome (next_question i last) (λ r. is_good i.count r ≡ true)
+unfolding next_question
+question-good i last =
+    elim (find (is_open (spaces_of i)) (filter (comes_after query_before last) (queries i.count i.block))) as
+    (λ o. find (is_open (spaces_of i)) (filter (comes_after query_before last) (queries i.count i.block)) ≡ o → IfSome o (λ r. is_good i.count r ≡ true)) [
+      | None ↦ λ _. tt
+      | Some r ↦ λ e. good-to i.count r (queries-in i.count i.block r (filter-in (comes_after query_before last) (queries i.count i.block) r (found-in (is_open (spaces_of i)) (filter (comes_after query_before last) (queries i.count i.block)) r e)).0).0
+    ] refl
+
+-- the interview is settled where there is no first question
+pub settled-is : (i : Interview) (r : Option Query) (b : Bool) → r ≡ next_question i None → is_some r ≡ not b → b ≡ is_settled i
+settled-is i r true e h = let none : is_some r ≡ false = h in sym ((no_question i).1 (sym e ∙ nothing r none))
+settled-is i r false e h = sym (false_from_ne_true (is_settled i) (λ t. let none : r ≡ None = e ∙ (no_question i).0 t in true≢false (sym h ∙ ap is_some none)))
+
+-- ---- results
+
+pub IfOk_map : {T E : Type 0} (r : Result T E) {P Q : T → Type 0} → ((x : T) → P x → Q x) → IfOk r P → IfOk r Q
+IfOk_map (Ok x) f h = f x h
+IfOk_map (Err e) f h = tt

@@ -1,0 +1,9 @@
+use Rattle.std.proofs.Common.{ap, ◌∙◌}
+use Rattle.ls_theory.specs.Compatible.{compat, compatible_sets}
+use Rattle.ls_expert.proofs.Ruling.{ruled-compat}
+use Rattle.ls_expert.proofs.interview.Interview.family.Goals as goal
+
+pub returns-clause-members : goal.returns-clause-members
+returns-clause-members c =
+    let s = c.self.inside.family.inner in
+    ruled-compat s.item_count s.start c.self.inside.family.rules ∙ ap (compat s.item_count s.start) c.self.invariant.ruled ∙ ap compatible_sets c.self.view_is

@@ -1,0 +1,215 @@
+// The interview of an expert.
+ghost use Rattle.std.specs.Prelude.{◌≡◌, ◌+◌, ◌*◌, ◌<◌, ◌≤◌, ◌++◌, ◌∷◌, [], true, false, length, filter, Ok, IfOk, IfErr, IfSome, OnOk, OnErr};
+ghost use Rattle.std.specs.Option.{ForSome, option_map};
+ghost use Rattle.std.specs.List.{list_all};
+ghost use Rattle.ls_set.specs.Query.{is_good};
+ghost use Rattle.ls_theory.specs.Queries.{breaks_none};
+ghost use Rattle.ls_theory.specs.Interviews.{begun, yes_queries, nos};
+ghost use Rattle.ls_theory.specs.Compatible.{compat, compatible_sets};
+ghost use Rattle.ls_theory.specs.Forced.{known, next_question, is_settled};
+ghost use Rattle.ls_query.specs.Blocks.{made};
+ghost use Rattle.ls_query.specs.declared.block_fault.BlockFault.TheVariants as block;
+ghost use Rattle.ls_infer.specs.Tables.{table_of};
+ghost use Rattle.ls_expert.specs.Held.{blocks_of};
+ghost use Rattle.ls_expert.specs.Answers.{IsBlockFault};
+
+use crate::on_items::OnItems;
+use crate::start::Start;
+use ls_infer::Table;
+use ls_interior::{Counted, Inside, Steps};
+use ls_query::{BlockFault, Blocks};
+use ls_rules::Ruled;
+use ls_set::{PLACES, Query};
+use ls_theory::{Answer, Known, No};
+use std::alloc::{AllocError, Global};
+use std::marker::Model;
+use std::sync::ledger::Ledger;
+
+/// The most answers that stand.
+pub const MOST_ANSWERS: usize = 8192;
+
+/// The greatest number of an answer.
+pub const MOST_NUMBER: u64 = 999_999_999;
+
+/// A query that is not good.
+#[derive(Clone, Copy, Debug, PartialEq, Eq)]
+pub struct UnfitQuery;
+
+/// The interview of an expert: the items, the start, the greatest size of the sets that are asked,
+/// the standing answers in order of number, and the number of the next. Some space fits its answers.
+/// (The QUERY routine.)
+#[derive(Drop)]
+pub struct Interview {
+    alloc: Global,
+    // the sets that meet the start, with the Yes answers as rules
+    family: Ruled<OnItems>,
+    answers: Vec<Answer>,
+    next: u64,
+    block: u32,
+    table: Table,
+}
+
+impl Model for Interview {
+    ghost use Rattle.ls_theory.specs.Interviews.{Interview as Standing};
+    ghost use Rattle.ls_expert.specs.Held.{interview_of, IsHeld};
+
+    ghost Value = { Standing };
+
+    ghost view = { λ s. interview_of s.family.inner s.block s.answers.items s.next };
+
+    ghost invariant = { λ s. IsHeld (interview_of s.family.inner s.block s.answers.items s.next) s.family.rules s.table };
+}
+
+// The answers that are No.
+fn nos(alloc: Global, answers: &[Answer]) -> Result<Vec<No>, AllocError>
+    ensures { IfOk result (λ v. v.items ≡ nos answers.now) }
+{
+    answers
+        .iter()
+        .filter(|a| !a.yes)
+        .map(|a| No {
+            number: a.number,
+            query: a.query,
+        })
+        .collect(alloc)
+}
+
+// The table of a family with rules, for the answers that are No.
+fn build<L: Ledger>(
+    alloc: Global,
+    blocks: Blocks,
+    family: &Ruled<OnItems>,
+    answers: &[Answer],
+    steps: &mut Steps<L>,
+) -> Result<Table, AllocError>
+    requires items { family.now.inner.item_count ≡ blocks.item_count }
+    requires good { list_all (λ a. is_good blocks.item_count a.query) answers.now ≡ true }
+    ensures { IfOk result (λ t. t ≡ table_of blocks (compat blocks.item_count family.now.inner.start family.now.rules) (nos answers.now)) }
+{
+    let nos = nos(alloc, answers)?;
+    Table::build(alloc, blocks, &Counted::new(family), &nos, steps)
+}
+
+impl Interview {
+    ghost use Rattle.ls_expert.specs.Starts.{start_of};
+
+    /// The interview on `n` items that begins with the start: blocks of single items, no answers, and
+    /// the next number 1.
+    pub fn new<L: Ledger>(
+        alloc: Global,
+        n: u32,
+        start: Start,
+        steps: &mut Steps<L>,
+    ) -> Result<Interview, AllocError>
+        requires some { 0 < n }
+        requires few { n ≤ PLACES }
+        ensures { IfOk result (λ i. i ≡ begun n (start_of start)) }
+    {
+        let family = Ruled::new(alloc, OnItems::new(n, start));
+        let answers = Vec::new(alloc);
+        let blocks = Blocks::new(n, 1).unwrap();
+        let table = build(alloc, blocks, &family, &answers, steps)?;
+        Ok(Interview {
+            alloc,
+            family,
+            answers,
+            next: 1,
+            block: 1,
+            table,
+        })
+    }
+
+    /// Asks queries of sets of 1 to `k` items from now on; it may be called at any time. It is refused
+    /// as blocks are, and nothing changes then.
+    pub fn set_blocks<L: Ledger>(&mut self, k: u32, steps: &mut Steps<L>) -> Result<(), BlockFault>
+        ensures made { OnOk result (made self.old.count k ≡ Ok (blocks_of self.new)) }
+        ensures ok { OnOk result (self.new ≡ record self.old { block = k }) }
+        ensures fault { IfErr result (IsBlockFault (made self.old.count k)) }
+        ensures err { OnErr result (self.new ≡ self.old) }
+    {
+        let blocks = Blocks::new(self.family.items(), k)?;
+        let table = match build(self.alloc, blocks, &self.family, &self.answers, steps) {
+            Ok(table) => table,
+            Err(e) => return Err(BlockFault::Memory(e)),
+        };
+        self.table = table;
+        self.block = k;
+        Ok(())
+    }
+
+    /// What the standing answers tell of the query, in at most one interior and without memory.
+    pub fn known<L: Ledger>(&self, q: &Query, steps: &mut Steps<L>) -> Result<Known, UnfitQuery>
+        ensures value { IfOk result (λ k. k ≡ known self.now q.now) }
+        ensures good { OnOk result (is_good self.now.count q.now ≡ true) }
+        ensures bad { OnErr result (is_good self.now.count q.now ≡ false) }
+        ensures cost { steps.new ≤ steps.old + 1 }
+    {
+        if !q.is_good(self.family.items()) {
+            return Err(UnfitQuery);
+        }
+        Ok(self.table.answer_of(&Counted::new(&self.family), q, steps))
+    }
+
+    /// The first open query of the blocks that comes after the given good one, or the first of all. It
+    /// takes no memory.
+    pub fn next_question(&self, after: Option<&Query>) -> Option<Query>
+        requires { ForSome after (λ r. is_good self.now.count r.now ≡ true) }
+        ensures value { result ≡ next_question self.now (option_map (λ r. r.now) after.entry) }
+        ensures good { IfSome result (λ r. is_good self.now.count r ≡ true) }
+    {
+        self.table.next_unsettled(after)
+    }
+
+    /// Whether no query of the blocks is open.
+    pub fn settled(&self) -> bool
+        ensures { result ≡ is_settled self.now }
+    {
+        self.table.next_unsettled(None).is_none()
+    }
+
+    /// The standing answers, in order of number.
+    pub fn standing(&self) -> &[Answer]
+        ensures { result.now ≡ self.now.answers }
+    {
+        &self.answers
+    }
+
+    /// The number of the next answer.
+    pub fn next_number(&self) -> u64
+        ensures { result ≡ self.now.next }
+    {
+        self.next
+    }
+
+    /// How many items there are.
+    pub fn items(&self) -> u32
+        ensures count { result ≡ self.now.count }
+        ensures some { 0 < result }
+        ensures few { result ≤ PLACES }
+    {
+        self.family.items()
+    }
+
+    /// The greatest size of the sets that are asked.
+    pub fn block(&self) -> u32
+        ensures { result ≡ self.now.block }
+    {
+        self.block
+    }
+
+    /// The start.
+    pub fn start(&self) -> &Start
+        ensures { start_of result.now ≡ self.now.start }
+    {
+        self.family.inner().start()
+    }
+
+    /// The family of the compatible sets: those that meet the start and break no Yes.
+    pub fn family(&self) -> &Ruled<OnItems>
+        ensures inner { result.now.inner ≡ record { item_count = self.now.count; start = self.now.start } }
+        ensures rules { result.now.rules ≡ yes_queries self.now.answers }
+        ensures members { filter (breaks_none result.now.rules) (compat result.now.inner.item_count result.now.inner.start []) ≡ compatible_sets self.now }
+    {
+        &self.family
+    }
+}

@@ -1,0 +1,12 @@
+//! The interview of an expert: what was asked and answered, and what follows from it.
+#![tactic(auto)]
+
+mod answer_fault;
+mod interview;
+mod on_items;
+mod start;
+
+pub use answer_fault::AnswerFault;
+pub use interview::{Interview, MOST_ANSWERS, MOST_NUMBER, UnfitQuery};
+pub use on_items::OnItems;
+pub use start::Start;

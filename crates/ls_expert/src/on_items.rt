@@ -1,0 +1,66 @@
+// Starts with their items.
+ghost use Rattle.std.specs.Prelude.{◌≡◌, ◌≤◌};
+
+use crate::start::Start;
+use ls_interior::Inside;
+use ls_set::{ItemSet, PLACES};
+use std::marker::Model;
+
+/// A start with its number of items. It is the family of the sets that meet the start.
+#[derive(Debug, Drop)]
+pub struct OnItems {
+    n: u32,
+    start: Start,
+}
+
+impl Model for OnItems {
+    ghost use Rattle.std.specs.Prelude.{◌≤◌};
+    ghost use Rattle.ls_set.specs.declared.item_set.TheConstants.{PLACES};
+    ghost use Rattle.ls_expert.specs.Starts.{StartOn, start_of};
+
+    ghost Value = { StartOn };
+
+    ghost view = { λ s. record { item_count = s.n; start = start_of s.start } };
+
+    ghost invariant = { λ s. s.n ≤ PLACES };
+}
+
+impl OnItems {
+    ghost use Rattle.ls_expert.specs.Starts.{start_of};
+
+    /// The start on `n` items. It takes no memory.
+    pub fn new(n: u32, start: Start) -> OnItems
+        requires { n ≤ PLACES }
+        ensures items { result.item_count ≡ n }
+        ensures start { result.start ≡ start_of start }
+    {
+        OnItems { n, start }
+    }
+
+    /// The start.
+    pub fn start(&self) -> &Start
+        ensures { start_of result.now ≡ self.now.start }
+    {
+        &self.start
+    }
+}
+
+impl Inside for OnItems {
+    ghost use Rattle.std.specs.Prelude.{[]};
+    ghost use Rattle.ls_theory.specs.Compatible.{compat};
+    ghost use Rattle.ls_laws.proofs.Families.{compat-IsFamily};
+
+    ghost item_count = { λ s. s.item_count };
+
+    ghost members = { λ s. compat s.item_count s.start [] };
+
+    ghost is_family = { λ s. compat-IsFamily s.item_count s.start [] };
+
+    fn items(&self) -> u32 {
+        self.n
+    }
+
+    fn inside(&self, s: ItemSet) -> ItemSet {
+        self.start.inside(self.n, s)
+    }
+}
