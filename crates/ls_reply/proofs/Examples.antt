@@ -1,11 +1,16 @@
 -- Examples: whole scripts, byte for byte.
-use Rattle.std.proofs.Common.{◌≡◌, refl, true, false, [], ◌∷◌, codes, replicate}
+use Rattle.std.proofs.Common.{◌≡◌, refl, true, false, [], ◌∷◌, codes, decimal, replicate}
 use Rattle.std.specs.Fmt.{digits}
 use Rattle.std.specs.Prelude.{ℕ}
 use Rattle.ls_set.specs.ItemSet.{has, empty, full, with, union, meet, single, differing, is_within, is_same, bound, items, least, comes_before, len}
 use Rattle.ls_set.specs.Cursor.{cursor, cursor_set, read_cursor}
 use Rattle.ls_theory.specs.Compatible.{compat}
-use Rattle.ls_theory.specs.Queries.{blocks}
+use Rattle.ls_theory.specs.Queries.{blocks, block_before, query_before, queries}
+use Rattle.ls_theory.specs.Families.{families}
+use Rattle.ls_theory.specs.Fitting.{fitting_spaces}
+use Rattle.ls_theory.specs.declared.known.Known.{Known}
+use Rattle.ls_theory.specs.Forced.{known, next_question}
+use Rattle.ls_expert.specs.Answers.{opposed}
 use Rattle.ls_query.specs.Blocks.{is_too_wide, made}
 use Rattle.ls_lines.specs.Lines.{lines, words}
 use Rattle.ls_lines.specs.Kinds.{is_of}
@@ -17,12 +22,14 @@ use Rattle.ls_reply.specs.Texts.{line_of, bytes_of}
 use Rattle.std.specs.FinMap as map
 use Rattle.ls_reply.specs.Sessions.{started}
 use Rattle.ls_reply.specs.Scenes.{files_of, Missing, TooLarge, Failed}
+use Rattle.ls_reply.specs.Refusals.{refuse}
+use Rattle.ls_reply.specs.Rows.{answer_refusals}
 use Rattle.ls_reply.specs.Replies.{row, line_answer, reply}
 use Rattle.ls_reply.specs.Transcripts.{replies, refuses, transcript, is_some_refused}
 
 -- an example that opens this opens each word
 unfoldable answering : ℕ
-unfolding digits has empty full with union meet single differing is_within is_same bound items least comes_before cursor cursor_set read_cursor compat lines words is_of spelling parts command forms cut is_begun command_of fault_place line_of bytes_of names_of_set names_from row line_answer replies refuses is_too_wide made blocks len
+unfolding digits has empty full with union meet single differing is_within is_same bound items least comes_before cursor cursor_set read_cursor compat lines words is_of spelling parts command forms cut is_begun command_of fault_place line_of bytes_of names_of_set names_from row line_answer replies refuses is_too_wide made blocks len families fitting_spaces known next_question queries query_before block_before
 answering = 0
 
 -- three items, the answer that who fails a fails b, and the six states that it leaves
@@ -34,13 +41,31 @@ not_refused : is_some_refused map.empty (codes "items a b c\nyes a : b\nstates\n
 unfolding answering
 not_refused = refl
 
-refused : transcript map.empty (codes "items a a\nitems a b\nitems c\nyes a : a\nyes z : a\nknown a : b") ≡ codes "no 12 repeat 2 1\nok 2\nno 11\nno 18\nno 15 2\nno 49\n"
+refused : transcript map.empty (codes "items a a\nitems a b\nitems c\nyes a : a\nyes z : a\nbase") ≡ codes "no 12 repeat 2 1\nok 2\nno 11\nno 18\nno 15 2\nno 49\n"
 unfolding answering
 refused = refl
 
-some_refused : is_some_refused map.empty (codes "items a a\nitems a b\nitems c\nyes a : a\nyes z : a\nknown a : b") ≡ true
+some_refused : is_some_refused map.empty (codes "items a a\nitems a b\nitems c\nyes a : a\nyes z : a\nbase") ≡ true
 unfolding answering
 some_refused = refl
+
+-- a whole interview of two items: a Yes, a No that is known at once, and what neither tells
+interviewed : transcript map.empty (codes "ask\nitems a b\nask\nyes a : b\nyes a : b\nno a : b\nask\nknown b : a\nno b : a\nask\nknown b : a\nknown a : b\nyes b : a\nno a : b\nknown a : a\nknown z : a\nstates")
+    ≡ codes "no 15 0\nok 2\nask a : b\nok 1\nno 19 1\nno 19 1\nask b : a\nknown open\nok 2\nsettled\nknown no 2\nknown yes\nno 19 2\nno 19 1\nno 18\nno 15 2\nset c {a b}\nset 8 {a}\nset 0 {}\nmore no\n"
+unfolding answering
+interviewed = refl
+
+-- one item: nothing is asked
+alone : transcript map.empty (codes "items a\nask") ≡ codes "ok 1\nsettled\n"
+unfolding answering
+alone = refl
+
+-- what answers force rules the other reply out
+forced : answer_refusals (opposed Known.Yes false) ≡ refuse 20 [] true
+forced = refl
+
+opposed_by : answer_refusals (opposed (Known.No 2) true) ≡ refuse 21 (decimal 2 ∷ []) true
+opposed_by = refl
 
 -- blocks of three items
 blocked : transcript map.empty (codes "blocks 1\nitems a b c\nblocks 2\nblocks 3\nblocks 0") ≡ codes "no 15 0\nok 3\nok 6\nno 17\nno 17\n"
@@ -48,7 +73,7 @@ unfolding answering
 blocked = refl
 
 -- no domain, no names, notes, carriage returns, and an item named after a command
-others : transcript map.empty (codes "states\nfoo\nyes a b\nitems\n\n# note\nitems yes no\r\nyes yes : no\nyes yes,yes:no\nyes no : maybe\nyes : no") ≡ codes "no 15 0\nno 10 1\nno 10 4\nno 12 none\nok 2\nok 1\nno 49\nno 15 4\nno 18\n"
+others : transcript map.empty (codes "states\nfoo\nyes a b\nitems\n\n# note\nitems yes no\r\nyes yes : no\nyes yes,yes:no\nyes no : maybe\nyes : no") ≡ codes "no 15 0\nno 10 1\nno 10 4\nno 12 none\nok 2\nok 1\nno 19 1\nno 15 4\nno 18\n"
 unfolding answering
 others = refl
 
@@ -75,7 +100,7 @@ unfolding answering
 no_cursors = refl
 
 -- what isn't built yet comes before the domain
-not_built : transcript map.empty (codes "ask\nitems a\nask\npaths 1 after\nload-items a b") ≡ codes "no 49\nok 1\nno 49\nno 49\nno 10 3\n"
+not_built : transcript map.empty (codes "base\nitems a\nbase\npaths 1 after\nload-items a b") ≡ codes "no 49\nok 1\nno 49\nno 49\nno 10 3\n"
 unfolding answering
 not_built = refl
 

@@ -10,9 +10,15 @@ abbrev pub placed : ℕ → List Text → List (ℕ × Text)
 placed p [] = []
 placed p (w ∷ ws) = (p, w) ∷ placed (suc p) ws
 
+-- those of a query: its names, and behind a colon its item
+abbrev pub query_words : List Text → Text → List (ℕ × Text)
+query_words names item = placed 2 names ++ (length names + 3, item) ∷ []
+
 -- the words of a command that must name an item, with their places in the line
 abbrev pub item_words : Command → List (ℕ × Text)
-item_words (command.Yes names item) = placed 2 names ++ (length names + 3, item) ∷ []
+item_words (command.Yes names item) = query_words names item
+item_words (command.No names item) = query_words names item
+item_words (command.Known names item) = query_words names item
 item_words c = []
 
 -- the places of those that don't

@@ -1,5 +1,5 @@
 -- The reply to a line: its bytes, whether they begin with `no `, and the next session.
-use Rattle.std.specs.Prelude.{ℕ, Bool, true, if◌then◌else◌, List, [], ◌∷◌, ◌++◌, map, length, Option, Some, None, codes, decimal, nat_eq}
+use Rattle.std.specs.Prelude.{ℕ, Bool, true, false, if◌then◌else◌, List, [], ◌∷◌, ◌++◌, map, length, Option, Some, None, codes, decimal, nat_eq}
 use Rattle.std.specs.List.{starts_with}
 use Rattle.ls_lines.specs.Lines.{Text, is_long, words}
 use Rattle.ls_lines.specs.Commands.{command_of, fault_place}
@@ -10,7 +10,7 @@ use Rattle.ls_reply.specs.Sessions.{Session, has_domain}
 use Rattle.ls_reply.specs.Scenes.{Files}
 use Rattle.ls_reply.specs.Meanings.{unnamed_places}
 use Rattle.ls_reply.specs.Refusals.{Refusal, Answer, Row, ◌otherwise◌, ◌before◌, outcome, refuse, faults, says}
-use Rattle.ls_reply.specs.Rows.{items_row, load_items_row, blocks_row, answer_row, states_row, not_built_row}
+use Rattle.ls_reply.specs.Rows.{items_row, load_items_row, blocks_row, answer_row, known_row, ask_row, states_row, not_built_row}
 
 -- the places at fault: 0 where no domain stands; otherwise those of the words that must name an item and don't
 abbrev pub unnamed_at : Session → Command → List ℕ
@@ -31,6 +31,9 @@ row s files (command.Items names) = items_row s names
 row s files (command.LoadItems file) = load_items_row s (files file)
 row s files (command.Blocks size) = within_domain s (command.Blocks size) (blocks_row s size)
 row s files (command.Yes names item) = within_domain s (command.Yes names item) (answer_row s true names item)
+row s files (command.No names item) = within_domain s (command.No names item) (answer_row s false names item)
+row s files (command.Known names item) = within_domain s (command.Known names item) (known_row s names item)
+row s files command.Ask = within_domain s command.Ask (ask_row s)
 row s files (command.States count after) = within_domain s (command.States count after) (states_row s count after)
 row s files c = not_built_row s
 

@@ -1,18 +1,22 @@
 -- The row of each command: its refusals in their order, otherwise its answer.
-use Rattle.std.specs.Prelude.{ℕ, Bool, true, not, ◌&&◌, ◌||◌, ◌==◌, nat_le, if◌then◌else◌, List, [], ◌∷◌, ◌++◌, map, length, Option, Result, Ok, Err, codes, decimal}
-use Rattle.std.specs.List.{list_any}
-use Rattle.ls_set.specs.ItemSet.{Items, is_same, comes_before}
+use Rattle.std.specs.Prelude.{ℕ, Bool, true, not, if◌then◌else◌, List, [], ◌∷◌, ◌++◌, map, length, Option, Some, None, Result, Ok, Err, codes, decimal}
+use Rattle.ls_set.specs.ItemSet.{Items, comes_before}
 use Rattle.ls_set.specs.Cursor.{cursor}
 use Rattle.ls_set.specs.Query.{is_good}
 use Rattle.ls_set.specs.declared.query.Query.{Query}
-use Rattle.ls_theory.specs.Interviews.{Interview, accepted}
+use Rattle.ls_theory.specs.Interviews.{accepted}
 use Rattle.ls_theory.specs.Queries.{blocks}
+use Rattle.ls_theory.specs.declared.known.Known.{Known}
+use Rattle.ls_theory.specs.Forced.{known, next_question}
 use Rattle.ls_theory.specs.Pages.{Page, page}
 use Rattle.ls_query.specs.Blocks.{BlockRange, made}
 use Rattle.ls_query.specs.declared.block_fault.BlockFault.{BlockFault}
 use Rattle.ls_query.specs.declared.block_fault.BlockFault.TheVariants as block
+use Rattle.ls_expert.specs.Answers.{refusal}
+use Rattle.ls_expert.specs.declared.answer_fault.AnswerFault.{AnswerFault}
+use Rattle.ls_expert.specs.declared.answer_fault.AnswerFault.TheVariants as answer
 use Rattle.ls_lines.specs.Lines.{Text}
-use Rattle.ls_domain.specs.Texts.{set_text}
+use Rattle.ls_domain.specs.Texts.{name_of, joined_names, set_text}
 use Rattle.ls_domain.specs.Meanings.{item_of, items_of}
 use Rattle.ls_domain.specs.Domains.{names_of_words, names_of_table}
 use Rattle.ls_domain.specs.declared.domain_fault.DomainFault.{DomainFault}
@@ -21,11 +25,6 @@ use Rattle.ls_reply.specs.Scenes.{Fetched, Bytes, Missing, TooLarge, Failed}
 use Rattle.ls_reply.specs.Cursors.{cursor_faults, cursor_set}
 use Rattle.ls_reply.specs.Sessions.{Session, started, has_domain, states}
 use Rattle.ls_reply.specs.Refusals.{Refusal, Row, ◌otherwise◌, ◌before◌, refuse, faults, says, becomes}
-
--- ---- limits
-
-abbrev pub most_answers : ℕ
-most_answers = 8192
 
 -- the code of what is not built yet
 abbrev pub not_built : ℕ
@@ -79,31 +78,50 @@ abbrev pub load_items_row : Session → Fetched → Row
 load_items_row s fetched =
     refuse 11 [] (has_domain s) before unfetched fetched before begins_with s (names_of_table (bytes_fetched fetched))
 
--- ---- answers
+-- ---- queries
 
 -- the query of a command's words
 abbrev pub query_of : List Text → List Text → Text → Query
 query_of names ws w = record { a = items_of names ws; q = item_of names w }
 
-abbrev pub is_same_query : Query → Query → Bool
-is_same_query r s = is_same r.a s.a && r.q == s.q
-
--- whether the query was answered, and the answer stands
-abbrev pub stands : Interview → Query → Bool
-stands i r = list_any (λ a. is_same_query a.query r) i.answers
-
-abbrev pub is_full : Interview → Bool
-is_full i = nat_le most_answers (length i.answers)
+-- what is wrong with an answer
+abbrev pub answer_refusals : Option AnswerFault → List Refusal
+answer_refusals None = []
+answer_refusals (Some answer.BadQuery) = refuse 18 [] true
+answer_refusals (Some (answer.Repeat number)) = refuse 19 (decimal number ∷ []) true
+answer_refusals (Some answer.ForcedYes) = refuse 20 [] true
+answer_refusals (Some (answer.ForcedNo by)) = refuse 21 (decimal by ∷ []) true
+answer_refusals (Some answer.Full) = refuse 22 [] true
+answer_refusals (Some (answer.Memory e)) = []
 
 -- the row of an answer to a query
 abbrev pub query_row : Session → Bool → Query → Row
 query_row s is_yes r =
-    let i = s.interview in
-    refuse 18 [] (not (is_good (length s.names) r)) ++ refuse not_built [] (is_full i || stands i r)
-    otherwise becomes (record s { interview = accepted i r is_yes }) (decimal i.next ∷ [])
+    answer_refusals (refusal s.interview r is_yes)
+    otherwise becomes (record s { interview = accepted s.interview r is_yes }) (decimal s.interview.next ∷ [])
 
 abbrev pub answer_row : Session → Bool → List Text → Text → Row
 answer_row s is_yes ws w = query_row s is_yes (query_of s.names ws w)
+
+-- what is known of a query
+abbrev pub known_words : Known → List Text
+known_words Known.Yes = codes "known" ∷ codes "yes" ∷ []
+known_words (Known.No by) = codes "known" ∷ codes "no" ∷ decimal by ∷ []
+known_words Known.Unsettled = codes "known" ∷ codes "open" ∷ []
+
+abbrev pub known_query_row : Session → Query → Row
+known_query_row s r = refuse 18 [] (not (is_good s.interview.count r)) otherwise says s (known_words (known s.interview r) ∷ [])
+
+abbrev pub known_row : Session → List Text → Text → Row
+known_row s ws w = known_query_row s (query_of s.names ws w)
+
+-- the next question
+abbrev pub question_words : List Text → Option Query → List Text
+question_words names None = codes "settled" ∷ []
+question_words names (Some r) = codes "ask" ∷ joined_names names r.a ∷ codes ":" ∷ name_of names r.q ∷ []
+
+abbrev pub ask_row : Session → Row
+ask_row s = [] otherwise says s (question_words s.names (next_question s.interview None) ∷ [])
 
 -- ---- blocks
 
