@@ -4,3 +4,4 @@ mod Opens
 mod Told
 mod Questions
 mod Made
+mod Changes

@@ -13,8 +13,8 @@ use std::sync::ledger::Ledger;
 /// What is kept of a standing answer that is No, of a query (B, p).
 #[derive(Clone, Copy, Debug, PartialEq, Eq)]
 pub struct StandingNo {
-    /// Its number.
-    pub number: u64,
+    /// The answer.
+    pub no: No,
     /// The closure of B.
     pub closed: ItemSet,
     /// The items r such that p is in the closure of that with r.
@@ -51,7 +51,7 @@ impl StandingNo {
     {
         let closed = closure(f, answer.query.a, steps);
         StandingNo {
-            number: answer.number,
+            no: *answer,
             closed,
             enough: enough_for(f, closed, answer.query.q, steps),
         }
@@ -69,11 +69,11 @@ impl StandingNo {
 /// The number of the first answer that forces the query No.
 pub fn forcing(standing: &[StandingNo], r: &Query) -> Option<u64>
     requires { r.now.q < PLACES }
-    ensures { result ≡ option_map (λ s. s.number) (find (forces r.now) standing.now) }
+    ensures { result ≡ option_map (λ s. s.no.number) (find (forces r.now) standing.now) }
 {
     for s in standing {
         if s.forces(r) {
-            return Some(s.number);
+            return Some(s.no.number);
         }
     }
     None

@@ -24,7 +24,8 @@ use std::marker::Model;
 use std::sync::ledger::Ledger;
 
 /// The closures of the block sets in a family, and what is kept of the standing answers that are No.
-/// With them queries are answered by at most one interior, and block queries by none.
+/// With them queries are answered by at most one interior, and block queries by none. Contracts see
+/// them as a table, and `spare`, the number of standing Nos for which there is room.
 #[derive(Drop)]
 pub struct Table {
     n: u32,
@@ -34,11 +35,15 @@ pub struct Table {
 }
 
 impl Model for Table {
-    ghost use Rattle.ls_infer.specs.Tables.{TableState, IsTable};
+    ghost use Rattle.std.specs.Prelude.{◌-◌, vec_len, vec_capacity};
+    ghost use Rattle.ls_infer.specs.Tables.{TableRoom, IsTable};
 
-    ghost Value = { TableState };
+    ghost Value = { TableRoom };
 
-    ghost view = { λ t. record { blocks = t.blocks; closures = t.closures.items; standing = t.standing.items } };
+    ghost view = { λ t. record {
+      table = record { blocks = t.blocks; closures = t.closures.items; standing = t.standing.items };
+      spare = vec_capacity t.standing - vec_len t.standing;
+    } };
 
     ghost invariant = { λ t. IsTable t.n (record { blocks = t.blocks; closures = t.closures.items; standing = t.standing.items }) };
 }
@@ -66,7 +71,7 @@ impl Table {
     ) -> Result<Table, AllocError>
         requires items { I.item_count f.now ≡ blocks.item_count }
         requires good { list_all (λ a. is_good (I.item_count f.now) a.query) answers.now ≡ true }
-        ensures built { IfOk result (λ t. t ≡ table_of blocks (I.members f.now) answers.now) }
+        ensures built { IfOk result (λ t. t.table ≡ table_of blocks (I.members f.now) answers.now) }
         ensures cost { steps.new ≤ steps.old + (length (sets_of blocks) + (I.item_count f.now + 1) * length answers.now) }
     {
         let closures = closures_of(alloc, blocks, f, steps)?;
@@ -81,11 +86,11 @@ impl Table {
 
     // The closure of a set: that which is kept of a block set, or else by one interior.
     fn closure_in<I: Interior, L: Ledger>(&self, f: &I, a: ItemSet, steps: &mut Steps<L>) -> ItemSet
-        requires count { I.item_count f.now ≡ self.now.blocks.item_count }
-        requires within { IsWithin a (full self.now.blocks.item_count) }
-        ensures value { result ≡ option_map_or (λ i. closed_of self.now a) (position (is_same a) (sets_of self.now.blocks)) (closure (full (I.item_count f.now)) (I.members f.now) a) }
+        requires count { I.item_count f.now ≡ self.now.table.blocks.item_count }
+        requires within { IsWithin a (full self.now.table.blocks.item_count) }
+        ensures value { result ≡ option_map_or (λ i. closed_of self.now.table a) (position (is_same a) (sets_of self.now.table.blocks)) (closure (full (I.item_count f.now)) (I.members f.now) a) }
         ensures cost { steps.new ≤ steps.old + 1 }
-        ensures few { self.now.blocks.item_count ≤ PLACES }
+        ensures few { self.now.table.blocks.item_count ≤ PLACES }
     {
         match self.blocks.place_of(a) {
             Some(place) => closure_at(&self.closures, place),
@@ -96,11 +101,11 @@ impl Table {
     /// What the standing answers tell of the good query `q`, in at most one step and without memory.
     /// `f` is the family of the table. Where several answers force the query No, the first is named.
     pub fn answer_of<I: Interior, L: Ledger>(&self, f: &I, q: &Query, steps: &mut Steps<L>) -> Known
-        requires count { I.item_count f.now ≡ self.now.blocks.item_count }
-        requires good { is_good self.now.blocks.item_count q.now ≡ true }
-        ensures known { (i : Interview) → IsSound i → i.count ≡ self.now.blocks.item_count →
+        requires count { I.item_count f.now ≡ self.now.table.blocks.item_count }
+        requires good { is_good self.now.table.blocks.item_count q.now ≡ true }
+        ensures known { (i : Interview) → IsSound i → i.count ≡ self.now.table.blocks.item_count →
             I.members f.now ≡ compatible_sets i →
-            self.now ≡ table_of self.now.blocks (compatible_sets i) (nos i.answers) →
+            self.now.table ≡ table_of self.now.table.blocks (compatible_sets i) (nos i.answers) →
             result ≡ known i q.now }
         ensures bound { steps.new ≤ steps.old + 1 }
     {
@@ -116,8 +121,8 @@ impl Table {
 
     // The items q for which the query (a, q) is open, where `a` is the block set at a place.
     fn open_items(&self, place: u32, a: ItemSet) -> ItemSet
-        requires { slice_get (sets_of self.now.blocks) place ≡ Some a }
-        ensures { (q : ℕ) → has result q ≡ (is_good self.now.blocks.item_count (record { a = a; q = q }) && is_open_in self.now (record { a = a; q = q })) }
+        requires { slice_get (sets_of self.now.table.blocks) place ≡ Some a }
+        ensures { (q : ℕ) → has result q ≡ (is_good self.now.table.blocks.item_count (record { a = a; q = q }) && is_open_in self.now.table (record { a = a; q = q })) }
     {
         let closed = closure_at(&self.closures, place);
         ItemSet::full(self.n)
@@ -128,9 +133,9 @@ impl Table {
 
     // The first open query from the place on, where `last` is the set before it.
     fn open_from(&self, start: u32, last: ItemSet) -> Option<Query>
-        requires within { IsWithin last (full self.now.blocks.item_count) }
-        requires place { find (block_before last) (sets_of self.now.blocks) ≡ slice_get (sets_of self.now.blocks) start }
-        ensures { result ≡ find (λ s. block_before last s.a && is_open_in self.now s) (queries_of self.now.blocks) }
+        requires within { IsWithin last (full self.now.table.blocks.item_count) }
+        requires place { find (block_before last) (sets_of self.now.table.blocks) ≡ slice_get (sets_of self.now.table.blocks) start }
+        ensures { result ≡ find (λ s. block_before last s.a && is_open_in self.now.table s) (queries_of self.now.table.blocks) }
     {
         let mut last = last;
         for place in start..self.blocks.count() {
@@ -145,8 +150,8 @@ impl Table {
 
     // The first query after the given one, or of all, that is open by the table.
     fn first_open(&self, after: Option<&Query>) -> Option<Query>
-        requires { ForSome after (λ r. is_good self.now.blocks.item_count r.now ≡ true) }
-        ensures { result ≡ find (is_open_in self.now) (filter (comes_after query_before (option_map (λ r. r.now) after.entry)) (queries_of self.now.blocks)) }
+        requires { ForSome after (λ r. is_good self.now.table.blocks.item_count r.now ≡ true) }
+        ensures { result ≡ find (is_open_in self.now.table) (filter (comes_after query_before (option_map (λ r. r.now) after.entry)) (queries_of self.now.table.blocks)) }
     {
         let Some(r) = after else {
             return self.open_from(0, ItemSet::empty());
@@ -162,10 +167,10 @@ impl Table {
     /// closure decides it and no standing answer forces it No. The given one need not be of the
     /// blocks. It takes no memory and no step.
     pub fn next_unsettled(&self, after: Option<&Query>) -> Option<Query>
-        requires { ForSome after (λ r. is_good self.now.blocks.item_count r.now ≡ true) }
-        ensures next { (i : Interview) → IsSound i → i.count ≡ self.now.blocks.item_count →
-            i.block ≡ self.now.blocks.largest →
-            self.now ≡ table_of self.now.blocks (compatible_sets i) (nos i.answers) →
+        requires { ForSome after (λ r. is_good self.now.table.blocks.item_count r.now ≡ true) }
+        ensures next { (i : Interview) → IsSound i → i.count ≡ self.now.table.blocks.item_count →
+            i.block ≡ self.now.table.blocks.largest →
+            self.now.table ≡ table_of self.now.table.blocks (compatible_sets i) (nos i.answers) →
             result ≡ next_question i (option_map (λ r. r.now) after.entry) }
     {
         self.first_open(after)
