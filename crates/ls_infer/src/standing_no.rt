@@ -1,5 +1,5 @@
 // What is kept of a standing answer that is No.
-ghost use Rattle.std.specs.Prelude.{◌≡◌, ◌+◌, ◌<◌, ℕ, true, find, option_map};
+ghost use Rattle.std.specs.Prelude.{◌≡◌, ◌+◌, ◌<◌, ◌==◌, ℕ, true, not, filter, find, option_map};
 ghost use Rattle.std.specs.List.{list_any};
 ghost use Rattle.ls_set.specs.ItemSet.{full, has, IsWithin};
 ghost use Rattle.ls_set.specs.Query.{is_good};
@@ -90,4 +90,11 @@ pub fn forced_items(standing: &[StandingNo], a: ItemSet) -> ItemSet
         }
     }
     forced
+}
+
+/// Takes out what is kept of the answer with the number.
+pub fn take_out(standing: &mut Vec<StandingNo>, number: u64)
+    ensures { standing.new.items ≡ filter (λ s. not (s.no.number == number)) standing.old.items }
+{
+    standing.retain(|s| s.no.number != number);
 }

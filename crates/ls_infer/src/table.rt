@@ -1,5 +1,5 @@
 // Tables of closures.
-ghost use Rattle.std.specs.Prelude.{◌≡◌, ◌+◌, ◌*◌, ◌<◌, ◌≤◌, ◌&&◌, ℕ, true, Some, length, filter, find, slice_get, IfOk};
+ghost use Rattle.std.specs.Prelude.{◌≡◌, ◌+◌, ◌*◌, ◌<◌, ◌≤◌, ◌==◌, ◌&&◌, ◌++◌, ◌∷◌, ℕ, true, not, List, [], Some, length, filter, find, slice_get, OnOk, IfOk};
 ghost use Rattle.std.specs.List.{list_all, list_any, position};
 ghost use Rattle.std.specs.Option.{ForSome, option_map, option_map_or};
 ghost use Rattle.ls_set.specs.ItemSet.{Items, full, has, is_same, IsWithin};
@@ -14,7 +14,7 @@ ghost use Rattle.ls_laws.specs.Forced.{IsSound};
 ghost use Rattle.ls_query.specs.Blocks.{sets_of, queries_of};
 
 use crate::closures::{closures_of, standing_of};
-use crate::standing_no::{StandingNo, forced_items, forcing};
+use crate::standing_no::{StandingNo, forced_items, forcing, take_out};
 use ls_interior::{Interior, Steps, closure};
 use ls_query::Blocks;
 use ls_set::{ItemSet, PLACES, Query};
@@ -57,7 +57,7 @@ fn closure_at(closures: &[ItemSet], place: u32) -> ItemSet
 }
 
 impl Table {
-    ghost use Rattle.ls_infer.specs.Tables.{table_of, closed_of, forces, is_open_in};
+    ghost use Rattle.ls_infer.specs.Tables.{table_of, standing, closed_of, forces, is_open_in};
 
     /// The table of a family, for blocks of its items and the standing answers that are No, whose
     /// queries are good. It takes at most a step for each block set, and for each answer a step for
@@ -82,6 +82,50 @@ impl Table {
             closures,
             standing,
         })
+    }
+
+    /// The blocks of whose sets it keeps the closures.
+    pub fn blocks(&self) -> Blocks
+        ensures { result ≡ self.now.table.blocks }
+    {
+        self.blocks
+    }
+
+    /// Makes room for one standing No, unless memory runs out.
+    pub fn reserve_no(&mut self) -> Result<(), AllocError>
+        ensures ok { OnOk result (0 < self.new.spare) }
+        ensures table { self.new.table ≡ self.old.table }
+    {
+        self.standing.reserve(1)
+    }
+
+    /// Keeps a No that now stands, the last of them, in the room that was made. `f` is the family of
+    /// the table. It takes no memory, and a step for each item and one more.
+    pub fn no_added<I: Interior, L: Ledger>(&mut self, f: &I, x: No, steps: &mut Steps<L>)
+        requires items { I.item_count f.now ≡ self.old.table.blocks.item_count }
+        requires room { 0 < self.old.spare }
+        requires good { is_good self.old.table.blocks.item_count x.query ≡ true }
+        ensures kept { (nos : List No) →
+            self.old.table ≡ table_of self.old.table.blocks (I.members f.now) nos →
+            self.new.table ≡ table_of self.old.table.blocks (I.members f.now) (nos ++ x ∷ []) }
+        ensures last { self.new.table.standing ≡ self.old.table.standing ++ standing (I.item_count f.now) (I.members f.now) x ∷ [] }
+        ensures closures { self.new.table.closures ≡ self.old.table.closures }
+        ensures blocks { self.new.table.blocks ≡ self.old.table.blocks }
+        ensures cost { steps.new ≡ steps.old + (I.item_count f.now + 1) }
+    {
+        self.standing.push_reserved(StandingNo::new(f, &x, steps));
+    }
+
+    /// Lets go of the standing No with the number. It takes no memory and no step.
+    pub fn no_removed(&mut self, number: u64)
+        ensures kept { (f : List Items) (nos : List No) →
+            self.old.table ≡ table_of self.old.table.blocks f nos →
+            self.new.table ≡ table_of self.old.table.blocks f (filter (λ a. not (a.number == number)) nos) }
+        ensures others { self.new.table.standing ≡ filter (λ s. not (s.no.number == number)) self.old.table.standing }
+        ensures closures { self.new.table.closures ≡ self.old.table.closures }
+        ensures blocks { self.new.table.blocks ≡ self.old.table.blocks }
+    {
+        take_out(&mut self.standing, number);
     }
 
     // The closure of a set: that which is kept of a block set, or else by one interior.
