@@ -5,3 +5,4 @@ mod Told
 mod Questions
 mod Made
 mod Changes
+mod Overwriting

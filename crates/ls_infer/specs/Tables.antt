@@ -2,7 +2,7 @@
 --     table_of b f nos      the table of the family f, for blocks b and the standing answers that are No
 --     forces r s      the No of which s is kept forces the query r No
 --     closed_of t a      the closure that is kept of a block set
-use Rattle.std.specs.Prelude.{ℕ, Bool, true, not, ◌&&◌, ◌≤◌, ◌≡◌, List, map, length, filter, slice_get, unwrap_or}
+use Rattle.std.specs.Prelude.{ℕ, Bool, true, not, ◌&&◌, if◌then◌else◌, ◌≤◌, ◌≡◌, List, map, length, filter, slice_get, unwrap_or}
 use Rattle.std.specs.List.{list_all, list_any, position}
 use Rattle.std.specs.Option.{option_map_or}
 use Rattle.ls_set.specs.ItemSet.{Items, has, empty, full, with, is_same, is_within, set_of, numbers_from}
@@ -43,6 +43,10 @@ table_of b f nos = record {
   closures = map (closure (full b.item_count) f) (sets_of b);
   standing = map (standing b.item_count f) nos;
 }
+
+-- a closure after a Yes to (A, q) that leaves the family f: it is closed again where it has the items of A, and not q
+abbrev pub closed_after : ℕ → List Items → Query → Items → Items
+closed_after n f r c = if is_within r.a c && not (has c r.q) then closure (full n) f c else c
 
 -- the No forces the query (A, q): A is within the closure of its set, and q is enough with that
 abbrev pub forces : Query → StandingNo → Bool

@@ -1,6 +1,6 @@
 // What is kept of a standing answer that is No.
-ghost use Rattle.std.specs.Prelude.{◌≡◌, ◌+◌, ◌<◌, ◌==◌, ℕ, true, not, filter, find, option_map};
-ghost use Rattle.std.specs.List.{list_any};
+ghost use Rattle.std.specs.Prelude.{◌≡◌, ◌+◌, ◌*◌, ◌<◌, ◌==◌, ℕ, true, not, map, length, filter, find, option_map};
+ghost use Rattle.std.specs.List.{list_all, list_any};
 ghost use Rattle.ls_set.specs.ItemSet.{full, has, IsWithin};
 ghost use Rattle.ls_set.specs.Query.{is_good};
 ghost use Rattle.ls_infer.specs.Tables.{enough_for, standing, forces};
@@ -90,6 +90,17 @@ pub fn forced_items(standing: &[StandingNo], a: ItemSet) -> ItemSet
         }
     }
     forced
+}
+
+/// Makes anew what is kept of each answer, in a step for each item and one more for each answer.
+pub fn make_anew<I: Interior, L: Ledger>(kept: &mut [StandingNo], f: &I, steps: &mut Steps<L>)
+    requires { list_all (λ s. is_good (I.item_count f.now) s.no.query) kept.old ≡ true }
+    ensures each { kept.new ≡ map (λ s. standing (I.item_count f.now) (I.members f.now) s.no) kept.old }
+    ensures cost { steps.new ≡ steps.old + (I.item_count f.now + 1) * length kept.old }
+{
+    for s in kept.iter_mut() {
+        *s = StandingNo::new(f, &s.no, steps);
+    }
 }
 
 /// Takes out what is kept of the answer with the number.
