@@ -4,3 +4,5 @@ mod Opens
 mod Told
 mod Questions
 mod Made
+mod Changes
+mod Overwriting

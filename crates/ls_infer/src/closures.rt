@@ -1,16 +1,16 @@
 // The lists that make up a table.
-ghost use Rattle.std.specs.Prelude.{◌≡◌, ◌+◌, ◌*◌, ◌≤◌, true, map, length, IfOk};
+ghost use Rattle.std.specs.Prelude.{◌≡◌, ◌+◌, ◌*◌, ◌<◌, ◌≤◌, true, if◌then◌else◌, map, length, count_by, IfOk};
 ghost use Rattle.std.specs.List.{list_all};
-ghost use Rattle.ls_set.specs.ItemSet.{full};
+ghost use Rattle.ls_set.specs.ItemSet.{full, is_within, IsWithin};
 ghost use Rattle.ls_set.specs.Query.{is_good};
 ghost use Rattle.ls_theory.specs.Families.{closure};
 ghost use Rattle.ls_query.specs.Blocks.{sets_of};
-ghost use Rattle.ls_infer.specs.Tables.{standing};
+ghost use Rattle.ls_infer.specs.Tables.{standing, closed_after};
 
 use crate::standing_no::StandingNo;
 use ls_interior::{Interior, Steps, closure};
 use ls_query::{Blocks, MOST_SETS};
-use ls_set::ItemSet;
+use ls_set::{ItemSet, PLACES, Query};
 use ls_theory::No;
 use std::alloc::{AllocError, Global};
 use std::sync::ledger::Ledger;
@@ -56,4 +56,41 @@ pub fn standing_of<I: Interior, L: Ledger>(
         kept.push(StandingNo::new(f, answer, steps))?;
     }
     Ok(kept)
+}
+
+// The closure after a Yes to `r`, in a step where it has the items of its A.
+fn closed_after<I: Interior, L: Ledger>(
+    closed: ItemSet,
+    f: &I,
+    r: &Query,
+    steps: &mut Steps<L>,
+) -> ItemSet
+    requires within { IsWithin closed (full (I.item_count f.now)) }
+    requires item { r.now.q < PLACES }
+    ensures value { result ≡ closed_after (I.item_count f.now) (I.members f.now) r.now closed }
+    ensures cost { steps.new ≤ steps.old + (if is_within r.now.a closed then 1 else 0) }
+{
+    if r.a.is_within(closed) && !closed.has(r.q) {
+        closure(f, closed, steps)
+    } else {
+        closed
+    }
+}
+
+/// Makes the closures those after a Yes to `r`, in a step for each that has the items of its A. `f`
+/// is the family that the Yes leaves.
+pub fn close_again<I: Interior, L: Ledger>(
+    closures: &mut [ItemSet],
+    f: &I,
+    r: &Query,
+    steps: &mut Steps<L>,
+)
+    requires within { list_all (λ c. is_within c (full (I.item_count f.now))) closures.old ≡ true }
+    requires item { r.now.q < PLACES }
+    ensures each { closures.new ≡ map (closed_after (I.item_count f.now) (I.members f.now) r.now) closures.old }
+    ensures cost { steps.new ≤ steps.old + count_by (λ c. is_within r.now.a c) closures.old }
+{
+    for closed in closures.iter_mut() {
+        *closed = closed_after(*closed, f, r, steps);
+    }
 }
