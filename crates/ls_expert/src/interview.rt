@@ -57,7 +57,7 @@ impl Model for Interview {
 
     ghost view = { λ s. interview_of s.family.inner s.block s.answers.items s.next };
 
-    ghost invariant = { λ s. IsHeld (interview_of s.family.inner s.block s.answers.items s.next) s.family.rules s.table };
+    ghost invariant = { λ s. IsHeld (interview_of s.family.inner s.block s.answers.items s.next) s.family.rules s.table.table };
 }
 
 // The answers that are No.
@@ -84,7 +84,7 @@ fn build<L: Ledger>(
 ) -> Result<Table, AllocError>
     requires items { family.now.inner.item_count ≡ blocks.item_count }
     requires good { list_all (λ a. is_good blocks.item_count a.query) answers.now ≡ true }
-    ensures { IfOk result (λ t. t ≡ table_of blocks (compat blocks.item_count family.now.inner.start family.now.rules) (nos answers.now)) }
+    ensures { IfOk result (λ t. t.table ≡ table_of blocks (compat blocks.item_count family.now.inner.start family.now.rules) (nos answers.now)) }
 {
     let nos = nos(alloc, answers)?;
     Table::build(alloc, blocks, &Counted::new(family), &nos, steps)
@@ -195,6 +195,13 @@ impl Interview {
         ensures { result ≡ self.now.block }
     {
         self.block
+    }
+
+    /// The blocks of the sets that are asked.
+    pub fn blocks(&self) -> Blocks
+        ensures { result ≡ blocks_of self.now }
+    {
+        self.table.blocks()
     }
 
     /// The start.

@@ -9,6 +9,6 @@ returns c =
     let i = interview_of c.self.inside.family.inner c.self.inside.block c.self.inside.answers.items c.self.inside.next in
     let held = c.self.invariant in
     settled-is i c.next_unsettled.result c.is_none.result
-    (c.next_unsettled.ensures.next i held.sound (ap (λ t. t.blocks.item_count) (sym held.tabled)) (ap (λ t. t.blocks.largest) (sym held.tabled)) (own_blocks i c.self.inside.table held.tabled))
+    (c.next_unsettled.ensures.next i held.sound (ap (λ t. t.blocks.item_count) (sym held.tabled)) (ap (λ t. t.blocks.largest) (sym held.tabled)) (own_blocks i c.self.inside.table.table held.tabled))
     c.is_none.ensures
     ∙ ap is_settled c.self.view_is
