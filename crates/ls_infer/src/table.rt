@@ -1,8 +1,8 @@
 // Tables of closures.
-ghost use Rattle.std.specs.Prelude.{◌≡◌, ◌+◌, ◌*◌, ◌<◌, ◌≤◌, ◌==◌, ◌&&◌, ◌++◌, ◌∷◌, ℕ, true, not, List, [], Some, length, filter, find, slice_get, OnOk, IfOk};
+ghost use Rattle.std.specs.Prelude.{◌≡◌, ◌+◌, ◌*◌, ◌<◌, ◌≤◌, ◌==◌, ◌&&◌, ◌++◌, ◌∷◌, ℕ, true, not, List, [], Some, length, filter, find, slice_get, count_by, OnOk, IfOk};
 ghost use Rattle.std.specs.List.{list_all, list_any, position};
 ghost use Rattle.std.specs.Option.{ForSome, option_map, option_map_or};
-ghost use Rattle.ls_set.specs.ItemSet.{Items, full, has, is_same, IsWithin};
+ghost use Rattle.ls_set.specs.ItemSet.{Items, full, has, is_same, is_within, IsWithin};
 ghost use Rattle.ls_set.specs.Query.{is_good};
 ghost use Rattle.ls_theory.specs.Queries.{block_before, query_before};
 ghost use Rattle.ls_theory.specs.Families.{closure};
@@ -10,11 +10,13 @@ ghost use Rattle.ls_theory.specs.Interviews.{Interview, nos};
 ghost use Rattle.ls_theory.specs.Compatible.{compatible_sets};
 ghost use Rattle.ls_theory.specs.Forced.{known, next_question};
 ghost use Rattle.ls_theory.specs.Pages.{comes_after};
+ghost use Rattle.ls_laws.specs.Spans.{left_by};
+ghost use Rattle.ls_laws.specs.Families.{IsFamily};
 ghost use Rattle.ls_laws.specs.Forced.{IsSound};
 ghost use Rattle.ls_query.specs.Blocks.{sets_of, queries_of};
 
-use crate::closures::{closures_of, standing_of};
-use crate::standing_no::{StandingNo, forced_items, forcing, take_out};
+use crate::closures::{close_again, close_blocks, closures_of, standing_of};
+use crate::standing_no::{StandingNo, forced_items, forcing, make_anew, take_out};
 use ls_interior::{Interior, Steps, closure};
 use ls_query::Blocks;
 use ls_set::{ItemSet, PLACES, Query};
@@ -91,6 +93,44 @@ impl Table {
         self.blocks
     }
 
+    /// Keeps the table under a Yes to the good query `r`, of which `f` is the family that is left. It
+    /// takes no memory, and at most a step for each block set whose closure has the items of `r`'s A,
+    /// and for each standing No a step for each item and one more.
+    pub fn yes_added<I: Interior, L: Ledger>(&mut self, f: &I, r: &Query, steps: &mut Steps<L>)
+        requires items { I.item_count f.now ≡ self.old.table.blocks.item_count }
+        requires good { is_good self.old.table.blocks.item_count r.now ≡ true }
+        ensures kept { (before : List Items) (nos : List No) →
+            IsFamily self.old.table.blocks.item_count before →
+            I.members f.now ≡ left_by r.now before →
+            self.old.table ≡ table_of self.old.table.blocks before nos →
+            self.new.table ≡ table_of self.old.table.blocks (I.members f.now) nos }
+        ensures cost { steps.new ≤ steps.old
+            + (count_by (λ c. is_within r.now.a c) self.old.table.closures
+            + (self.old.table.blocks.item_count + 1) * length self.old.table.standing) }
+        ensures blocks { self.new.table.blocks ≡ self.old.table.blocks }
+    {
+        close_again(&mut self.closures, f, r, steps);
+        make_anew(&mut self.standing, f, steps);
+    }
+
+    /// Keeps the table where a Yes to the good query `r` is taken back, of which `f` is the family
+    /// without it. It takes no memory, and at most as many steps as the Yes did: those closures are
+    /// counted that have the items of `r`'s A before the change.
+    pub fn yes_removed<I: Interior, L: Ledger>(&mut self, f: &I, r: &Query, steps: &mut Steps<L>)
+        requires items { I.item_count f.now ≡ self.old.table.blocks.item_count }
+        requires good { is_good self.old.table.blocks.item_count r.now ≡ true }
+        ensures kept { (nos : List No) →
+            self.old.table ≡ table_of self.old.table.blocks (left_by r.now (I.members f.now)) nos →
+            self.new.table ≡ table_of self.old.table.blocks (I.members f.now) nos }
+        ensures cost { steps.new ≤ steps.old
+            + (count_by (λ c. is_within r.now.a c) self.old.table.closures
+            + (self.old.table.blocks.item_count + 1) * length self.old.table.standing) }
+        ensures blocks { self.new.table.blocks ≡ self.old.table.blocks }
+    {
+        close_blocks(&mut self.closures, self.blocks, f, r, steps);
+        make_anew(&mut self.standing, f, steps);
+    }
+
     /// Makes room for one standing No, unless memory runs out.
     pub fn reserve_no(&mut self) -> Result<(), AllocError>
         ensures ok { OnOk result (0 < self.new.spare) }
@@ -108,10 +148,10 @@ impl Table {
         ensures kept { (nos : List No) →
             self.old.table ≡ table_of self.old.table.blocks (I.members f.now) nos →
             self.new.table ≡ table_of self.old.table.blocks (I.members f.now) (nos ++ x ∷ []) }
-        ensures last { self.new.table.standing ≡ self.old.table.standing ++ standing (I.item_count f.now) (I.members f.now) x ∷ [] }
+        ensures last { self.new.table.standing ≡ self.old.table.standing ++ standing self.old.table.blocks.item_count (I.members f.now) x ∷ [] }
         ensures closures { self.new.table.closures ≡ self.old.table.closures }
         ensures blocks { self.new.table.blocks ≡ self.old.table.blocks }
-        ensures cost { steps.new ≡ steps.old + (I.item_count f.now + 1) }
+        ensures cost { steps.new ≡ steps.old + (self.old.table.blocks.item_count + 1) }
     {
         self.standing.push_reserved(StandingNo::new(f, &x, steps));
     }
