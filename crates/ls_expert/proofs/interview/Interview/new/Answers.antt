@@ -1,4 +1,4 @@
-use Rattle.std.proofs.Common.{ℕ, ◌<◌, ◌≤◌, ◌≡◌, List, Result, Ok, refl, sym, ap, ◌∙◌}
+use Rattle.std.proofs.Common.{ℕ, ◌<◌, ◌≤◌, ◌≡◌, Result, Ok, refl, sym, ap, ◌∙◌}
 use Rattle.ls_set.specs.declared.item_set.TheConstants.{PLACES}
 use Rattle.ls_theory.specs.Interviews.{yes_queries}
 use Rattle.ls_query.specs.Blocks.{BlockRange, made}

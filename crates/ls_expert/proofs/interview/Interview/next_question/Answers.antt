@@ -1,4 +1,4 @@
-use Rattle.std.proofs.Common.{refl, sym, ap, ◌∙◌, IfSome, subst, Option, ◌≡◌, true}
+use Rattle.std.proofs.Common.{sym, ap, ◌∙◌, IfSome, subst, Option, ◌≡◌, true}
 use Rattle.std.specs.Option.{option_map}
 use Rattle.ls_set.specs.Query.{is_good}
 use Rattle.ls_set.specs.declared.query.Query.{Query}
