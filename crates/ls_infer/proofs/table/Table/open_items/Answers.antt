@@ -2,7 +2,8 @@ use Rattle.std.proofs.Common.{◌≡◌, Some, slice_get, sym, ap, ◌∙◌}
 use Rattle.ls_set.specs.ItemSet.{has, full, minus}
 use Rattle.std.specs.List.{list_any}
 use Rattle.ls_infer.specs.Tables.{forces}
-use Rattle.ls_infer.proofs.Opens.{open-is, asked_of}
+use Rattle.ls_query.proofs.QuerySets.{asked_of}
+use Rattle.ls_infer.proofs.Opens.{open-is}
 use Rattle.ls_infer.proofs.table.Table.open_items.Goals as goal
 
 pub returns : goal.returns
