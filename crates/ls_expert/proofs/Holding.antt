@@ -1,7 +1,6 @@
 -- What an interview keeps, through its beginning and its changes.
-use Rattle.std.proofs.Common.{Bool, true, false, cond, eqb, ◌||◌, nat_lt, find, Option, Some, None, Result, Err, ℕ, zero, suc, ◌+◌, ◌-◌, ◌<◌, ◌≤◌, ◌≡◌, max, length, List, [], Ok, refl, sym, ap, ap₂, ◌∙◌, subst, arith}
-use Rattle.std.specs.Option.{option_map_or}
-use Rattle.ls_set.specs.ItemSet.{full, numbers_from}
+use Rattle.std.proofs.Common.{true, ℕ, zero, suc, ◌+◌, ◌<◌, ◌≤◌, ◌≡◌, length, List, [], Ok, refl, sym, ap, ap₂, ◌∙◌, subst, arith}
+use Rattle.ls_set.specs.ItemSet.{full}
 use Rattle.ls_set.specs.declared.item_set.TheConstants.{PLACES}
 use Rattle.ls_set.specs.declared.query.Query.{Query}
 use Rattle.ls_theory.specs.Starts as theory
@@ -13,10 +12,9 @@ use Rattle.ls_theory.specs.declared.answer.Answer.{Answer}
 use Rattle.ls_laws.proofs.Compat.{compat-space}
 use Rattle.ls_laws.proofs.Accepting.{begun-sound}
 use Rattle.ls_laws.proofs.Numbered.{begun-numbered}
-use Rattle.ls_query.specs.Blocks.{BlockRange, choose, is_too_wide, made}
-use Rattle.ls_query.specs.declared.block_fault.BlockFault.{BlockFault}
-use Rattle.ls_query.specs.declared.block_fault.BlockFault.TheVariants.{BadBlock, TooWide}
+use Rattle.ls_query.specs.Blocks.{BlockRange, choose, made}
 use Rattle.ls_query.specs.declared.block_fault.TheConstants.{MOST_SETS}
+use Rattle.ls_query.proofs.Made.{made_of}
 use Rattle.ls_query.proofs.Binomials.{choose-none, choose-more, choose-zero_more}
 use Rattle.ls_query.proofs.BySize.{length-blocks_more, length-blocks_none}
 use Rattle.ls_query.proofs.Counted.{made-ok, none_too_wide}
@@ -38,16 +36,6 @@ made-one n some few =
     let sets : length (blocks n 1) ≡ length (blocks n 0) + choose n 1 = length-blocks_more n 0 in
     let many : length (blocks n 1) ≤ MOST_SETS = omega (arith, sets, length-blocks_none n, choose-one n) in
     made-ok n 1 (λ e. cc) (omega arith) (none_too_wide n 1 many)
-
-chosen : (bad : Bool) (wide : Option ℕ) (x b : BlockRange)
-    → cond bad (Err BadBlock) (option_map_or (λ (size : ℕ). let r : Result BlockRange BlockFault = Err (TooWide size) in r) wide (Ok x)) ≡ Ok b → x ≡ b
-chosen true wide x b e = absurd (cc e)
-chosen false (Some size) x b e = absurd (cc e)
-chosen false None x b e = cc e
-
-made_of : (n k : ℕ) (b : BlockRange) → made n k ≡ Ok b → (let x : BlockRange = record { item_count = n; largest = k } in x) ≡ b
-unfolding made
-made_of n k b e = chosen (eqb k 0 || nat_lt (max 1 (n - 1)) k) (find (is_too_wide n) (numbers_from 1 k)) (record { item_count = n; largest = k }) b e
 
 -- the blocks that are made are those that are asked for
 pub range-of : (n k : ℕ) (b : BlockRange) → made n k ≡ Ok b → b ≡ (let x : BlockRange = record { item_count = n; largest = k } in x)

@@ -1,3 +1,4 @@
 mod Ruling
 mod Holding
 mod Taking
+mod Retracting

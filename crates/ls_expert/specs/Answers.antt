@@ -5,6 +5,7 @@ use Rattle.std.specs.Option.{option_map}
 use Rattle.ls_set.specs.ItemSet.{Items, full, is_same, is_within}
 use Rattle.ls_set.specs.Query.{is_good}
 use Rattle.ls_set.specs.declared.query.Query.{Query}
+use Rattle.ls_theory.specs.declared.answer.Answer.{Answer}
 use Rattle.ls_theory.specs.declared.known.Known.{Known}
 use Rattle.ls_theory.specs.Interviews.{Interview, nos}
 use Rattle.ls_theory.specs.Queries.{blocks}
@@ -24,6 +25,10 @@ is_same_query r s = is_same r.a s.a && r.q == s.q
 -- the number of the standing answer to the query
 abbrev pub standing_number : Interview → Query → Option ℕ
 standing_number i r = option_map (λ a. a.number) (find (λ a. is_same_query a.query r) i.answers)
+
+-- the standing answer with the number
+abbrev pub answer_with : Interview → ℕ → Option Answer
+answer_with i number = find (λ a. a.number == number) i.answers
 
 -- as many answers stand as can, or the last number was given
 abbrev pub is_full : Interview → Bool
@@ -71,3 +76,9 @@ closures_over i a = count_by (λ b. is_within a (closure (full i.count) (compati
 abbrev pub most_steps : Interview → Query → Bool → ℕ
 most_steps i r true = 1 + (closures_over i r.a + (i.count + 1) * length (nos i.answers))
 most_steps i r false = i.count + 2
+
+-- The most interiors that the retraction of an answer takes: none for a No; for a Yes to (A, q) one for each block set whose closure has the items of A, and for
+-- each No that stands one for each item and one more.
+abbrev pub steps_back : Interview → Option Answer → ℕ
+steps_back i None = 0
+steps_back i (Some a) = if a.yes then closures_over i a.query.a + (i.count + 1) * length (nos i.answers) else 0

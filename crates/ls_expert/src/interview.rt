@@ -1,20 +1,21 @@
 // The interview of an expert.
-ghost use Rattle.std.specs.Prelude.{◌≡◌, ◌+◌, ◌*◌, ◌<◌, ◌≤◌, ◌++◌, ◌∷◌, [], true, false, length, filter, vec_len, vec_capacity, Some, None, Ok, IfOk, IfErr, IfSome, OnOk, OnErr};
+ghost use Rattle.std.specs.Prelude.{◌≡◌, ◌+◌, ◌*◌, ◌<◌, ◌≤◌, ◌++◌, ◌∷◌, [], true, false, length, filter, count_by, not, ◌&&◌, ◌==◌, nat_lt, find, vec_len, vec_capacity, Some, None, Ok, Err, IsSome, IsNone, IfOk, IfErr, IfSome, OnOk, OnErr};
 ghost use Rattle.std.specs.Option.{ForSome, option_map};
 ghost use Rattle.std.specs.List.{list_all};
 ghost use Rattle.ls_set.specs.Query.{is_good};
 ghost use Rattle.ls_theory.specs.Queries.{breaks_none};
-ghost use Rattle.ls_theory.specs.Interviews.{begun, accepted, yes_queries, nos};
+ghost use Rattle.ls_theory.specs.Interviews.{begun, accepted, retracted, yes_queries, nos};
 ghost use Rattle.ls_theory.specs.Compatible.{compat, compatible_sets};
 ghost use Rattle.ls_theory.specs.Forced.{known, next_question, is_settled};
 ghost use Rattle.ls_query.specs.Blocks.{made};
 ghost use Rattle.ls_query.specs.declared.block_fault.BlockFault.TheVariants as block;
 ghost use Rattle.ls_infer.specs.Tables.{table_of};
 ghost use Rattle.ls_expert.specs.Held.{blocks_of};
-ghost use Rattle.ls_expert.specs.Answers.{refusal, standing_number, opposed, is_full, IsFaultOf, IsBlockFault, most_steps};
+ghost use Rattle.ls_expert.specs.Answers.{refusal, standing_number, answer_with, steps_back, opposed, is_full, IsFaultOf, IsBlockFault, most_steps};
 
 use crate::answer_fault::AnswerFault;
 use crate::on_items::OnItems;
+use crate::retract_fault::RetractFault;
 use crate::start::Start;
 use ls_infer::Table;
 use ls_interior::{Counted, Inside, Steps};
@@ -103,6 +104,36 @@ fn put_last(answers: &mut Vec<Answer>, next: &mut u64, query: &Query, yes: bool)
     answers.push(answer).unwrap();
     *next += 1;
     number
+}
+
+// How many Yes answers have a smaller number.
+fn rules_before(answers: &[Answer], number: u64) -> usize
+    ensures { result ≡ count_by (λ a. a.yes && nat_lt a.number number) answers.now }
+{
+    answers
+        .iter()
+        .filter(|a| a.yes && a.number < number)
+        .count()
+}
+
+// The answer with the number, if there is one.
+fn answer_with(answers: &[Answer], number: u64) -> Option<Answer>
+    ensures value { result ≡ find (λ a. a.number == number) answers.now }
+    ensures number { IfSome result (λ a. a.number ≡ number) }
+{
+    for answer in answers {
+        if answer.number == number {
+            return Some(*answer);
+        }
+    }
+    None
+}
+
+// Takes out the answer with the number.
+fn take_out(answers: &mut Vec<Answer>, number: u64)
+    ensures { answers.new.items ≡ filter (λ a. not (a.number == number)) answers.old.items }
+{
+    answers.retain(|a| a.number != number);
 }
 
 // The table of a family with rules, for the answers that are No.
@@ -271,6 +302,54 @@ impl Interview {
         };
         self.table.no_added(&Counted::new(&self.family), no, steps);
         Ok(put_last(&mut self.answers, &mut self.next, query, false))
+    }
+
+    /// Takes back the answer with the number, which is never given again. It is refused where no
+    /// standing answer has the number; nothing changes then. It takes no interior for a No.
+    pub fn retract<L: Ledger>(
+        &mut self,
+        number: u64,
+        steps: &mut Steps<L>,
+    ) -> Result<(), RetractFault>
+        ensures stood { OnOk result (IsSome (answer_with self.old number)) }
+        ensures ok { OnOk result (self.new ≡ retracted self.old number) }
+        ensures not_standing { result ≡ Err RetractFault.NotStanding → IsNone (answer_with self.old number) }
+        ensures err { OnErr result (self.new ≡ self.old) }
+        ensures cost { steps.new ≤ steps.old + steps_back self.old (answer_with self.old number) }
+    {
+        let Some(answer) = answer_with(&self.answers, number) else {
+            return Err(RetractFault::NotStanding);
+        };
+        if answer.yes {
+            self.take_back_yes(&answer, steps);
+        } else {
+            self.take_back_no(&answer);
+        }
+        Ok(())
+    }
+
+    // Takes back a Yes that stands.
+    fn take_back_yes<L: Ledger>(&mut self, answer: &Answer, steps: &mut Steps<L>)
+        requires stands { answer_with self.old answer.now.number ≡ Some answer.now }
+        requires yes { answer.now.yes ≡ true }
+        ensures ok { self.new ≡ retracted self.old answer.now.number }
+        ensures cost { steps.new ≤ steps.old + steps_back self.old (Some answer.now) }
+    {
+        let rule = rules_before(&self.answers, answer.number);
+        self.family.remove(rule);
+        self.table
+            .yes_removed(&Counted::new(&self.family), &answer.query, steps);
+        take_out(&mut self.answers, answer.number);
+    }
+
+    // Takes back a No that stands.
+    fn take_back_no(&mut self, answer: &Answer)
+        requires stands { answer_with self.old answer.now.number ≡ Some answer.now }
+        requires no { answer.now.yes ≡ false }
+        ensures ok { self.new ≡ retracted self.old answer.now.number }
+    {
+        self.table.no_removed(answer.number);
+        take_out(&mut self.answers, answer.number);
     }
 
     /// What the standing answers tell of the query, in at most one interior and without memory.

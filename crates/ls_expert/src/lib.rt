@@ -4,9 +4,11 @@
 mod answer_fault;
 mod interview;
 mod on_items;
+mod retract_fault;
 mod start;
 
 pub use answer_fault::AnswerFault;
 pub use interview::{Interview, MOST_ANSWERS, MOST_NUMBER, UnfitQuery};
 pub use on_items::OnItems;
+pub use retract_fault::RetractFault;
 pub use start::Start;

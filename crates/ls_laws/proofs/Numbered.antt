@@ -20,7 +20,7 @@ abbrev is_no : Answer → Bool
 is_no a = not a.yes
 
 -- each later number is greater, by recursion
-abbrev IsRising : List ℕ → Type 0
+abbrev pub IsRising : List ℕ → Type 0
 IsRising [] = Unit {0}
 IsRising (x ∷ xs) = AllByRecursion (λ y. x < y) xs × IsRising xs
 
@@ -28,7 +28,7 @@ all-above : (x y : ℕ) (xs : List ℕ) → x < y → AllByRecursion (λ z. y < 
 all-above x y [] l h = tt
 all-above x y (z ∷ xs) l h = (let m = h.0 in omega arith, all-above x y xs l h.1)
 
-rising-from : (xs : List ℕ) → IsStrictlyIncreasing xs → IsRising xs
+pub rising-from : (xs : List ℕ) → IsStrictlyIncreasing xs → IsRising xs
 rising-from [] h = tt
 rising-from (x ∷ []) h = (tt, tt)
 rising-from (x ∷ y ∷ xs) h =
