@@ -14,6 +14,7 @@ ghost use Rattle.ls_expert.specs.Held.{blocks_of};
 ghost use Rattle.ls_expert.specs.Answers.{refusal, standing_number, answer_with, steps_back, opposed, is_full, IsFaultOf, IsBlockFault, most_steps};
 
 use crate::answer_fault::AnswerFault;
+use crate::answers::{answer_with, nos, opposed, put_last, rules_before, take_out};
 use crate::on_items::OnItems;
 use crate::retract_fault::RetractFault;
 use crate::start::Start;
@@ -60,80 +61,6 @@ impl Model for Interview {
     ghost view = { λ s. interview_of s.family.inner s.block s.answers.items s.next };
 
     ghost invariant = { λ s. IsHeld (interview_of s.family.inner s.block s.answers.items s.next) s.family.rules s.table.table };
-}
-
-// The answers that are No.
-fn nos(alloc: Global, answers: &[Answer]) -> Result<Vec<No>, AllocError>
-    ensures { IfOk result (λ v. v.items ≡ nos answers.now) }
-{
-    answers
-        .iter()
-        .filter(|a| !a.yes)
-        .map(|a| No {
-            number: a.number,
-            query: a.query,
-        })
-        .collect(alloc)
-}
-
-// Why the answer is not taken by what is known of its query, if it isn't.
-fn opposed(known: Known, yes: bool) -> Option<AnswerFault>
-    ensures { result ≡ opposed known yes }
-{
-    match known {
-        Known::Yes if !yes => Some(AnswerFault::ForcedYes),
-        Known::No { by } if yes => Some(AnswerFault::ForcedNo { by }),
-        _ => None,
-    }
-}
-
-// Puts the answer to a query last, with the next number.
-fn put_last(answers: &mut Vec<Answer>, next: &mut u64, query: &Query, yes: bool) -> u64
-    requires room { vec_len answers.old < vec_capacity answers.old }
-    requires numbers { next.old ≤ MOST_NUMBER }
-    ensures number { result ≡ next.old }
-    ensures next { next.new ≡ next.old + 1 }
-    ensures last { answers.new.items ≡ answers.old.items ++ (record { number = next.old; query = query.now; yes = yes }) ∷ [] }
-{
-    let number = *next;
-    let answer = Answer {
-        number,
-        query: *query,
-        yes,
-    };
-    answers.push(answer).unwrap();
-    *next += 1;
-    number
-}
-
-// How many Yes answers have a smaller number.
-fn rules_before(answers: &[Answer], number: u64) -> usize
-    ensures { result ≡ count_by (λ a. a.yes && nat_lt a.number number) answers.now }
-{
-    answers
-        .iter()
-        .filter(|a| a.yes && a.number < number)
-        .count()
-}
-
-// The answer with the number, if there is one.
-fn answer_with(answers: &[Answer], number: u64) -> Option<Answer>
-    ensures value { result ≡ find (λ a. a.number == number) answers.now }
-    ensures number { IfSome result (λ a. a.number ≡ number) }
-{
-    for answer in answers {
-        if answer.number == number {
-            return Some(*answer);
-        }
-    }
-    None
-}
-
-// Takes out the answer with the number.
-fn take_out(answers: &mut Vec<Answer>, number: u64)
-    ensures { answers.new.items ≡ filter (λ a. not (a.number == number)) answers.old.items }
-{
-    answers.retain(|a| a.number != number);
 }
 
 // The table of a family with rules, for the answers that are No.

@@ -2,6 +2,7 @@
 #![tactic(auto)]
 
 mod answer_fault;
+mod answers;
 mod interview;
 mod on_items;
 mod retract_fault;

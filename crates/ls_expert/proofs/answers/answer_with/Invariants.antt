@@ -1,5 +1,5 @@
 use Rattle.std.proofs.Common.{◌≡◌, eqb, find, drop}
-use Rattle.ls_expert.proofs.interview.answer_with.Given as goal
+use Rattle.ls_expert.proofs.answers.answer_with.Given as goal
 
 -- the first with the number is among those that are left
 abbrev pub invariant-loop-answer : goal.invariant-loop-answer

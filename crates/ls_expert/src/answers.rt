@@ -1,0 +1,84 @@
+// Lists of answers.
+ghost use Rattle.std.specs.Prelude.{◌≡◌, ◌+◌, ◌<◌, ◌≤◌, ◌++◌, ◌∷◌, [], ◌&&◌, ◌==◌, not, nat_lt, filter, find, count_by, vec_len, vec_capacity, IfOk, IfSome};
+ghost use Rattle.ls_theory.specs.Interviews.{nos};
+ghost use Rattle.ls_expert.specs.Answers.{opposed};
+
+use crate::answer_fault::AnswerFault;
+use crate::interview::MOST_NUMBER;
+use ls_set::Query;
+use ls_theory::{Answer, Known, No};
+use std::alloc::{AllocError, Global};
+
+/// The answers that are No.
+pub fn nos(alloc: Global, answers: &[Answer]) -> Result<Vec<No>, AllocError>
+    ensures { IfOk result (λ v. v.items ≡ nos answers.now) }
+{
+    answers
+        .iter()
+        .filter(|a| !a.yes)
+        .map(|a| No {
+            number: a.number,
+            query: a.query,
+        })
+        .collect(alloc)
+}
+
+/// Why the answer is not taken by what is known of its query, if it isn't.
+pub fn opposed(known: Known, yes: bool) -> Option<AnswerFault>
+    ensures { result ≡ opposed known yes }
+{
+    match known {
+        Known::Yes if !yes => Some(AnswerFault::ForcedYes),
+        Known::No { by } if yes => Some(AnswerFault::ForcedNo { by }),
+        _ => None,
+    }
+}
+
+/// Puts the answer to a query last, with the next number.
+pub fn put_last(answers: &mut Vec<Answer>, next: &mut u64, query: &Query, yes: bool) -> u64
+    requires room { vec_len answers.old < vec_capacity answers.old }
+    requires numbers { next.old ≤ MOST_NUMBER }
+    ensures number { result ≡ next.old }
+    ensures next { next.new ≡ next.old + 1 }
+    ensures last { answers.new.items ≡ answers.old.items ++ (record { number = next.old; query = query.now; yes = yes }) ∷ [] }
+{
+    let number = *next;
+    let answer = Answer {
+        number,
+        query: *query,
+        yes,
+    };
+    answers.push(answer).unwrap();
+    *next += 1;
+    number
+}
+
+/// How many Yes answers have a smaller number.
+pub fn rules_before(answers: &[Answer], number: u64) -> usize
+    ensures { result ≡ count_by (λ a. a.yes && nat_lt a.number number) answers.now }
+{
+    answers
+        .iter()
+        .filter(|a| a.yes && a.number < number)
+        .count()
+}
+
+/// The answer with the number, if there is one.
+pub fn answer_with(answers: &[Answer], number: u64) -> Option<Answer>
+    ensures value { result ≡ find (λ a. a.number == number) answers.now }
+    ensures number { IfSome result (λ a. a.number ≡ number) }
+{
+    for answer in answers {
+        if answer.number == number {
+            return Some(*answer);
+        }
+    }
+    None
+}
+
+/// Takes out the answer with the number.
+pub fn take_out(answers: &mut Vec<Answer>, number: u64)
+    ensures { answers.new.items ≡ filter (λ a. not (a.number == number)) answers.old.items }
+{
+    answers.retain(|a| a.number != number);
+}
