@@ -1,5 +1,6 @@
 -- What an interview keeps, through its beginning and its changes.
 use Rattle.std.proofs.Common.{true, ℕ, zero, suc, ◌+◌, ◌<◌, ◌≤◌, ◌≡◌, length, List, [], Ok, refl, sym, ap, ap₂, ◌∙◌, subst, arith}
+use Rattle.std.specs.List.{IsDistinct}
 use Rattle.ls_set.specs.ItemSet.{full}
 use Rattle.ls_set.specs.declared.item_set.TheConstants.{PLACES}
 use Rattle.ls_set.specs.declared.query.Query.{Query}
@@ -22,6 +23,7 @@ use Rattle.ls_infer.specs.Tables.{TableState, table_of}
 use Rattle.ls_expert.specs.declared.start.Start.{Start}
 use Rattle.ls_expert.specs.declared.start.Start.TheVariants.{Free}
 use Rattle.ls_expert.specs.Starts.{start_of}
+use Rattle.ls_expert.specs.Answers.{is_same_query}
 use Rattle.ls_expert.specs.Held.{blocks_of, closures_of, IsHeld}
 
 -- ---- blocks of single items
@@ -59,6 +61,10 @@ begun-as n m s t answers en es ea = cc
 start-whole : (start : Start) (n : ℕ) → is_space (full n) (compat n (start_of start) []) ≡ true
 start-whole Free n = compat-space n theory.Free [] refl refl
 
+none-distinct : IsDistinct is_same_query []
+unfolding IsDistinct
+none-distinct = tt
+
 pub held-begun : (n : ℕ) (start : Start) (i : Interview) (rules : List Query) (t : TableState) → 0 < n → n ≤ PLACES → begun n (start_of start) ≡ i → rules ≡ [] → t ≡ closures_of i → IsHeld i rules t
 held-begun n start i rules t some few e none table =
     subst (λ (j : Interview). t ≡ closures_of j → IsHeld j rules t) e (λ table. record {
@@ -66,11 +72,15 @@ held-begun n start i rules t some few e none table =
       few_items = few;
       ruled = none;
       tabled = table;
-      sound = begun-sound n (start_of start) (start-whole start n);
-      good = refl;
-      numbered = begun-numbered n (start_of start);
-      few_answers = omega arith;
-      numbers_left = omega arith;
+      standing = record {
+        sound = begun-sound n (start_of start) (start-whole start n);
+        good = refl;
+        distinct = none-distinct;
+        numbered = begun-numbered n (start_of start);
+        few_answers = omega arith;
+        some_number = omega arith;
+        numbers_left = omega arith;
+      };
     }) table
 
 -- other blocks, with their table
@@ -80,9 +90,13 @@ held-blocks i k rules t new h table = record {
   few_items = h.few_items;
   ruled = h.ruled;
   tabled = table;
-  sound = record { some_fits = h.sound.some_fits; are_good = h.sound.are_good };
-  good = h.good;
-  numbered = record { in_order = h.numbered.in_order; below_next = h.numbered.below_next };
-  few_answers = h.few_answers;
-  numbers_left = h.numbers_left;
+  standing = record {
+    sound = record { some_fits = h.standing.sound.some_fits; are_good = h.standing.sound.are_good };
+    good = h.standing.good;
+    distinct = h.standing.distinct;
+    numbered = record { in_order = h.standing.numbered.in_order; below_next = h.standing.numbered.below_next };
+    few_answers = h.standing.few_answers;
+    some_number = h.standing.some_number;
+    numbers_left = h.standing.numbers_left;
+  };
 }

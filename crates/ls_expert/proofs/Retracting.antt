@@ -1,6 +1,6 @@
 -- What an interview keeps when it takes an answer back.
 use Rattle.std.proofs.Common.{ℕ, ◌≤◌, ◌<◌, ◌≡◌, ◌⊎◌, inl, inr, Bool, true, false, cond, not, ◌&&◌, eqb, ltb, length, List, [], ◌∷◌, map, filter, find, count_by, remove, Some, None, refl, sym, ap, ap₂, ◌∙◌, subst, arith, eq-eqb, ne_eqb, lt-ltb, le-ltb}
-use Rattle.std.specs.List.{AllByRecursion, list_all}
+use Rattle.std.specs.List.{AllByRecursion, IsDistinct, list_all}
 use Rattle.std.proofs.Math.Bool.{and_assoc, and_comm}
 use Rattle.std.proofs.lemmas.Bool.{cases_Bool, cases_eq, cases_lt, and_parts, and_from}
 use Rattle.std.proofs.lemmas.List.Sums.{length-filter, count_by-le-length}
@@ -18,7 +18,7 @@ use Rattle.ls_laws.proofs.Lists.{filter-both, filter-same}
 use Rattle.ls_laws.proofs.Accepting.{taken_out}
 use Rattle.ls_query.specs.Blocks.{BlockRange}
 use Rattle.ls_infer.specs.Tables.{TableState, table_of}
-use Rattle.ls_expert.specs.Answers.{answer_with}
+use Rattle.ls_expert.specs.Answers.{answer_with, is_same_query}
 use Rattle.ls_expert.specs.Held.{blocks_of, closures_of, IsHeld}
 use Rattle.ls_laws.proofs.Numbered.{IsRising, rising-from, retracted-numbered}
 
@@ -150,6 +150,22 @@ all-fewer q p (x ∷ xs) h =
       | false ↦ all-fewer q p xs b.1
     ]
 
+-- fewer queries are distinct too
+others_fewer : (p : Answer → Bool) (x : Query) (answers : List Answer) → AllByRecursion (λ y. is_same_query x y ≡ false) (map (λ a. a.query) answers) → AllByRecursion (λ y. is_same_query x y ≡ false) (map (λ a. a.query) (filter p answers))
+others_fewer p x [] h = tt
+others_fewer p x (y ∷ answers) h = elim (p y) as (λ b. AllByRecursion (λ z. is_same_query x z ≡ false) (map (λ a. a.query) (cond b (y ∷ filter p answers) (filter p answers)))) [
+  | true ↦ (h.0, others_fewer p x answers h.1)
+  | false ↦ others_fewer p x answers h.1
+]
+
+distinct-fewer : (p : Answer → Bool) (answers : List Answer) → IsDistinct is_same_query (map (λ a. a.query) answers) → IsDistinct is_same_query (map (λ a. a.query) (filter p answers))
+unfolding IsDistinct
+distinct-fewer p [] d = tt
+distinct-fewer p (x ∷ answers) d = elim (p x) as (λ b. IsDistinct is_same_query (map (λ a. a.query) (cond b (x ∷ filter p answers) (filter p answers)))) [
+  | true ↦ (others_fewer p x.query answers d.0, distinct-fewer p answers d.1)
+  | false ↦ distinct-fewer p answers d.1
+]
+
 length-fewer : (p : Answer → Bool) (answers : List Answer) → length (filter p answers) ≤ length answers
 length-fewer p answers = omega (arith, length-filter p answers, count_by-le-length p answers)
 
@@ -180,7 +196,7 @@ module _ (i : Interview) (a : Answer) (rules : List Query) (t new : TableState) 
   after = retracted i a.number
 
   rising : IsRising (map (λ x. x.number) i.answers)
-  rising = rising-from (map (λ x. x.number) i.answers) h.numbered.in_order
+  rising = rising-from (map (λ x. x.number) i.answers) h.standing.numbered.in_order
 
   -- an answer is taken back
   back : (others : List Query) → others ≡ yes_queries after.answers → new ≡ closures_of after → IsHeld after others new
@@ -189,15 +205,19 @@ module _ (i : Interview) (a : Answer) (rules : List Query) (t new : TableState) 
     few_items = h.few_items;
     ruled = ruled;
     tabled = tabled;
-    sound = taken_out i a.number h.sound;
-    good = all-fewer (λ x. is_good i.count x.query) (is_other a.number) i.answers h.good;
-    numbered = retracted-numbered i a.number h.numbered;
-    few_answers = let f = h.few_answers in omega (arith, length-fewer (is_other a.number) i.answers);
-    numbers_left = h.numbers_left;
+    standing = record {
+      sound = taken_out i a.number h.standing.sound;
+      good = all-fewer (λ x. is_good i.count x.query) (is_other a.number) i.answers h.standing.good;
+      distinct = distinct-fewer (is_other a.number) i.answers h.standing.distinct;
+      numbered = retracted-numbered i a.number h.standing.numbered;
+      few_answers = let f = h.standing.few_answers in omega (arith, length-fewer (is_other a.number) i.answers);
+      some_number = h.standing.some_number;
+      numbers_left = h.standing.numbers_left;
+    };
   }
 
   pub good-of : is_good i.count a.query ≡ true
-  good-of = holds (λ x. is_good i.count x.query) (has_number a.number) i.answers a h.good stands
+  good-of = holds (λ x. is_good i.count x.query) (has_number a.number) i.answers a h.standing.good stands
 
   -- ---- a Yes
 

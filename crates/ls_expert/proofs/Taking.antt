@@ -1,6 +1,6 @@
 -- What an interview keeps when it takes an answer.
-use Rattle.std.proofs.Common.{ℕ, ◌≤◌, ◌<◌, ◌≡◌, Bool, true, false, cond, not, ◌&&◌, length, List, [], ◌∷◌, ◌++◌, map, filter, Option, Some, None, refl, sym, ap, ap₂, ◌∙◌, subst, arith, length-append}
-use Rattle.std.specs.List.{list_all}
+use Rattle.std.proofs.Common.{ℕ, ◌≤◌, ◌<◌, ◌≡◌, Bool, true, false, cond, not, ◌&&◌, length, List, [], ◌∷◌, ◌++◌, map, filter, find, Option, Some, None, refl, sym, ap, ap₂, ◌∙◌, subst, arith, length-append}
+use Rattle.std.specs.List.{AllByRecursion, IsDistinct, list_all}
 use Rattle.std.specs.Option.{option_map}
 use Rattle.std.proofs.lemmas.Bool.Decides.{nat_tests}
 use Rattle.std.proofs.lemmas.Bool.{and_from}
@@ -29,13 +29,14 @@ use Rattle.ls_infer.specs.Tables.{TableState, table_of}
 use Rattle.ls_expert.specs.declared.interview.TheConstants.{MOST_ANSWERS, MOST_NUMBER}
 use Rattle.ls_expert.specs.declared.answer_fault.AnswerFault.{AnswerFault}
 use Rattle.ls_expert.specs.declared.answer_fault.AnswerFault.TheVariants.{BadQuery, Repeat, Full}
-use Rattle.ls_expert.specs.Answers.{standing_number, is_full, opposed, first_fault, refusal}
+use Rattle.ls_expert.specs.Answers.{is_same_query, standing_number, is_full, opposed, first_fault, refusal}
 use Rattle.ls_expert.specs.Held.{blocks_of, closures_of, IsHeld}
 
 -- ---- what a refusal that isn't found tells
 
 pub record Passes (i : Interview) (r : Query) (is_yes : Bool) : Type 0 where
   pub good : is_good i.count r ≡ true
+  pub unanswered : find (λ a. is_same_query a.query r) i.answers ≡ None
   pub unopposed : opposed (known i r) is_yes ≡ None
   pub room : is_full i ≡ false
 
@@ -45,16 +46,20 @@ passes_room false e = refl
 
 passes_all : (good : Bool) (number : Option AnswerFault) (against : Option AnswerFault) (full : Bool)
     → first_fault (cond good None (Some BadQuery)) (first_fault number (first_fault against (cond full (Some Full) None))) ≡ None
-    → (good ≡ true) × (against ≡ None) × (full ≡ false)
+    → (good ≡ true) × (number ≡ None) × (against ≡ None) × (full ≡ false)
 passes_all false number against full e = absurd (cc e)
 passes_all true (Some x) against full e = absurd (cc e)
 passes_all true None (Some x) full e = absurd (cc e)
-passes_all true None None full e = (refl, refl, passes_room full e)
+passes_all true None None full e = (refl, refl, refl, passes_room full e)
+
+no_number : (o : Option Answer) → option_map Repeat (option_map (λ (a : Answer). a.number) o) ≡ None → o ≡ None
+no_number None e = refl
+no_number (Some a) e = absurd (cc e)
 
 pub passes-from : (i : Interview) (r : Query) (is_yes : Bool) → refusal i r is_yes ≡ None → Passes i r is_yes
 passes-from i r is_yes e =
     let p = passes_all (is_good i.count r) (option_map Repeat (standing_number i r)) (opposed (known i r) is_yes) (is_full i) e in
-    record { good = p.0; unopposed = p.1; room = p.2 }
+    record { good = p.0; unanswered = no_number (find (λ a. is_same_query a.query r) i.answers) p.1; unopposed = p.2; room = p.3 }
 
 -- a Yes is not forced No, and a No is not forced Yes
 unopposed_yes : (sure never : Bool) (k : ℕ) → (sure ≡ true → never ≡ false) → opposed (cond sure Known.Yes (cond never (Known.No k) Known.Unsettled)) true ≡ None → never ≡ false
@@ -121,6 +126,24 @@ module _ (i : Interview) (r : Query) where
 all-last : (q : Answer → Bool) (answers : List Answer) (a : Answer) → list_all q answers ≡ true → q a ≡ true → list_all q (answers ++ a ∷ []) ≡ true
 all-last q answers a h e = list_all-append q answers (a ∷ []) ∙ and_from (list_all q answers) (q a && true) h (and-true (q a) ∙ e)
 
+not_first : {X : Type 0} (b : Bool) (x : X) (rest : Option X) → cond b (Some x) rest ≡ None → (b ≡ false) × (rest ≡ None)
+not_first true x rest e = absurd (cc e)
+not_first false x rest e = (refl, e)
+
+-- a query that was not answered is another than each that was
+other_queries : (answers : List Answer) (x : Query) (a : Answer) → AllByRecursion (λ y. is_same_query x y ≡ false) (map (λ a. a.query) answers) → is_same_query x a.query ≡ false
+    → AllByRecursion (λ y. is_same_query x y ≡ false) (map (λ a. a.query) (answers ++ a ∷ []))
+other_queries [] x a h e = (e, tt)
+other_queries (y ∷ answers) x a h e = (h.0, other_queries answers x a h.1 e)
+
+distinct-last : (answers : List Answer) (a : Answer) → IsDistinct is_same_query (map (λ a. a.query) answers) → find (λ x. is_same_query x.query a.query) answers ≡ None
+    → IsDistinct is_same_query (map (λ a. a.query) (answers ++ a ∷ []))
+unfolding IsDistinct
+distinct-last [] a d e = (tt, tt)
+distinct-last (x ∷ answers) a d e =
+    let parts = not_first (is_same_query x.query a.query) x (find (λ x. is_same_query x.query a.query) answers) e in
+    (other_queries answers x.query a d.0 parts.0, distinct-last answers a d.1 parts.1)
+
 -- there is room for one more answer and its number
 room_left : (i : Interview) → is_full i ≡ false → (length i.answers < MOST_ANSWERS) × (i.next ≤ MOST_NUMBER)
 room_left i e = grind (arith, nat_tests)
@@ -135,24 +158,28 @@ taken i r is_yes rules after t new h p sound ruled tabled =
       few_items = h.few_items;
       ruled = ruled;
       tabled = tabled;
-      sound = sound;
-      good = all-last (λ a. is_good i.count a.query) i.answers (record { number = i.next; query = r; yes = is_yes }) h.good p.good;
-      numbered = accepted-numbered i r is_yes h.numbered;
-      few_answers = let l = length-append i.answers ((let a : Answer = record { number = i.next; query = r; yes = is_yes } in a) ∷ []) in omega (arith, room.0);
-      numbers_left = omega (arith, room.1);
+      standing = record {
+        sound = sound;
+        good = all-last (λ a. is_good i.count a.query) i.answers (record { number = i.next; query = r; yes = is_yes }) h.standing.good p.good;
+        distinct = distinct-last i.answers (record { number = i.next; query = r; yes = is_yes }) h.standing.distinct p.unanswered;
+        numbered = accepted-numbered i r is_yes h.standing.numbered;
+        few_answers = let l = length-append i.answers ((let a : Answer = record { number = i.next; query = r; yes = is_yes } in a) ∷ []) in omega (arith, room.0);
+        some_number = omega arith;
+        numbers_left = omega (arith, room.1);
+      };
     }
 
 module _ (i : Interview) (r : Query) (rules : List Query) (t new : TableState) (h : IsHeld i rules t) where
   pub held-yes : (after : List Query) → refusal i r true ≡ None → after ≡ rules ++ r ∷ [] → new ≡ closures_of (accepted i r true) → IsHeld (accepted i r true) after new
   held-yes after e ruled tabled =
       let p = passes-from i r true e in
-      taken i r true rules after t new h p (yes_added i r h.sound p.good (free-yes i r h.sound.some_fits p.unopposed))
+      taken i r true rules after t new h p (yes_added i r h.standing.sound p.good (free-yes i r h.standing.sound.some_fits p.unopposed))
       (ruled ∙ ap (λ l. l ++ r ∷ []) h.ruled ∙ sym (yes_queries-yes i r)) tabled
 
   pub held-no : refusal i r false ≡ None → new ≡ closures_of (accepted i r false) → IsHeld (accepted i r false) rules new
   held-no e tabled =
       let p = passes-from i r false e in
-      taken i r false rules rules t new h p (no_added i r h.sound p.good (free-no i r p.unopposed)) (h.ruled ∙ sym (yes_queries-no i r)) tabled
+      taken i r false rules rules t new h p (no_added i r h.standing.sound p.good (free-no i r p.unopposed)) (h.ruled ∙ sym (yes_queries-no i r)) tabled
 
 -- ---- tables
 

@@ -1,6 +1,6 @@
 -- What an interview keeps true of its parts.
-use Rattle.std.specs.Prelude.{◌≡◌, ℕ, ◌+◌, ◌<◌, ◌≤◌, true, List, length}
-use Rattle.std.specs.List.{list_all}
+use Rattle.std.specs.Prelude.{◌≡◌, ℕ, ◌+◌, ◌<◌, ◌≤◌, true, List, map, length}
+use Rattle.std.specs.List.{list_all, IsDistinct}
 use Rattle.ls_set.specs.declared.item_set.TheConstants.{PLACES}
 use Rattle.ls_set.specs.declared.query.Query.{Query}
 use Rattle.ls_set.specs.Query.{is_good}
@@ -12,6 +12,7 @@ use Rattle.ls_query.specs.Blocks.{BlockRange}
 use Rattle.ls_infer.specs.Tables.{TableState, table_of}
 use Rattle.ls_expert.specs.declared.interview.TheConstants.{MOST_ANSWERS, MOST_NUMBER}
 use Rattle.ls_expert.specs.Starts.{StartOn}
+use Rattle.ls_expert.specs.Answers.{is_same_query}
 
 -- the interview that the parts make
 abbrev pub interview_of : StartOn → ℕ → List Answer → ℕ → Interview
@@ -25,15 +26,21 @@ blocks_of i = record { item_count = i.count; largest = i.block }
 abbrev pub closures_of : Interview → TableState
 closures_of i = table_of (blocks_of i) (compatible_sets i) (nos i.answers)
 
--- The rules are the Yes answers, and the table is that of what stands. Some space fits; the answers stand in order of number, and their
--- queries are good; and there is room for them.
+-- Answers that stand: some space fits them, they stand in order of number, below the next number, their queries are good, and none is there twice; and there is
+-- room for them.
+pub record IsStanding (i : Interview) : Type 0 where
+  pub sound : IsSound i
+  pub good : list_all (λ a. is_good i.count a.query) i.answers ≡ true
+  pub distinct : IsDistinct is_same_query (map (λ a. a.query) i.answers)
+  pub numbered : IsNumbered i
+  pub few_answers : length i.answers ≤ MOST_ANSWERS
+  pub some_number : 0 < i.next
+  pub numbers_left : i.next ≤ MOST_NUMBER + 1
+
+-- The answers stand, the rules are the Yes answers, and the table is that of what stands.
 pub record IsHeld (i : Interview) (rules : List Query) (table : TableState) : Type 0 where
   pub some_items : 0 < i.count
   pub few_items : i.count ≤ PLACES
   pub ruled : rules ≡ yes_queries i.answers
   pub tabled : table ≡ closures_of i
-  pub sound : IsSound i
-  pub good : list_all (λ a. is_good i.count a.query) i.answers ≡ true
-  pub numbered : IsNumbered i
-  pub few_answers : length i.answers ≤ MOST_ANSWERS
-  pub numbers_left : i.next ≤ MOST_NUMBER + 1
+  pub standing : IsStanding i

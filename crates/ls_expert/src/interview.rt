@@ -1,16 +1,17 @@
 // The interview of an expert.
-ghost use Rattle.std.specs.Prelude.{◌≡◌, ◌+◌, ◌*◌, ◌<◌, ◌≤◌, ◌++◌, ◌∷◌, [], true, false, length, filter, count_by, not, ◌&&◌, ◌==◌, nat_lt, find, vec_len, vec_capacity, Some, None, Ok, Err, IsSome, IsNone, IfOk, IfErr, IfSome, OnOk, OnErr};
+ghost use Rattle.std.specs.Prelude.{◌≡◌, ◌+◌, ◌-◌, max, ◌*◌, ◌<◌, ◌≤◌, ◌++◌, ◌∷◌, [], true, false, length, filter, count_by, not, ◌&&◌, ◌==◌, nat_lt, find, vec_len, vec_capacity, Some, None, Ok, Err, IsSome, IsNone, IfOk, IfErr, IfSome, OnOk, OnErr};
 ghost use Rattle.std.specs.Option.{ForSome, option_map};
 ghost use Rattle.std.specs.List.{list_all};
 ghost use Rattle.ls_set.specs.Query.{is_good};
 ghost use Rattle.ls_theory.specs.Queries.{breaks_none};
 ghost use Rattle.ls_theory.specs.Interviews.{begun, accepted, retracted, yes_queries, nos};
 ghost use Rattle.ls_theory.specs.Compatible.{compat, compatible_sets};
+ghost use Rattle.ls_theory.specs.Fitting.{spaces_of};
 ghost use Rattle.ls_theory.specs.Forced.{known, next_question, is_settled};
 ghost use Rattle.ls_query.specs.Blocks.{made};
 ghost use Rattle.ls_query.specs.declared.block_fault.BlockFault.TheVariants as block;
 ghost use Rattle.ls_infer.specs.Tables.{table_of};
-ghost use Rattle.ls_expert.specs.Held.{blocks_of};
+ghost use Rattle.ls_expert.specs.Held.{blocks_of, IsStanding};
 ghost use Rattle.ls_expert.specs.Answers.{refusal, standing_number, answer_with, steps_back, opposed, is_full, IsFaultOf, IsBlockFault, most_steps};
 
 use crate::answer_fault::AnswerFault;
@@ -302,16 +303,19 @@ impl Interview {
         self.table.next_unsettled(after)
     }
 
-    /// Whether no query of the blocks is open.
+    /// Whether no query of the blocks is open. Where the largest sets are asked, exactly one space then
+    /// fits, that of the compatible sets.
     pub fn settled(&self) -> bool
-        ensures { result ≡ is_settled self.now }
+        ensures value { result ≡ is_settled self.now }
+        ensures one { result ≡ true → self.now.block ≡ max 1 (self.now.count - 1) → spaces_of self.now ≡ compatible_sets self.now ∷ [] }
     {
         self.table.next_unsettled(None).is_none()
     }
 
     /// The standing answers, in order of number.
     pub fn standing(&self) -> &[Answer]
-        ensures { result.now ≡ self.now.answers }
+        ensures value { result.now ≡ self.now.answers }
+        ensures standing { IsStanding self.now }
     {
         &self.answers
     }

@@ -19,7 +19,7 @@ build-requires-clause-good g c =
     let n = c.self.inside.family.inner.item_count in
     let range = range-of n c.args.k c.in_ok-blocks.blocks (ap (λ m. made m c.args.k) (sym c.items.ensures.count) ∙ sym c.new.ensures.value ∙ c.in_ok-blocks.was) in
     let told : list_all (λ (a : Answer). is_good c.in_ok-blocks.blocks.item_count a.query) c.deref.result.now ≡ true =
-    ap₂ (λ (m : ℕ) (l : List Answer). list_all (λ (a : Answer). is_good m a.query) l) (ap (λ (b : BlockRange). b.item_count) range) c.deref.ensures.value ∙ c.self.invariant.good in
+    ap₂ (λ (m : ℕ) (l : List Answer). list_all (λ (a : Answer). is_good m a.query) l) (ap (λ (b : BlockRange). b.item_count) range) c.deref.ensures.value ∙ c.self.invariant.standing.good in
     told
 
 pub invariant_of-self : goal.invariant_of-self
