@@ -2,7 +2,7 @@
 use Rattle.std.proofs.Common.{ℕ, zero, suc, ◌<◌, ◌≤◌, ◌≡◌, ◌⊎◌, inl, inr, Bool, true, false, not, ◌&&◌, ltb, List, [], ◌∷◌, filter, find, slice_get, Some, None, refl, sym, ap, ap₂, ◌∙◌, arith, true≢false}
 use Rattle.std.specs.List.{list_any, position}
 use Rattle.std.proofs.lemmas.Bool.{and_parts, and_from, false_from_ne_true}
-use Rattle.ls_set.specs.ItemSet.{Items, has, empty, full, minus, len, least, next_item, items, is_same, is_within}
+use Rattle.ls_set.specs.ItemSet.{Items, has, empty, full, minus, len, least, next_item, is_same, is_within}
 use Rattle.ls_set.specs.Query.{is_good}
 use Rattle.ls_set.specs.declared.query.Query.{Query}
 use Rattle.ls_set.proofs.Sets.{both_ways, has-full, has-minus, Decides-is_same, is_within-from}

@@ -1,8 +1,6 @@
-use Rattle.std.proofs.Common.{length, ap, ◌∙◌, arith}
+use Rattle.std.proofs.Common.{◌∙◌, arith}
 use Rattle.std.proofs.lemmas.Grind.{common_steps}
-use Rattle.ls_set.specs.ItemSet.{full}
 use Rattle.ls_query.specs.Blocks.{sets_of}
-use Rattle.ls_theory.specs.Families.{closure}
 use Rattle.ls_infer.proofs.Changes.{closures-within, standing-good}
 use Rattle.ls_infer.proofs.table.Table.build.Goals as goal
 
