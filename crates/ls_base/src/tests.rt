@@ -1,0 +1,89 @@
+// Bases of few items, and one that grows past the limit.
+ghost use Rattle.std.specs.Prelude.{◌≡◌, ◌<◌, ◌≤◌, true, IfOk};
+ghost use Rattle.ls_set.specs.Query.{is_good};
+
+use crate::{Base, BaseFault, Followed, PastFault};
+use ls_interior::Inside;
+use ls_set::{ItemSet, PLACES, Query};
+use std::alloc::Global;
+use std::process::Abort;
+use std::test::Fail;
+
+fn set_of(rt: &impl Abort, items: &[u32]) -> ItemSet {
+    let mut set = ItemSet::empty();
+    for item in items {
+        assert!(rt; *item < PLACES);
+        set = set.with(*item);
+    }
+    set
+}
+
+// A query that can be asked about `n` items.
+fn asked(rt: &impl Abort, n: u32, items: &[u32], q: u32) -> Query
+    requires { n ≤ PLACES }
+    ensures { is_good n result ≡ true }
+{
+    let query = Query {
+        a: set_of(rt, items),
+        q,
+    };
+    assert!(rt; query.is_good(n));
+    query
+}
+
+fn base_of(
+    rt: &impl Abort,
+    alloc: Global,
+    n: u32,
+    sets: &[ItemSet],
+) -> Result<Base, BaseFault>
+    requires { n ≤ PLACES }
+    ensures { IfOk result (λ b. b.item_count ≡ n) }
+{
+    let all = ItemSet::full(n);
+    assert!(rt; sets.iter().all(|set| set.is_within(all)));
+    Base::from_sets(alloc, n, sets)
+}
+
+#[test]
+fn unions_repeats_and_the_empty_set_are_left_out(rt: HostRuntime) -> Result<(), Fail> {
+    let [a, b, ab, bc] = [&[0][..], &[1], &[0, 1], &[1, 2]].map(|items| set_of(&rt, items));
+    let base = base_of(&rt, rt.alloc(), 3, &[ItemSet::empty(), bc, ab, b, a, bc])?;
+    assert_eq!(rt; base.sets(), [a, bc, b].as_slice());
+    assert_eq!(rt; base.inside(ItemSet::full(3)), ItemSet::full(3));
+    let fault = base_of(&rt, rt.alloc(), 3, &[ab, b]);
+    assert_eq!(rt; fault.err(), Some(BaseFault::NotSpanning { item: 2 }));
+    Ok(())
+}
+
+#[test]
+fn a_yes_joins_what_breaks_it(rt: HostRuntime) -> Result<(), Fail> {
+    let [ac, a, bc, b] = [&[0, 2][..], &[0], &[1, 2], &[1]].map(|items| set_of(&rt, items));
+    let query = asked(&rt, 3, &[0, 1], 2);
+    let base = Base::singletons(rt.alloc(), 3)?.after_yes(&query)?.copy()?;
+    assert_eq!(rt; base.sets(), [ac, a, bc, b].as_slice());
+    assert_eq!(rt; base.atoms_at(2)?.as_slice(), [ac, bc].as_slice());
+    assert!(rt; base.is_atom_at(0, 2) && !base.is_atom_at(0, 0));
+    Ok(())
+}
+
+// The eight items from `first` on.
+fn eight_from(first: u32) -> [u32; 8]
+    requires { first < PLACES }
+{
+    [0, 1, 2, 3, 4, 5, 6, 7].map(|i| first + i)
+}
+
+#[test]
+fn a_base_of_thirty_three_items_grows_past_the_limit(rt: HostRuntime) -> Result<(), Fail> {
+    let yeses = [1, 9, 17, 25].map(|first| asked(&rt, 33, &eight_from(first), 0));
+    let base = Base::singletons(rt.alloc(), 33)?;
+    let large = base.after_yes(&yeses[0])?.after_yes(&yeses[1])?.after_yes(&yeses[2])?;
+    assert_eq!(rt; large.sets().len(), 544);
+    assert_eq!(rt; large.after_yes(&yeses[3]).err(), Some(PastFault::Past { count: 4128 }));
+    match Followed::over(base, &yeses)? {
+        Followed::Past { position, count } => assert_eq!(rt; (position, count), (4, 4128)),
+        Followed::Within(_) => panic!(rt; "the base is small"),
+    }
+    Ok(())
+}
