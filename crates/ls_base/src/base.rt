@@ -159,7 +159,7 @@ impl Base {
 
 impl Inside for Base {
     ghost use Rattle.ls_base.specs.Bases.{family};
-    ghost use Rattle.ls_laws.proofs.Spans.{spanned-IsFamily};
+    ghost use Rattle.ls_laws.proofs.Families.{spanned-IsFamily};
 
     ghost item_count = { λ b. b.item_count };
 
