@@ -4,3 +4,5 @@ pub mod Reducing
 pub mod Spanned
 pub mod Yeses
 pub mod Peaks
+pub mod Given
+pub mod Followings

@@ -1,13 +1,15 @@
 -- The sets that are kept of a list in order: from the last on, each that is not the union of those kept within it.
-use Rattle.std.proofs.Common.{◌+◌, ◌≤◌, ◌≡◌, inl, inr, Bool, true, false, cond, not, ◌&&◌, List, [], ◌∷◌, ◌++◌, length, filter, refl, sym, ap, ◌∙◌, subst, arith, true≢false}
+use Rattle.std.proofs.Common.{◌+◌, ◌≤◌, ◌≡◌, inl, inr, Bool, true, false, cond, not, ◌&&◌, List, [], ◌∷◌, ◌++◌, length, filter, reverse, IsPermutation, refl, sym, ap, ◌∙◌, subst, arith, true≢false}
 use Rattle.std.specs.List.{AllByRecursion}
 use Rattle.std.proofs.lemmas.Bool.{cases_Bool, and_parts, not_from_false, not-true, false_from_ne_true}
+use Rattle.std.proofs.lemmas.List.{reverse-append}
+use Rattle.std.proofs.lemmas.List.Sorted.{IsPermutation-reverse, length_permutation, list_any-IsPermutation}
 use Rattle.ls_set.specs.ItemSet.{Items, has, is_among, is_same, is_within, comes_before}
-use Rattle.ls_set.proofs.Sets.{Decides-is_same, IsWithin-from}
+use Rattle.ls_set.proofs.Sets.{same_set, Decides-is_same, IsWithin-from}
 use Rattle.ls_set.proofs.Members.{among-here, among-there, among-cases, among-filter}
 use Rattle.ls_theory.specs.Families.{interior}
 use Rattle.ls_laws.specs.Spans.{is_proper, needed}
-use Rattle.ls_laws.proofs.Interiors.{from-interior, interior-whole, interior-member}
+use Rattle.ls_laws.proofs.Interiors.{has-interior, from-interior, interior-whole, interior-member}
 use Rattle.ls_base.specs.Bases.{IsReduced}
 use Rattle.ls_base.proofs.Orders.{order_cases, proper-later, Ascends}
 
@@ -17,7 +19,7 @@ Each-from : (P : Items → Type 0) (f : List Items) → ((k : Items) → is_amon
 Each-from P [] h = tt
 Each-from P (t ∷ f) h = (h t (among-here t t f refl), Each-from P f (λ k c. h k (among-there k t f c)))
 
-filter-each : (p : Items → Bool) (f : List Items) → ((k : Items) → is_among f k ≡ true → p k ≡ true) → filter p f ≡ f
+pub filter-each : (p : Items → Bool) (f : List Items) → ((k : Items) → is_among f k ≡ true → p k ≡ true) → filter p f ≡ f
 filter-each p [] h = refl
 filter-each p (t ∷ f) h = rw (h t (among-here t t f refl)) (ap (λ l. t ∷ l) (filter-each p f (λ k c. h k (among-there k t f c))))
 
@@ -117,3 +119,37 @@ kept-IsReduced (s ∷ ss) a =
       | true ↦ λ e. dropped s ss kept ((Decides-is_same (interior kept s) s).0 e) rest
       | false ↦ λ e. added s ss kept a.0 (λ whole. true≢false (sym ((Decides-is_same (interior kept s) s).1 whole) ∙ e)) rest
     ] refl
+
+-- ---- a turn of the loop, which keeps the sets in the opposite order
+
+-- the sets in another order have the same interiors
+interior-permuted : (f g : List Items) (s : Items) → IsPermutation f g → interior f s ≡ interior g s
+interior-permuted f g s h = same_set (interior f s) (interior g s) (λ i.
+    has-interior f s i ∙ list_any-IsPermutation (λ k. is_within k s && has k i) f g h ∙ sym (has-interior g s i))
+
+turned : (now rest kept all : List Items) (set u : Items) (b : Bool) → now ≡ rest ++ set ∷ [] → u ≡ interior kept set → is_same u set ≡ b
+    → kept_onto now (reverse kept) ≡ all → kept_onto rest (cond b (reverse kept) (set ∷ reverse kept)) ≡ all
+turned now rest kept all set u b last is same had =
+    ap (λ b. kept_onto rest (cond b (reverse kept) (set ∷ reverse kept))) (sym same ∙ ap (λ x. is_same x set) (is ∙ interior-permuted kept (reverse kept) set (IsPermutation-reverse kept)))
+    ∙ sym (kept_onto-last rest set (reverse kept)) ∙ ap (λ l. kept_onto l (reverse kept)) (sym last) ∙ had
+
+pub turned-kept : (now rest kept all : List Items) (set u : Items) → now ≡ rest ++ set ∷ [] → u ≡ interior kept set → is_same u set ≡ false
+    → kept_onto now (reverse kept) ≡ all → kept_onto rest (reverse (kept ++ set ∷ [])) ≡ all
+turned-kept now rest kept all set u last is same had = ap (kept_onto rest) (reverse-append kept (set ∷ [])) ∙ turned now rest kept all set u false last is same had
+
+pub turned-dropped : (now rest kept all : List Items) (set u : Items) → now ≡ rest ++ set ∷ [] → u ≡ interior kept set → is_same u set ≡ true
+    → kept_onto now (reverse kept) ≡ all → kept_onto rest (reverse kept) ≡ all
+turned-dropped now rest kept all set u last is same had = turned now rest kept all set u true last is same had
+
+-- what is kept of the sets put in order, when none is left
+pub reduced-is : (all sorted left kept made : List Items) → IsPermutation all sorted → Ascends sorted → length left ≡ 0 → kept_onto left (reverse kept) ≡ kept_onto sorted [] → made ≡ reverse kept → IsReduced all made
+reduced-is all sorted [] kept made h order none had is =
+    let r = subst (IsReduced sorted) (sym (is ∙ had)) (kept-IsReduced sorted order) in
+    record {
+      in_order = r.in_order;
+      part = λ k c. list_any-IsPermutation (is_same k) all sorted h ∙ r.part k c;
+      span = λ k c. r.span k (sym (list_any-IsPermutation (is_same k) all sorted h) ∙ c);
+      are_needed = r.are_needed;
+      few = omega (arith, r.few, length_permutation all sorted h);
+    }
+reduced-is all sorted (s ∷ left) kept made h order none had is = absurd (omega arith)

@@ -1,10 +1,11 @@
 -- Bases and the families that they span.
-use Rattle.std.proofs.Common.{ℕ, zero, suc, ◌+◌, ◌<◌, ◌≤◌, ◌≡◌, inl, inr, Bool, true, not, ◌&&◌, List, [], ◌∷◌, length, map, filter, refl, sym, ap, ◌∙◌, subst, arith, true≢false, ltb-true, lt-ltb, eq-eqb, eqb-true}
-use Rattle.std.specs.List.{list_any}
+use Rattle.std.proofs.Common.{ℕ, zero, suc, ◌+◌, ◌<◌, ◌≤◌, ◌≡◌, inl, inr, Bool, true, not, ◌&&◌, ◌||◌, List, [], ◌∷◌, length, map, filter, refl, sym, ap, ◌∙◌, subst, arith, true≢false, eqb, ltb-true, lt-ltb, eq-eqb, eqb-true}
+use Rattle.std.specs.List.{list_any, range_with_len}
+use Rattle.std.proofs.lemmas.List.FromFn.{length-map-range_with_len}
 use Rattle.std.proofs.lemmas.Bool.{cases_eq, and_parts, and_from, not_from_false, not-true, false_from_ne_true}
-use Rattle.ls_set.specs.ItemSet.{Items, has, full, single, numbers_from, subsets, is_among, is_same, is_within, IsWithin, IsInOrder}
+use Rattle.ls_set.specs.ItemSet.{Items, has, empty, full, with, subsets, is_among, is_same, is_within, IsWithin, IsInOrder}
 use Rattle.ls_set.specs.declared.item_set.TheConstants.{PLACES}
-use Rattle.ls_set.proofs.Sets.{has-full, has-single, same_within, both_ways, Decides-is_same, IsWithin-from, is_within-from}
+use Rattle.ls_set.proofs.Sets.{has-empty, has-full, has-with, same_within, both_ways, Decides-is_same, IsWithin-from, is_within-from}
 use Rattle.ls_set.proofs.Members.{among-here, among-there, among-cases, among-filter}
 use Rattle.ls_set.proofs.Order.{among-subsets, subsets_from-in_order}
 use Rattle.ls_theory.specs.Families.{interior}
@@ -14,7 +15,7 @@ use Rattle.ls_laws.proofs.Lists.{some-among, some-from, IsInOrder-filter, same_m
 use Rattle.ls_laws.proofs.Interiors.{IsUnionFamily, subsets-IsUnionFamily, from-interior, to-interior, interior-whole}
 use Rattle.ls_laws.proofs.Atoms.{IsAtom, IsAtom-from, atom_within, among-base, base-member}
 use Rattle.ls_laws.proofs.Spans.{spanned-has, spanned-whole, spanned-same, spanned-IsUnionFamily, spanned-in_order, base-in_order, spanned-needed, base-needed}
-use Rattle.ls_base.specs.Bases.{IsBase, IsReduced}
+use Rattle.ls_base.specs.Bases.{IsBase, IsReduced, single_sets}
 use Rattle.ls_base.proofs.Reducing.{interior-through}
 
 -- ---- what a base spans
@@ -87,39 +88,40 @@ atoms_at-base f q order = same_members (atoms_at (base f) q) (atoms_at f q) (IsI
 
 -- ---- single items
 
-pub among-singles : (i m q : ℕ) → i ≤ q → q < i + m → is_among (map single (numbers_from i m)) (single q) ≡ true
+has-alone : (q i : ℕ) → has (with empty q) i ≡ eqb i q
+has-alone q i = has-with empty q i ∙ ap (λ b. b || eqb i q) (has-empty i)
+
+alone-within : (q : ℕ) (k : Items) → has k q ≡ true → IsWithin (with empty q) k
+alone-within q k h i a = ap (has k) (eqb-true i q (sym (has-alone q i) ∙ a)) ∙ h
+
+among-singles : (i m q : ℕ) → i ≤ q → q < i + m → is_among (map (with empty) (range_with_len i m)) (with empty q) ≡ true
 among-singles i zero q a b = absurd (omega arith)
 among-singles i (suc m) q a b = elim (cases_eq i q) [
-  | inl e ↦ among-here (single q) (single i) (map single (numbers_from (suc i) m)) (ap single (sym e))
-  | inr n ↦ among-there (single q) (single i) (map single (numbers_from (suc i) m)) (among-singles (suc i) m q (omega arith) (omega arith))
+  | inl e ↦ among-here (with empty q) (with empty i) (map (with empty) (range_with_len (i + 1) m)) (ap (with empty) (sym e))
+  | inr n ↦ among-there (with empty q) (with empty i) (map (with empty) (range_with_len (i + 1) m)) (among-singles (i + 1) m q (omega arith) (omega arith))
 ]
 
-from-singles : (i m : ℕ) (k : Items) → is_among (map single (numbers_from i m)) k ≡ true → (q : ℕ) × (q < i + m) × (k ≡ single q)
+from-singles : (i m : ℕ) (k : Items) → is_among (map (with empty) (range_with_len i m)) k ≡ true → (q : ℕ) × (q < i + m) × (k ≡ with empty q)
 from-singles i zero k c = absurd (true≢false (sym c))
-from-singles i (suc m) k c = elim (among-cases k (single i) (map single (numbers_from (suc i) m)) c) [
+from-singles i (suc m) k c = elim (among-cases k (with empty i) (map (with empty) (range_with_len (i + 1) m)) c) [
   | inl e ↦ (i, omega arith, e)
-  | inr d ↦ let r = from-singles (suc i) m k d in let l = r.1 in (r.0, omega arith, r.2)
+  | inr d ↦ let r = from-singles (i + 1) m k d in let l = r.1 in (r.0, omega arith, r.2)
 ]
 
-single-within : (q : ℕ) (k : Items) → has k q ≡ true → IsWithin (single q) k
-single-within q k h i a = ap (has k) (eqb-true i q (sym (has-single q i) ∙ a)) ∙ h
-
-pub singles-on : (n : ℕ) → IsOn n (map single (numbers_from 0 n))
+pub singles-on : (n : ℕ) → IsOn n (single_sets n)
 singles-on n k c =
     let r = from-singles 0 n k c in
     let l = r.1 in
-    subst (λ s. IsWithin s (full n)) (sym r.2) (single-within r.0 (full n) (has-full n r.0 ∙ lt-ltb r.0 n (omega arith)))
+    subst (λ s. IsWithin s (full n)) (sym r.2) (alone-within r.0 (full n) (has-full n r.0 ∙ lt-ltb r.0 n (omega arith)))
 
 -- the single items span all sets
-pub spanned-singles : (n : ℕ) → spanned n (map single (numbers_from 0 n)) ≡ subsets n
+pub spanned-singles : (n : ℕ) → spanned n (single_sets n) ≡ subsets n
 spanned-singles n =
-    let singles = map single (numbers_from 0 n) in
-    spanned-is n (subsets n) singles (subsets_from-in_order 0 n) (subsets-IsUnionFamily n)
+    spanned-is n (subsets n) (single_sets n) (subsets_from-in_order 0 n) (subsets-IsUnionFamily n)
     (λ k c. among-subsets n k ∙ is_within-from k (full n) (singles-on n k c))
-    (λ k c. interior-whole singles k (λ q h.
+    (λ k c. interior-whole (single_sets n) k (λ q h.
     let l : q < n = ltb-true q n (sym (has-full n q) ∙ (subsets-IsUnionFamily n).small k c q h) in
-    (single q, among-singles 0 n q (omega arith) (omega arith), single-within q k h, has-single q q ∙ eq-eqb q q refl)))
+    (with empty q, among-singles 0 n q (omega arith) (omega arith), alone-within q k h, has-alone q q ∙ eq-eqb q q refl)))
 
-pub length-singles : (i m : ℕ) → length (map single (numbers_from i m)) ≡ m
-length-singles i zero = refl
-length-singles i (suc m) = ap suc (length-singles (suc i) m)
+pub few-singles : (n : ℕ) (kept : List Items) → n ≤ PLACES → IsReduced (single_sets n) kept → length kept ≤ most_base_sets
+few-singles n kept few r = omega (arith, r.few, length-map-range_with_len (with empty) 0 n)

@@ -2,8 +2,8 @@
 use Rattle.std.proofs.Common.{ℕ, ◌+◌, ◌<◌, ◌≤◌, ◌≡◌, true, false, List, [], ◌∷◌, ◌++◌, length, map, drop, get_or, refl, sym, ap, ap₂, ◌∙◌, add-one, append_assoc, append-nil}
 use Rattle.std.proofs.Math.Seq.{drop-cons}
 use Rattle.std.proofs.lemmas.List.{drop_all}
-use Rattle.ls_set.specs.ItemSet.{Items, union, is_within, IsWithin}
-use Rattle.ls_set.proofs.Sets.{union_assoc, union-left, union-within, same_within}
+use Rattle.ls_set.specs.ItemSet.{Items, empty, union, is_within}
+use Rattle.ls_set.proofs.Sets.{union_assoc, union-empty_right, union-left, union-within, same_within}
 use Rattle.ls_theory.specs.Families.{interior}
 use Rattle.ls_laws.specs.Spans.{joins}
 use Rattle.ls_laws.proofs.Interiors.{interior-within}
@@ -38,6 +38,13 @@ united-without sets i k u s l e h had =
 pub united-whole : (sets : List Items) (i : ℕ) (s : Items) → IsUnited s sets i s → s ≡ interior sets s
 united-whole sets i s had =
     same_within s (union s (interior (drop i sets) s)) (union-left s (interior (drop i sets) s)) (union-within s (interior (drop i sets) s) s (λ _ h. h) (interior-within (drop i sets) s)) ∙ had
+
+interior-none : (s : Items) → interior [] s ≡ empty
+unfolding interior
+interior-none s = refl
+
+pub united-all : (sets : List Items) (i : ℕ) (u s : Items) → length sets ≤ i → IsUnited u sets i s → u ≡ interior sets s
+united-all sets i u s l had = sym (ap (union u) (ap (λ x. interior x s) (drop_all i sets l) ∙ interior-none s) ∙ union-empty_right u) ∙ had
 
 -- ---- unions that are appended
 

@@ -1,8 +1,8 @@
 -- Bases: what contracts see of them, and which base lists of sets give.
-use Rattle.std.specs.Prelude.{ℕ, ◌≡◌, ◌<◌, ◌≤◌, not, nat_lt, if◌then◌else◌, List, ◌++◌, filter, length, Option, Result, Ok, Err, ⊤}
-use Rattle.std.specs.List.{list_any}
+use Rattle.std.specs.Prelude.{ℕ, ◌≡◌, ◌<◌, ◌≤◌, not, nat_lt, if◌then◌else◌, List, ◌++◌, map, filter, length, Option, Result, Ok, Err, ⊤}
+use Rattle.std.specs.List.{list_any, range_with_len}
 use Rattle.std.specs.Option.{option_map_or}
-use Rattle.ls_set.specs.ItemSet.{Items, full, minus, least, IsInOrder}
+use Rattle.ls_set.specs.ItemSet.{Items, empty, full, with, minus, least, IsInOrder}
 use Rattle.ls_set.specs.declared.item_set.TheConstants.{PLACES}
 use Rattle.ls_set.specs.declared.query.Query.{Query}
 use Rattle.ls_theory.specs.Families.{unions}
@@ -56,6 +56,10 @@ IsPastOf sets (Limit.Memory e) = ⊤
 abbrev pub base_fault : PastFault → BaseFault
 base_fault (Limit.Past count) = Past count
 base_fault (Limit.Memory e) = Memory e
+
+-- each of the n items alone
+abbrev pub single_sets : ℕ → List Items
+single_sets n = map (with empty) (range_with_len 0 n)
 
 -- sets of the list in the order, none the union of others, of which each of the list is a union
 pub record IsReduced (all kept : List Items) : Type 0 where

@@ -1,11 +1,12 @@
 // Bases.
-ghost use Rattle.std.specs.Prelude.{◌≡◌, ◌<◌, ◌≤◌, true, Ok, length, map, slice_index_or, IfOk, IfErr, OnOk};
-ghost use Rattle.ls_set.specs.ItemSet.{empty, single, numbers_from, subsets};
+ghost use Rattle.std.specs.Prelude.{◌≡◌, ◌<◌, ◌≤◌, true, Ok, length, slice_index_or, IfOk, IfErr, OnOk};
+ghost use Rattle.ls_set.specs.ItemSet.{empty, subsets};
 ghost use Rattle.ls_set.specs.Query.{is_good};
 ghost use Rattle.ls_theory.specs.Bases.{base, is_atom_at, atoms_at};
 ghost use Rattle.ls_laws.specs.Spans.{IsOn, left_by, spanned};
-ghost use Rattle.ls_base.specs.Bases.{family, based, IsFaultOf, IsPastOf};
+ghost use Rattle.ls_base.specs.Bases.{family, based, single_sets, IsFaultOf, IsPastOf};
 
+use crate::atoms::is_atom_at;
 use crate::fault::{BaseFault, PastFault};
 use crate::reduction::reduced;
 use crate::spanning::spanning_after;
@@ -37,21 +38,10 @@ impl Model for Base {
     ghost invariant = { λ b. IsBase (record { item_count = b.n; sets = b.sets.items }) };
 }
 
-// Whether the set is an atom at item `q` of what the sets span, of which it is one.
-fn is_atom(sets: &[ItemSet], set: ItemSet, q: u32) -> bool
-    requires { q < PLACES }
-    ensures { result ≡ is_atom_at sets.now q set }
-{
-    set.has(q)
-        && !sets
-            .iter()
-            .any(|l| l.has(q) && l.is_within(set) && *l != set)
-}
-
 // The items below `n`, each as a set.
 fn single_sets(alloc: Global, n: u32) -> Result<Vec<ItemSet>, AllocError>
     requires { n ≤ PLACES }
-    ensures { IfOk result (λ v. v.items ≡ map single (numbers_from 0 n)) }
+    ensures { IfOk result (λ v. v.items ≡ single_sets n) }
 {
     (0..n).map(|i| ItemSet::empty().with(i)).collect(alloc)
 }
@@ -139,7 +129,7 @@ impl Base {
         requires item { q < self.now.item_count }
         ensures { result ≡ is_atom_at (family self.now) q (slice_index_or self.now.sets place empty) }
     {
-        is_atom(&self.sets, self.sets[place], q)
+        is_atom_at(&self.sets, q, self.sets[place])
     }
 
     /// The atoms at item `q`, in their order.
@@ -149,7 +139,7 @@ impl Base {
     {
         let mut atoms = SetList::new(self.alloc);
         for set in &self.sets {
-            if is_atom(&self.sets, *set, q) {
+            if is_atom_at(&self.sets, q, *set) {
                 atoms.push(*set)?;
             }
         }

@@ -25,8 +25,10 @@ pub enum Followed {
 impl Followed {
     /// The base before any answer.
     pub fn begin(first: Base) -> Followed
-        ensures { (start : Start) → first.sets ≡ base (compat first.item_count start []) →
+        ensures followed { (start : Start) →
+            first.sets ≡ base (compat first.item_count start []) →
             IsFollowed first.item_count start [] result }
+        ensures askable { (r : Query) → is_good first.item_count r ≡ true → IsAskable result r }
     {
         let _ = first.sets();
         Followed::Within(first)
@@ -35,9 +37,10 @@ impl Followed {
     /// What follows one more Yes answer, of which there are `position` with it. What is past stays.
     pub fn after_yes(&self, position: usize, r: &Query) -> Result<Followed, AllocError>
         requires { IsAskable self.now r.now }
-        ensures { (n : ℕ) (start : Start) (yeses : List Query) →
+        ensures followed { (n : ℕ) (start : Start) (yeses : List Query) →
             IsFollowed n start yeses self.now → position ≡ length yeses + 1 →
             IfOk result (IsFollowed n start (yeses ++ r.now ∷ [])) }
+        ensures askable { IfOk result (λ f. (s : Query) → IsAskable self.now s → IsAskable f s) }
     {
         let base = match self {
             Followed::Within(base) => base,
@@ -58,8 +61,11 @@ impl Followed {
     /// What follows the Yes answers, each in turn.
     pub fn over(first: Base, yeses: &[Query]) -> Result<Followed, AllocError>
         requires { list_all (is_good first.item_count) yeses.now ≡ true }
-        ensures { (start : Start) → first.sets ≡ base (compat first.item_count start []) →
+        ensures followed { (start : Start) →
+            first.sets ≡ base (compat first.item_count start []) →
             IfOk result (IsFollowed first.item_count start yeses.now) }
+        ensures askable { IfOk result (λ f. (r : Query) → is_good first.item_count r ≡ true →
+            IsAskable f r) }
     {
         let mut followed = Followed::begin(first);
         for (place, r) in yeses.iter().enumerate() {

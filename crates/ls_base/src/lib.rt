@@ -1,6 +1,7 @@
 //! Bases of knowledge spaces: the atoms, of which each state is a union, and what a Yes answer makes of them.
 #![tactic(auto)]
 
+mod atoms;
 mod base;
 mod fault;
 mod followed;
