@@ -1,5 +1,7 @@
 // Bases of few items, and one that grows past the limit.
-ghost use Rattle.std.specs.Prelude.{◌≡◌, ◌<◌, ◌≤◌, true, IfOk};
+ghost use Rattle.std.specs.Prelude.{◌≡◌, ◌≤◌, true, IfOk};
+ghost use Rattle.std.specs.List.{list_all};
+ghost use Rattle.ls_set.specs.ItemSet.{is_within};
 ghost use Rattle.ls_set.specs.Query.{is_good};
 
 use crate::{Base, BaseFault, Followed, PastFault};
@@ -31,6 +33,12 @@ fn asked(rt: &impl Abort, n: u32, items: &[u32], q: u32) -> Query
     query
 }
 
+fn lie_within(sets: &[ItemSet], all: ItemSet) -> bool
+    ensures { result ≡ list_all (λ set. is_within set all) sets.now }
+{
+    sets.iter().all(|set| set.is_within(all))
+}
+
 fn base_of(
     rt: &impl Abort,
     alloc: Global,
@@ -40,8 +48,7 @@ fn base_of(
     requires { n ≤ PLACES }
     ensures { IfOk result (λ b. b.item_count ≡ n) }
 {
-    let all = ItemSet::full(n);
-    assert!(rt; sets.iter().all(|set| set.is_within(all)));
+    assert!(rt; lie_within(sets, ItemSet::full(n)));
     Base::from_sets(alloc, n, sets)
 }
 
@@ -67,21 +74,21 @@ fn a_yes_joins_what_breaks_it(rt: HostRuntime) -> Result<(), Fail> {
     Ok(())
 }
 
-// The eight items from `first` on.
-fn eight_from(first: u32) -> [u32; 8]
-    requires { first < PLACES }
-{
-    [0, 1, 2, 3, 4, 5, 6, 7].map(|i| first + i)
-}
-
 #[test]
 fn a_base_of_thirty_three_items_grows_past_the_limit(rt: HostRuntime) -> Result<(), Fail> {
-    let yeses = [1, 9, 17, 25].map(|first| asked(&rt, 33, &eight_from(first), 0));
-    let base = Base::singletons(rt.alloc(), 33)?;
-    let large = base.after_yes(&yeses[0])?.after_yes(&yeses[1])?.after_yes(&yeses[2])?;
-    assert_eq!(rt; large.sets().len(), 544);
-    assert_eq!(rt; large.after_yes(&yeses[3]).err(), Some(PastFault::Past { count: 4128 }));
-    match Followed::over(base, &yeses)? {
+    let first = asked(&rt, 33, &[1, 2, 3, 4, 5, 6, 7, 8], 0);
+    let second = asked(&rt, 33, &[9, 10, 11, 12, 13, 14, 15, 16], 0);
+    let third = asked(&rt, 33, &[17, 18, 19, 20, 21, 22, 23, 24], 0);
+    let fourth = asked(&rt, 33, &[25, 26, 27, 28, 29, 30, 31, 32], 0);
+    let singles = Base::singletons(rt.alloc(), 33)?;
+    let base = singles
+        .after_yes(&first)?
+        .after_yes(&second)?
+        .after_yes(&third)?;
+    assert_eq!(rt; base.sets().len(), 544);
+    let past = base.after_yes(&fourth).err();
+    assert_eq!(rt; past, Some(PastFault::Past { count: 4128 }));
+    match Followed::over(singles, &[first, second, third, fourth])? {
         Followed::Past { position, count } => assert_eq!(rt; (position, count), (4, 4128)),
         Followed::Within(_) => panic!(rt; "the base is small"),
     }
