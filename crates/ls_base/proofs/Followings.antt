@@ -3,12 +3,11 @@ use Rattle.std.proofs.Common.{ℕ, ◌+◌, ◌<◌, ◌≤◌, ◌≡◌, true,
 use Rattle.std.specs.List.{list_all}
 use Rattle.std.proofs.lemmas.Bool.{true_from_ne_false}
 use Rattle.std.proofs.lemmas.List.Folds.{list_all_at}
-use Rattle.ls_set.specs.ItemSet.{Items}
 use Rattle.ls_set.specs.Query.{is_good}
 use Rattle.ls_set.specs.declared.query.Query.{Query}
 use Rattle.ls_theory.specs.Starts.{Start}
 use Rattle.ls_theory.specs.Compatible.{compat}
-use Rattle.ls_theory.specs.Bases.{base, peak, most_base_sets}
+use Rattle.ls_theory.specs.Bases.{base, most_base_sets}
 use Rattle.ls_laws.specs.Spans.{left_by}
 use Rattle.ls_laws.proofs.Compat.{compat-more, compat-in_order, compat-IsUnionFamily}
 use Rattle.ls_laws.proofs.Spans.{spanned-base}

@@ -1,5 +1,5 @@
 -- The sets that are given for a base: whether they have each item, and the base of what they span.
-use Rattle.std.proofs.Common.{ℕ, ◌<◌, ◌≤◌, ◌≡◌, List, length, Some, None, Option, Ok, Err, refl, ap, ap₂, ◌∙◌, sym, lt-ltb, le-ltb}
+use Rattle.std.proofs.Common.{ℕ, ◌≤◌, ◌≡◌, List, length, Some, None, Option, Ok, Err, refl, ap, ap₂, ◌∙◌, sym, lt-ltb, le-ltb}
 use Rattle.ls_set.specs.ItemSet.{Items, full, is_within, minus, least}
 use Rattle.ls_set.proofs.Sets.{is_within-from}
 use Rattle.ls_theory.specs.Families.{unions, interior}

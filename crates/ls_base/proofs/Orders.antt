@@ -4,7 +4,7 @@ use Rattle.std.specs.Cmp.{IsStrictWeakOrder}
 use Rattle.std.specs.List.Sorted.{IsSortedBy}
 use Rattle.std.proofs.lemmas.Bool.{false_from_ne_true}
 use mathlib.Core.Bool.{beq}
-use Rattle.ls_set.specs.ItemSet.{Items, has, differing, items, len, least, is_among, is_same, comes_before, IsWithin, DiffersFirstAt}
+use Rattle.ls_set.specs.ItemSet.{Items, has, differing, len, least, is_among, is_same, comes_before, IsWithin}
 use Rattle.ls_set.proofs.Sets.{has-differing, has-empty, same_set, Decides-is_same}
 use Rattle.ls_set.proofs.Members.{among-cases}
 use Rattle.ls_set.proofs.Ascending.{least-cases}

@@ -1,5 +1,5 @@
 -- Peaks: one more Yes answer keeps a peak; where there was none, it makes one or not.
-use Rattle.std.proofs.Common.{ℕ, zero, suc, ◌+◌, ◌<◌, ◌≤◌, ◌≡◌, Bool, true, false, cond, List, [], ◌∷◌, ◌++◌, length, take, find, ltb, lt-ltb, le-ltb, Option, Some, None, refl, sym, ap, ◌∙◌, subst, arith, length-append, option_map}
+use Rattle.std.proofs.Common.{ℕ, zero, suc, ◌+◌, ◌<◌, ◌≤◌, ◌≡◌, Bool, true, false, cond, List, [], ◌∷◌, ◌++◌, length, take, find, ltb, le-ltb, Option, Some, None, refl, sym, ap, ◌∙◌, arith, length-append, option_map}
 use Rattle.std.proofs.lemmas.List.{take-append-le}
 use Rattle.std.proofs.Math.Seq.{take-length}
 use Rattle.ls_set.specs.ItemSet.{numbers_from}

@@ -1,7 +1,7 @@
 -- The sets that are kept of a list in order: from the last on, each that is not the union of those kept within it.
-use Rattle.std.proofs.Common.{◌+◌, ◌≤◌, ◌≡◌, inl, inr, Bool, true, false, cond, not, ◌&&◌, List, [], ◌∷◌, ◌++◌, length, filter, reverse, IsPermutation, refl, sym, ap, ◌∙◌, subst, arith, true≢false}
+use Rattle.std.proofs.Common.{◌≡◌, inl, inr, Bool, true, false, cond, not, ◌&&◌, List, [], ◌∷◌, ◌++◌, length, filter, reverse, IsPermutation, refl, sym, ap, ◌∙◌, subst, arith, true≢false}
 use Rattle.std.specs.List.{AllByRecursion}
-use Rattle.std.proofs.lemmas.Bool.{cases_Bool, and_parts, not_from_false, not-true, false_from_ne_true}
+use Rattle.std.proofs.lemmas.Bool.{and_parts, not_from_false, not-true, false_from_ne_true}
 use Rattle.std.proofs.lemmas.List.{reverse-append}
 use Rattle.std.proofs.lemmas.List.Sorted.{IsPermutation-reverse, length_permutation, list_any-IsPermutation}
 use Rattle.ls_set.specs.ItemSet.{Items, has, is_among, is_same, is_within, comes_before}
@@ -101,10 +101,10 @@ added s ss kept later new rest =
       ];
       are_needed = needed-all (s ∷ kept) (λ k c. elim (among-cases k s kept c) [
         | inl e ↦ subst (IsNeeded (s ∷ kept)) (sym e) (needed-more s kept s (not_proper s) (λ whole.
-        new (interior-through (filter (λ l. is_proper l s) kept) kept s (λ l a. interior-member kept l (and_parts (is_among kept l) (is_proper l s) (sym (among-filter (λ l. is_proper l s) kept l) ∙ a)).0) whole)))
+            new (interior-through (filter (λ l. is_proper l s) kept) kept s (λ l a. interior-member kept l (and_parts (is_among kept l) (is_proper l s) (sym (among-filter (λ l. is_proper l s) kept l) ∙ a)).0) whole)))
         | inr d ↦ needed-more s kept k (false_from_ne_true (is_proper s k) (λ h.
-        let p = and_parts (is_within s k) (not (is_same s k)) h in
-        true≢false (sym (proper-later s k (IsWithin-from s k p.0) (not-true (is_same s k) p.1)) ∙ later k (rest.part k d)))) (needed-each kept k rest.are_needed d)
+            let p = and_parts (is_within s k) (not (is_same s k)) h in
+            true≢false (sym (proper-later s k (IsWithin-from s k p.0) (not-true (is_same s k) p.1)) ∙ later k (rest.part k d)))) (needed-each kept k rest.are_needed d)
       ]);
       few = omega (arith, rest.few);
     }

@@ -1,5 +1,5 @@
 -- Bases and the families that they span.
-use Rattle.std.proofs.Common.{ℕ, zero, suc, ◌+◌, ◌<◌, ◌≤◌, ◌≡◌, inl, inr, Bool, true, not, ◌&&◌, ◌||◌, List, [], ◌∷◌, length, map, filter, refl, sym, ap, ◌∙◌, subst, arith, true≢false, eqb, ltb-true, lt-ltb, eq-eqb, eqb-true}
+use Rattle.std.proofs.Common.{ℕ, zero, suc, ◌+◌, ◌<◌, ◌≤◌, ◌≡◌, inl, inr, Bool, true, not, ◌&&◌, ◌||◌, List, length, map, refl, sym, ap, ◌∙◌, subst, arith, true≢false, eqb, ltb-true, lt-ltb, eq-eqb, eqb-true}
 use Rattle.std.specs.List.{list_any, range_with_len}
 use Rattle.std.proofs.lemmas.List.FromFn.{length-map-range_with_len}
 use Rattle.std.proofs.lemmas.Bool.{cases_eq, and_parts, and_from, not_from_false, not-true, false_from_ne_true}
@@ -13,7 +13,7 @@ use Rattle.ls_theory.specs.Bases.{base, is_atom_at, atoms_at, most_base_sets}
 use Rattle.ls_laws.specs.Spans.{IsOn, IsPart, Spans, spanned}
 use Rattle.ls_laws.proofs.Lists.{some-among, some-from, IsInOrder-filter, same_members}
 use Rattle.ls_laws.proofs.Interiors.{IsUnionFamily, subsets-IsUnionFamily, from-interior, to-interior, interior-whole}
-use Rattle.ls_laws.proofs.Atoms.{IsAtom, IsAtom-from, atom_within, among-base, base-member}
+use Rattle.ls_laws.proofs.Atoms.{IsAtom-from, atom_within, among-base, base-member}
 use Rattle.ls_laws.proofs.Spans.{spanned-has, spanned-whole, spanned-same, spanned-IsUnionFamily, spanned-in_order, base-in_order, spanned-needed, base-needed}
 use Rattle.ls_base.specs.Bases.{IsBase, IsReduced, single_sets}
 use Rattle.ls_base.proofs.Reducing.{interior-through}

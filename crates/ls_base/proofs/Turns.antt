@@ -1,11 +1,10 @@
 -- Turns of loops over lists of sets.
-use Rattle.std.proofs.Common.{ℕ, ◌+◌, ◌<◌, ◌≤◌, ◌≡◌, true, false, List, [], ◌∷◌, ◌++◌, length, map, drop, get_or, refl, sym, ap, ap₂, ◌∙◌, add-one, append_assoc, append-nil}
+use Rattle.std.proofs.Common.{ℕ, ◌+◌, ◌<◌, ◌≤◌, ◌≡◌, true, false, List, [], ◌∷◌, ◌++◌, length, drop, get_or, refl, sym, ap, ap₂, ◌∙◌, add-one, append_assoc, append-nil}
 use Rattle.std.proofs.Math.Seq.{drop-cons}
 use Rattle.std.proofs.lemmas.List.{drop_all}
 use Rattle.ls_set.specs.ItemSet.{Items, empty, union, is_within}
 use Rattle.ls_set.proofs.Sets.{union_assoc, union-empty_right, union-left, union-within, same_within}
 use Rattle.ls_theory.specs.Families.{interior}
-use Rattle.ls_laws.specs.Spans.{joins}
 use Rattle.ls_laws.proofs.Interiors.{interior-within}
 
 -- what is left of a list from a place on

@@ -1,8 +1,8 @@
 -- The sets that span what a Yes leaves.
-use Rattle.std.proofs.Common.{ℕ, ◌≡◌, inl, inr, true, false, not, ◌&&◌, List, ◌++◌, filter, refl, sym, ap, ◌∙◌, subst, true≢false}
+use Rattle.std.proofs.Common.{ℕ, ◌≡◌, inl, inr, true, false, not, ◌&&◌, List, filter, sym, ap, ◌∙◌, subst, true≢false}
 use Rattle.std.specs.List.{list_any}
 use Rattle.std.proofs.lemmas.Bool.{or_cases, or_left, or_right, and_parts, and_from, not_from_false, not-true, false_from_ne_true}
-use Rattle.ls_set.specs.ItemSet.{Items, has, empty, union, meet, len, is_among, is_same, is_within, IsWithin, IsInOrder}
+use Rattle.ls_set.specs.ItemSet.{Items, has, empty, union, meet, is_among, is_same, is_within, IsWithin}
 use Rattle.ls_set.specs.declared.query.Query.{Query}
 use Rattle.ls_set.proofs.Sets.{union-left, union-right, union-within, same_within, Decides-is_same, IsWithin-from, is_within-from}
 use Rattle.ls_set.proofs.Members.{among-append, among-filter}
@@ -15,7 +15,7 @@ use Rattle.ls_laws.proofs.Interiors.{IsUnionFamily, interior-member}
 use Rattle.ls_laws.proofs.Counts.{as_many}
 use Rattle.ls_laws.proofs.Atoms.{fewest_of}
 use Rattle.ls_laws.proofs.Spans.{interior-union, spanned-IsUnionFamily, spanned-in_order}
-use Rattle.ls_laws.proofs.Remains.{among-joins, IsJoin, from-joins, after_yes-part, after_yes-whole}
+use Rattle.ls_laws.proofs.Remains.{among-joins, from-joins, after_yes-part, after_yes-whole}
 use Rattle.ls_laws.proofs.Closures.{left-IsUnionFamily}
 use Rattle.ls_base.specs.Bases.{least_sets, spanning_after}
 use Rattle.ls_base.proofs.Reducing.{interior-through}
@@ -32,13 +32,13 @@ least_within g k c =
     let w = IsWithin-from m k best.passes in (
       m,
       among-filter (λ k. not (list_any (λ l. is_proper l k) g)) g m
-      ∙ and_from (is_among g m) (not (list_any (λ l. is_proper l m) g)) best.member
-      (not_from_false (list_any (λ l. is_proper l m) g) (false_from_ne_true (list_any (λ l. is_proper l m) g) (λ h.
-      let x = some-from (λ l. is_proper l m) g h in
-      let p = and_parts (is_within x.0 m) (not (is_same x.0 m)) x.2 in
-      let v = IsWithin-from x.0 m p.0 in
-      let e = as_many x.0 m v (best.fewest x.0 x.1 (is_within-from x.0 k (λ i a. w i (v i a)))) in
-      true≢false (sym ((Decides-is_same x.0 m).1 e) ∙ not-true (is_same x.0 m) p.1)))),
+          ∙ and_from (is_among g m) (not (list_any (λ l. is_proper l m) g)) best.member
+          (not_from_false (list_any (λ l. is_proper l m) g) (false_from_ne_true (list_any (λ l. is_proper l m) g) (λ h.
+          let x = some-from (λ l. is_proper l m) g h in
+          let p = and_parts (is_within x.0 m) (not (is_same x.0 m)) x.2 in
+          let v = IsWithin-from x.0 m p.0 in
+          let e = as_many x.0 m v (best.fewest x.0 x.1 (is_within-from x.0 k (λ i a. w i (v i a)))) in
+          true≢false (sym ((Decides-is_same x.0 m).1 e) ∙ not-true (is_same x.0 m) p.1)))),
       w,
     )
 

@@ -90,9 +90,21 @@ pub fn spanning_after(
     requires { r.now.q < PLACES }
     ensures { IfOk result (λ spanning. spanning.items ≡ spanning_after sets.now r.now) }
 {
-    let mut spanning: Vec<ItemSet> = sets.iter().copied().filter(|set| !breaks(*set, r)).collect(alloc)?;
-    let breaking: Vec<ItemSet> = sets.iter().copied().filter(|set| breaks(*set, r)).collect(alloc)?;
-    let touching: Vec<ItemSet> = sets.iter().copied().filter(|set| touches(*set, r.a)).collect(alloc)?;
+    let mut spanning: Vec<ItemSet> = sets
+        .iter()
+        .copied()
+        .filter(|set| !breaks(*set, r))
+        .collect(alloc)?;
+    let breaking: Vec<ItemSet> = sets
+        .iter()
+        .copied()
+        .filter(|set| breaks(*set, r))
+        .collect(alloc)?;
+    let touching: Vec<ItemSet> = sets
+        .iter()
+        .copied()
+        .filter(|set| touches(*set, r.a))
+        .collect(alloc)?;
     push_joins(&mut spanning, &breaking, &least_sets(alloc, &touching)?)?;
     Ok(spanning)
 }

@@ -39,12 +39,7 @@ fn lie_within(sets: &[ItemSet], all: ItemSet) -> bool
     sets.iter().all(|set| set.is_within(all))
 }
 
-fn base_of(
-    rt: &impl Abort,
-    alloc: Global,
-    n: u32,
-    sets: &[ItemSet],
-) -> Result<Base, BaseFault>
+fn base_of(rt: &impl Abort, alloc: Global, n: u32, sets: &[ItemSet]) -> Result<Base, BaseFault>
     requires { n ≤ PLACES }
     ensures { IfOk result (λ b. b.item_count ≡ n) }
 {

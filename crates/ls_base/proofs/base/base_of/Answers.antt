@@ -1,6 +1,5 @@
-use Rattle.std.proofs.Common.{◌<◌, ◌≤◌, List, length, sym, ap, subst, arith}
+use Rattle.std.proofs.Common.{List, sym, ap, arith}
 use Rattle.ls_set.specs.ItemSet.{Items}
-use Rattle.ls_theory.specs.Bases.{most_base_sets}
 use Rattle.ls_base.specs.Bases.{BaseState}
 use Rattle.ls_base.proofs.Spanned.{base-reduced, reduced-IsBase}
 use Rattle.ls_base.proofs.base.base_of.Goals as goal

@@ -1,5 +1,4 @@
 use Rattle.std.proofs.Common.{◌≡◌, [], reverse, vec_len}
-use Rattle.ls_base.proofs.Orders.{Ascends}
 use Rattle.ls_base.proofs.Reducing.{kept_onto}
 use Rattle.ls_base.proofs.reduction.reduced.Given as goal
 
