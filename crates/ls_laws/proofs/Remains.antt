@@ -30,7 +30,7 @@ from-map k l (t ∷ gs) c = elim (among-cases l (union k t) (map (union k) gs) c
   | inr a ↦ let r = from-map k l gs a in (r.0, among-there r.0 t gs r.1, r.2)
 ]
 
-among-joins : (k g : Items) (ks gs : List Items) → is_among ks k ≡ true → is_among gs g ≡ true → is_among (joins ks gs) (union k g) ≡ true
+pub among-joins : (k g : Items) (ks gs : List Items) → is_among ks k ≡ true → is_among gs g ≡ true → is_among (joins ks gs) (union k g) ≡ true
 among-joins k g [] gs a b = a
 among-joins k g (t ∷ ks) gs a b =
     among-append (map (union t) gs) (joins ks gs) (union k g)
@@ -46,7 +46,7 @@ pub record IsJoin (ks gs : List Items) (l : Items) : Type 0 where
   pub right_in : is_among gs right ≡ true
   pub is : l ≡ union left right
 
-from-joins : (l : Items) (ks gs : List Items) → is_among (joins ks gs) l ≡ true → IsJoin ks gs l
+pub from-joins : (l : Items) (ks gs : List Items) → is_among (joins ks gs) l ≡ true → IsJoin ks gs l
 from-joins l [] gs c = absurd (true≢false (sym c))
 from-joins l (t ∷ ks) gs c =
     elim (or_cases (is_among (map (union t) gs) l) (is_among (joins ks gs) l) (sym (among-append (map (union t) gs) (joins ks gs) l) ∙ c)) [

@@ -96,7 +96,7 @@ spanned-same n f g family part span k = both_ways (is_among (spanned n g) k) (is
 
 -- ---- the same as lists in order
 
-base-in_order : (f : List Items) → IsInOrder f → IsInOrder (base f)
+pub base-in_order : (f : List Items) → IsInOrder f → IsInOrder (base f)
 unfolding base
 base-in_order f h = IsInOrder-filter _ f h
 

@@ -1,0 +1,36 @@
+-- The sets that are given for a base: whether they have each item, and the base of what they span.
+use Rattle.std.proofs.Common.{ℕ, ◌≤◌, ◌≡◌, List, length, Some, None, Option, Ok, Err, refl, ap, ap₂, ◌∙◌, sym, lt-ltb, le-ltb}
+use Rattle.ls_set.specs.ItemSet.{Items, full, is_within, minus, least}
+use Rattle.ls_set.proofs.Sets.{is_within-from}
+use Rattle.ls_theory.specs.Families.{unions, interior}
+use Rattle.ls_theory.specs.Bases.{base, most_base_sets}
+use Rattle.ls_laws.specs.Spans.{IsOn, spanned}
+use Rattle.ls_base.specs.Bases.{first_missing, limited, based, base_fault, IsFaultOf, IsPastOf}
+use Rattle.ls_base.specs.declared.fault.PastFault.{PastFault}
+use Rattle.ls_base.specs.declared.fault.PastFault.TheVariants as Limit
+use Rattle.ls_base.specs.declared.fault.BaseFault.TheVariants.{NotSpanning, Past}
+use Rattle.ls_base.proofs.Reducing.{filter-each}
+
+-- all of the sets lie within the items
+interior-full : (n : ℕ) (sets : List Items) → IsOn n sets → interior sets (full n) ≡ unions sets
+unfolding interior
+interior-full n sets small = ap unions (filter-each (λ k. is_within k (full n)) sets (λ k c. is_within-from k (full n) (small k c)))
+
+-- the least item that is left by what the sets cover
+pub first_missing-is : (n : ℕ) (sets : List Items) (all covered left : Items) (found : Option ℕ) → IsOn n sets → all ≡ full n → covered ≡ interior sets all → left ≡ minus all covered → found ≡ least left → found ≡ first_missing n sets
+first_missing-is n sets all covered left found small a b c d = d ∙ ap least (c ∙ ap₂ minus a (b ∙ ap (interior sets) a ∙ interior-full n sets small))
+
+pub based-missing : (n : ℕ) (sets : List Items) (q : ℕ) → first_missing n sets ≡ Some q → based n sets ≡ Err (NotSpanning q)
+based-missing n sets q e = rw e refl
+
+based-spanning : (n : ℕ) (sets : List Items) → first_missing n sets ≡ None → based n sets ≡ limited (base (spanned n sets))
+based-spanning n sets e = rw e refl
+
+pub based-base : (n : ℕ) (sets : List Items) → first_missing n sets ≡ None → length (base (spanned n sets)) ≤ most_base_sets → based n sets ≡ Ok (base (spanned n sets))
+based-base n sets e few = based-spanning n sets e ∙ rw (le-ltb most_base_sets (length (base (spanned n sets))) few) refl
+
+-- a fault of the base is one of the sets
+pub IsFaultOf-past : (n : ℕ) (sets : List Items) (fault : PastFault) → first_missing n sets ≡ None → IsPastOf (base (spanned n sets)) fault → IsFaultOf (based n sets) (base_fault fault)
+IsFaultOf-past n sets (Limit.Past count) e past =
+    based-spanning n sets e ∙ rw (lt-ltb most_base_sets (length (base (spanned n sets))) past.0) (ap (λ c. Err (Past c)) (sym past.1))
+IsFaultOf-past n sets (Limit.Memory fault) e past = tt

@@ -1,0 +1,8 @@
+pub mod Turns
+pub mod Orders
+pub mod Reducing
+pub mod Spanned
+pub mod Yeses
+pub mod Peaks
+pub mod Given
+pub mod Followings

@@ -1,0 +1,80 @@
+-- Bases: what contracts see of them, and which base lists of sets give.
+use Rattle.std.specs.Prelude.{ℕ, ◌≡◌, ◌<◌, ◌≤◌, not, nat_lt, if◌then◌else◌, List, ◌++◌, map, filter, length, Option, Result, Ok, Err, ⊤}
+use Rattle.std.specs.List.{list_any, range_with_len}
+use Rattle.std.specs.Option.{option_map_or}
+use Rattle.ls_set.specs.ItemSet.{Items, empty, full, with, minus, least, IsInOrder}
+use Rattle.ls_set.specs.declared.item_set.TheConstants.{PLACES}
+use Rattle.ls_set.specs.declared.query.Query.{Query}
+use Rattle.ls_theory.specs.Families.{unions}
+use Rattle.ls_theory.specs.Queries.{breaks}
+use Rattle.ls_theory.specs.Bases.{base, most_base_sets}
+use Rattle.ls_laws.specs.Spans.{IsPart, Spans, is_proper, needed, spanned, left_by, touches, joins}
+use Rattle.ls_base.specs.declared.fault.PastFault.{PastFault}
+use Rattle.ls_base.specs.declared.fault.PastFault.TheVariants as Limit
+use Rattle.ls_base.specs.declared.fault.BaseFault.{BaseFault}
+use Rattle.ls_base.specs.declared.fault.BaseFault.TheVariants.{NotSpanning, Past, Memory}
+
+-- a number of items, and sets of them
+pub record BaseState : Type 0 where
+  pub item_count : ℕ
+  pub sets : List Items
+
+-- the family of all unions of the sets
+abbrev pub family : BaseState → List Items
+family b = spanned b.item_count b.sets
+
+-- the sets are the base of the family of their unions, and there are not too many
+pub record IsBase (b : BaseState) : Type 0 where
+  pub few_items : b.item_count ≤ PLACES
+  pub is_base : base (family b) ≡ b.sets
+  pub few : length b.sets ≤ most_base_sets
+
+-- ---- the base of a list of sets
+
+-- the least of the n items that no set of the list has
+abbrev pub first_missing : ℕ → List Items → Option ℕ
+first_missing n sets = least (minus (full n) (unions sets))
+
+-- the sets of a base, unless there are too many
+abbrev pub limited : List Items → Result (List Items) BaseFault
+limited sets = if nat_lt most_base_sets (length sets) then Err (Past (length sets)) else Ok sets
+
+-- the base of the family of all unions of the sets, each of the n items being in some set
+abbrev pub based : ℕ → List Items → Result (List Items) BaseFault
+based n sets = option_map_or (λ q. Err (NotSpanning q)) (first_missing n sets) (limited (base (spanned n sets)))
+
+-- the fault is that of the definition, unless memory ran out
+abbrev pub IsFaultOf : Result (List Items) BaseFault → BaseFault → Type 0
+IsFaultOf answer (Memory e) = ⊤
+IsFaultOf answer fault = answer ≡ Err fault
+
+-- the base has too many sets, as many as are told, unless memory ran out
+abbrev pub IsPastOf : List Items → PastFault → Type 0
+IsPastOf sets (Limit.Past count) = (most_base_sets < length sets) × (count ≡ length sets)
+IsPastOf sets (Limit.Memory e) = ⊤
+
+abbrev pub base_fault : PastFault → BaseFault
+base_fault (Limit.Past count) = Past count
+base_fault (Limit.Memory e) = Memory e
+
+-- each of the n items alone
+abbrev pub single_sets : ℕ → List Items
+single_sets n = map (with empty) (range_with_len 0 n)
+
+-- sets of the list in the order, none the union of others, of which each of the list is a union
+pub record IsReduced (all kept : List Items) : Type 0 where
+  pub in_order : IsInOrder kept
+  pub part : IsPart kept all
+  pub span : Spans kept all
+  pub are_needed : needed kept ≡ kept
+  pub few : length kept ≤ length all
+
+-- ---- after a Yes
+
+-- the sets within which no other of the list lies
+abbrev pub least_sets : List Items → List Items
+least_sets g = filter (λ k. not (list_any (λ l. is_proper l k) g)) g
+
+-- the sets of b that do not break r, and each union of one that breaks it with a least one of those that have an item of its A
+abbrev pub spanning_after : List Items → Query → List Items
+spanning_after b r = left_by r b ++ joins (filter (λ k. breaks k r) b) (least_sets (filter (λ g. touches g r.a) b))

@@ -1,0 +1,167 @@
+// Bases.
+ghost use Rattle.std.specs.Prelude.{◌≡◌, ◌<◌, ◌≤◌, true, Ok, length, slice_index_or, IfOk, IfErr, OnOk};
+ghost use Rattle.ls_set.specs.ItemSet.{empty, subsets};
+ghost use Rattle.ls_set.specs.Query.{is_good};
+ghost use Rattle.ls_theory.specs.Bases.{base, is_atom_at, atoms_at};
+ghost use Rattle.ls_laws.specs.Spans.{IsOn, left_by, spanned};
+ghost use Rattle.ls_base.specs.Bases.{family, based, single_sets, IsFaultOf, IsPastOf};
+
+use crate::atoms::is_atom_at;
+use crate::fault::{BaseFault, PastFault};
+use crate::reduction::reduced;
+use crate::spanning::spanning_after;
+use crate::within::union_within;
+use ls_interior::Inside;
+use ls_set::{ItemSet, PLACES, Query, SetList};
+use std::alloc::{AllocError, Global};
+use std::marker::Model;
+
+/// The most sets that a base has.
+pub const MOST_BASE_SETS: usize = 4096;
+
+/// A base: sets in their order, none of which is empty or a union of others. It means the family of
+/// all unions of its sets, and they are the atoms of that family.
+#[derive(Debug, Drop)]
+pub struct Base {
+    n: u32,
+    sets: Vec<ItemSet>,
+    alloc: Global,
+}
+
+impl Model for Base {
+    ghost use Rattle.ls_base.specs.Bases.{BaseState, IsBase};
+
+    ghost Value = { BaseState };
+
+    ghost view = { λ b. record { item_count = b.n; sets = b.sets.items } };
+
+    ghost invariant = { λ b. IsBase (record { item_count = b.n; sets = b.sets.items }) };
+}
+
+// The items below `n`, each as a set.
+fn single_sets(alloc: Global, n: u32) -> Result<Vec<ItemSet>, AllocError>
+    requires { n ≤ PLACES }
+    ensures { IfOk result (λ v. v.items ≡ single_sets n) }
+{
+    (0..n).map(|i| ItemSet::empty().with(i)).collect(alloc)
+}
+
+// The base of what the sets span, unless it has too many sets.
+fn base_of(alloc: Global, n: u32, sets: Vec<ItemSet>) -> Result<Base, PastFault>
+    requires few_items { n ≤ PLACES }
+    requires is_on { IsOn n sets.items }
+    ensures sets { IfOk result (λ b. b ≡ record { item_count = n; sets = base (spanned n sets.items) }) }
+    ensures few { OnOk result (length (base (spanned n sets.items)) ≤ MOST_BASE_SETS) }
+    ensures past { IfErr result (IsPastOf (base (spanned n sets.items))) }
+{
+    let sets = reduced(alloc, sets)?;
+    if sets.len() > MOST_BASE_SETS {
+        return Err(PastFault::Past { count: sets.len() });
+    }
+    Ok(Base { n, sets, alloc })
+}
+
+impl Base {
+    /// The base of the family of all unions of the given sets, which have items below `n` alone. The
+    /// error is `NotSpanning` where an item below `n` is in no given set; otherwise `Past`, where the
+    /// base has more sets than [`MOST_BASE_SETS`]; or memory ran out.
+    pub fn from_sets(alloc: Global, n: u32, sets: &[ItemSet]) -> Result<Base, BaseFault>
+        requires few_items { n ≤ PLACES }
+        requires is_on { IsOn n sets.now }
+        ensures based { IfOk result (λ b. based n sets.now ≡ Ok b.sets) }
+        ensures item_count { IfOk result (λ b. b.item_count ≡ n) }
+        ensures fault { IfErr result (IsFaultOf (based n sets.now)) }
+    {
+        let all = ItemSet::full(n);
+        if let Some(item) = all.minus(union_within(sets, all)).least() {
+            return Err(BaseFault::NotSpanning { item });
+        }
+        let given = Vec::from_slice(alloc, sets)?;
+        Ok(base_of(alloc, n, given)?)
+    }
+
+    /// The base of the family of all sets of the items below `n`: each of the items alone.
+    pub fn singletons(alloc: Global, n: u32) -> Result<Base, AllocError>
+        requires { n ≤ PLACES }
+        ensures { IfOk result (λ b. b ≡ record { item_count = n; sets = base (subsets n) }) }
+    {
+        let sets = reduced(alloc, single_sets(alloc, n)?)?;
+        Ok(Base { n, sets, alloc })
+    }
+
+    /// The same base once more.
+    pub fn copy(&self) -> Result<Base, AllocError>
+        ensures { IfOk result (λ b. b ≡ self.now) }
+    {
+        Ok(Base {
+            n: self.n,
+            sets: Vec::from_slice(self.alloc, &self.sets)?,
+            alloc: self.alloc,
+        })
+    }
+
+    /// The base of the members that do not break the query, unless it has more sets than
+    /// [`MOST_BASE_SETS`].
+    pub fn after_yes(&self, r: &Query) -> Result<Base, PastFault>
+        requires { is_good self.now.item_count r.now ≡ true }
+        ensures sets { IfOk result (λ b. b.sets ≡ base (left_by r.now (family self.now))) }
+        ensures item_count { IfOk result (λ b. b.item_count ≡ self.now.item_count) }
+        ensures few { OnOk result (length (base (left_by r.now (family self.now))) ≤ MOST_BASE_SETS) }
+        ensures past { IfErr result (IsPastOf (base (left_by r.now (family self.now)))) }
+    {
+        let sets = spanning_after(self.alloc, &self.sets, r)?;
+        base_of(self.alloc, self.n, sets)
+    }
+
+    /// The sets, in their order.
+    pub fn sets(&self) -> &[ItemSet]
+        ensures value { result.now ≡ self.now.sets }
+        ensures base { base (family self.now) ≡ self.now.sets }
+        ensures few { length self.now.sets ≤ MOST_BASE_SETS }
+        ensures few_items { self.now.item_count ≤ PLACES }
+    {
+        &self.sets
+    }
+
+    /// Whether the set at a place, counted from 0, is an atom at item `q`.
+    pub fn is_atom_at(&self, place: usize, q: u32) -> bool
+        requires place { place < length self.now.sets }
+        requires item { q < self.now.item_count }
+        ensures { result ≡ is_atom_at (family self.now) q (slice_index_or self.now.sets place empty) }
+    {
+        is_atom_at(&self.sets, q, self.sets[place])
+    }
+
+    /// The atoms at item `q`, in their order.
+    pub fn atoms_at(&self, q: u32) -> Result<SetList, AllocError>
+        requires { q < self.now.item_count }
+        ensures { IfOk result (λ atoms. atoms ≡ atoms_at (family self.now) q) }
+    {
+        let mut atoms = SetList::new(self.alloc);
+        for set in &self.sets {
+            if is_atom_at(&self.sets, q, *set) {
+                atoms.push(*set)?;
+            }
+        }
+        Ok(atoms)
+    }
+}
+
+impl Inside for Base {
+    ghost use Rattle.ls_base.specs.Bases.{family};
+    ghost use Rattle.ls_laws.proofs.Families.{spanned-IsFamily};
+
+    ghost item_count = { λ b. b.item_count };
+
+    ghost members = { family };
+
+    ghost is_family = { λ b. spanned-IsFamily b.item_count b.sets };
+
+    fn items(&self) -> u32 {
+        self.n
+    }
+
+    fn inside(&self, s: ItemSet) -> ItemSet {
+        union_within(&self.sets, s)
+    }
+}

@@ -1,0 +1,17 @@
+//! Bases of knowledge spaces: the atoms, of which each state is a union, and what a Yes answer makes of them.
+#![tactic(auto)]
+
+mod atoms;
+mod base;
+mod fault;
+mod followed;
+mod reduction;
+mod spanning;
+mod within;
+
+pub use base::{Base, MOST_BASE_SETS};
+pub use fault::{BaseFault, PastFault};
+pub use followed::Followed;
+
+#[cfg(test)]
+mod tests;
