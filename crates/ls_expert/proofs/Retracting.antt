@@ -1,24 +1,28 @@
 -- What an interview keeps when it takes an answer back.
-use Rattle.std.proofs.Common.{ℕ, ◌≤◌, ◌<◌, ◌≡◌, ◌⊎◌, inl, inr, Bool, true, false, cond, not, ◌&&◌, eqb, ltb, length, List, [], ◌∷◌, map, filter, find, count_by, remove, Some, None, refl, sym, ap, ap₂, ◌∙◌, subst, arith, eq-eqb, ne_eqb, lt-ltb, le-ltb}
+use Rattle.std.proofs.Common.{ℕ, suc, ◌+◌, ◌*◌, ◌≤◌, ◌<◌, ◌≡◌, ◌⊎◌, inl, inr, Bool, true, false, cond, not, ◌&&◌, eqb, ltb, length, List, [], ◌∷◌, map, filter, find, count_by, remove, Some, None, refl, sym, ap, ap₂, ◌∙◌, subst, arith, eq-eqb, ne_eqb, lt-ltb, le-ltb}
 use Rattle.std.specs.List.{AllByRecursion, IsDistinct, list_all}
 use Rattle.std.proofs.Math.Bool.{and_assoc, and_comm}
 use Rattle.std.proofs.lemmas.Bool.{cases_Bool, cases_eq, cases_lt, and_parts, and_from}
+use Rattle.std.proofs.lemmas.List.{length-map}
 use Rattle.std.proofs.lemmas.List.Sums.{length-filter, count_by-le-length}
-use Rattle.ls_set.specs.ItemSet.{Items, subsets}
+use Rattle.ls_set.specs.ItemSet.{Items, full, is_within, subsets}
 use Rattle.ls_set.specs.Query.{is_good}
 use Rattle.ls_set.specs.declared.query.Query.{Query}
 use Rattle.ls_theory.specs.declared.answer.Answer.{Answer}
 use Rattle.ls_theory.specs.declared.no.No.{No}
 use Rattle.ls_theory.specs.Interviews.{Interview, retracted, yes_queries, nos}
-use Rattle.ls_theory.specs.Queries.{breaks, breaks_none}
+use Rattle.ls_theory.specs.Queries.{blocks, breaks, breaks_none}
+use Rattle.ls_theory.specs.Families.{closure}
 use Rattle.ls_theory.specs.Starts.{meets}
 use Rattle.ls_theory.specs.Compatible.{is_compatible, compat, compatible_sets}
 use Rattle.ls_laws.specs.Spans.{left_by}
 use Rattle.ls_laws.proofs.Lists.{filter-both, filter-same}
 use Rattle.ls_laws.proofs.Accepting.{taken_out}
 use Rattle.ls_query.specs.Blocks.{BlockRange}
-use Rattle.ls_infer.specs.Tables.{TableState, table_of}
-use Rattle.ls_expert.specs.Answers.{answer_with, is_same_query}
+use Rattle.ls_infer.specs.Tables.{TableState, standing, table_of}
+use Rattle.ls_base.specs.Followed.{IsFollowed}
+use Rattle.ls_base.specs.declared.followed.Followed.{Followed}
+use Rattle.ls_expert.specs.Answers.{answer_with, is_same_query, closures_over}
 use Rattle.ls_expert.specs.Held.{blocks_of, closures_of, IsHeld}
 use Rattle.ls_laws.proofs.Numbered.{IsRising, rising-from, retracted-numbered}
 
@@ -169,6 +173,40 @@ distinct-fewer p (x ∷ answers) d = elim (p x) as (λ b. IsDistinct is_same_que
 length-fewer : (p : Answer → Bool) (answers : List Answer) → length (filter p answers) ≤ length answers
 length-fewer p answers = omega (arith, length-filter p answers, count_by-le-length p answers)
 
+-- each Yes is an answer
+pub good-yeses : (q : Query → Bool) (answers : List Answer) → list_all (λ a. q a.query) answers ≡ true → list_all q (yes_queries answers) ≡ true
+good-yeses q [] h = refl
+good-yeses q (x ∷ xs) h =
+    let b = and_parts (q x.query) (list_all (λ a. q a.query) xs) h in
+    elim x.yes as (λ k. list_all q (map (λ a. a.query) (cond k (x ∷ filter (λ a. a.yes) xs) (filter (λ a. a.yes) xs))) ≡ true) [
+      | true ↦ and_from (q x.query) (list_all q (yes_queries xs)) b.0 (good-yeses q xs b.1)
+      | false ↦ good-yeses q xs b.1
+    ]
+
+pub good-others : (q : Query → Bool) (m : ℕ) (answers : List Answer) → list_all (λ a. q a.query) answers ≡ true → list_all q (yes_queries (filter (is_other m) answers)) ≡ true
+good-others q m answers h = good-yeses q (filter (is_other m) answers) (all-fewer (λ a. q a.query) (is_other m) answers h)
+
+-- ---- interiors
+
+filter-images : {X Y : Type 0} (p : Y → Bool) (g : X → Y) (xs : List X) → length (filter p (map g xs)) ≡ length (filter (λ x. p (g x)) xs)
+filter-images p g [] = refl
+filter-images p g (x ∷ xs) = elim (p (g x)) as (λ b. length (cond b (g x ∷ filter p (map g xs)) (filter p (map g xs))) ≡ length (cond b (x ∷ filter (λ x. p (g x)) xs) (filter (λ x. p (g x)) xs))) [
+  | true ↦ ap suc (filter-images p g xs)
+  | false ↦ filter-images p g xs
+]
+
+-- what a change costs, told by a table
+pub steps-over : (i : Interview) (t : TableState) (a : Items) → t ≡ closures_of i
+    → count_by (λ c. is_within a c) t.closures + (t.blocks.item_count + 1) * length t.standing ≡ closures_over i a + (i.count + 1) * length (nos i.answers)
+steps-over i t a h =
+    let close = closure (full i.count) (compatible_sets i) in
+    ap (λ (u : TableState). count_by (λ c. is_within a c) u.closures + (u.blocks.item_count + 1) * length u.standing) h
+    ∙ ap₂ (λ m k. m + (i.count + 1) * k)
+    (sym (length-filter (λ c. is_within a c) (map close (blocks i.count i.block))) ∙ filter-images (λ c. is_within a c) close (blocks i.count i.block) ∙ length-filter (λ b. is_within a (close b)) (blocks i.count i.block))
+    (length-map (nos i.answers) (standing i.count (compatible_sets i)))
+
+-- ---- lists
+
 -- the other Nos
 nos-others : (m : ℕ) (answers : List Answer) → filter (λ x. not (eqb x.number m)) (nos answers) ≡ nos (filter (is_other m) answers)
 nos-others m [] = refl
@@ -191,7 +229,7 @@ holds q p (x ∷ xs) a h e =
       | false ↦ λ e. holds q p xs a b.1 e
     ] e
 
-module _ (i : Interview) (a : Answer) (rules : List Query) (t new : TableState) (h : IsHeld i rules t) (stands : answer_with i a.number ≡ Some a) where
+module _ (i : Interview) (a : Answer) (rules : List Query) (t new : TableState) (f : Followed) (h : IsHeld i rules t f) (stands : answer_with i a.number ≡ Some a) where
   abbrev after : Interview
   after = retracted i a.number
 
@@ -199,8 +237,9 @@ module _ (i : Interview) (a : Answer) (rules : List Query) (t new : TableState) 
   rising = rising-from (map (λ x. x.number) i.answers) h.standing.numbered.in_order
 
   -- an answer is taken back
-  back : (others : List Query) → others ≡ yes_queries after.answers → new ≡ closures_of after → IsHeld after others new
-  back others ruled tabled = record {
+  back : (others : List Query) (x : Followed) → others ≡ yes_queries after.answers → new ≡ closures_of after → IsFollowed i.count i.start (yes_queries after.answers) x → IsHeld after others new x
+  back others x ruled tabled based = record {
+    based = based;
     some_items = h.some_items;
     few_items = h.few_items;
     ruled = ruled;
@@ -236,26 +275,27 @@ module _ (i : Interview) (a : Answer) (rules : List Query) (t new : TableState) 
       ∙ sym (and_assoc (meets i.start k) (breaks_none (yes_queries after.answers) k) (not (breaks k a.query))))
       ∙ sym (filter-both (is_compatible i.start (yes_queries after.answers)) (λ k. not (breaks k a.query)) (subsets i.count))
 
-  pub held-without_yes : (others : List Query) (c : ℕ) (f : List Items) → a.yes ≡ true → c ≡ count_by (λ x. x.yes && ltb x.number a.number) i.answers → others ≡ remove rules c → f ≡ compat i.count i.start others
-      → ((ns : List No) → t ≡ table_of t.blocks (left_by a.query f) ns → new ≡ table_of t.blocks f ns) → IsHeld after others new
-  held-without_yes others c f y e removed family kept =
+  pub held-without_yes : (others : List Query) (c : ℕ) (k : List Items) (x : Followed) → a.yes ≡ true → c ≡ count_by (λ x. x.yes && ltb x.number a.number) i.answers → others ≡ remove rules c → k ≡ compat i.count i.start others
+      → ((ns : List No) → t ≡ table_of t.blocks (left_by a.query k) ns → new ≡ table_of t.blocks k ns) → IsFollowed i.count i.start (yes_queries after.answers) x → IsHeld after others new x
+  held-without_yes others c k x y e removed family kept based =
       let ruled : others ≡ yes_queries after.answers =
-      removed ∙ ap₂ (λ (l : List Query) (k : ℕ). remove l k) h.ruled (e ∙ sym (length-filter (λ (x : Answer). x.yes && ltb x.number a.number) i.answers))
+      removed ∙ ap₂ (λ (l : List Query) (m : ℕ). remove l m) h.ruled (e ∙ sym (length-filter (λ (x : Answer). x.yes && ltb x.number a.number) i.answers))
       ∙ sym (told-without (λ x. x.yes) (λ x. x.query) a.number a i.answers rising stands y) in
-      let left : f ≡ compatible_sets after = family ∙ ap (compat i.count i.start) ruled in
+      let left : k ≡ compatible_sets after = family ∙ ap (compat i.count i.start) ruled in
       let blocks = ap (λ (s : TableState). s.blocks) h.tabled in
-      back others ruled
-      (kept (nos i.answers) (h.tabled ∙ ap₂ (λ (b : BlockRange) (k : List Items). table_of b k (nos i.answers)) (sym blocks) (left-before y ∙ ap (left_by a.query) (sym left)))
-      ∙ ap₂ (λ (b : BlockRange) (k : List Items). table_of b k (nos i.answers)) blocks left
-      ∙ ap (λ (l : List No). table_of (blocks_of i) (compatible_sets after) l) (sym (told-same (λ x. not x.yes) (λ x. record { number = x.number; query = x.query }) a.number a i.answers rising stands (ap not y))))
+      back others x ruled
+      (kept (nos i.answers) (h.tabled ∙ ap₂ (λ (b : BlockRange) (m : List Items). table_of b m (nos i.answers)) (sym blocks) (left-before y ∙ ap (left_by a.query) (sym left)))
+      ∙ ap₂ (λ (b : BlockRange) (m : List Items). table_of b m (nos i.answers)) blocks left
+      ∙ ap (λ (l : List No). table_of (blocks_of i) (compatible_sets after) l) (sym (told-same (λ x. not x.yes) (λ x. record { number = x.number; query = x.query }) a.number a i.answers rising stands (ap not y)))) based
 
   -- ---- a No
 
-  pub held-without_no : a.yes ≡ false → ((g : List Items) (ns : List No) → t ≡ table_of t.blocks g ns → new ≡ table_of t.blocks g (filter (λ x. not (eqb x.number a.number)) ns)) → IsHeld after rules new
+  pub held-without_no : a.yes ≡ false → ((g : List Items) (ns : List No) → t ≡ table_of t.blocks g ns → new ≡ table_of t.blocks g (filter (λ x. not (eqb x.number a.number)) ns)) → IsHeld after rules new f
   held-without_no n kept =
       let same : yes_queries after.answers ≡ yes_queries i.answers = told-same (λ x. x.yes) (λ x. x.query) a.number a i.answers rising stands n in
       let blocks = ap (λ (s : TableState). s.blocks) h.tabled in
-      back rules (h.ruled ∙ sym same)
+      back rules f (h.ruled ∙ sym same)
       (kept (compatible_sets i) (nos i.answers) (h.tabled ∙ ap (λ (b : BlockRange). table_of b (compatible_sets i) (nos i.answers)) (sym blocks))
       ∙ ap (λ (b : BlockRange). table_of b (compatible_sets i) (filter (λ x. not (eqb x.number a.number)) (nos i.answers))) blocks
       ∙ ap₂ (λ (k : List Items) (l : List No). table_of (blocks_of i) k l) (ap (compat i.count i.start) (sym same)) (nos-others a.number i.answers))
+      (subst (λ (rs : List Query). IsFollowed i.count i.start rs f) (sym same) h.based)

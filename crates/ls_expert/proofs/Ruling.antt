@@ -1,5 +1,5 @@
 -- The compatible sets as a family with rules, and the lists of an interview's answers.
-use Rattle.std.proofs.Common.{ℕ, ◌≡◌, inl, inr, Bool, true, false, cond, not, ◌&&◌, List, [], ◌∷◌, map, filter, find, Option, Some, None, IfSome, is_some, Result, Ok, Err, IfOk, refl, sym, ap, ◌∙◌, true≢false}
+use Rattle.std.proofs.Common.{ℕ, ◌≡◌, inl, inr, Bool, true, false, cond, not, ◌&&◌, List, [], ◌∷◌, map, filter, find, Option, Some, None, IfSome, is_some, Result, Ok, Err, IfOk, refl, sym, ap, ◌∙◌, subst, true≢false}
 use Rattle.std.specs.List.{list_all}
 use Rattle.std.proofs.lemmas.Bool.{and_from, and_parts, false_from_ne_true}
 use Rattle.ls_set.specs.ItemSet.{Items, full, is_within, subsets, IsWithin}
@@ -17,6 +17,7 @@ use Rattle.ls_theory.specs.Fitting.{spaces_of}
 use Rattle.ls_theory.specs.Forced.{is_open, next_question, is_settled}
 use Rattle.ls_theory.specs.Pages.{comes_after}
 use Rattle.ls_theory.specs.Families.{interior}
+use Rattle.ls_theory.specs.Bases.{base}
 use Rattle.ls_laws.proofs.Lists.{filter-both, filter-same}
 use Rattle.ls_laws.proofs.Interiors.{interior-member}
 use Rattle.ls_laws.proofs.Breaks.{good-to}
@@ -26,6 +27,8 @@ use Rattle.ls_query.proofs.Sorted.{IsIn, filter-in}
 use Rattle.ls_query.proofs.QuerySets.{queries-in}
 use Rattle.ls_query.specs.Blocks.{BlockRange}
 use Rattle.ls_infer.specs.Tables.{TableState, table_of}
+use Rattle.ls_base.specs.Followed.{IsFollowed}
+use Rattle.ls_base.specs.declared.followed.Followed.{Followed}
 use Rattle.ls_expert.specs.declared.start.Start.{Start}
 use Rattle.ls_expert.specs.declared.start.Start.TheVariants.{Free}
 use Rattle.ls_expert.specs.Starts.{start_of}
@@ -38,10 +41,23 @@ ruled-compat n start yeses =
     filter-both (is_compatible start []) (breaks_none yeses) (subsets n)
     ∙ filter-same (λ k. is_compatible start [] k && breaks_none yeses k) (is_compatible start yeses) (subsets n) (λ k. ap (λ b. b && breaks_none yeses k) (and-true (meets start k)))
 
+all_pass : (f : List Items) → filter (λ k. true && true) f ≡ f
+all_pass [] = refl
+all_pass (k ∷ f) = ap (λ l. k ∷ l) (all_pass f)
+
 -- every set of the items meets the free start
 pub start-inside : (start : Start) (n : ℕ) (s : Items) → IsWithin s (full n) → s ≡ interior (compat n (start_of start) []) s
 start-inside Free n s w =
     sym (interior-member (compat n theory.Free []) s (among-compat n theory.Free [] s ∙ and_from (is_within s (full n)) true (is_within-from s (full n) w) refl))
+
+-- the base of all sets is that of the free start
+pub start-base : (start : Start) (n : ℕ) → base (subsets n) ≡ base (compat n (start_of start) [])
+unfolding compat
+start-base Free n = ap base (sym (all_pass (subsets n)))
+
+-- what is followed of the start's base, told by equal parts
+pub followed-by : (n m : ℕ) (s t : theory.Start) (rs qs : List Query) (f : Followed) → n ≡ m → s ≡ t → rs ≡ qs → IsFollowed n s rs f → IsFollowed m t qs f
+followed-by n m s t rs qs f en es eq h = subst (λ k. IsFollowed k t qs f) en (subst (λ (u : theory.Start). IsFollowed n u qs f) es (subst (λ (l : List Query). IsFollowed n s l f) eq h))
 
 -- a table of the interview, told by its own blocks
 pub own_blocks : (i : Interview) (t : TableState) → t ≡ closures_of i → t ≡ table_of t.blocks (compatible_sets i) (nos i.answers)

@@ -26,6 +26,10 @@ use Rattle.ls_query.specs.Blocks.{BlockRange}
 use Rattle.ls_laws.proofs.Answering.{not_both}
 use Rattle.ls_laws.proofs.Numbered.{accepted-numbered}
 use Rattle.ls_infer.specs.Tables.{TableState, table_of}
+use Rattle.ls_theory.specs.Starts.{Start}
+use Rattle.ls_base.specs.Followed.{IsFollowed, IsAskable}
+use Rattle.ls_base.specs.declared.followed.Followed.{Followed}
+use Rattle.ls_base.specs.declared.followed.Followed.TheVariants.{Within, Past}
 use Rattle.ls_expert.specs.declared.interview.TheConstants.{MOST_ANSWERS, MOST_NUMBER}
 use Rattle.ls_expert.specs.declared.answer_fault.AnswerFault.{AnswerFault}
 use Rattle.ls_expert.specs.declared.answer_fault.AnswerFault.TheVariants.{BadQuery, Repeat, Full}
@@ -149,11 +153,12 @@ room_left : (i : Interview) → is_full i ≡ false → (length i.answers < MOST
 room_left i e = grind (arith, nat_tests)
 
 -- an answer is taken
-taken : (i : Interview) (r : Query) (is_yes : Bool) (rules after : List Query) (t new : TableState) → IsHeld i rules t → Passes i r is_yes → IsSound (accepted i r is_yes)
-    → after ≡ yes_queries (accepted i r is_yes).answers → new ≡ closures_of (accepted i r is_yes) → IsHeld (accepted i r is_yes) after new
-taken i r is_yes rules after t new h p sound ruled tabled =
+taken : (i : Interview) (r : Query) (is_yes : Bool) (rules after : List Query) (t new : TableState) (f g : Followed) → IsHeld i rules t f → Passes i r is_yes → IsSound (accepted i r is_yes)
+    → after ≡ yes_queries (accepted i r is_yes).answers → new ≡ closures_of (accepted i r is_yes) → IsFollowed i.count i.start (yes_queries (accepted i r is_yes).answers) g → IsHeld (accepted i r is_yes) after new g
+taken i r is_yes rules after t new f g h p sound ruled tabled based =
     let room = room_left i p.room in
     record {
+      based = based;
       some_items = h.some_items;
       few_items = h.few_items;
       ruled = ruled;
@@ -169,17 +174,27 @@ taken i r is_yes rules after t new h p sound ruled tabled =
       };
     }
 
-module _ (i : Interview) (r : Query) (rules : List Query) (t new : TableState) (h : IsHeld i rules t) where
-  pub held-yes : (after : List Query) → refusal i r true ≡ None → after ≡ rules ++ r ∷ [] → new ≡ closures_of (accepted i r true) → IsHeld (accepted i r true) after new
-  held-yes after e ruled tabled =
-      let p = passes-from i r true e in
-      taken i r true rules after t new h p (yes_added i r h.standing.sound p.good (free-yes i r h.standing.sound.some_fits p.unopposed))
-      (ruled ∙ ap (λ l. l ++ r ∷ []) h.ruled ∙ sym (yes_queries-yes i r)) tabled
+-- a good query can be asked of what is followed
+askable-from : (n : ℕ) (start : Start) (yeses : List Query) (f : Followed) (r : Query) → IsFollowed n start yeses f → is_good n r ≡ true → IsAskable f r
+askable-from n start yeses (Within b) r h good = ap (λ m. is_good m r) h.items ∙ good
+askable-from n start yeses (Past position count) r h good = tt
 
-  pub held-no : refusal i r false ≡ None → new ≡ closures_of (accepted i r false) → IsHeld (accepted i r false) rules new
+module _ (i : Interview) (r : Query) (rules : List Query) (t new : TableState) (f : Followed) (h : IsHeld i rules t f) where
+  pub askable-yes : refusal i r true ≡ None → IsAskable f r
+  askable-yes e = askable-from i.count i.start (yes_queries i.answers) f r h.based (passes-from i r true e).good
+
+  pub held-yes : (after : List Query) (g : Followed) → refusal i r true ≡ None → after ≡ rules ++ r ∷ [] → new ≡ closures_of (accepted i r true) → IsFollowed i.count i.start (yes_queries i.answers ++ r ∷ []) g → IsHeld (accepted i r true) after new g
+  held-yes after g e ruled tabled based =
+      let p = passes-from i r true e in
+      taken i r true rules after t new f g h p (yes_added i r h.standing.sound p.good (free-yes i r h.standing.sound.some_fits p.unopposed))
+      (ruled ∙ ap (λ l. l ++ r ∷ []) h.ruled ∙ sym (yes_queries-yes i r)) tabled
+      (subst (λ (rs : List Query). IsFollowed i.count i.start rs g) (sym (yes_queries-yes i r)) based)
+
+  pub held-no : refusal i r false ≡ None → new ≡ closures_of (accepted i r false) → IsHeld (accepted i r false) rules new f
   held-no e tabled =
       let p = passes-from i r false e in
-      taken i r false rules rules t new h p (no_added i r h.standing.sound p.good (free-no i r p.unopposed)) (h.ruled ∙ sym (yes_queries-no i r)) tabled
+      taken i r false rules rules t new f f h p (no_added i r h.standing.sound p.good (free-no i r p.unopposed)) (h.ruled ∙ sym (yes_queries-no i r)) tabled
+      (subst (λ (rs : List Query). IsFollowed i.count i.start rs f) (sym (yes_queries-no i r)) h.based)
 
 -- ---- tables
 

@@ -10,6 +10,8 @@ use Rattle.ls_theory.specs.Compatible.{compatible_sets}
 use Rattle.ls_laws.specs.Forced.{IsSound, IsNumbered}
 use Rattle.ls_query.specs.Blocks.{BlockRange}
 use Rattle.ls_infer.specs.Tables.{TableState, table_of}
+use Rattle.ls_base.specs.Followed.{IsFollowed}
+use Rattle.ls_base.specs.declared.followed.Followed.{Followed}
 use Rattle.ls_expert.specs.declared.interview.TheConstants.{MOST_ANSWERS, MOST_NUMBER}
 use Rattle.ls_expert.specs.Starts.{StartOn}
 use Rattle.ls_expert.specs.Answers.{is_same_query}
@@ -37,10 +39,11 @@ pub record IsStanding (i : Interview) : Type 0 where
   pub some_number : 0 < i.next
   pub numbers_left : i.next ≤ MOST_NUMBER + 1
 
--- The answers stand, the rules are the Yes answers, and the table is that of what stands.
-pub record IsHeld (i : Interview) (rules : List Query) (table : TableState) : Type 0 where
+-- The answers stand, the rules are the Yes answers, the table is that of what stands, and the base is followed over the Yes answers.
+pub record IsHeld (i : Interview) (rules : List Query) (table : TableState) (followed : Followed) : Type 0 where
   pub some_items : 0 < i.count
   pub few_items : i.count ≤ PLACES
   pub ruled : rules ≡ yes_queries i.answers
   pub tabled : table ≡ closures_of i
   pub standing : IsStanding i
+  pub based : IsFollowed i.count i.start (yes_queries i.answers) followed

@@ -1,6 +1,6 @@
 // Lists of answers.
 ghost use Rattle.std.specs.Prelude.{◌≡◌, ◌+◌, ◌<◌, ◌≤◌, ◌++◌, ◌∷◌, [], ◌&&◌, ◌==◌, not, nat_lt, filter, find, count_by, vec_len, vec_capacity, IfOk, IfSome};
-ghost use Rattle.ls_theory.specs.Interviews.{nos};
+ghost use Rattle.ls_theory.specs.Interviews.{nos, yes_queries};
 ghost use Rattle.ls_expert.specs.Answers.{opposed};
 
 use crate::answer_fault::AnswerFault;
@@ -20,6 +20,22 @@ pub fn nos(alloc: Global, answers: &[Answer]) -> Result<Vec<No>, AllocError>
             number: a.number,
             query: a.query,
         })
+        .collect(alloc)
+}
+
+/// The queries that were answered Yes but for the answer with the number.
+pub fn yes_others(
+    alloc: Global,
+    answers: &[Answer],
+    number: u64,
+) -> Result<Vec<Query>, AllocError>
+    ensures { IfOk result (λ v. v.items ≡ yes_queries (filter (λ a. not (a.number == number)) answers.now)) }
+{
+    answers
+        .iter()
+        .filter(|a| a.number != number)
+        .filter(|a| a.yes)
+        .map(|a| a.query)
         .collect(alloc)
 }
 

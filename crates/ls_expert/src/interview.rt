@@ -11,14 +11,16 @@ ghost use Rattle.ls_theory.specs.Forced.{known, next_question, is_settled};
 ghost use Rattle.ls_query.specs.Blocks.{made};
 ghost use Rattle.ls_query.specs.declared.block_fault.BlockFault.TheVariants as block;
 ghost use Rattle.ls_infer.specs.Tables.{table_of};
+ghost use Rattle.ls_base.specs.Followed.{IsFollowed};
 ghost use Rattle.ls_expert.specs.Held.{blocks_of, IsStanding};
 ghost use Rattle.ls_expert.specs.Answers.{refusal, standing_number, answer_with, steps_back, opposed, is_full, IsFaultOf, IsBlockFault, most_steps};
 
 use crate::answer_fault::AnswerFault;
-use crate::answers::{answer_with, nos, opposed, put_last, rules_before, take_out};
+use crate::answers::{answer_with, nos, opposed, put_last, rules_before, take_out, yes_others};
 use crate::on_items::OnItems;
 use crate::retract_fault::RetractFault;
 use crate::start::Start;
+use ls_base::Followed;
 use ls_infer::Table;
 use ls_interior::{Counted, Inside, Steps};
 use ls_query::{BlockFault, Blocks};
@@ -51,6 +53,7 @@ pub struct Interview {
     next: u64,
     block: u32,
     table: Table,
+    followed: Followed,
 }
 
 impl Model for Interview {
@@ -61,7 +64,7 @@ impl Model for Interview {
 
     ghost view = { λ s. interview_of s.family.inner s.block s.answers.items s.next };
 
-    ghost invariant = { λ s. IsHeld (interview_of s.family.inner s.block s.answers.items s.next) s.family.rules s.table.table };
+    ghost invariant = { λ s. IsHeld (interview_of s.family.inner s.block s.answers.items s.next) s.family.rules s.table.table s.followed };
 }
 
 // The table of a family with rules, for the answers that are No.
@@ -99,6 +102,7 @@ impl Interview {
         let answers = Vec::new(alloc);
         let blocks = Blocks::new(n, 1).unwrap();
         let table = build(alloc, blocks, &family, &answers, steps)?;
+        let followed = Followed::begin(family.inner().base(alloc)?);
         Ok(Interview {
             alloc,
             family,
@@ -106,6 +110,7 @@ impl Interview {
             next: 1,
             block: 1,
             table,
+            followed,
         })
     }
 
@@ -208,6 +213,9 @@ impl Interview {
     {
         self.answers.reserve(1)?;
         self.family.reserve()?;
+        let position = self.family.rules().len() + 1;
+        let followed = self.followed.after_yes(position, query)?;
+        self.followed = followed;
         self.family.push_reserved(*query);
         self.table.yes_added(&Counted::new(&self.family), query, steps);
         Ok(put_last(&mut self.answers, &mut self.next, query, true))
@@ -249,7 +257,7 @@ impl Interview {
             return Err(RetractFault::NotStanding);
         };
         if answer.yes {
-            self.take_back_yes(&answer, steps);
+            self.take_back_yes(&answer, steps)?;
         } else {
             self.take_back_no(&answer);
         }
@@ -257,17 +265,26 @@ impl Interview {
     }
 
     // Takes back a Yes that stands.
-    fn take_back_yes<L: Ledger>(&mut self, answer: &Answer, steps: &mut Steps<L>)
+    fn take_back_yes<L: Ledger>(
+        &mut self,
+        answer: &Answer,
+        steps: &mut Steps<L>,
+    ) -> Result<(), AllocError>
         requires stands { answer_with self.old answer.now.number ≡ Some answer.now }
         requires yes { answer.now.yes ≡ true }
-        ensures ok { self.new ≡ retracted self.old answer.now.number }
+        ensures ok { OnOk result (self.new ≡ retracted self.old answer.now.number) }
+        ensures err { OnErr result (self.new ≡ self.old) }
         ensures cost { steps.new ≤ steps.old + steps_back self.old (Some answer.now) }
     {
+        let others = yes_others(self.alloc, &self.answers, answer.number)?;
+        let followed = Followed::over(self.family.inner().base(self.alloc)?, &others)?;
+        self.followed = followed;
         let rule = rules_before(&self.answers, answer.number);
         self.family.remove(rule);
         self.table
             .yes_removed(&Counted::new(&self.family), &answer.query, steps);
         take_out(&mut self.answers, answer.number);
+        Ok(())
     }
 
     // Takes back a No that stands.
@@ -364,5 +381,13 @@ impl Interview {
         ensures members { filter (breaks_none result.now.rules) (compat result.now.inner.item_count result.now.inner.start []) ≡ compatible_sets self.now }
     {
         &self.family
+    }
+
+    /// The base of the compatible sets; or, where it had too many sets under the first Yes answers, the
+    /// least number of these with which it had, and its size then. It takes no memory.
+    pub fn base(&self) -> &Followed
+        ensures { IsFollowed self.now.count self.now.start (yes_queries self.now.answers) result.now }
+    {
+        &self.followed
     }
 }

@@ -1,9 +1,13 @@
 // Starts with their items.
-ghost use Rattle.std.specs.Prelude.{◌≡◌, ◌≤◌};
+ghost use Rattle.std.specs.Prelude.{◌≡◌, ◌≤◌, [], IfOk};
+ghost use Rattle.ls_theory.specs.Compatible.{compat};
+ghost use Rattle.ls_theory.specs.Bases.{base};
 
 use crate::start::Start;
+use ls_base::Base;
 use ls_interior::Inside;
 use ls_set::{ItemSet, PLACES};
+use std::alloc::{AllocError, Global};
 use std::marker::Model;
 
 /// A start with its number of items. It is the family of the sets that meet the start.
@@ -37,6 +41,14 @@ impl OnItems {
         OnItems { n, start }
     }
 
+    /// The base of the family.
+    pub fn base(&self, alloc: Global) -> Result<Base, AllocError>
+        ensures items { IfOk result (λ b. b.item_count ≡ self.now.item_count) }
+        ensures sets { IfOk result (λ b. b.sets ≡ base (compat self.now.item_count self.now.start [])) }
+    {
+        self.start.base(alloc, self.n)
+    }
+
     /// The start.
     pub fn start(&self) -> &Start
         ensures { start_of result.now ≡ self.now.start }
@@ -46,8 +58,6 @@ impl OnItems {
 }
 
 impl Inside for OnItems {
-    ghost use Rattle.std.specs.Prelude.{[]};
-    ghost use Rattle.ls_theory.specs.Compatible.{compat};
     ghost use Rattle.ls_laws.proofs.Families.{compat-IsFamily};
 
     ghost item_count = { λ s. s.item_count };

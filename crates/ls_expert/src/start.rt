@@ -1,10 +1,13 @@
 // Starts of interviews.
-ghost use Rattle.std.specs.Prelude.{◌≡◌, []};
+ghost use Rattle.std.specs.Prelude.{◌≡◌, ◌≤◌, [], IfOk};
 ghost use Rattle.ls_set.specs.ItemSet.{full, IsWithin};
 ghost use Rattle.ls_theory.specs.Families.{interior};
 ghost use Rattle.ls_theory.specs.Compatible.{compat};
+ghost use Rattle.ls_theory.specs.Bases.{base};
 
-use ls_set::ItemSet;
+use ls_base::Base;
+use ls_set::{ItemSet, PLACES};
+use std::alloc::{AllocError, Global};
 
 /// Which sets an interview begins with: all of them.
 #[derive(Debug, Drop)]
@@ -22,6 +25,17 @@ impl Start {
     {
         match self {
             Start::Free => s,
+        }
+    }
+
+    // The base of the sets of `n` items that meet the start.
+    pub fn base(&self, alloc: Global, n: u32) -> Result<Base, AllocError>
+        requires { n ≤ PLACES }
+        ensures items { IfOk result (λ b. b.item_count ≡ n) }
+        ensures sets { IfOk result (λ b. b.sets ≡ base (compat n (start_of self.now) [])) }
+    {
+        match self {
+            Start::Free => Base::singletons(alloc, n),
         }
     }
 }

@@ -10,5 +10,5 @@ invariant_of-self c =
     let i = interview_of c.self.inside.family.inner c.self.inside.block c.self.inside.answers.items c.self.inside.next in
     let a = c.args.answer.now in
     rw c.take_out.ensures
-    (held-without_no i a c.self.inside.family.rules c.self.inside.table.table c.no_removed.new.self.table c.self.invariant
+    (held-without_no i a c.self.inside.family.rules c.self.inside.table.table c.no_removed.new.self.table c.self.inside.followed c.self.invariant
     (ap (λ (j : Interview). answer_with j a.number) c.self.view_is ∙ c.requires.stands) c.requires.no c.no_removed.ensures.kept)

@@ -1,6 +1,6 @@
-use Rattle.std.proofs.Common.{◌≡◌, ◌∷◌, ◌++◌, [], List, true, ap, ap₂, ◌∙◌}
+use Rattle.std.proofs.Common.{◌≡◌, ◌∷◌, ◌++◌, ◌+◌, [], length, List, true, ap, ap₂, ◌∙◌}
 use Rattle.ls_set.specs.declared.query.Query.{Query}
-use Rattle.ls_theory.specs.Interviews.{Interview}
+use Rattle.ls_theory.specs.Interviews.{Interview, yes_queries}
 use Rattle.ls_theory.specs.Compatible.{compat}
 use Rattle.ls_expert.specs.Starts.{StartOn}
 use Rattle.ls_expert.specs.Answers.{refusal}
@@ -20,7 +20,8 @@ invariant_of-self-2 g c =
     let family =
     ruled-compat c.push_reserved.new.self.inner.item_count c.push_reserved.new.self.inner.start c.push_reserved.new.self.rules
     ∙ ap₂ (λ (u : StartOn) (l : List Query). compat u.item_count u.start l) inner (ruled ∙ ap (λ (l : List Query). l ++ r ∷ []) h.ruled) in
-    let held = held-yes i r c.self.inside.family.rules c.self.inside.table.table c.yes_added.new.self.table h c.push_reserved.new.self.rules
+    let held = held-yes i r c.self.inside.family.rules c.self.inside.table.table c.yes_added.new.self.table c.self.inside.followed h c.push_reserved.new.self.rules _
     (ap (λ (j : Interview). refusal j r true) c.self.view_is ∙ c.requires) ruled
-    (tabled-yes i r c.self.inside.table.table c.yes_added.new.self.table _ h.tabled (rw c.new.ensures family) c.yes_added.ensures.kept) in
+    (tabled-yes i r c.self.inside.table.table c.yes_added.new.self.table _ h.tabled (rw c.new.ensures family) c.yes_added.ensures.kept)
+    (c.in_ok-followed.ensures.followed s.item_count s.start (yes_queries i.answers) h.based (ap (λ (l : List Query). length l + 1) (c.rules.ensures ∙ c.reserve-2.ensures.rules ∙ h.ruled))) in
     rw (c.put_last.ensures.last, c.put_last.ensures.next, c.reserve.ensures.items, inner) held
