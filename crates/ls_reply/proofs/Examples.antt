@@ -7,6 +7,7 @@ use Rattle.ls_set.specs.Cursor.{cursor, cursor_set, read_cursor}
 use Rattle.ls_theory.specs.Compatible.{compat}
 use Rattle.ls_theory.specs.Queries.{blocks, block_before, query_before, queries}
 use Rattle.ls_theory.specs.Families.{families}
+use Rattle.ls_theory.specs.Bases.{base, peak}
 use Rattle.ls_theory.specs.Fitting.{fitting_spaces}
 use Rattle.ls_theory.specs.declared.known.Known.{Known}
 use Rattle.ls_theory.specs.Forced.{known, next_question}
@@ -29,7 +30,7 @@ use Rattle.ls_reply.specs.Transcripts.{replies, refuses, transcript, is_some_ref
 
 -- an example that opens this opens each word
 unfoldable answering : ℕ
-unfolding digits has empty full with union meet single differing is_within is_same bound items least comes_before cursor cursor_set read_cursor compat lines words is_of spelling parts command forms cut is_begun command_of fault_place line_of bytes_of names_of_set names_from row line_answer replies refuses is_too_wide made blocks len families fitting_spaces known next_question queries query_before block_before
+unfolding digits has empty full with union meet single differing is_within is_same bound items least comes_before cursor cursor_set read_cursor compat lines words is_of spelling parts command forms cut is_begun command_of fault_place line_of bytes_of names_of_set names_from row line_answer replies refuses is_too_wide made blocks len families fitting_spaces known next_question queries query_before block_before base peak
 answering = 0
 
 -- three items, the answer that who fails a fails b, and the six states that it leaves
@@ -41,11 +42,11 @@ not_refused : is_some_refused map.empty (codes "items a b c\nyes a : b\nstates\n
 unfolding answering
 not_refused = refl
 
-refused : transcript map.empty (codes "items a a\nitems a b\nitems c\nyes a : a\nyes z : a\nbase") ≡ codes "no 12 repeat 2 1\nok 2\nno 11\nno 18\nno 15 2\nno 49\n"
+refused : transcript map.empty (codes "items a a\nitems a b\nitems c\nyes a : a\nyes z : a\nsurmise") ≡ codes "no 12 repeat 2 1\nok 2\nno 11\nno 18\nno 15 2\nno 49\n"
 unfolding answering
 refused = refl
 
-some_refused : is_some_refused map.empty (codes "items a a\nitems a b\nitems c\nyes a : a\nyes z : a\nbase") ≡ true
+some_refused : is_some_refused map.empty (codes "items a a\nitems a b\nitems c\nyes a : a\nyes z : a\nsurmise") ≡ true
 unfolding answering
 some_refused = refl
 
@@ -54,6 +55,20 @@ interviewed : transcript map.empty (codes "ask\nitems a b\nask\nyes a : b\nyes a
     ≡ codes "no 15 0\nok 2\nask a : b\nok 1\nno 19 1\nno 19 1\nask b : a\nknown open\nok 2\nsettled\nknown no 2\nknown yes\nno 19 2\nno 19 1\nno 18\nno 15 2\nset c {a b}\nset 8 {a}\nset 0 {}\nmore no\n"
 unfolding answering
 interviewed = refl
+
+-- an answer is taken back, once; its number is not given again
+taken_back : transcript map.empty (codes "retract 1\nitems a b\nyes a : b\nretract 2\nretract 1\nretract 1\nyes b : a\nstates") ≡ codes "no 15 0\nok 2\nok 1\nno 23\nok 1\nno 23\nok 2\nset c {a b}\nset 4 {b}\nset 0 {}\nmore no\n"
+unfolding answering
+taken_back = refl
+
+-- the base of all sets, and after answers
+bases : transcript map.empty (codes "base\nitems a b\nbase\nyes a : b\nbase") ≡ codes "no 15 0\nok 2\nset 8 {a}\nset 4 {b}\nbase 2\nok 1\nset c {a b}\nset 8 {a}\nbase 2\n"
+unfolding answering
+bases = refl
+
+joined_base : transcript map.empty (codes "items a b c\nyes a b : c\nbase") ≡ codes "ok 3\nok 1\nset a {a c}\nset 8 {a}\nset 6 {b c}\nset 4 {b}\nbase 4\n"
+unfolding answering
+joined_base = refl
 
 -- one item: nothing is asked
 alone : transcript map.empty (codes "items a\nask") ≡ codes "ok 1\nsettled\n"
@@ -100,7 +115,7 @@ unfolding answering
 no_cursors = refl
 
 -- what isn't built yet comes before the domain
-not_built : transcript map.empty (codes "base\nitems a\nbase\npaths 1 after\nload-items a b") ≡ codes "no 49\nok 1\nno 49\nno 49\nno 10 3\n"
+not_built : transcript map.empty (codes "surmise\nitems a\nsurmise\npaths 1 after\nload-items a b") ≡ codes "no 49\nok 1\nno 49\nno 49\nno 10 3\n"
 unfolding answering
 not_built = refl
 

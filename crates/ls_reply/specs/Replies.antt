@@ -10,7 +10,7 @@ use Rattle.ls_reply.specs.Sessions.{Session, has_domain}
 use Rattle.ls_reply.specs.Scenes.{Files}
 use Rattle.ls_reply.specs.Meanings.{unnamed_places}
 use Rattle.ls_reply.specs.Refusals.{Refusal, Answer, Row, ◌otherwise◌, ◌before◌, outcome, refuse, faults, says}
-use Rattle.ls_reply.specs.Rows.{items_row, load_items_row, blocks_row, answer_row, known_row, ask_row, states_row, not_built_row}
+use Rattle.ls_reply.specs.Rows.{items_row, load_items_row, blocks_row, answer_row, retract_row, known_row, ask_row, states_row, base_row, not_built_row}
 
 -- the places at fault: 0 where no domain stands; otherwise those of the words that must name an item and don't
 abbrev pub unnamed_at : Session → Command → List ℕ
@@ -32,9 +32,11 @@ row s files (command.LoadItems file) = load_items_row s (files file)
 row s files (command.Blocks size) = within_domain s (command.Blocks size) (blocks_row s size)
 row s files (command.Yes names item) = within_domain s (command.Yes names item) (answer_row s true names item)
 row s files (command.No names item) = within_domain s (command.No names item) (answer_row s false names item)
+row s files (command.Retract number) = within_domain s (command.Retract number) (retract_row s number)
 row s files (command.Known names item) = within_domain s (command.Known names item) (known_row s names item)
 row s files command.Ask = within_domain s command.Ask (ask_row s)
 row s files (command.States count after) = within_domain s (command.States count after) (states_row s count after)
+row s files command.Base = within_domain s command.Base (base_row s)
 row s files c = not_built_row s
 
 abbrev pub command_answer : Session → Files → Command → Answer

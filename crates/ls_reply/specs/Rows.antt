@@ -1,18 +1,19 @@
 -- The row of each command: its refusals in their order, otherwise its answer.
-use Rattle.std.specs.Prelude.{ℕ, Bool, true, not, if◌then◌else◌, List, [], ◌∷◌, ◌++◌, map, length, Option, Some, None, Result, Ok, Err, codes, decimal}
+use Rattle.std.specs.Prelude.{ℕ, Bool, true, not, is_none, if◌then◌else◌, List, [], ◌∷◌, ◌++◌, map, length, Option, Some, None, Result, Ok, Err, codes, decimal}
 use Rattle.ls_set.specs.ItemSet.{Items, comes_before}
 use Rattle.ls_set.specs.Cursor.{cursor}
 use Rattle.ls_set.specs.Query.{is_good}
 use Rattle.ls_set.specs.declared.query.Query.{Query}
-use Rattle.ls_theory.specs.Interviews.{accepted}
+use Rattle.ls_theory.specs.Interviews.{accepted, retracted}
 use Rattle.ls_theory.specs.Queries.{blocks}
 use Rattle.ls_theory.specs.declared.known.Known.{Known}
 use Rattle.ls_theory.specs.Forced.{known, next_question}
+use Rattle.ls_theory.specs.Bases.{base, Peak, peak_of}
 use Rattle.ls_theory.specs.Pages.{Page, page}
 use Rattle.ls_query.specs.Blocks.{BlockRange, made}
 use Rattle.ls_query.specs.declared.block_fault.BlockFault.{BlockFault}
 use Rattle.ls_query.specs.declared.block_fault.BlockFault.TheVariants as block
-use Rattle.ls_expert.specs.Answers.{refusal}
+use Rattle.ls_expert.specs.Answers.{refusal, answer_with}
 use Rattle.ls_expert.specs.declared.answer_fault.AnswerFault.{AnswerFault}
 use Rattle.ls_expert.specs.declared.answer_fault.AnswerFault.TheVariants as answer
 use Rattle.ls_lines.specs.Lines.{Text}
@@ -123,6 +124,12 @@ question_words names (Some r) = codes "ask" ∷ joined_names names r.a ∷ codes
 abbrev pub ask_row : Session → Row
 ask_row s = [] otherwise says s (question_words s.names (next_question s.interview None) ∷ [])
 
+-- an answer is taken back
+abbrev pub retract_row : Session → ℕ → Row
+retract_row s number =
+    refuse 23 [] (is_none (answer_with s.interview number))
+    otherwise becomes (record s { interview = retracted s.interview number }) (decimal number ∷ [])
+
 -- ---- blocks
 
 -- what is wrong with blocks
@@ -144,6 +151,19 @@ blocks_row s size =
 -- the line of a set: its cursor and its names
 abbrev pub set_words : List Text → Items → List Text
 set_words names k = codes "set" ∷ cursor (length names) k ∷ set_text names k ∷ []
+
+-- the lines of a base, and how many sets it has
+abbrev pub base_lines : List Text → List Items → List (List Text)
+base_lines names sets = map (set_words names) sets ++ (codes "base" ∷ decimal (length sets) ∷ []) ∷ []
+
+-- where the base had too many sets, and how many
+abbrev pub peak_details : Option Peak → List (List Text)
+peak_details None = []
+peak_details (Some p) = (decimal p.position ∷ decimal p.count ∷ []) ∷ []
+
+-- the base of the states
+abbrev pub base_row : Session → Row
+base_row s = faults 25 (peak_details (peak_of s.interview)) otherwise says s (base_lines s.names (base (states s)))
 
 -- the lines of a page, and whether a further set follows
 abbrev pub page_lines : List Text → Page Items → List (List Text)
