@@ -4,6 +4,8 @@
 #[cfg(test)]
 mod files;
 #[cfg(test)]
+mod interviews;
+#[cfg(test)]
 mod plain_programs;
 #[cfg(test)]
 mod plain_pupils;

@@ -1,5 +1,5 @@
 // Scripts and their replies, line for line.
-use crate::trial::{PLAIN, Trial, run};
+use crate::trial::{PLAIN, Trial, assert_replies, run};
 use ls_shell::Status;
 use std::test::Fail;
 
@@ -13,7 +13,7 @@ const SCRIPTS: [(&str, &str, Status); 16] = [
     ),
     // Refusals, each with its cause.
     (
-        "items a a\nitems a b\nitems c\nyes a : a\nyes : b\nyes z : a\nyes a : z\nknown a : b\n",
+        "items a a\nitems a b\nitems c\nyes a : a\nyes : b\nyes z : a\nyes a : z\nsurmise\n",
         "no 12 repeat 2 1\nok 2\nno 11\nno 18\nno 18\nno 15 2\nno 15 4\nno 49\n",
         Status::Refused,
     ),
@@ -35,7 +35,7 @@ const SCRIPTS: [(&str, &str, Status); 16] = [
     // Carriage returns, commas, and the answer that stands already.
     (
         "items a b c\r\nyes a,b:c\r\nyes a b : c\r\nyes b a a : c\r\n",
-        "ok 3\nok 1\nno 49\nno 49\n",
+        "ok 3\nok 1\nno 19 1\nno 19 1\n",
         Status::Refused,
     ),
     ("", "", Status::Done),
@@ -77,14 +77,9 @@ const SCRIPTS: [(&str, &str, Status); 16] = [
 ];
 
 // The forms of commands that aren't built.
-const UNBUILT: [&str; 29] = [
+const UNBUILT: [&str; 24] = [
     "start surmise f",
     "start base f",
-    "no a : b",
-    "retract 1",
-    "known a : b",
-    "ask",
-    "base",
     "surmise",
     "learning",
     "project 10 : b c",
@@ -111,23 +106,7 @@ const UNBUILT: [&str; 29] = [
 
 #[test]
 fn scripts_are_answered_in_any_pieces(rt: HostRuntime) -> Result<(), Fail> {
-    for (script, replies, status) in SCRIPTS {
-        for piece in [1, 7, 12, 4096] {
-            let trial = Trial {
-                script: script.as_bytes(),
-                piece,
-                ..PLAIN
-            };
-            let outcome = run(&rt, trial)?;
-            assert_eq!(rt;
-                outcome.written.as_slice(),
-                replies.as_bytes(),
-                "for {script:?} in pieces of {piece}"
-            );
-            assert_eq!(rt; outcome.status, status, "for {script:?}");
-        }
-    }
-    Ok(())
+    assert_replies(&rt, &SCRIPTS)
 }
 
 // Without a domain, in a domain that lacks the names, and in one that has them.

@@ -2,6 +2,8 @@
 use ls_edge::{MemShelf, MemSink, MemSource};
 use ls_shell::{Status, lspace};
 use std::alloc::AllocError;
+use std::process::Abort;
+use std::test::Fail;
 use std::thread::Threads;
 
 /// What a run is given: the words after the program's name, the script, how many bytes one read and one write move
@@ -53,4 +55,28 @@ pub fn run<R: Threads + Sync + AllocGlobal>(rt: &R, trial: Trial) -> Result<Outc
         written: out.written().to_vec(alloc)?,
         status,
     })
+}
+
+/// Runs each script in pieces of several sizes, and compares what was written and how it ended.
+pub fn assert_replies<R: Threads + Sync + AllocGlobal + Abort>(
+    rt: &R,
+    scripts: &[(&str, &str, Status)],
+) -> Result<(), Fail> {
+    for (script, replies, status) in scripts {
+        for piece in [1, 7, 12, 4096] {
+            let trial = Trial {
+                script: script.as_bytes(),
+                piece,
+                ..PLAIN
+            };
+            let outcome = run(rt, trial)?;
+            assert_eq!(rt;
+                outcome.written.as_slice(),
+                replies.as_bytes(),
+                "for {script:?} in pieces of {piece}"
+            );
+            assert_eq!(rt; outcome.status, *status, "for {script:?}");
+        }
+    }
+    Ok(())
 }

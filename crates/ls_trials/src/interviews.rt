@@ -1,0 +1,143 @@
+// Interviews of an expert, line for line.
+use crate::trial::{PLAIN, Trial, assert_replies, run};
+use ls_shell::Status;
+use std::alloc::{AllocError, Global};
+use std::test::Fail;
+
+// A script, its replies, and whether one of them is a refusal.
+const INTERVIEWS: [(&str, &str, Status); 14] = [
+    // One item: nothing is asked.
+    (
+        "items a\nask\nstates\n",
+        "ok 1\nsettled\nset 8 {a}\nset 0 {}\nmore no\n",
+        Status::Done,
+    ),
+    // Were b to entail c, so would a, since a entails b.
+    (
+        "items a b c\nyes a : b\nno a : c\nknown b : c\nknown a : b\nknown c : a\nask\n",
+        "ok 3\nok 1\nok 2\nknown no 2\nknown yes\nknown open\nask b : a\n",
+        Status::Done,
+    ),
+    // What is forced No may be answered No, and the earlier answer still tells it.
+    (
+        "items a b c\nyes a : b\nno a : c\nyes b : c\nstates 1\nno b : c\nknown b : c\n",
+        "ok 3\nok 1\nok 2\nno 21 2\nset e {a b c}\nmore yes\nok 3\nknown no 2\n",
+        Status::Refused,
+    ),
+    // What an answer told isn't known without it, and an answer is taken back once.
+    (
+        "items a b c\nyes a : b\nno a : c\nretract 1\nknown b : c\nretract 1\nstates\n",
+        "ok 3\nok 1\nok 2\nok 1\nknown open\nno 23\nset e {a b c}\nset c {a b}\nset a {a c}\nset 8 {a}\nset 6 {b c}\nset 4 {b}\nset 2 {c}\nset 0 {}\nmore no\n",
+        Status::Refused,
+    ),
+    // What is forced Yes was never asked; queries that aren't good.
+    (
+        "items a b c\nyes a : b\nno a c : b\nknown a : a\nyes : b\nno : b\nknown a b : b\nknown z : a\nno a : z\n",
+        "ok 3\nok 1\nno 20\nno 18\nno 18\nno 18\nno 18\nno 15 2\nno 15 4\n",
+        Status::Refused,
+    ),
+    // Pages go on from a cursor in the states of the moment.
+    (
+        "items a b c\nyes a : b\nstates 2\nstates 2 after c\nstates 1 after 6\nretract 1\nstates 4 after 8\nstates 1 after 2\n",
+        "ok 3\nok 1\nset e {a b c}\nset c {a b}\nmore yes\nset a {a c}\nset 8 {a}\nmore yes\nset 2 {c}\nmore yes\nok 1\nset 6 {b c}\nset 4 {b}\nset 2 {c}\nset 0 {}\nmore no\nset 0 {}\nmore no\n",
+        Status::Done,
+    ),
+    // The base of all sets, and one with unions of a set that is lost with one that stays.
+    (
+        "items a b\nbase\n",
+        "ok 2\nset 8 {a}\nset 4 {b}\nbase 2\n",
+        Status::Done,
+    ),
+    (
+        "items a b c\nyes a b : c\nbase\nretract 1\nbase\n",
+        "ok 3\nok 1\nset a {a c}\nset 8 {a}\nset 6 {b c}\nset 4 {b}\nbase 4\nok 1\nset 8 {a}\nset 4 {b}\nset 2 {c}\nbase 3\n",
+        Status::Done,
+    ),
+    // A query that is answered already, and one that was.
+    (
+        "items a b c\nyes a : b\nyes a : b\nno a : b\nretract 1\nyes a,b : c\n",
+        "ok 3\nok 1\nno 19 1\nno 19 1\nok 1\nok 2\n",
+        Status::Refused,
+    ),
+    // Two items, asked to the end: one space is left.
+    (
+        "items a b\nask\nyes a : b\nask\nno b : a\nask\nstates\n",
+        "ok 2\nask a : b\nok 1\nask b : a\nok 2\nsettled\nset c {a b}\nset 8 {a}\nset 0 {}\nmore no\n",
+        Status::Done,
+    ),
+    // Closures shrink again where a Yes is taken back.
+    (
+        "items a b c\nyes a : b\nyes b : c\nknown a : c\nretract 1\nknown a : c\nknown b : c\nask\n",
+        "ok 3\nok 1\nok 2\nknown yes\nok 1\nknown open\nknown yes\nask a : b\n",
+        Status::Done,
+    ),
+    // Larger blocks have more questions, and smaller ones fewer.
+    (
+        "items a b c\nno a : b\nno a : c\nno b : a\nno b : c\nno c : a\nno c : b\nask\nblocks 2\nask\nblocks 1\nask\n",
+        "ok 3\nok 1\nok 2\nok 3\nok 4\nok 5\nok 6\nsettled\nok 6\nask a b : c\nok 3\nsettled\n",
+        Status::Done,
+    ),
+    // Without a domain.
+    (
+        "ask\nknown a : b\nno a : b\nretract 1\nbase\n",
+        "no 15 0\nno 15 0\nno 15 0\nno 15 0\nno 15 0\n",
+        Status::Refused,
+    ),
+    // A No that was forced is open again without the Yes that forced it, and a number is not given again.
+    (
+        "items a b c\nno a : c\nyes a : b\nknown b : c\nretract 2\nknown b : c\nyes b : c\nretract 9\nknown a : b\n",
+        "ok 3\nok 1\nok 2\nknown no 1\nok 2\nknown open\nok 3\nno 23\nknown no 1\n",
+        Status::Refused,
+    ),
+];
+
+#[test]
+fn interviews_are_answered(rt: HostRuntime) -> Result<(), Fail> {
+    assert_replies(&rt, &INTERVIEWS)
+}
+
+// The names of a letter with the numbers 1 to 8, each behind a space.
+fn group(alloc: Global, letter: &str) -> Result<String, AllocError> {
+    let mut names = String::new(alloc);
+    for number in 1..9u32 {
+        let name = format!(in alloc; " {letter}{number}")?;
+        names.push_str(&name)?;
+    }
+    Ok(names)
+}
+
+// Bases grow with the answers, past the most sets that are kept; what is past stays so until an answer is taken back.
+#[test]
+fn bases_have_a_limit(rt: HostRuntime) -> Result<(), Fail> {
+    let alloc = rt.alloc();
+    let (a, b) = (group(alloc, "a")?, group(alloc, "b")?);
+    let (c, d) = (group(alloc, "c")?, group(alloc, "d")?);
+    let script = format!(in alloc;
+        "items q{a}{b}{c}{d}\nyes{a} : q\nyes{b} : q\nyes{c} : q\nbase\nyes{d} : q\nbase\nstates 3\nyes a1 : a2\nbase\nretract 4\nbase\n"
+    )?;
+    let trial = Trial {
+        script: script.as_bytes(),
+        ..PLAIN
+    };
+    let outcome = run(&rt, trial)?;
+    assert_eq!(rt; outcome.status, Status::Refused);
+    let written = outcome.written.as_slice();
+    let counts = [
+        "\nbase 544\n",
+        "\nok 4\nno 25 4 4128\nset ffffffff8 {",
+        "}\nset ffffffff0 {",
+        "}\nset fffffffe8 {",
+        "}\nmore yes\nok 5\nno 25 4 4128\nok 4\nset ",
+        "\nbase 480\n",
+    ];
+    let mut rest = written;
+    for count in counts {
+        let place = rest
+            .windows(count.len())
+            .position(|w| w == count.as_bytes());
+        assert!(rt; place.is_some(), "no {count:?}");
+        rest = &rest[place.unwrap_or(0)..];
+    }
+    assert!(rt; written.ends_with(b"\nbase 480\n"));
+    Ok(())
+}
