@@ -1,20 +1,10 @@
 -- Places in lists and in blocks.
-use Rattle.std.proofs.Common.{ℕ, zero, suc, ◌+◌, ◌<◌, ◌≤◌, ◌≡◌, List, [], ◌∷◌, ◌++◌, map, length, take, find, slice_get, Some, None, refl, sym, ap, ◌∙◌, arith, add-one}
+use Rattle.std.proofs.Common.{ℕ, zero, suc, ◌+◌, ◌≡◌, List, [], ◌∷◌, ◌++◌, map, take, find, slice_get, Some, None, refl, sym, ap, ◌∙◌, add-one}
 use Rattle.ls_set.specs.ItemSet.{Items, empty, full, IsWithin}
 use Rattle.ls_theory.specs.Queries.{blocks, block_before}
 use Rattle.ls_query.proofs.Sorted.{find-next, find-any, get-in}
 use Rattle.ls_query.proofs.BlockOrder.{before-asymmetric}
 use Rattle.ls_query.proofs.BlockSets.{sorted-blocks, blocks-in, first-blocks}
-
-pub get-below : {X : Type 0} (xs : List X) (i : ℕ) (x : X) → slice_get xs i ≡ Some x → i < length xs
-get-below [] i x e = cc
-get-below (y ∷ xs) zero x e = omega arith
-get-below (y ∷ xs) (suc i) x e = let l = get-below xs i x e in omega arith
-
-pub get-past : {X : Type 0} (xs : List X) (i : ℕ) → length xs ≤ i → slice_get xs i ≡ None
-get-past [] i l = refl
-get-past (x ∷ xs) zero l = absurd (omega arith)
-get-past (x ∷ xs) (suc i) l = get-past xs i (omega arith)
 
 pub get-map : {X Y : Type 0} (h : X → Y) (xs : List X) (i : ℕ) (x : X) → slice_get xs i ≡ Some x → slice_get (map h xs) i ≡ Some (h x)
 get-map h [] i x e = cc

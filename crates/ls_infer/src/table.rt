@@ -94,8 +94,8 @@ impl Table {
     }
 
     /// Keeps the table under a Yes to the good query `r`, of which `f` is the family that is left. It
-    /// takes no memory, and at most a step for each block set whose closure has the items of `r`'s A,
-    /// and for each standing No a step for each item and one more.
+    /// takes no memory, and at most a step for each block set whose closure before the change has the
+    /// items of `r`'s A, and for each standing No a step for each item and one more.
     pub fn yes_added<I: Interior, L: Ledger>(&mut self, f: &I, r: &Query, steps: &mut Steps<L>)
         requires items { I.item_count f.now ≡ self.old.table.blocks.item_count }
         requires good { is_good self.old.table.blocks.item_count r.now ≡ true }
@@ -114,8 +114,8 @@ impl Table {
     }
 
     /// Keeps the table where a Yes to the good query `r` is taken back, of which `f` is the family
-    /// without it. It takes no memory, and at most as many steps as the Yes did: those closures are
-    /// counted that have the items of `r`'s A before the change.
+    /// without it. It takes no memory, and at most a step for each block set whose closure before the
+    /// change has the items of `r`'s A, and for each standing No a step for each item and one more.
     pub fn yes_removed<I: Interior, L: Ledger>(&mut self, f: &I, r: &Query, steps: &mut Steps<L>)
         requires items { I.item_count f.now ≡ self.old.table.blocks.item_count }
         requires good { is_good self.old.table.blocks.item_count r.now ≡ true }
@@ -148,7 +148,8 @@ impl Table {
         ensures kept { (nos : List No) →
             self.old.table ≡ table_of self.old.table.blocks (I.members f.now) nos →
             self.new.table ≡ table_of self.old.table.blocks (I.members f.now) (nos ++ x ∷ []) }
-        ensures last { self.new.table.standing ≡ self.old.table.standing ++ standing self.old.table.blocks.item_count (I.members f.now) x ∷ [] }
+        ensures last { let n = self.old.table.blocks.item_count in
+            self.new.table.standing ≡ self.old.table.standing ++ standing n (I.members f.now) x ∷ [] }
         ensures closures { self.new.table.closures ≡ self.old.table.closures }
         ensures blocks { self.new.table.blocks ≡ self.old.table.blocks }
         ensures cost { steps.new ≡ steps.old + (self.old.table.blocks.item_count + 1) }
@@ -160,8 +161,10 @@ impl Table {
     pub fn no_removed(&mut self, number: u64)
         ensures kept { (f : List Items) (nos : List No) →
             self.old.table ≡ table_of self.old.table.blocks f nos →
-            self.new.table ≡ table_of self.old.table.blocks f (filter (λ a. not (a.number == number)) nos) }
-        ensures others { self.new.table.standing ≡ filter (λ s. not (s.no.number == number)) self.old.table.standing }
+            let others = filter (λ a. not (a.number == number)) nos in
+            self.new.table ≡ table_of self.old.table.blocks f others }
+        ensures others { self.new.table.standing
+            ≡ filter (λ s. not (s.no.number == number)) self.old.table.standing }
         ensures closures { self.new.table.closures ≡ self.old.table.closures }
         ensures blocks { self.new.table.blocks ≡ self.old.table.blocks }
     {

@@ -1,8 +1,9 @@
 use Rattle.std.proofs.Common.{◌≡◌, ◌≤◌, length, find, slice_get, Some, sym, ap, ◌∙◌, arith}
+use Rattle.std.proofs.lemmas.Option.{slice_get_past}
 use Rattle.ls_theory.specs.Queries.{block_before}
 use Rattle.ls_query.specs.Blocks.{sets_of}
 use Rattle.ls_infer.specs.Tables.{is_open_in}
-use Rattle.ls_infer.proofs.Places.{next_place, place-within, get-past}
+use Rattle.ls_infer.proofs.Places.{next_place, place-within}
 use Rattle.ls_infer.proofs.Opens.{open-first, open-passed, open-end}
 use Rattle.ls_infer.proofs.table.Table.open_from.Goals as goal
 
@@ -31,4 +32,4 @@ returns c =
     let t = c.args.self.now.table in
     let counted : c.count-place-end.result ≡ length (sets_of t.blocks) = c.count-place-end.ensures.value ∙ ap (λ u. length (sets_of u.table.blocks)) c.self.view_is in
     let past : length (sets_of t.blocks) ≤ c.loop-place.place = omega (arith, counted, c.loop-place-test.false) in
-    sym (c.loop-place.invariant.passed ∙ open-end t.blocks.item_count t.blocks.largest (is_open_in t) c.loop-place.last (c.loop-place.invariant.place ∙ get-past (sets_of t.blocks) c.loop-place.place past))
+    sym (c.loop-place.invariant.passed ∙ open-end t.blocks.item_count t.blocks.largest (is_open_in t) c.loop-place.last (c.loop-place.invariant.place ∙ slice_get_past (sets_of t.blocks) c.loop-place.place past))
