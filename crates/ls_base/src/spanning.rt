@@ -105,6 +105,8 @@ pub fn spanning_after(
         .copied()
         .filter(|set| touches(*set, r.a))
         .collect(alloc)?;
-    push_joins(&mut spanning, &breaking, &least_sets(alloc, &touching)?)?;
+    let least = least_sets(alloc, &touching)?;
+    spanning.reserve(breaking.len().saturating_mul(least.len()))?;
+    push_joins(&mut spanning, &breaking, &least)?;
     Ok(spanning)
 }
