@@ -1,5 +1,5 @@
 -- What an interview keeps, through its beginning and its changes.
-use Rattle.std.proofs.Common.{Bool, true, false, cond, eqb, ◌||◌, nat_lt, find, Option, Some, None, Result, Err, ℕ, zero, suc, ◌+◌, ◌-◌, ◌<◌, ◌≤◌, ◌≡◌, ◌≢◌, max, length, List, [], Ok, refl, sym, ap, ap₂, ◌∙◌, subst, arith}
+use Rattle.std.proofs.Common.{Bool, true, false, cond, eqb, ◌||◌, nat_lt, find, Option, Some, None, Result, Err, ℕ, zero, suc, ◌+◌, ◌-◌, ◌<◌, ◌≤◌, ◌≡◌, max, length, List, [], Ok, refl, sym, ap, ap₂, ◌∙◌, subst, arith}
 use Rattle.std.specs.Option.{option_map_or}
 use Rattle.ls_set.specs.ItemSet.{full, numbers_from}
 use Rattle.ls_set.specs.declared.item_set.TheConstants.{PLACES}

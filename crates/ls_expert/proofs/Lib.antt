@@ -1,2 +1,3 @@
 mod Ruling
 mod Holding
+mod Taking

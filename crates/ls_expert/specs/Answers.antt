@@ -1,12 +1,15 @@
 -- Why an answer is not taken.
 --     refusal i r is_yes      why the interview does not take the answer to r, if it does not
-use Rattle.std.specs.Prelude.{ℕ, ◌<◌, ◌≡◌, Bool, true, false, not, ◌&&◌, ◌||◌, ◌==◌, nat_lt, nat_le, if◌then◌else◌, List, length, find, Option, Some, None, Result, Err, ⊤}
-use Rattle.std.specs.Option.{option_map, option_map_or}
-use Rattle.ls_set.specs.ItemSet.{is_same}
+use Rattle.std.specs.Prelude.{ℕ, ◌+◌, ◌*◌, ◌≡◌, Bool, true, false, ◌&&◌, ◌||◌, ◌==◌, nat_lt, nat_le, if◌then◌else◌, length, find, count_by, Option, Some, None, Result, Err, ⊤}
+use Rattle.std.specs.Option.{option_map}
+use Rattle.ls_set.specs.ItemSet.{Items, full, is_same, is_within}
 use Rattle.ls_set.specs.Query.{is_good}
 use Rattle.ls_set.specs.declared.query.Query.{Query}
 use Rattle.ls_theory.specs.declared.known.Known.{Known}
-use Rattle.ls_theory.specs.Interviews.{Interview}
+use Rattle.ls_theory.specs.Interviews.{Interview, nos}
+use Rattle.ls_theory.specs.Queries.{blocks}
+use Rattle.ls_theory.specs.Families.{closure}
+use Rattle.ls_theory.specs.Compatible.{compatible_sets}
 use Rattle.ls_theory.specs.Forced.{known}
 use Rattle.ls_query.specs.Blocks.{BlockRange}
 use Rattle.ls_query.specs.declared.block_fault.BlockFault.{BlockFault}
@@ -56,3 +59,15 @@ IsFaultOf found fault = found ≡ Some fault
 abbrev pub IsBlockFault : Result BlockRange BlockFault → BlockFault → Type 0
 IsBlockFault found (block.Memory e) = ⊤
 IsBlockFault found fault = found ≡ Err fault
+
+-- ---- interiors
+
+-- how many of the block sets have a closure with all items of A
+abbrev pub closures_over : Interview → Items → ℕ
+closures_over i a = count_by (λ b. is_within a (closure (full i.count) (compatible_sets i) b)) (blocks i.count i.block)
+
+-- The most interiors that an answer takes: one to test it. A No takes one for each item and one more; a Yes to a query (A, q) takes one for each block set whose
+-- closure has the items of A, and as many as a No for each No that stands.
+abbrev pub most_steps : Interview → Query → Bool → ℕ
+most_steps i r true = 1 + (closures_over i r.a + (i.count + 1) * length (nos i.answers))
+most_steps i r false = i.count + 2

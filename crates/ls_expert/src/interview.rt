@@ -1,18 +1,19 @@
 // The interview of an expert.
-ghost use Rattle.std.specs.Prelude.{◌≡◌, ◌+◌, ◌*◌, ◌<◌, ◌≤◌, ◌++◌, ◌∷◌, [], true, false, length, filter, Ok, IfOk, IfErr, IfSome, OnOk, OnErr};
+ghost use Rattle.std.specs.Prelude.{◌≡◌, ◌+◌, ◌*◌, ◌<◌, ◌≤◌, ◌++◌, ◌∷◌, [], true, false, length, filter, vec_len, vec_capacity, Some, None, Ok, IfOk, IfErr, IfSome, OnOk, OnErr};
 ghost use Rattle.std.specs.Option.{ForSome, option_map};
 ghost use Rattle.std.specs.List.{list_all};
 ghost use Rattle.ls_set.specs.Query.{is_good};
 ghost use Rattle.ls_theory.specs.Queries.{breaks_none};
-ghost use Rattle.ls_theory.specs.Interviews.{begun, yes_queries, nos};
+ghost use Rattle.ls_theory.specs.Interviews.{begun, accepted, yes_queries, nos};
 ghost use Rattle.ls_theory.specs.Compatible.{compat, compatible_sets};
 ghost use Rattle.ls_theory.specs.Forced.{known, next_question, is_settled};
 ghost use Rattle.ls_query.specs.Blocks.{made};
 ghost use Rattle.ls_query.specs.declared.block_fault.BlockFault.TheVariants as block;
 ghost use Rattle.ls_infer.specs.Tables.{table_of};
 ghost use Rattle.ls_expert.specs.Held.{blocks_of};
-ghost use Rattle.ls_expert.specs.Answers.{IsBlockFault};
+ghost use Rattle.ls_expert.specs.Answers.{refusal, standing_number, opposed, is_full, IsFaultOf, IsBlockFault, most_steps};
 
+use crate::answer_fault::AnswerFault;
 use crate::on_items::OnItems;
 use crate::start::Start;
 use ls_infer::Table;
@@ -57,7 +58,7 @@ impl Model for Interview {
 
     ghost view = { λ s. interview_of s.family.inner s.block s.answers.items s.next };
 
-    ghost invariant = { λ s. IsHeld (interview_of s.family.inner s.block s.answers.items s.next) s.family.rules s.table };
+    ghost invariant = { λ s. IsHeld (interview_of s.family.inner s.block s.answers.items s.next) s.family.rules s.table.table };
 }
 
 // The answers that are No.
@@ -74,6 +75,36 @@ fn nos(alloc: Global, answers: &[Answer]) -> Result<Vec<No>, AllocError>
         .collect(alloc)
 }
 
+// Why the answer is not taken by what is known of its query, if it isn't.
+fn opposed(known: Known, yes: bool) -> Option<AnswerFault>
+    ensures { result ≡ opposed known yes }
+{
+    match known {
+        Known::Yes if !yes => Some(AnswerFault::ForcedYes),
+        Known::No { by } if yes => Some(AnswerFault::ForcedNo { by }),
+        _ => None,
+    }
+}
+
+// Puts the answer to a query last, with the next number.
+fn put_last(answers: &mut Vec<Answer>, next: &mut u64, query: &Query, yes: bool) -> u64
+    requires room { vec_len answers.old < vec_capacity answers.old }
+    requires numbers { next.old ≤ MOST_NUMBER }
+    ensures number { result ≡ next.old }
+    ensures next { next.new ≡ next.old + 1 }
+    ensures last { answers.new.items ≡ answers.old.items ++ (record { number = next.old; query = query.now; yes = yes }) ∷ [] }
+{
+    let number = *next;
+    let answer = Answer {
+        number,
+        query: *query,
+        yes,
+    };
+    answers.push(answer).unwrap();
+    *next += 1;
+    number
+}
+
 // The table of a family with rules, for the answers that are No.
 fn build<L: Ledger>(
     alloc: Global,
@@ -84,7 +115,7 @@ fn build<L: Ledger>(
 ) -> Result<Table, AllocError>
     requires items { family.now.inner.item_count ≡ blocks.item_count }
     requires good { list_all (λ a. is_good blocks.item_count a.query) answers.now ≡ true }
-    ensures { IfOk result (λ t. t ≡ table_of blocks (compat blocks.item_count family.now.inner.start family.now.rules) (nos answers.now)) }
+    ensures { IfOk result (λ t. t.table ≡ table_of blocks (compat blocks.item_count family.now.inner.start family.now.rules) (nos answers.now)) }
 {
     let nos = nos(alloc, answers)?;
     Table::build(alloc, blocks, &Counted::new(family), &nos, steps)
@@ -135,6 +166,111 @@ impl Interview {
         self.table = table;
         self.block = k;
         Ok(())
+    }
+
+    /// Takes the expert's answer to a query, and gives its number. It is refused by the first of these
+    /// that holds: the query is not good; an answer to it stands; the standing answers force the other
+    /// reply; there is no room for it. Nothing changes then. It takes at most one interior where
+    /// it is refused.
+    pub fn answer<L: Ledger>(
+        &mut self,
+        query: Query,
+        yes: bool,
+        steps: &mut Steps<L>,
+    ) -> Result<u64, AnswerFault>
+        ensures taken { OnOk result (refusal self.old query yes ≡ None) }
+        ensures number { IfOk result (λ m. m ≡ self.old.next) }
+        ensures ok { OnOk result (self.new ≡ accepted self.old query yes) }
+        ensures fault { IfErr result (IsFaultOf (refusal self.old query yes)) }
+        ensures err { OnErr result (self.new ≡ self.old) }
+        ensures cost { steps.new ≤ steps.old + most_steps self.old query yes }
+        ensures refused { OnErr result (steps.new ≤ steps.old + 1) }
+    {
+        self.test(&query, yes, steps)?;
+        let number = if yes {
+            self.take_yes(&query, steps)
+        } else {
+            self.take_no(&query, steps)
+        };
+        Ok(number?)
+    }
+
+    // Whether the answer is taken, or why it isn't.
+    fn test<L: Ledger>(
+        &self,
+        query: &Query,
+        yes: bool,
+        steps: &mut Steps<L>,
+    ) -> Result<(), AnswerFault>
+        ensures ok { OnOk result (refusal self.now query.now yes ≡ None) }
+        ensures fault { IfErr result (λ e. refusal self.now query.now yes ≡ Some e) }
+        ensures cost { steps.new ≤ steps.old + 1 }
+    {
+        let Ok(known) = self.known(query, steps) else {
+            return Err(AnswerFault::BadQuery);
+        };
+        if let Some(number) = self.standing_number(query) {
+            return Err(AnswerFault::Repeat { number });
+        }
+        if let Some(fault) = opposed(known, yes) {
+            return Err(fault);
+        }
+        if self.is_full() {
+            return Err(AnswerFault::Full);
+        }
+        Ok(())
+    }
+
+    // The number of the standing answer to the query, if there is one.
+    #[tactic(auto, unfolding(ls_set::specs::ItemSet::is_same))]
+    fn standing_number(&self, query: &Query) -> Option<u64>
+        ensures { result ≡ standing_number self.now query.now }
+    {
+        self.answers
+            .iter()
+            .find(|a| a.query == *query)
+            .map(|a| a.number)
+    }
+
+    fn is_full(&self) -> bool
+        ensures { result ≡ is_full self.now }
+    {
+        self.answers.len() >= MOST_ANSWERS || self.next > MOST_NUMBER
+    }
+
+    // Takes a Yes that is not refused.
+    fn take_yes<L: Ledger>(&mut self, query: &Query, steps: &mut Steps<L>) -> Result<u64, AllocError>
+        requires { refusal self.old query.now true ≡ None }
+        ensures number { IfOk result (λ m. m ≡ self.old.next) }
+        ensures ok { OnOk result (self.new ≡ accepted self.old query.now true) }
+        ensures err { OnErr result (self.new ≡ self.old) }
+        ensures cost { steps.new + 1 ≤ steps.old + most_steps self.old query.now true }
+        ensures refused { OnErr result (steps.new ≡ steps.old) }
+    {
+        self.answers.reserve(1)?;
+        self.family.reserve()?;
+        self.family.push_reserved(*query);
+        self.table.yes_added(&Counted::new(&self.family), query, steps);
+        Ok(put_last(&mut self.answers, &mut self.next, query, true))
+    }
+
+    // Takes a No that is not refused.
+    fn take_no<L: Ledger>(&mut self, query: &Query, steps: &mut Steps<L>) -> Result<u64, AllocError>
+        requires { refusal self.old query.now false ≡ None }
+        ensures number { IfOk result (λ m. m ≡ self.old.next) }
+        ensures ok { OnOk result (self.new ≡ accepted self.old query.now false) }
+        ensures err { OnErr result (self.new ≡ self.old) }
+        ensures cost { steps.new + 1 ≤ steps.old + most_steps self.old query.now false }
+        ensures refused { OnErr result (steps.new ≡ steps.old) }
+    {
+        self.answers.reserve(1)?;
+        self.table.reserve_no()?;
+        let no = No {
+            number: self.next,
+            query: *query,
+        };
+        self.table.no_added(&Counted::new(&self.family), no, steps);
+        Ok(put_last(&mut self.answers, &mut self.next, query, false))
     }
 
     /// What the standing answers tell of the query, in at most one interior and without memory.
@@ -195,6 +331,13 @@ impl Interview {
         ensures { result ≡ self.now.block }
     {
         self.block
+    }
+
+    /// The blocks of the sets that are asked.
+    pub fn blocks(&self) -> Blocks
+        ensures { result ≡ blocks_of self.now }
+    {
+        self.table.blocks()
     }
 
     /// The start.

@@ -3,4 +3,5 @@ mod Kept
 mod Opens
 mod Told
 mod Questions
-mod Made
+mod Changes
+mod Overwriting

@@ -1,48 +1,23 @@
 -- The first open query of the blocks, set by set.
-use Rattle.std.proofs.Common.{ℕ, zero, suc, ◌<◌, ◌≤◌, ◌≡◌, ◌⊎◌, inl, inr, Bool, true, false, not, ◌&&◌, ltb, List, [], ◌∷◌, filter, find, slice_get, Some, None, refl, sym, ap, ap₂, ◌∙◌, arith, true≢false, lt-ltb, ltb-true}
+use Rattle.std.proofs.Common.{ℕ, zero, suc, ◌<◌, ◌≤◌, ◌≡◌, ◌⊎◌, inl, inr, Bool, true, false, not, ◌&&◌, ltb, List, [], ◌∷◌, filter, find, slice_get, Some, None, refl, sym, ap, ap₂, ◌∙◌, arith, true≢false}
 use Rattle.std.specs.List.{list_any, position}
-use Rattle.std.proofs.lemmas.Bool.{and_parts, and_from, or_cases, or_left, or_right, false_from_ne_true}
-use Rattle.ls_set.specs.ItemSet.{Items, has, empty, full, minus, len, least, next_item, items, bound, is_same, is_within, numbers_from}
+use Rattle.std.proofs.lemmas.Bool.{and_parts, and_from, false_from_ne_true}
+use Rattle.ls_set.specs.ItemSet.{Items, has, empty, full, minus, len, least, next_item, items, is_same, is_within}
 use Rattle.ls_set.specs.Query.{is_good}
 use Rattle.ls_set.specs.declared.query.Query.{Query}
 use Rattle.ls_set.proofs.Sets.{both_ways, has-full, has-minus, Decides-is_same, is_within-from}
 use Rattle.ls_set.proofs.Order.{comes_before-transitive}
-use Rattle.ls_set.proofs.Ascending.{slice_get-filter, find-filter, find_some, bound-has, least-cases}
+use Rattle.ls_set.proofs.Ascending.{find-filter, least-cases}
 use Rattle.ls_theory.specs.Queries.{blocks, block_before, queries, query_before}
 use Rattle.ls_theory.specs.Pages.{comes_after}
 use Rattle.ls_laws.proofs.Breaks.{IsGood, good-from, good-to}
 use Rattle.ls_laws.proofs.Counts.{len-zero, len-empty}
-use Rattle.ls_query.proofs.Sorted.{IsIn, IsSorted, in-numbers, find-same, find-first, find-is, find-none_is, find-no_element, get-in}
+use Rattle.ls_query.proofs.Sorted.{IsIn, IsSorted, find-same, find-first, find-is, find-none_is, find-no_element, get-in}
 use Rattle.ls_query.proofs.BlockOrder.{before-smaller, before-same, before-cases, before-asymmetric}
 use Rattle.ls_query.proofs.BlockSets.{IsOfBlocks, in-blocks, blocks-in, sorted-blocks}
-use Rattle.ls_query.proofs.QuerySets.{in-queries, queries-in, sorted-queries, query_before-asymmetric, find-larger}
+use Rattle.ls_query.proofs.QuerySets.{next_item-cases, next_item-none_left, least-none_left, asked_of, in-queries, queries-in, sorted-queries, never_before, before-by_set, before-by_item, query_before-cases, query_before-asymmetric, find-larger}
 use Rattle.ls_query.proofs.Placed.{position-at}
 use Rattle.ls_infer.specs.Tables.{TableState, forces, closed_of, is_open_in}
-
--- ---- items of a set
-
-next_item-cases : (s : Items) (a i : ℕ) → next_item s a ≡ Some i → (a < i) × (has s i ≡ true) × ((j : ℕ) → a < j → j < i → has s j ≡ false)
-unfolding next_item items
-next_item-cases s a i e =
-    let h = find_some (λ j. has s j && ltb a j) 0 (bound s) i (sym (find-filter (has s) (λ j. ltb a j) (numbers_from 0 (bound s))) ∙ e) in
-    let p = and_parts (has s i) (ltb a i) h.0 in (
-      ltb-true a i p.1,
-      p.0,
-      λ j l m. false_from_ne_true (has s j) (λ k. true≢false (sym (and_from (has s j) (ltb a j) k (lt-ltb a j l)) ∙ h.1 j (omega arith) m)),
-    )
-
-next_item-none_left : (s : Items) (a j : ℕ) → next_item s a ≡ None → a < j → has s j ≡ false
-unfolding next_item items
-next_item-none_left s a j e l = false_from_ne_true (has s j) (λ k.
-    let inside : j < bound s = bound-has s j k in
-    true≢false (sym (and_from (has s j) (ltb a j) k (lt-ltb a j l))
-    ∙ find-none_is (λ j. has s j && ltb a j) (numbers_from 0 (bound s)) (sym (find-filter (has s) (λ j. ltb a j) (numbers_from 0 (bound s))) ∙ e) j (in-numbers 0 (bound s) j (omega arith) (omega arith))))
-
-least-none_left : (s : Items) (j : ℕ) → least s ≡ None → has s j ≡ false
-unfolding least items
-least-none_left s j e = false_from_ne_true (has s j) (λ k.
-    let inside : j < bound s = bound-has s j k in
-    true≢false (sym k ∙ find-none_is (has s) (numbers_from 0 (bound s)) (sym (slice_get-filter (has s) (numbers_from 0 (bound s))) ∙ e) j (in-numbers 0 (bound s) j (omega arith) (omega arith))))
 
 -- ---- the orders
 
@@ -57,24 +32,6 @@ before-transitive a b c h g = elim (before-cases a b h) [
     | inr m ↦ before-same a c (l.0 ∙ m.0) ∙ comes_before-transitive a b c l.1 m.1
   ]
 ]
-
-never_before : (a b : Items) → a ≡ b → block_before a b ≡ true → ⊥
-never_before a b e h = true≢false (sym h ∙ ap (block_before a) (sym e) ∙ before-asymmetric a a (ap (block_before a) e ∙ h))
-
-query_before-cases : (r s : Query) → query_before r s ≡ true → (block_before r.a s.a ≡ true) ⊎ ((r.a ≡ s.a) × (r.q < s.q))
-unfolding query_before
-query_before-cases r s h = elim (or_cases (block_before r.a s.a) (is_same r.a s.a && ltb r.q s.q) h) [
-  | inl a ↦ inl a
-  | inr a ↦ let p = and_parts (is_same r.a s.a) (ltb r.q s.q) a in inr ((Decides-is_same r.a s.a).0 p.0, ltb-true r.q s.q p.1)
-]
-
-before-by_set : (r s : Query) → block_before r.a s.a ≡ true → query_before r s ≡ true
-unfolding query_before
-before-by_set r s h = or_left (block_before r.a s.a) (is_same r.a s.a && ltb r.q s.q) h
-
-before-by_item : (r s : Query) → r.a ≡ s.a → r.q < s.q → query_before r s ≡ true
-unfolding query_before
-before-by_item r s e l = or_right (block_before r.a s.a) (is_same r.a s.a && ltb r.q s.q) (and_from (is_same r.a s.a) (ltb r.q s.q) ((Decides-is_same r.a s.a).1 e) (lt-ltb r.q s.q l))
 
 -- two elements of a list in order are one, or one comes before the other
 sorted-cases : {X : Type 0} (before : X → X → Bool) (xs : List X) (x y : X) → IsSorted before xs → IsIn x xs → IsIn y xs → (x ≡ y) ⊎ ((before x y ≡ true) ⊎ (before y x ≡ true))
@@ -99,9 +56,6 @@ pub block_place : (n k : ℕ) (a : Items) → IsIn a (blocks n k) → (i : ℕ) 
 block_place n k a c = let r = in-get (blocks n k) a c in (r.0, position-at n k a r.0 r.1)
 
 -- ---- the open queries of a set
-
-abbrev pub asked_of : Items → ℕ → Query
-asked_of a q = record { a = a; q = q }
 
 -- the open items of a set are those of its good queries that pass
 abbrev pub AreOpen : ℕ → (Query → Bool) → Items → Items → Type 0

@@ -27,11 +27,11 @@ forces-standing n f r a l =
     ap (λ b. is_within r.a closed && b) (has-enough n f closed a.query.q r.q ∙ ap (λ b. b && has (closure (full n) f (with closed r.q)) a.query.q) (lt-ltb r.q n l))
 
 pub find-standing : (n : ℕ) (f : List Items) (r : Query) (ns : List No) → r.q < n
-    → option_map (λ s. s.number) (find (forces r) (map (standing n f) ns)) ≡ option_map (λ a. a.number) (find (λ a. is_forced_by_closures n f r a.query) ns)
+    → option_map (λ s. s.no.number) (find (forces r) (map (standing n f) ns)) ≡ option_map (λ a. a.number) (find (λ a. is_forced_by_closures n f r a.query) ns)
 find-standing n f r [] l = refl
 find-standing n f r (a ∷ ns) l =
-    ap (λ b. option_map (λ s. s.number) (cond b (Some (standing n f a)) (find (forces r) (map (standing n f) ns)))) (forces-standing n f r a l)
-    ∙ elim (is_forced_by_closures n f r a.query) as (λ b. option_map (λ s. s.number) (cond b (Some (standing n f a)) (find (forces r) (map (standing n f) ns)))
+    ap (λ b. option_map (λ s. s.no.number) (cond b (Some (standing n f a)) (find (forces r) (map (standing n f) ns)))) (forces-standing n f r a l)
+    ∙ elim (is_forced_by_closures n f r a.query) as (λ b. option_map (λ s. s.no.number) (cond b (Some (standing n f a)) (find (forces r) (map (standing n f) ns)))
     ≡ option_map (λ a. a.number) (cond b (Some a) (find (λ a. is_forced_by_closures n f r a.query) ns))) [ true ↦ refl | false ↦ find-standing n f r ns l ]
 
 -- the closure that a table keeps
@@ -54,7 +54,7 @@ number_of (Some a) = refl
 pub told : (i : Interview) (t : TableState) (n : ℕ) (f : List Items) (r : Query) (closed : Items) → IsSound i → is_good t.blocks.item_count r ≡ true → n ≡ t.blocks.item_count → i.count ≡ t.blocks.item_count
     → f ≡ compatible_sets i → t ≡ table_of t.blocks (compatible_sets i) (nos i.answers)
     → closed ≡ option_map_or (λ j. closed_of t r.a) (position (is_same r.a) (sets_of t.blocks)) (closure (full n) f r.a)
-    → cond (has closed r.q) Known.Yes (option_map_or (λ m. Known.No m) (option_map (λ s. s.number) (find (forces r) t.standing)) Known.Unsettled) ≡ known i r
+    → cond (has closed r.q) Known.Yes (option_map_or (λ m. Known.No m) (option_map (λ s. s.no.number) (find (forces r) t.standing)) Known.Unsettled) ≡ known i r
 told i t n f r closed sound good ne ce fe te h =
     let family = compatible_sets i in
     let ns = nos i.answers in
@@ -67,8 +67,8 @@ told i t n f r closed sound good ne ce fe te h =
     ∙ closure_in-table b family ns r.a ∙ ap (λ m. closure (full m) family r.a) (sym ce) in
     let kept : t.standing ≡ map (standing i.count family) ns = ap (λ u. u.standing) te ∙ ap (λ m. map (standing m family) ns) (sym ce) in
     let first = find (λ a. is_forced_by_closures i.count family r a.query) ns in
-    let number : option_map (λ s. s.number) (find (forces r) t.standing) ≡ option_map (λ a. a.number) first =
-    ap (λ ss. option_map (λ s. s.number) (find (forces r) ss)) kept ∙ find-standing i.count family r ns item in
+    let number : option_map (λ s. s.no.number) (find (forces r) t.standing) ≡ option_map (λ a. a.number) first =
+    ap (λ ss. option_map (λ s. s.no.number) (find (forces r) ss)) kept ∙ find-standing i.count family r ns item in
     ap₂ (λ c m. cond (has c r.q) Known.Yes (option_map_or (λ m. Known.No m) m Known.Unsettled)) closed_is number
     ∙ ap (cond (has (closure (full i.count) family r.a) r.q) Known.Yes) (number_of first)
     ∙ sym (known_is i r sound good_here)

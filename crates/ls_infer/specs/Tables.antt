@@ -2,11 +2,12 @@
 --     table_of b f nos      the table of the family f, for blocks b and the standing answers that are No
 --     forces r s      the No of which s is kept forces the query r No
 --     closed_of t a      the closure that is kept of a block set
-use Rattle.std.specs.Prelude.{ℕ, Bool, not, ◌&&◌, ◌≤◌, ◌≡◌, List, map, length, filter, slice_get, unwrap_or}
-use Rattle.std.specs.List.{list_any, position}
+use Rattle.std.specs.Prelude.{ℕ, Bool, true, not, ◌&&◌, if◌then◌else◌, ◌≤◌, ◌≡◌, List, map, length, filter, slice_get, unwrap_or}
+use Rattle.std.specs.List.{list_all, list_any, position}
 use Rattle.std.specs.Option.{option_map_or}
 use Rattle.ls_set.specs.ItemSet.{Items, has, empty, full, with, is_same, is_within, set_of, numbers_from}
 use Rattle.ls_set.specs.declared.item_set.TheConstants.{PLACES}
+use Rattle.ls_set.specs.Query.{is_good}
 use Rattle.ls_set.specs.declared.query.Query.{Query}
 use Rattle.ls_theory.specs.declared.no.No.{No}
 use Rattle.ls_theory.specs.Families.{closure}
@@ -18,17 +19,22 @@ use Rattle.ls_infer.specs.declared.standing_no.StandingNo.{StandingNo}
 abbrev pub enough_for : ℕ → List Items → Items → ℕ → Items
 enough_for n f closed q = set_of (filter (λ r. has (closure (full n) f (with closed r)) q) (numbers_from 0 n))
 
--- what is kept of a standing No (B, p): its number, the closure of B, and the items that are enough with it for p
+-- what is kept of a standing No (B, p): the answer, the closure of B, and the items that are enough with it for p
 abbrev pub standing : ℕ → List Items → No → StandingNo
 standing n f a =
     let closed = closure (full n) f a.query.a in
-    record { number = a.number; closed = closed; enough = enough_for n f closed a.query.q }
+    record { no = a; closed = closed; enough = enough_for n f closed a.query.q }
 
 -- the blocks, the closure of each of their sets in order, and the standing answers that are No in order
 pub record TableState : Type 0 where
   pub blocks : BlockRange
   pub closures : List Items
   pub standing : List StandingNo
+
+-- a table, with the number of standing Nos for which there is room
+pub record TableRoom : Type 0 where
+  pub table : TableState
+  pub spare : ℕ
 
 -- the table of a family
 abbrev pub table_of : BlockRange → List Items → List No → TableState
@@ -37,6 +43,10 @@ table_of b f nos = record {
   closures = map (closure (full b.item_count) f) (sets_of b);
   standing = map (standing b.item_count f) nos;
 }
+
+-- a closure after a Yes to (A, q) that leaves the family f: it is closed again where it has the items of A, and not q
+abbrev pub closed_after : ℕ → List Items → Query → Items → Items
+closed_after n f r c = if is_within r.a c && not (has c r.q) then closure (full n) f c else c
 
 -- the No forces the query (A, q): A is within the closure of its set, and q is enough with that
 abbrev pub forces : Query → StandingNo → Bool
@@ -50,9 +60,11 @@ closed_of t a = option_map_or (λ i. unwrap_or (slice_get t.closures i) empty) (
 abbrev pub is_open_in : TableState → Query → Bool
 is_open_in t r = not (has (closed_of t r.a) r.q) && not (list_any (forces r) t.standing)
 
--- the number of items, and a closure for each block set, of which there are not too many
+-- the number of items; for each block set, of which there are not too many, a closure of items alone; and standing Nos of good queries
 pub record IsTable (n : ℕ) (t : TableState) : Type 0 where
   pub items : n ≡ t.blocks.item_count
   pub few : n ≤ PLACES
   pub each : length t.closures ≡ length (sets_of t.blocks)
   pub few_sets : length t.closures ≤ MOST_SETS
+  pub within : list_all (λ c. is_within c (full n)) t.closures ≡ true
+  pub good : list_all (λ s. is_good n s.no.query) t.standing ≡ true

@@ -1,6 +1,6 @@
 // What is kept of a standing answer that is No.
-ghost use Rattle.std.specs.Prelude.{◌≡◌, ◌+◌, ◌<◌, ℕ, true, find, option_map};
-ghost use Rattle.std.specs.List.{list_any};
+ghost use Rattle.std.specs.Prelude.{◌≡◌, ◌+◌, ◌*◌, ◌<◌, ◌==◌, ℕ, true, not, map, length, filter, find, option_map};
+ghost use Rattle.std.specs.List.{list_all, list_any};
 ghost use Rattle.ls_set.specs.ItemSet.{full, has, IsWithin};
 ghost use Rattle.ls_set.specs.Query.{is_good};
 ghost use Rattle.ls_infer.specs.Tables.{enough_for, standing, forces};
@@ -13,8 +13,8 @@ use std::sync::ledger::Ledger;
 /// What is kept of a standing answer that is No, of a query (B, p).
 #[derive(Clone, Copy, Debug, PartialEq, Eq)]
 pub struct StandingNo {
-    /// Its number.
-    pub number: u64,
+    /// The answer.
+    pub no: No,
     /// The closure of B.
     pub closed: ItemSet,
     /// The items r such that p is in the closure of that with r.
@@ -51,7 +51,7 @@ impl StandingNo {
     {
         let closed = closure(f, answer.query.a, steps);
         StandingNo {
-            number: answer.number,
+            no: *answer,
             closed,
             enough: enough_for(f, closed, answer.query.q, steps),
         }
@@ -69,11 +69,11 @@ impl StandingNo {
 /// The number of the first answer that forces the query No.
 pub fn forcing(standing: &[StandingNo], r: &Query) -> Option<u64>
     requires { r.now.q < PLACES }
-    ensures { result ≡ option_map (λ s. s.number) (find (forces r.now) standing.now) }
+    ensures { result ≡ option_map (λ s. s.no.number) (find (forces r.now) standing.now) }
 {
     for s in standing {
         if s.forces(r) {
-            return Some(s.number);
+            return Some(s.no.number);
         }
     }
     None
@@ -90,4 +90,22 @@ pub fn forced_items(standing: &[StandingNo], a: ItemSet) -> ItemSet
         }
     }
     forced
+}
+
+/// Makes anew what is kept of each answer, in a step for each item and one more for each answer.
+pub fn make_anew<I: Interior, L: Ledger>(kept: &mut [StandingNo], f: &I, steps: &mut Steps<L>)
+    requires { list_all (λ s. is_good (I.item_count f.now) s.no.query) kept.old ≡ true }
+    ensures each { kept.new ≡ map (λ s. standing (I.item_count f.now) (I.members f.now) s.no) kept.old }
+    ensures cost { steps.new ≡ steps.old + (I.item_count f.now + 1) * length kept.old }
+{
+    for s in kept.iter_mut() {
+        *s = StandingNo::new(f, &s.no, steps);
+    }
+}
+
+/// Takes out what is kept of the answer with the number.
+pub fn take_out(standing: &mut Vec<StandingNo>, number: u64)
+    ensures { standing.new.items ≡ filter (λ s. not (s.no.number == number)) standing.old.items }
+{
+    standing.retain(|s| s.no.number != number);
 }

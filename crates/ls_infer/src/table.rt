@@ -1,8 +1,8 @@
 // Tables of closures.
-ghost use Rattle.std.specs.Prelude.{◌≡◌, ◌+◌, ◌*◌, ◌<◌, ◌≤◌, ◌&&◌, ℕ, true, Some, length, filter, find, slice_get, IfOk};
+ghost use Rattle.std.specs.Prelude.{◌≡◌, ◌+◌, ◌*◌, ◌<◌, ◌≤◌, ◌==◌, ◌&&◌, ◌++◌, ◌∷◌, ℕ, true, not, List, [], Some, length, filter, find, slice_get, count_by, OnOk, IfOk};
 ghost use Rattle.std.specs.List.{list_all, list_any, position};
 ghost use Rattle.std.specs.Option.{ForSome, option_map, option_map_or};
-ghost use Rattle.ls_set.specs.ItemSet.{Items, full, has, is_same, IsWithin};
+ghost use Rattle.ls_set.specs.ItemSet.{Items, full, has, is_same, is_within, IsWithin};
 ghost use Rattle.ls_set.specs.Query.{is_good};
 ghost use Rattle.ls_theory.specs.Queries.{block_before, query_before};
 ghost use Rattle.ls_theory.specs.Families.{closure};
@@ -10,11 +10,13 @@ ghost use Rattle.ls_theory.specs.Interviews.{Interview, nos};
 ghost use Rattle.ls_theory.specs.Compatible.{compatible_sets};
 ghost use Rattle.ls_theory.specs.Forced.{known, next_question};
 ghost use Rattle.ls_theory.specs.Pages.{comes_after};
+ghost use Rattle.ls_laws.specs.Spans.{left_by};
+ghost use Rattle.ls_laws.specs.Families.{IsFamily};
 ghost use Rattle.ls_laws.specs.Forced.{IsSound};
 ghost use Rattle.ls_query.specs.Blocks.{sets_of, queries_of};
 
-use crate::closures::{closures_of, standing_of};
-use crate::standing_no::{StandingNo, forced_items, forcing};
+use crate::closures::{close_again, close_blocks, closures_of, standing_of};
+use crate::standing_no::{StandingNo, forced_items, forcing, make_anew, take_out};
 use ls_interior::{Interior, Steps, closure};
 use ls_query::Blocks;
 use ls_set::{ItemSet, PLACES, Query};
@@ -24,7 +26,8 @@ use std::marker::Model;
 use std::sync::ledger::Ledger;
 
 /// The closures of the block sets in a family, and what is kept of the standing answers that are No.
-/// With them queries are answered by at most one interior, and block queries by none.
+/// With them queries are answered by at most one interior, and block queries by none. Contracts see
+/// them as a table, and `spare`, the number of standing Nos for which there is room.
 #[derive(Drop)]
 pub struct Table {
     n: u32,
@@ -34,11 +37,15 @@ pub struct Table {
 }
 
 impl Model for Table {
-    ghost use Rattle.ls_infer.specs.Tables.{TableState, IsTable};
+    ghost use Rattle.std.specs.Prelude.{◌-◌, vec_len, vec_capacity};
+    ghost use Rattle.ls_infer.specs.Tables.{TableRoom, IsTable};
 
-    ghost Value = { TableState };
+    ghost Value = { TableRoom };
 
-    ghost view = { λ t. record { blocks = t.blocks; closures = t.closures.items; standing = t.standing.items } };
+    ghost view = { λ t. record {
+      table = record { blocks = t.blocks; closures = t.closures.items; standing = t.standing.items };
+      spare = vec_capacity t.standing - vec_len t.standing;
+    } };
 
     ghost invariant = { λ t. IsTable t.n (record { blocks = t.blocks; closures = t.closures.items; standing = t.standing.items }) };
 }
@@ -52,7 +59,7 @@ fn closure_at(closures: &[ItemSet], place: u32) -> ItemSet
 }
 
 impl Table {
-    ghost use Rattle.ls_infer.specs.Tables.{table_of, closed_of, forces, is_open_in};
+    ghost use Rattle.ls_infer.specs.Tables.{table_of, standing, closed_of, forces, is_open_in};
 
     /// The table of a family, for blocks of its items and the standing answers that are No, whose
     /// queries are good. It takes at most a step for each block set, and for each answer a step for
@@ -66,7 +73,7 @@ impl Table {
     ) -> Result<Table, AllocError>
         requires items { I.item_count f.now ≡ blocks.item_count }
         requires good { list_all (λ a. is_good (I.item_count f.now) a.query) answers.now ≡ true }
-        ensures built { IfOk result (λ t. t ≡ table_of blocks (I.members f.now) answers.now) }
+        ensures built { IfOk result (λ t. t.table ≡ table_of blocks (I.members f.now) answers.now) }
         ensures cost { steps.new ≤ steps.old + (length (sets_of blocks) + (I.item_count f.now + 1) * length answers.now) }
     {
         let closures = closures_of(alloc, blocks, f, steps)?;
@@ -79,13 +86,95 @@ impl Table {
         })
     }
 
+    /// The blocks of whose sets it keeps the closures.
+    pub fn blocks(&self) -> Blocks
+        ensures { result ≡ self.now.table.blocks }
+    {
+        self.blocks
+    }
+
+    /// Keeps the table under a Yes to the good query `r`, of which `f` is the family that is left. It
+    /// takes no memory, and at most a step for each block set whose closure has the items of `r`'s A,
+    /// and for each standing No a step for each item and one more.
+    pub fn yes_added<I: Interior, L: Ledger>(&mut self, f: &I, r: &Query, steps: &mut Steps<L>)
+        requires items { I.item_count f.now ≡ self.old.table.blocks.item_count }
+        requires good { is_good self.old.table.blocks.item_count r.now ≡ true }
+        ensures kept { (before : List Items) (nos : List No) →
+            IsFamily self.old.table.blocks.item_count before →
+            I.members f.now ≡ left_by r.now before →
+            self.old.table ≡ table_of self.old.table.blocks before nos →
+            self.new.table ≡ table_of self.old.table.blocks (I.members f.now) nos }
+        ensures cost { steps.new ≤ steps.old
+            + (count_by (λ c. is_within r.now.a c) self.old.table.closures
+            + (self.old.table.blocks.item_count + 1) * length self.old.table.standing) }
+        ensures blocks { self.new.table.blocks ≡ self.old.table.blocks }
+    {
+        close_again(&mut self.closures, f, r, steps);
+        make_anew(&mut self.standing, f, steps);
+    }
+
+    /// Keeps the table where a Yes to the good query `r` is taken back, of which `f` is the family
+    /// without it. It takes no memory, and at most as many steps as the Yes did: those closures are
+    /// counted that have the items of `r`'s A before the change.
+    pub fn yes_removed<I: Interior, L: Ledger>(&mut self, f: &I, r: &Query, steps: &mut Steps<L>)
+        requires items { I.item_count f.now ≡ self.old.table.blocks.item_count }
+        requires good { is_good self.old.table.blocks.item_count r.now ≡ true }
+        ensures kept { (nos : List No) →
+            self.old.table ≡ table_of self.old.table.blocks (left_by r.now (I.members f.now)) nos →
+            self.new.table ≡ table_of self.old.table.blocks (I.members f.now) nos }
+        ensures cost { steps.new ≤ steps.old
+            + (count_by (λ c. is_within r.now.a c) self.old.table.closures
+            + (self.old.table.blocks.item_count + 1) * length self.old.table.standing) }
+        ensures blocks { self.new.table.blocks ≡ self.old.table.blocks }
+    {
+        close_blocks(&mut self.closures, self.blocks, f, r, steps);
+        make_anew(&mut self.standing, f, steps);
+    }
+
+    /// Makes room for one standing No, unless memory runs out.
+    pub fn reserve_no(&mut self) -> Result<(), AllocError>
+        ensures ok { OnOk result (0 < self.new.spare) }
+        ensures table { self.new.table ≡ self.old.table }
+    {
+        self.standing.reserve(1)
+    }
+
+    /// Keeps a No that now stands, the last of them, in the room that was made. `f` is the family of
+    /// the table. It takes no memory, and a step for each item and one more.
+    pub fn no_added<I: Interior, L: Ledger>(&mut self, f: &I, x: No, steps: &mut Steps<L>)
+        requires items { I.item_count f.now ≡ self.old.table.blocks.item_count }
+        requires room { 0 < self.old.spare }
+        requires good { is_good self.old.table.blocks.item_count x.query ≡ true }
+        ensures kept { (nos : List No) →
+            self.old.table ≡ table_of self.old.table.blocks (I.members f.now) nos →
+            self.new.table ≡ table_of self.old.table.blocks (I.members f.now) (nos ++ x ∷ []) }
+        ensures last { self.new.table.standing ≡ self.old.table.standing ++ standing self.old.table.blocks.item_count (I.members f.now) x ∷ [] }
+        ensures closures { self.new.table.closures ≡ self.old.table.closures }
+        ensures blocks { self.new.table.blocks ≡ self.old.table.blocks }
+        ensures cost { steps.new ≡ steps.old + (self.old.table.blocks.item_count + 1) }
+    {
+        self.standing.push_reserved(StandingNo::new(f, &x, steps));
+    }
+
+    /// Lets go of the standing No with the number. It takes no memory and no step.
+    pub fn no_removed(&mut self, number: u64)
+        ensures kept { (f : List Items) (nos : List No) →
+            self.old.table ≡ table_of self.old.table.blocks f nos →
+            self.new.table ≡ table_of self.old.table.blocks f (filter (λ a. not (a.number == number)) nos) }
+        ensures others { self.new.table.standing ≡ filter (λ s. not (s.no.number == number)) self.old.table.standing }
+        ensures closures { self.new.table.closures ≡ self.old.table.closures }
+        ensures blocks { self.new.table.blocks ≡ self.old.table.blocks }
+    {
+        take_out(&mut self.standing, number);
+    }
+
     // The closure of a set: that which is kept of a block set, or else by one interior.
     fn closure_in<I: Interior, L: Ledger>(&self, f: &I, a: ItemSet, steps: &mut Steps<L>) -> ItemSet
-        requires count { I.item_count f.now ≡ self.now.blocks.item_count }
-        requires within { IsWithin a (full self.now.blocks.item_count) }
-        ensures value { result ≡ option_map_or (λ i. closed_of self.now a) (position (is_same a) (sets_of self.now.blocks)) (closure (full (I.item_count f.now)) (I.members f.now) a) }
+        requires count { I.item_count f.now ≡ self.now.table.blocks.item_count }
+        requires within { IsWithin a (full self.now.table.blocks.item_count) }
+        ensures value { result ≡ option_map_or (λ i. closed_of self.now.table a) (position (is_same a) (sets_of self.now.table.blocks)) (closure (full (I.item_count f.now)) (I.members f.now) a) }
         ensures cost { steps.new ≤ steps.old + 1 }
-        ensures few { self.now.blocks.item_count ≤ PLACES }
+        ensures few { self.now.table.blocks.item_count ≤ PLACES }
     {
         match self.blocks.place_of(a) {
             Some(place) => closure_at(&self.closures, place),
@@ -96,11 +185,11 @@ impl Table {
     /// What the standing answers tell of the good query `q`, in at most one step and without memory.
     /// `f` is the family of the table. Where several answers force the query No, the first is named.
     pub fn answer_of<I: Interior, L: Ledger>(&self, f: &I, q: &Query, steps: &mut Steps<L>) -> Known
-        requires count { I.item_count f.now ≡ self.now.blocks.item_count }
-        requires good { is_good self.now.blocks.item_count q.now ≡ true }
-        ensures known { (i : Interview) → IsSound i → i.count ≡ self.now.blocks.item_count →
+        requires count { I.item_count f.now ≡ self.now.table.blocks.item_count }
+        requires good { is_good self.now.table.blocks.item_count q.now ≡ true }
+        ensures known { (i : Interview) → IsSound i → i.count ≡ self.now.table.blocks.item_count →
             I.members f.now ≡ compatible_sets i →
-            self.now ≡ table_of self.now.blocks (compatible_sets i) (nos i.answers) →
+            self.now.table ≡ table_of self.now.table.blocks (compatible_sets i) (nos i.answers) →
             result ≡ known i q.now }
         ensures bound { steps.new ≤ steps.old + 1 }
     {
@@ -116,8 +205,8 @@ impl Table {
 
     // The items q for which the query (a, q) is open, where `a` is the block set at a place.
     fn open_items(&self, place: u32, a: ItemSet) -> ItemSet
-        requires { slice_get (sets_of self.now.blocks) place ≡ Some a }
-        ensures { (q : ℕ) → has result q ≡ (is_good self.now.blocks.item_count (record { a = a; q = q }) && is_open_in self.now (record { a = a; q = q })) }
+        requires { slice_get (sets_of self.now.table.blocks) place ≡ Some a }
+        ensures { (q : ℕ) → has result q ≡ (is_good self.now.table.blocks.item_count (record { a = a; q = q }) && is_open_in self.now.table (record { a = a; q = q })) }
     {
         let closed = closure_at(&self.closures, place);
         ItemSet::full(self.n)
@@ -128,9 +217,9 @@ impl Table {
 
     // The first open query from the place on, where `last` is the set before it.
     fn open_from(&self, start: u32, last: ItemSet) -> Option<Query>
-        requires within { IsWithin last (full self.now.blocks.item_count) }
-        requires place { find (block_before last) (sets_of self.now.blocks) ≡ slice_get (sets_of self.now.blocks) start }
-        ensures { result ≡ find (λ s. block_before last s.a && is_open_in self.now s) (queries_of self.now.blocks) }
+        requires within { IsWithin last (full self.now.table.blocks.item_count) }
+        requires place { find (block_before last) (sets_of self.now.table.blocks) ≡ slice_get (sets_of self.now.table.blocks) start }
+        ensures { result ≡ find (λ s. block_before last s.a && is_open_in self.now.table s) (queries_of self.now.table.blocks) }
     {
         let mut last = last;
         for place in start..self.blocks.count() {
@@ -145,8 +234,8 @@ impl Table {
 
     // The first query after the given one, or of all, that is open by the table.
     fn first_open(&self, after: Option<&Query>) -> Option<Query>
-        requires { ForSome after (λ r. is_good self.now.blocks.item_count r.now ≡ true) }
-        ensures { result ≡ find (is_open_in self.now) (filter (comes_after query_before (option_map (λ r. r.now) after.entry)) (queries_of self.now.blocks)) }
+        requires { ForSome after (λ r. is_good self.now.table.blocks.item_count r.now ≡ true) }
+        ensures { result ≡ find (is_open_in self.now.table) (filter (comes_after query_before (option_map (λ r. r.now) after.entry)) (queries_of self.now.table.blocks)) }
     {
         let Some(r) = after else {
             return self.open_from(0, ItemSet::empty());
@@ -162,10 +251,10 @@ impl Table {
     /// closure decides it and no standing answer forces it No. The given one need not be of the
     /// blocks. It takes no memory and no step.
     pub fn next_unsettled(&self, after: Option<&Query>) -> Option<Query>
-        requires { ForSome after (λ r. is_good self.now.blocks.item_count r.now ≡ true) }
-        ensures next { (i : Interview) → IsSound i → i.count ≡ self.now.blocks.item_count →
-            i.block ≡ self.now.blocks.largest →
-            self.now ≡ table_of self.now.blocks (compatible_sets i) (nos i.answers) →
+        requires { ForSome after (λ r. is_good self.now.table.blocks.item_count r.now ≡ true) }
+        ensures next { (i : Interview) → IsSound i → i.count ≡ self.now.table.blocks.item_count →
+            i.block ≡ self.now.table.blocks.largest →
+            self.now.table ≡ table_of self.now.table.blocks (compatible_sets i) (nos i.answers) →
             result ≡ next_question i (option_map (λ r. r.now) after.entry) }
     {
         self.first_open(after)

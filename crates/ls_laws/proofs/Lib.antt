@@ -9,6 +9,7 @@ pub mod Spans
 pub mod Remains
 pub mod Breaks
 pub mod Closures
+pub mod ClosureChanges
 pub mod Compat
 pub mod Families
 pub mod Fit

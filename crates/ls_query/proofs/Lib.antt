@@ -7,3 +7,4 @@ pub mod Steps
 pub mod Counted
 pub mod QuerySets
 pub mod Placed
+pub mod Made

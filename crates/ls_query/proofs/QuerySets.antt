@@ -18,7 +18,7 @@ use Rattle.ls_query.proofs.BlockSets.{in-blocks, blocks-in, sorted-blocks}
 
 -- ---- items of a set
 
-next_item-cases : (s : Items) (a i : ℕ) → next_item s a ≡ Some i → (a < i) × (has s i ≡ true) × ((j : ℕ) → a < j → j < i → has s j ≡ false)
+pub next_item-cases : (s : Items) (a i : ℕ) → next_item s a ≡ Some i → (a < i) × (has s i ≡ true) × ((j : ℕ) → a < j → j < i → has s j ≡ false)
 unfolding next_item items
 next_item-cases s a i e =
     let h = find_some (λ j. has s j && ltb a j) 0 (bound s) i (sym (find-filter (has s) (λ j. ltb a j) (numbers_from 0 (bound s))) ∙ e) in
@@ -28,14 +28,14 @@ next_item-cases s a i e =
       λ j l m. false_from_ne_true (has s j) (λ k. true≢false (sym (and_from (has s j) (ltb a j) k (lt-ltb a j l)) ∙ h.1 j (omega arith) m)),
     )
 
-next_item-none_left : (s : Items) (a j : ℕ) → next_item s a ≡ None → a < j → has s j ≡ false
+pub next_item-none_left : (s : Items) (a j : ℕ) → next_item s a ≡ None → a < j → has s j ≡ false
 unfolding next_item items
 next_item-none_left s a j e l = false_from_ne_true (has s j) (λ k.
     let inside : j < bound s = bound-has s j k in
     true≢false (sym (and_from (has s j) (ltb a j) k (lt-ltb a j l))
     ∙ find-none_is (λ j. has s j && ltb a j) (numbers_from 0 (bound s)) (sym (find-filter (has s) (λ j. ltb a j) (numbers_from 0 (bound s))) ∙ e) j (in-numbers 0 (bound s) j (omega arith) (omega arith))))
 
-least-none_left : (s : Items) (j : ℕ) → least s ≡ None → has s j ≡ false
+pub least-none_left : (s : Items) (j : ℕ) → least s ≡ None → has s j ≡ false
 unfolding least items
 least-none_left s j e = false_from_ne_true (has s j) (λ k.
     let inside : j < bound s = bound-has s j k in
@@ -43,7 +43,7 @@ least-none_left s j e = false_from_ne_true (has s j) (λ k.
 
 -- ---- the queries
 
-abbrev asked_of : Items → ℕ → Query
+abbrev pub asked_of : Items → ℕ → Query
 asked_of a q = record { a = a; q = q }
 
 some_items : (n : ℕ) (r : Query) → IsGood n r → 0 < len r.a
@@ -73,15 +73,15 @@ queries-in n k r c =
     let p = map-in (asked_of m.0) (numbers_from 0 n) r m.2 in
     (good-from n r f.1, subst (λ a. IsIn a (blocks n k)) (sym (ap (λ s. s.a) p.2)) m.1)
 
-before-by_set : (r s : Query) → block_before r.a s.a ≡ true → query_before r s ≡ true
+pub before-by_set : (r s : Query) → block_before r.a s.a ≡ true → query_before r s ≡ true
 unfolding query_before
 before-by_set r s h = or_left (block_before r.a s.a) (is_same r.a s.a && ltb r.q s.q) h
 
-before-by_item : (r s : Query) → r.a ≡ s.a → r.q < s.q → query_before r s ≡ true
+pub before-by_item : (r s : Query) → r.a ≡ s.a → r.q < s.q → query_before r s ≡ true
 unfolding query_before
 before-by_item r s e l = or_right (block_before r.a s.a) (is_same r.a s.a && ltb r.q s.q) (and_from (is_same r.a s.a) (ltb r.q s.q) ((Decides-is_same r.a s.a).1 e) (lt-ltb r.q s.q l))
 
-query_before-cases : (r s : Query) → query_before r s ≡ true → (block_before r.a s.a ≡ true) ⊎ ((r.a ≡ s.a) × (r.q < s.q))
+pub query_before-cases : (r s : Query) → query_before r s ≡ true → (block_before r.a s.a ≡ true) ⊎ ((r.a ≡ s.a) × (r.q < s.q))
 unfolding query_before
 query_before-cases r s h = elim (or_cases (block_before r.a s.a) (is_same r.a s.a && ltb r.q s.q) h) [
   | inl a ↦ inl a
@@ -101,7 +101,7 @@ sorted-queries n k =
 
 -- ---- the next query
 
-never_before : (a b : Items) → a ≡ b → block_before a b ≡ true → ⊥
+pub never_before : (a b : Items) → a ≡ b → block_before a b ≡ true → ⊥
 never_before a b e h = true≢false (sym h ∙ ap (block_before a) (sym e) ∙ before-asymmetric a a (ap (block_before a) e ∙ h))
 
 -- the item of a good query is one of those that its set lacks

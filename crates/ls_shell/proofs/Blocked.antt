@@ -1,11 +1,9 @@
 -- The row of blocks.
 use Rattle.std.specs.Fmt.{digits}
-use Rattle.std.proofs.Common.{◌≡◌, ◌||◌, ◌-◌, ℕ, Bool, true, false, cond, not, eqb, find, List, [], ◌∷◌, Option, Some, None, Result, Ok, Err, length, codes, decimal, refl, ap, ◌∙◌, max, nat_lt}
+use Rattle.std.proofs.Common.{◌≡◌, ℕ, false, cond, not, eqb, List, [], ◌∷◌, Result, Ok, Err, length, codes, decimal, refl, ap, ◌∙◌}
 use Rattle.std.specs.declared.alloc.AllocError.{AllocError}
-use Rattle.std.specs.Option.{option_map_or}
-use Rattle.ls_set.specs.ItemSet.{numbers_from}
 use Rattle.ls_theory.specs.Queries.{blocks}
-use Rattle.ls_query.specs.Blocks.{BlockRange, made, is_too_wide}
+use Rattle.ls_query.specs.Blocks.{BlockRange, made}
 use Rattle.ls_query.specs.declared.block_fault.BlockFault.{BlockFault}
 use Rattle.ls_query.specs.declared.block_fault.BlockFault.TheVariants as block
 use Rattle.ls_lines.specs.declared.command.Command.TheVariants as command
@@ -26,17 +24,6 @@ decimal_16 = refl
 decimal_17 : decimal 17 ≡ codes "17"
 unfolding digits
 decimal_17 = refl
-
--- what is made is told by the number of items and the size
-chosen : (bad : Bool) (wide : Option ℕ) (x b : BlockRange)
-    → cond bad (Err block.BadBlock) (option_map_or (λ (size : ℕ). let r : Result BlockRange BlockFault = Err (block.TooWide size) in r) wide (Ok x)) ≡ Ok b → x ≡ b
-chosen true wide x b e = absurd (cc e)
-chosen false (Some size) x b e = absurd (cc e)
-chosen false None x b e = cc e
-
-pub made_of : (n k : ℕ) (b : BlockRange) → made n k ≡ Ok b → (let x : BlockRange = record { item_count = n; largest = k } in x) ≡ b
-unfolding made
-made_of n k b e = chosen (eqb k 0 || nat_lt (max 1 (n - 1)) k) (find (is_too_wide n) (numbers_from 1 k)) (record { item_count = n; largest = k }) b e
 
 module _ (s : Session) (size : ℕ) (some : eqb (length s.names) 0 ≡ false) where
   abbrev answer : Answer

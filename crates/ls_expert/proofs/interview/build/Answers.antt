@@ -4,7 +4,6 @@ use Rattle.ls_set.specs.ItemSet.{Items}
 use Rattle.ls_set.specs.Query.{is_good}
 use Rattle.ls_theory.specs.Compatible.{compat}
 use Rattle.ls_theory.specs.declared.no.No.{No}
-use Rattle.ls_theory.specs.Interviews.{nos}
 use Rattle.ls_infer.specs.Tables.{table_of}
 use Rattle.ls_rules.specs.Ruled.{RuledState}
 use Rattle.ls_expert.specs.Starts.{StartOn}

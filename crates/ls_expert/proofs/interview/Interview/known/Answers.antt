@@ -1,4 +1,4 @@
-use Rattle.std.proofs.Common.{refl, sym, ap, ◌∙◌}
+use Rattle.std.proofs.Common.{sym, ap, ◌∙◌}
 use Rattle.ls_theory.specs.Compatible.{compat}
 use Rattle.ls_theory.specs.Interviews.{Interview}
 use Rattle.ls_theory.specs.Forced.{known}
@@ -13,5 +13,5 @@ returns-clause-value g c =
     let held = c.self.invariant in
     c.answer_of.ensures.known i held.sound (ap (λ t. t.blocks.item_count) (sym held.tabled))
     (rw c.new.ensures (ruled-compat s.item_count s.start c.self.inside.family.rules ∙ ap (compat s.item_count s.start) held.ruled))
-    (own_blocks i c.self.inside.table held.tabled)
+    (own_blocks i c.self.inside.table.table held.tabled)
     ∙ ap (λ (j : Interview). known j c.args.q.now) c.self.view_is

@@ -1,4 +1,4 @@
-use Rattle.std.proofs.Common.{refl, sym, ap, ◌∙◌, IfSome, subst, Option, ◌≡◌, true}
+use Rattle.std.proofs.Common.{sym, ap, ◌∙◌, IfSome, subst, Option, ◌≡◌, true}
 use Rattle.std.specs.Option.{option_map}
 use Rattle.ls_set.specs.Query.{is_good}
 use Rattle.ls_set.specs.declared.query.Query.{Query}
@@ -12,7 +12,7 @@ pub returns-clause-value : goal.returns-clause-value
 returns-clause-value c =
     let i = interview_of c.self.inside.family.inner c.self.inside.block c.self.inside.answers.items c.self.inside.next in
     let held = c.self.invariant in
-    c.next_unsettled.ensures.next i held.sound (ap (λ t. t.blocks.item_count) (sym held.tabled)) (ap (λ t. t.blocks.largest) (sym held.tabled)) (own_blocks i c.self.inside.table held.tabled)
+    c.next_unsettled.ensures.next i held.sound (ap (λ t. t.blocks.item_count) (sym held.tabled)) (ap (λ t. t.blocks.largest) (sym held.tabled)) (own_blocks i c.self.inside.table.table held.tabled)
     ∙ ap (λ (j : Interview). next_question j (option_map (λ r. r.now) c.args.after)) c.self.view_is
 
 pub returns-clause-good : goal.returns-clause-good

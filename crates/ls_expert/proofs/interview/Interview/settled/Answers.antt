@@ -1,4 +1,4 @@
-use Rattle.std.proofs.Common.{refl, sym, ap, ◌∙◌}
+use Rattle.std.proofs.Common.{sym, ap, ◌∙◌}
 use Rattle.ls_theory.specs.Forced.{is_settled}
 use Rattle.ls_expert.specs.Held.{interview_of}
 use Rattle.ls_expert.proofs.Ruling.{own_blocks, settled-is}
@@ -9,6 +9,6 @@ returns c =
     let i = interview_of c.self.inside.family.inner c.self.inside.block c.self.inside.answers.items c.self.inside.next in
     let held = c.self.invariant in
     settled-is i c.next_unsettled.result c.is_none.result
-    (c.next_unsettled.ensures.next i held.sound (ap (λ t. t.blocks.item_count) (sym held.tabled)) (ap (λ t. t.blocks.largest) (sym held.tabled)) (own_blocks i c.self.inside.table held.tabled))
+    (c.next_unsettled.ensures.next i held.sound (ap (λ t. t.blocks.item_count) (sym held.tabled)) (ap (λ t. t.blocks.largest) (sym held.tabled)) (own_blocks i c.self.inside.table.table held.tabled))
     c.is_none.ensures
     ∙ ap is_settled c.self.view_is

@@ -13,53 +13,53 @@ use Rattle.ls_infer.proofs.Opens.{open-all, open-same, open-later, open-outside}
 use Rattle.ls_infer.proofs.table.Table.first_open.Goals as goal
 
 pub open_from-requires-clause-within : goal.open_from-requires-clause-within
-open_from-requires-clause-within c = rw c.empty.ensures (empty-within (full c.args.self.now.blocks.item_count))
+open_from-requires-clause-within c = rw c.empty.ensures (empty-within (full c.args.self.now.table.blocks.item_count))
 
 pub open_from-requires-clause-place : goal.open_from-requires-clause-place
-open_from-requires-clause-place c = rw c.empty.ensures (first_place c.args.self.now.blocks.item_count c.args.self.now.blocks.largest)
+open_from-requires-clause-place c = rw c.empty.ensures (first_place c.args.self.now.table.blocks.item_count c.args.self.now.table.blocks.largest)
 
 pub returns-in_default : goal.returns-in_default
 returns-in_default c =
-    let t = c.args.self.now in
+    let t = c.args.self.now.table in
     rw c.in_default.is
     (c.open_from.ensures ∙ ap (λ e. find (λ s. block_before e s.a && is_open_in t s) (queries_of t.blocks)) c.empty.ensures
     ∙ open-all t.blocks.item_count t.blocks.largest (is_open_in t))
 
 pub returns-in_err-place : goal.returns-in_err-place
 returns-in_err-place c =
-    let t = c.args.self.now in
+    let t = c.args.self.now.table in
     let r = c.in-Some.r.now in
-    let out : position (is_same r.a) (sets_of t.blocks) ≡ None = ap (λ u. position (is_same r.a) (sets_of u.blocks)) (sym c.self.view_is) ∙ sym c.place_of.ensures ∙ c.in_err-place.was in
+    let out : position (is_same r.a) (sets_of t.blocks) ≡ None = ap (λ u. position (is_same r.a) (sets_of u.table.blocks)) (sym c.self.view_is) ∙ sym c.place_of.ensures ∙ c.in_err-place.was in
     rw (c.in-Some.is, c.from_residual.ensures)
     (sym (open-outside t.blocks.item_count t.blocks.largest (is_open_in t) r (good-from t.blocks.item_count r (c.requires c.in-Some.r c.in-Some.is)) out))
 
 pub open_items-requires : goal.open_items-requires
 open_items-requires c =
-    let t = c.args.self.now in
+    let t = c.args.self.now.table in
     let a = c.in-Some.r.now.a in
-    position-get t.blocks.item_count t.blocks.largest a c.in_ok-place.place (ap (λ u. position (is_same a) (sets_of u.blocks)) (sym c.self.view_is) ∙ sym c.place_of.ensures ∙ c.in_ok-place.was)
+    position-get t.blocks.item_count t.blocks.largest a c.in_ok-place.place (ap (λ u. position (is_same a) (sets_of u.table.blocks)) (sym c.self.view_is) ∙ sym c.place_of.ensures ∙ c.in_ok-place.was)
 
 pub open_from-requires-in-None-clause-within : goal.open_from-requires-in-None-clause-within
-open_from-requires-in-None-clause-within c = (good-from c.args.self.now.blocks.item_count c.in-Some.r.now (c.requires c.in-Some.r c.in-Some.is)).small
+open_from-requires-in-None-clause-within c = (good-from c.args.self.now.table.blocks.item_count c.in-Some.r.now (c.requires c.in-Some.r c.in-Some.is)).small
 
 pub open_from-requires-in-None-clause-place : goal.open_from-requires-in-None-clause-place
 open_from-requires-in-None-clause-place c =
-    let t = c.args.self.now in
+    let t = c.args.self.now.table in
     let a = c.in-Some.r.now.a in
     next_place t.blocks.item_count t.blocks.largest c.in_ok-place.place a
-    (position-get t.blocks.item_count t.blocks.largest a c.in_ok-place.place (ap (λ u. position (is_same a) (sets_of u.blocks)) (sym c.self.view_is) ∙ sym c.place_of.ensures ∙ c.in_ok-place.was))
+    (position-get t.blocks.item_count t.blocks.largest a c.in_ok-place.place (ap (λ u. position (is_same a) (sets_of u.table.blocks)) (sym c.self.view_is) ∙ sym c.place_of.ensures ∙ c.in_ok-place.was))
 
 pub returns-in-Some-next_member : goal.returns-in-Some-next_member
 returns-in-Some-next_member c =
-    let t = c.args.self.now in
+    let t = c.args.self.now.table in
     let r = c.in-Some.r.now in
     let here : slice_get (sets_of t.blocks) c.in_ok-place.place ≡ Some r.a =
-    position-get t.blocks.item_count t.blocks.largest r.a c.in_ok-place.place (ap (λ u. position (is_same r.a) (sets_of u.blocks)) (sym c.self.view_is) ∙ sym c.place_of.ensures ∙ c.in_ok-place.was) in
+    position-get t.blocks.item_count t.blocks.largest r.a c.in_ok-place.place (ap (λ u. position (is_same r.a) (sets_of u.table.blocks)) (sym c.self.view_is) ∙ sym c.place_of.ensures ∙ c.in_ok-place.was) in
     rw c.in-Some.is
     (sym (open-same t.blocks.item_count t.blocks.largest (is_open_in t) r c.open_items.result c.in-Some-next_member.q (get-in (sets_of t.blocks) c.in_ok-place.place r.a here) c.open_items.ensures (sym c.next_member.ensures ∙ c.in-Some-next_member.is)))
 
 pub returns-in-None : goal.returns-in-None
 returns-in-None c =
-    let t = c.args.self.now in
+    let t = c.args.self.now.table in
     rw c.in-Some.is
     (c.open_from-in-None.ensures ∙ open-later t.blocks.item_count t.blocks.largest (is_open_in t) c.in-Some.r.now c.open_items.result c.open_items.ensures (sym c.next_member.ensures ∙ c.in-None.is))

@@ -8,7 +8,7 @@ use Rattle.ls_infer.proofs.table.Table.open_from.Given as goal
 -- the set at the place is the first after the last, and no open query was passed
 abbrev pub invariant-loop-place : goal.invariant-loop-place
 invariant-loop-place l = record {
-  within : IsWithin l.last (full l.self.blocks.item_count);
-  place : find (block_before l.last) (sets_of l.self.blocks) ≡ slice_get (sets_of l.self.blocks) l.place;
-  passed : find (λ s. block_before l.fn.last s.a && is_open_in l.self s) (queries_of l.self.blocks) ≡ find (λ s. block_before l.last s.a && is_open_in l.self s) (queries_of l.self.blocks);
+  within : IsWithin l.last (full l.self.table.blocks.item_count);
+  place : find (block_before l.last) (sets_of l.self.table.blocks) ≡ slice_get (sets_of l.self.table.blocks) l.place;
+  passed : find (λ s. block_before l.fn.last s.a && is_open_in l.self.table s) (queries_of l.self.table.blocks) ≡ find (λ s. block_before l.last s.a && is_open_in l.self.table s) (queries_of l.self.table.blocks);
 }

@@ -3,6 +3,7 @@ use Rattle.std.proofs.lemmas.Bool.{not-true}
 use Rattle.ls_lines.specs.Lines.{Text}
 use Rattle.ls_lines.specs.declared.command.Command.TheVariants as command
 use Rattle.ls_query.specs.Blocks.{BlockRange, made, sets_of}
+use Rattle.ls_query.proofs.Made.{made_of}
 use Rattle.ls_reply.specs.Sessions.{Session, has_domain}
 use Rattle.ls_reply.specs.Refusals.{Answer, becomes}
 use Rattle.ls_reply.specs.Replies.{unnamed_at}
@@ -10,7 +11,7 @@ use Rattle.ls_shell.specs.Named.{places_at_fault}
 use Rattle.ls_shell.specs.Sayings.{Gives}
 use Rattle.ls_shell.proofs.Moves.{IfOk_map}
 use Rattle.ls_shell.proofs.Outcomes.{gives_line, outcome_unnamed}
-use Rattle.ls_shell.proofs.Blocked.{made_of, blocks_made, blocks_refused}
+use Rattle.ls_shell.proofs.Blocked.{blocks_made, blocks_refused}
 use Rattle.ls_shell.proofs.Beginnings.{has_domain-is, at_fault-is}
 use Rattle.ls_shell.proofs.session.Session.set_blocks.Goals as goal
 

@@ -1,0 +1,181 @@
+-- What an interview keeps when it takes an answer.
+use Rattle.std.proofs.Common.{ℕ, ◌≤◌, ◌<◌, ◌≡◌, Bool, true, false, cond, not, ◌&&◌, length, List, [], ◌∷◌, ◌++◌, map, filter, Option, Some, None, refl, sym, ap, ap₂, ◌∙◌, subst, arith, length-append}
+use Rattle.std.specs.List.{list_all}
+use Rattle.std.specs.Option.{option_map}
+use Rattle.std.proofs.lemmas.Bool.Decides.{nat_tests}
+use Rattle.std.proofs.lemmas.Bool.{and_from}
+use Rattle.std.proofs.lemmas.List.Folds.{list_all-append}
+use Rattle.ls_set.specs.ItemSet.{Items, full}
+use Rattle.ls_set.specs.Query.{is_good}
+use Rattle.ls_set.specs.declared.query.Query.{Query}
+use Rattle.ls_set.proofs.Sets.{and-true}
+use Rattle.ls_theory.specs.declared.answer.Answer.{Answer}
+use Rattle.ls_theory.specs.declared.known.Known.{Known}
+use Rattle.ls_theory.specs.declared.no.No.{No}
+use Rattle.ls_theory.specs.Interviews.{Interview, accepted, yes_queries, nos}
+use Rattle.ls_theory.specs.Compatible.{compat, compatible_sets}
+use Rattle.ls_theory.specs.Fitting.{spaces_of}
+use Rattle.ls_theory.specs.Forced.{known, is_forced_yes, is_forced_no}
+use Rattle.ls_laws.specs.Spans.{left_by}
+use Rattle.ls_laws.specs.Forced.{SomeFits, IsSound}
+use Rattle.ls_laws.proofs.Accepting.{yes_added, no_added, compatible-yes, compatible-no}
+use Rattle.ls_laws.specs.Families.{IsFamily}
+use Rattle.ls_laws.proofs.Families.{compat-IsFamily}
+use Rattle.ls_laws.proofs.Compat.{compat-more}
+use Rattle.ls_query.specs.Blocks.{BlockRange}
+use Rattle.ls_laws.proofs.Answering.{not_both}
+use Rattle.ls_laws.proofs.Numbered.{accepted-numbered}
+use Rattle.ls_infer.specs.Tables.{TableState, table_of}
+use Rattle.ls_expert.specs.declared.interview.TheConstants.{MOST_ANSWERS, MOST_NUMBER}
+use Rattle.ls_expert.specs.declared.answer_fault.AnswerFault.{AnswerFault}
+use Rattle.ls_expert.specs.declared.answer_fault.AnswerFault.TheVariants.{BadQuery, Repeat, Full}
+use Rattle.ls_expert.specs.Answers.{standing_number, is_full, opposed, first_fault, refusal}
+use Rattle.ls_expert.specs.Held.{blocks_of, closures_of, IsHeld}
+
+-- ---- what a refusal that isn't found tells
+
+pub record Passes (i : Interview) (r : Query) (is_yes : Bool) : Type 0 where
+  pub good : is_good i.count r ≡ true
+  pub unopposed : opposed (known i r) is_yes ≡ None
+  pub room : is_full i ≡ false
+
+passes_room : (b : Bool) → cond b (Some Full) None ≡ None → b ≡ false
+passes_room true e = absurd (cc e)
+passes_room false e = refl
+
+passes_all : (good : Bool) (number : Option AnswerFault) (against : Option AnswerFault) (full : Bool)
+    → first_fault (cond good None (Some BadQuery)) (first_fault number (first_fault against (cond full (Some Full) None))) ≡ None
+    → (good ≡ true) × (against ≡ None) × (full ≡ false)
+passes_all false number against full e = absurd (cc e)
+passes_all true (Some x) against full e = absurd (cc e)
+passes_all true None (Some x) full e = absurd (cc e)
+passes_all true None None full e = (refl, refl, passes_room full e)
+
+pub passes-from : (i : Interview) (r : Query) (is_yes : Bool) → refusal i r is_yes ≡ None → Passes i r is_yes
+passes-from i r is_yes e =
+    let p = passes_all (is_good i.count r) (option_map Repeat (standing_number i r)) (opposed (known i r) is_yes) (is_full i) e in
+    record { good = p.0; unopposed = p.1; room = p.2 }
+
+-- a Yes is not forced No, and a No is not forced Yes
+unopposed_yes : (sure never : Bool) (k : ℕ) → (sure ≡ true → never ≡ false) → opposed (cond sure Known.Yes (cond never (Known.No k) Known.Unsettled)) true ≡ None → never ≡ false
+unopposed_yes sure false k once e = refl
+unopposed_yes true true k once e = once refl
+unopposed_yes false true k once e = absurd (cc e)
+
+once_not : (sure never : Bool) → (sure && never) ≡ false → sure ≡ true → never ≡ false
+once_not sure never e h = sym (ap (λ b. b && never) h) ∙ e
+
+pub free-yes : (i : Interview) (r : Query) → SomeFits i → opposed (known i r) true ≡ None → is_forced_no (spaces_of i) r ≡ false
+unfolding known
+free-yes i r fits e =
+    let spaces = spaces_of i in
+    unopposed_yes (is_forced_yes spaces r) (is_forced_no spaces r) _ (once_not (is_forced_yes spaces r) (is_forced_no spaces r) (not_both i r fits)) e
+
+unopposed_no : (sure : Bool) (other : Known) → opposed (cond sure Known.Yes other) false ≡ None → sure ≡ false
+unopposed_no true other e = absurd (cc e)
+unopposed_no false other e = refl
+
+pub free-no : (i : Interview) (r : Query) → opposed (known i r) false ≡ None → is_forced_yes (spaces_of i) r ≡ false
+unfolding known
+free-no i r e = unopposed_no (is_forced_yes (spaces_of i) r) _ e
+
+-- ---- lists of answers
+
+module _ {X : Type 0} (p : Answer → Bool) (g : Answer → X) where
+  -- the images of the answers that pass
+  abbrev told : List Answer → List X
+  told answers = map g (filter p answers)
+
+  told-last : (answers : List Answer) (a : Answer) → p a ≡ true → told (answers ++ a ∷ []) ≡ told answers ++ g a ∷ []
+  told-last [] a e = rw e refl
+  told-last (x ∷ answers) a e = elim (p x) as (λ b. map g (cond b (x ∷ filter p (answers ++ a ∷ [])) (filter p (answers ++ a ∷ []))) ≡ map g (cond b (x ∷ filter p answers) (filter p answers)) ++ g a ∷ []) [
+    | true ↦ ap (λ l. g x ∷ l) (told-last answers a e)
+    | false ↦ told-last answers a e
+  ]
+
+  told-passed : (answers : List Answer) (a : Answer) → p a ≡ false → told (answers ++ a ∷ []) ≡ told answers
+  told-passed [] a e = rw e refl
+  told-passed (x ∷ answers) a e = elim (p x) as (λ b. map g (cond b (x ∷ filter p (answers ++ a ∷ [])) (filter p (answers ++ a ∷ []))) ≡ map g (cond b (x ∷ filter p answers) (filter p answers))) [
+    | true ↦ ap (λ l. g x ∷ l) (told-passed answers a e)
+    | false ↦ told-passed answers a e
+  ]
+
+module _ (i : Interview) (r : Query) where
+  abbrev answer_of : Bool → Answer
+  answer_of is_yes = record { number = i.next; query = r; yes = is_yes }
+
+  pub yes_queries-yes : yes_queries (accepted i r true).answers ≡ yes_queries i.answers ++ r ∷ []
+  yes_queries-yes = told-last (λ a. a.yes) (λ a. a.query) i.answers (answer_of true) refl
+
+  pub yes_queries-no : yes_queries (accepted i r false).answers ≡ yes_queries i.answers
+  yes_queries-no = told-passed (λ a. a.yes) (λ a. a.query) i.answers (answer_of false) refl
+
+  pub nos-no : nos (accepted i r false).answers ≡ nos i.answers ++ record { number = i.next; query = r } ∷ []
+  nos-no = told-last (λ a. not a.yes) (λ a. record { number = a.number; query = a.query }) i.answers (answer_of false) refl
+
+  pub nos-yes : nos (accepted i r true).answers ≡ nos i.answers
+  nos-yes = told-passed (λ a. not a.yes) (λ a. record { number = a.number; query = a.query }) i.answers (answer_of true) refl
+
+-- ---- what is kept
+
+all-last : (q : Answer → Bool) (answers : List Answer) (a : Answer) → list_all q answers ≡ true → q a ≡ true → list_all q (answers ++ a ∷ []) ≡ true
+all-last q answers a h e = list_all-append q answers (a ∷ []) ∙ and_from (list_all q answers) (q a && true) h (and-true (q a) ∙ e)
+
+-- there is room for one more answer and its number
+room_left : (i : Interview) → is_full i ≡ false → (length i.answers < MOST_ANSWERS) × (i.next ≤ MOST_NUMBER)
+room_left i e = grind (arith, nat_tests)
+
+-- an answer is taken
+taken : (i : Interview) (r : Query) (is_yes : Bool) (rules after : List Query) (t new : TableState) → IsHeld i rules t → Passes i r is_yes → IsSound (accepted i r is_yes)
+    → after ≡ yes_queries (accepted i r is_yes).answers → new ≡ closures_of (accepted i r is_yes) → IsHeld (accepted i r is_yes) after new
+taken i r is_yes rules after t new h p sound ruled tabled =
+    let room = room_left i p.room in
+    record {
+      some_items = h.some_items;
+      few_items = h.few_items;
+      ruled = ruled;
+      tabled = tabled;
+      sound = sound;
+      good = all-last (λ a. is_good i.count a.query) i.answers (record { number = i.next; query = r; yes = is_yes }) h.good p.good;
+      numbered = accepted-numbered i r is_yes h.numbered;
+      few_answers = let l = length-append i.answers ((let a : Answer = record { number = i.next; query = r; yes = is_yes } in a) ∷ []) in omega (arith, room.0);
+      numbers_left = omega (arith, room.1);
+    }
+
+module _ (i : Interview) (r : Query) (rules : List Query) (t new : TableState) (h : IsHeld i rules t) where
+  pub held-yes : (after : List Query) → refusal i r true ≡ None → after ≡ rules ++ r ∷ [] → new ≡ closures_of (accepted i r true) → IsHeld (accepted i r true) after new
+  held-yes after e ruled tabled =
+      let p = passes-from i r true e in
+      taken i r true rules after t new h p (yes_added i r h.sound p.good (free-yes i r h.sound.some_fits p.unopposed))
+      (ruled ∙ ap (λ l. l ++ r ∷ []) h.ruled ∙ sym (yes_queries-yes i r)) tabled
+
+  pub held-no : refusal i r false ≡ None → new ≡ closures_of (accepted i r false) → IsHeld (accepted i r false) rules new
+  held-no e tabled =
+      let p = passes-from i r false e in
+      taken i r false rules rules t new h p (no_added i r h.sound p.good (free-no i r p.unopposed)) (h.ruled ∙ sym (yes_queries-no i r)) tabled
+
+-- ---- tables
+
+module _ (i : Interview) (r : Query) (old new : TableState) (f : List Items) (h : old ≡ closures_of i) where
+  own : (ns : List No) (g : List Items) → g ≡ compatible_sets i → ns ≡ nos i.answers → old ≡ table_of old.blocks g ns
+  own ns g eg en =
+      h ∙ ap (λ (b : BlockRange). table_of b (compatible_sets i) (nos i.answers)) (sym (ap (λ (t : TableState). t.blocks) h))
+      ∙ ap₂ (λ (k : List Items) (l : List No). table_of old.blocks k l) (sym eg) (sym en)
+
+  -- the table after a No
+  pub tabled-no : (x : No) → f ≡ compatible_sets i → x ≡ record { number = i.next; query = r }
+      → ((ns : List No) → old ≡ table_of old.blocks f ns → new ≡ table_of old.blocks f (ns ++ x ∷ [])) → new ≡ closures_of (accepted i r false)
+  tabled-no x family e kept =
+      kept (nos i.answers) (own (nos i.answers) f family refl)
+      ∙ ap (λ (b : BlockRange). table_of b f (nos i.answers ++ x ∷ [])) (ap (λ (t : TableState). t.blocks) h)
+      ∙ ap₂ (λ (k : List Items) (l : List No). table_of (blocks_of i) k l) (family ∙ sym (compatible-no i r)) (ap (λ y. nos i.answers ++ y ∷ []) e ∙ sym (nos-no i r))
+
+  -- the table after a Yes
+  pub tabled-yes : f ≡ compat i.count i.start (yes_queries i.answers ++ r ∷ [])
+      → ((before : List Items) (ns : List No) → IsFamily old.blocks.item_count before → f ≡ left_by r before → old ≡ table_of old.blocks before ns → new ≡ table_of old.blocks f ns) → new ≡ closures_of (accepted i r true)
+  tabled-yes family kept =
+      let left : f ≡ left_by r (compatible_sets i) = family ∙ compat-more i.count i.start (yes_queries i.answers) r in
+      kept (compatible_sets i) (nos i.answers)
+      (subst (λ n. IsFamily n (compatible_sets i)) (ap (λ (t : TableState). t.blocks.item_count) (sym h)) (compat-IsFamily i.count i.start (yes_queries i.answers))) left (own (nos i.answers) (compatible_sets i) refl refl)
+      ∙ ap (λ (b : BlockRange). table_of b f (nos i.answers)) (ap (λ (t : TableState). t.blocks) h)
+      ∙ ap₂ (λ (k : List Items) (l : List No). table_of (blocks_of i) k l) (left ∙ sym (compatible-yes i r)) (sym (nos-yes i r))

@@ -1,0 +1,20 @@
+use Rattle.std.proofs.Common.{length, ap, ◌∙◌, arith}
+use Rattle.std.proofs.lemmas.Grind.{common_steps}
+use Rattle.ls_set.specs.ItemSet.{full}
+use Rattle.ls_query.specs.Blocks.{sets_of}
+use Rattle.ls_theory.specs.Families.{closure}
+use Rattle.ls_infer.proofs.Changes.{closures-within, standing-good}
+use Rattle.ls_infer.proofs.table.Table.build.Goals as goal
+
+pub invariant_of-result : goal.invariant_of-result
+invariant_of-result g c =
+    let n = g.I.Interior.item_count c.args.f.now in
+    let f = g.I.Interior.members c.args.f.now in
+    record {
+      items = c.items.ensures.count ∙ c.requires.items;
+      few = c.items.ensures.few;
+      each = grind (arith, common_steps);
+      few_sets = grind (arith, common_steps);
+      within = rw (c.items.ensures.count, c.in_ok-closures.ensures.list) (closures-within n f (sets_of c.args.blocks));
+      good = rw (c.items.ensures.count, c.in_ok-standing.ensures.list) (standing-good n n f c.args.answers.now c.requires.good);
+    }
