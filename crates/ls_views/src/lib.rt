@@ -13,7 +13,7 @@ mod reading;
 mod states;
 
 pub use cursors::{cursor_set, refuse_cursor};
-pub use lines::{refuse_at, say};
+pub use lines::{refuse_at, say, say_ok};
 pub use listing::write_listing;
 pub use places::unnamed_place;
 pub use print::{push_line, push_set_line};

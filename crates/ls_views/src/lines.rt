@@ -17,15 +17,23 @@ pub fn say<K: Sink>(alloc: Global, words: &[&[u8]], out: &mut K) -> Result<bool,
     Ok(line.starts_with(b"no "))
 }
 
-/// Writes a refusal with a place.
+/// Writes `ok` and a number.
+pub fn say_ok<K: Sink>(alloc: Global, number: u64, out: &mut K) -> Result<bool, SinkFault>
+    ensures { Says (K.written out.old) (K.written out.new) (K.faults out.old) (K.faults out.new) (line_of (codes "ok" ∷ decimal number ∷ [])) result }
+{
+    let number = number.to_string(alloc).map_err(SinkFault::Memory)?;
+    say(alloc, &[b"ok", number.as_bytes()], out)
+}
+
+/// Writes a refusal with a number, as a place.
 pub fn refuse_at<K: Sink>(
     alloc: Global,
     code: &[u8],
-    place: usize,
+    number: u64,
     out: &mut K,
 ) -> Result<bool, SinkFault>
-    ensures { Says (K.written out.old) (K.written out.new) (K.faults out.old) (K.faults out.new) (line_of (codes "no" ∷ code.now ∷ decimal place ∷ [])) result }
+    ensures { Says (K.written out.old) (K.written out.new) (K.faults out.old) (K.faults out.new) (line_of (codes "no" ∷ code.now ∷ decimal number ∷ [])) result }
 {
-    let place = place.to_string(alloc).map_err(SinkFault::Memory)?;
-    say(alloc, &[b"no", code, place.as_bytes()], out)
+    let number = number.to_string(alloc).map_err(SinkFault::Memory)?;
+    say(alloc, &[b"no", code, number.as_bytes()], out)
 }
