@@ -1,6 +1,6 @@
 -- Domains of sessions: whether one stands, the rows that begin with one, and what is fetched.
-use Rattle.std.proofs.Common.{◌≡◌, ℕ, ◌<◌, Bool, true, false, cond, not, eqb, ltb, List, [], ◌∷◌, length, Option, Some, None, is_some, unwrap_or, Result, Ok, Err, IfOk, IsErr, IsErrOf, MatchResult, Vec, codes, decimal, refl, sym, ap, subst, ◌∙◌, ne_eqb, arith}
-use Rattle.std.specs.Option.{ForSome}
+use Rattle.std.specs.Fmt.{digits}
+use Rattle.std.proofs.Common.{◌≡◌, ◌⊎◌, inl, inr, ℕ, Bool, true, false, cond, ltb, List, [], ◌∷◌, length, Option, Some, None, is_some, Result, Ok, Err, IsErrOf, MatchResult, Vec, codes, decimal, refl, sym, ap, ◌∙◌}
 use Rattle.std.specs.declared.alloc.AllocError.{AllocError}
 use Rattle.std.specs.declared.alloc.Global.{Global}
 use Rattle.std.specs.FinMap as map
@@ -9,54 +9,49 @@ use Rattle.ls_edge.specs.declared.traits.TheConstants.{LONGEST_FILE}
 use Rattle.ls_edge.specs.declared.traits.FetchFault.{FetchFault}
 use Rattle.ls_edge.specs.declared.traits.FetchFault.TheVariants as fetch
 use Rattle.ls_lines.specs.Lines.{Text}
-use Rattle.ls_lines.specs.declared.command.Command.{Command}
-use Rattle.ls_domain.specs.Domains.{IsDomain, IsFaultOf, names_of_table}
+use Rattle.ls_domain.specs.Domains.{IsFaultOf, names_of_words, names_of_table}
 use Rattle.ls_domain.specs.declared.domain_fault.DomainFault.{DomainFault}
 use Rattle.ls_domain.specs.declared.domain_fault.DomainFault.TheVariants as domain
-use Rattle.ls_reply.specs.Texts.{line_of}
-use Rattle.ls_reply.specs.Sessions.{Session, started, has_domain}
+use Rattle.ls_reply.specs.Sessions.{Session, has_domain}
 use Rattle.ls_reply.specs.Scenes.{Fetched, Bytes, TooLarge, Failed, fetched_from, Files, files_of}
-use Rattle.ls_reply.specs.Refusals.{Answer, becomes}
-use Rattle.ls_reply.specs.Rows.{domain_words, begins_with, load_items_row}
-use Rattle.ls_reply.specs.Meanings.{unnamed_places}
-use Rattle.ls_reply.specs.Replies.{unnamed_at}
-use Rattle.ls_shell.specs.Named.{places_at_fault}
+use Rattle.ls_reply.specs.Refusals.{Answer}
+use Rattle.ls_reply.specs.Rows.{domain_words, items_row, begins_with, load_items_row}
+use Rattle.ls_views.specs.Sayings.{row_answer}
+use Rattle.ls_shell.specs.Courses.{session_of}
 use Rattle.ls_shell.specs.Fetches.{fetch_words, fetched_by}
-use Rattle.ls_shell.specs.Sayings.{Said, Gives, Sees, Steps, row_answer}
-use Rattle.ls_shell.specs.declared.step_fault.StepFault.{StepFault}
-use Rattle.ls_shell.proofs.Outcomes.{gives_line, passed_by, decimal_12, decimal_26, decimal_27, decimal_28}
+use Rattle.ls_shell.specs.Sayings.{Sees}
+use Rattle.ls_shell.specs.declared.course.Course.{Course}
+use Rattle.ls_shell.proofs.Refusing.{refusal, refused_by, passed_by, some_names}
 
--- ---- whether a domain stands
+-- a domain stands exactly where there is a course
+pub has_domain-is : (c : Option Course) → has_domain (session_of c) ≡ is_some c
+has_domain-is None = refl
+has_domain-is (Some c) = some_names (session_of (Some c)) c.some
 
-pub has_domain-is : (d : Option (List Text)) → ForSome d IsDomain → not (eqb (length (unwrap_or d [])) 0) ≡ is_some d
-has_domain-is None h = refl
-has_domain-is (Some names) h = let some : 0 < length names = (h names refl).some in ap not (ne_eqb (length names) 0 (λ e. omega arith))
+-- ---- where a domain stands, none begins
 
-pub at_fault-is : (d : Option (List Text)) (c : Command) (s : Session) → ForSome d IsDomain → s.names ≡ unwrap_or d [] → unnamed_at s c ≡ places_at_fault d c
-at_fault-is None c s h e = ap (λ (ns : List Text). cond (not (eqb (length ns) 0)) (unnamed_places ns c) (0 ∷ [])) e
-at_fault-is (Some names) c s h e =
-    ap (λ (ns : List Text). cond (not (eqb (length ns) 0)) (unnamed_places ns c) (0 ∷ [])) e ∙ ap (λ b. cond b (unnamed_places names c) (0 ∷ [])) (has_domain-is (Some names) h)
+pub items-stand : (s : Session) (names : List Text) → has_domain s ≡ true → row_answer s (items_row s names) ≡ refusal s (codes "11" ∷ [])
+unfolding digits
+items-stand s names e = refused_by s 11 (has_domain s) _ _ e
 
--- ---- a session that begins with names that were read
+pub load-stands : (s : Session) (fetched : Fetched) → has_domain s ≡ true → row_answer s (load_items_row s fetched) ≡ refusal s (codes "11" ∷ [])
+unfolding digits
+load-stands s fetched e = refused_by s 11 (has_domain s) _ _ e
 
-pub begins_ok : (s : Session) (reading : Result (List Text) DomainFault) (d : List Text) → reading ≡ Ok d → row_answer s (begins_with s reading) ≡ becomes (started d) (decimal (length d) ∷ [])
-begins_ok s reading d e = ap (λ (r : Result (List Text) DomainFault). row_answer s (begins_with s r)) e
+-- ---- names that were read, and names that were not
 
-begins_err : (s : Session) (reading : Result (List Text) DomainFault) (fault : DomainFault) → reading ≡ Err fault
-    → row_answer s (begins_with s reading) ≡ (let x : Answer = record { lines = (codes "no" ∷ codes "12" ∷ domain_words fault) ∷ []; session = s } in x)
-begins_err s reading fault e =
-    ap (λ (r : Result (List Text) DomainFault). row_answer s (begins_with s r)) e
-    ∙ ap (λ (w : Text). let x : Answer = record { lines = (codes "no" ∷ w ∷ domain_words fault) ∷ []; session = s } in x) decimal_12
+pub items-read : (s : Session) (names : List Text) (reading : Result (List Text) DomainFault) → has_domain s ≡ false → names_of_words names ≡ reading → row_answer s (items_row s names) ≡ row_answer s (begins_with s reading)
+items-read s names reading none e = passed_by s 11 (has_domain s) _ _ none ∙ ap (λ (r : Result (List Text) DomainFault). row_answer s (begins_with s r)) e
 
-pub domain_refused : (r : Result Bool StepFault) (s : Session) (reading : Result (List Text) DomainFault) (fault : DomainFault) (before after : Option (List ℕ))
-    → IsFaultOf reading fault → ((e : AllocError) → fault ≡ domain.Memory e → IsErr r) → IfOk r (Said before after (line_of (codes "no" ∷ codes "12" ∷ domain_words fault))) → IfOk r (Gives (row_answer s (begins_with s reading)) s before after)
-domain_refused (Err e) s reading fault before after is memory said = tt
-domain_refused (Ok b) s reading (domain.Memory e) before after is memory said = absurd (cc (memory e refl))
-domain_refused (Ok b) s reading domain.NoItems before after is memory said = gives_line (Ok b) _ s before after _ (begins_err s reading domain.NoItems is) said
-domain_refused (Ok b) s reading (domain.BadCsv row) before after is memory said = gives_line (Ok b) _ s before after _ (begins_err s reading (domain.BadCsv row) is) said
-domain_refused (Ok b) s reading (domain.BadName row) before after is memory said = gives_line (Ok b) _ s before after _ (begins_err s reading (domain.BadName row) is) said
-domain_refused (Ok b) s reading (domain.Repeat row first) before after is memory said = gives_line (Ok b) _ s before after _ (begins_err s reading (domain.Repeat row first) is) said
-domain_refused (Ok b) s reading domain.TooMany before after is memory said = gives_line (Ok b) _ s before after _ (begins_err s reading domain.TooMany is) said
+pub begins-refused : (s : Session) (reading : Result (List Text) DomainFault) (fault : DomainFault) {P : AllocError → Type 0} → IsFaultOf reading fault → ((e : AllocError) → fault ≡ domain.Memory e → P e)
+    → ((e : AllocError) × P e) ⊎ (row_answer s (begins_with s reading) ≡ refusal s (codes "12" ∷ domain_words fault))
+unfolding digits
+begins-refused s reading (domain.Memory e) of memory = inl (e, memory e refl)
+begins-refused s reading domain.NoItems of memory = inr (ap (λ (r : Result (List Text) DomainFault). row_answer s (begins_with s r)) of)
+begins-refused s reading (domain.BadCsv row) of memory = inr (ap (λ (r : Result (List Text) DomainFault). row_answer s (begins_with s r)) of)
+begins-refused s reading (domain.BadName row) of memory = inr (ap (λ (r : Result (List Text) DomainFault). row_answer s (begins_with s r)) of)
+begins-refused s reading (domain.Repeat row first) of memory = inr (ap (λ (r : Result (List Text) DomainFault). row_answer s (begins_with s r)) of)
+begins-refused s reading domain.TooMany of memory = inr (ap (λ (r : Result (List Text) DomainFault). row_answer s (begins_with s r)) of)
 
 -- ---- what a fetch lets a command see
 
@@ -117,36 +112,20 @@ fetch_seen (Some m) new r name memory h = seen_from (map.get m name) r memory h.
 
 -- ---- the rows of a file that could not be had, and of one that was
 
-module _ (s : Session) (none : has_domain s ≡ false) where
-  pub loads : (bytes : List ℕ) → row_answer s (load_items_row s (Bytes bytes)) ≡ row_answer s (begins_with s (names_of_table bytes))
-  loads bytes = passed_by s 11 [] (has_domain s) _ _ none
+module _ (s : Session) (none : has_domain s ≡ false) (old left : Option Folder) (r : Result (Vec ℕ Global) FetchFault) (name : Text) (given : Fetches old left name r) where
+  -- the answer to what is seen of the file
+  abbrev seen_answer : Answer
+  seen_answer = row_answer s (load_items_row s (files_seen old r name))
 
-  pub load_refused : (fault : FetchFault) → ((e : AllocError) → fault ≡ fetch.Memory e → ⊥)
-      → row_answer s (load_items_row s (fetched_by (let r : Result (Vec ℕ Global) FetchFault = Err fault in r))) ≡ (let x : Answer = record { lines = (codes "no" ∷ fetch_words fault) ∷ []; session = s } in x)
-  load_refused fetch.Missing memory = passed_by s 11 [] (has_domain s) _ _ none ∙ ap (λ (w : Text). let x : Answer = record { lines = (codes "no" ∷ w ∷ []) ∷ []; session = s } in x) decimal_26
-  load_refused (fetch.TooLarge n) memory = passed_by s 11 [] (has_domain s) _ _ none ∙ ap (λ (w : Text). let x : Answer = record { lines = (codes "no" ∷ w ∷ decimal n ∷ []) ∷ []; session = s } in x) decimal_28
-  load_refused fetch.Failed memory = passed_by s 11 [] (has_domain s) _ _ none ∙ ap (λ (w : Text). let x : Answer = record { lines = (codes "no" ∷ w ∷ []) ∷ []; session = s } in x) decimal_27
-  load_refused (fetch.Memory e) memory = absurd (memory e refl)
+  seen-as : (got : Result (Vec ℕ Global) FetchFault) → ((e : AllocError) → got ≡ Err (fetch.Memory e) → ⊥) → r ≡ got → seen_answer ≡ row_answer s (load_items_row s (fetched_by got))
+  seen-as got never e = ap (λ f. row_answer s (load_items_row s f)) (fetch_seen old left r name (λ x q. never x (sym e ∙ q)) given ∙ ap fetched_by e)
 
--- ---- what is answered to what was fetched
+  pub loads : (bytes : Vec ℕ Global) → r ≡ Ok bytes → seen_answer ≡ row_answer s (begins_with s (names_of_table bytes.items))
+  loads bytes e = seen-as (Ok bytes) (λ x q. cc q) e ∙ passed_by s 11 (has_domain s) _ _ none
 
-pub steps_fetched : (r : Result Bool StepFault) (answer : Fetched → Answer) (a : Answer) (new : Session) (old left : Option Folder) (fetched : Result (Vec ℕ Global) FetchFault) (name : Text) (faults_before faults_now : ℕ) (before after : Option (List ℕ))
-    → ((e : AllocError) → fetched ≡ Err (fetch.Memory e) → ⊥) → Fetches old left name fetched → FetchCause faults_before faults_now fetched → answer (fetched_by fetched) ≡ a
-    → IfOk r (Gives a new before after) → IfOk r (Steps (λ files. answer (files name)) new old faults_before faults_now before after)
-steps_fetched (Err x) answer a new old left fetched name faults_before faults_now before after memory given cause e h = tt
-steps_fetched (Ok b) answer a new old left fetched name faults_before faults_now before after memory given cause e h = record {
-  files = files_seen old fetched;
-  sees = fetch_sees old fetched faults_before faults_now cause;
-  gives = subst (λ (x : Answer). Gives x new before after b) (sym (ap answer (fetch_seen old left fetched name memory given) ∙ e)) h;
-}
-
-pub load_failed : (r : Result Bool StepFault) (s : Session) (fetched : Result (Vec ℕ Global) FetchFault) (fault : FetchFault) (old left : Option Folder) (name : Text) (faults_before faults_now : ℕ) (before after : Option (List ℕ))
-    → has_domain s ≡ false → fetched ≡ Err fault → Fetches old left name fetched → FetchCause faults_before faults_now fetched → ((e : AllocError) → fault ≡ fetch.Memory e → IsErr r)
-    → IfOk r (Said before after (line_of (codes "no" ∷ fetch_words fault))) → IfOk r (Steps (λ files. row_answer s (load_items_row s (files name))) s old faults_before faults_now before after)
-load_failed (Err x) s fetched fault old left name faults_before faults_now before after none e given cause memory said = tt
-load_failed (Ok b) s fetched fault old left name faults_before faults_now before after none e given cause memory said =
-    let lives = λ (x : AllocError) (q : fault ≡ fetch.Memory x). let bad : ⊥ = cc (memory x q) in bad in
-    let lasts = λ (x : AllocError) (q : fetched ≡ Err (fetch.Memory x)). let bad : ⊥ = lives x (let same : fault ≡ fetch.Memory x = cc in same) in bad in
-    steps_fetched (Ok b) (λ f. row_answer s (load_items_row s f)) _ s old left fetched name faults_before faults_now before after lasts given cause
-    (ap (λ (r : Result (Vec ℕ Global) FetchFault). row_answer s (load_items_row s (fetched_by r))) e ∙ load_refused s none fault lives)
-    (gives_line (Ok b) _ s before after _ refl said)
+  pub load-refused : (fault : FetchFault) {P : AllocError → Type 0} → r ≡ Err fault → ((e : AllocError) → fault ≡ fetch.Memory e → P e) → ((e : AllocError) × P e) ⊎ (seen_answer ≡ refusal s (fetch_words fault))
+  unfolding digits
+  load-refused fetch.Missing e memory = inr (seen-as (Err fetch.Missing) (λ x q. cc q) e ∙ passed_by s 11 (has_domain s) _ _ none)
+  load-refused (fetch.TooLarge n) e memory = inr (seen-as (Err (fetch.TooLarge n)) (λ x q. cc q) e ∙ passed_by s 11 (has_domain s) _ _ none)
+  load-refused fetch.Failed e memory = inr (seen-as (Err fetch.Failed) (λ x q. cc q) e ∙ passed_by s 11 (has_domain s) _ _ none)
+  load-refused (fetch.Memory x) e memory = inl (x, memory x refl)

@@ -1,9 +1,9 @@
 pub mod Statuses
 pub mod Sayings
+pub mod Courses
 pub mod Progress
 pub mod Runs
-pub mod Kept
-pub mod Named
 pub mod Fetches
 pub mod Blocked
+pub mod Answers
 pub mod Faults

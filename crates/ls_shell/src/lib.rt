@@ -1,16 +1,14 @@
 //! The session and the top call.
 #![tactic(auto)]
 
+mod answers;
 mod blocks;
-mod cursors;
+mod course;
 mod domains;
 mod files;
-mod listing;
-mod print;
 mod reading;
 mod run;
 mod run_fault;
-mod say;
 mod session;
 mod status;
 mod step_fault;

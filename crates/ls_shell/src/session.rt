@@ -1,62 +1,57 @@
 // A session.
-ghost use Rattle.std.specs.Prelude.{◌≡◌, ◌||◌, true, List, ℕ, [], ◌∷◌, length, decimal, IfOk};
+ghost use Rattle.std.specs.Prelude.{◌≡◌, true, List, ℕ, [], length, Ok, IfOk};
 ghost use Rattle.ls_lines.specs.Lines.{is_long};
-ghost use Rattle.ls_lines.specs.declared.command.Command.TheVariants as command;
 ghost use Rattle.ls_domain.specs.Domains.{names_of_table};
 ghost use Rattle.ls_reply.specs.Sessions.{started};
 ghost use Rattle.ls_reply.specs.Scenes.{Files};
-ghost use Rattle.ls_reply.specs.Refusals.{becomes};
-ghost use Rattle.ls_reply.specs.Rows.{items_row, begins_with, load_items_row, query_row, blocks_row, answer_row, states_row, is_full, stands};
-ghost use Rattle.ls_reply.specs.Replies.{command_answer, line_answer, within_domain};
-ghost use Rattle.ls_shell.specs.Sayings.{Gives, Steps, LeavesShelf, MovesSink, row_answer};
+ghost use Rattle.ls_reply.specs.Rows.{items_row, begins_with, load_items_row};
+ghost use Rattle.ls_reply.specs.Replies.{row, line_answer};
+ghost use Rattle.ls_shell.specs.Courses.{needs_domain};
+ghost use Rattle.ls_shell.specs.Sayings.{Gives, Steps, FollowsRow, FollowsSeen, LeavesShelf, MovesSink};
 
 use crate::StepFault;
-use crate::blocks::refuse_blocks;
-use crate::cursors::{cursor_set, refuse_cursor};
-use crate::domains::{query_of, refuse_domain};
+use crate::course::Course;
+use crate::domains::refuse_domain;
 use crate::files::refuse_fetch;
-use crate::listing::write_listing;
-use crate::say::{refuse_at, refuse_unbuilt, say};
 use ls_domain::Domain;
-use ls_edge::{Shelf, Sink};
-use ls_interior::{Free, Inside};
+use ls_edge::{Shelf, Sink, SinkFault};
+use ls_interior::Steps as Interiors;
 use ls_lines::{Command, LONGEST_LINE, LineFault, Word, WordList, read_command};
-use ls_query::Blocks;
-use ls_rules::Ruled;
-use ls_set::Query;
-use ls_theory::Answer;
+use ls_views::{refuse_at, say, say_ok};
 use std::alloc::Global;
-use std::marker::Model;
+use std::marker::{Brand, Model};
+use std::sync::ledger::{Blank, Ledger};
 
-/// The most answers that stand.
-const MOST_ANSWERS: usize = 8192;
-
-/// The names of the items, if a domain stands; the greatest size of the blocks; the standing answers; the next answer's number; and the family of the
-/// sets that the Yes answers leave.
+/// The domain with its interview, if one stands.
 #[derive(Drop)]
 pub struct Session {
     alloc: Global,
-    domain: Option<Domain>,
-    block: u32,
-    answers: Vec<Answer>,
-    next: u64,
-    family: Ruled<Free>,
+    course: Option<Course>,
 }
 
 impl Model for Session {
     ghost use Rattle.ls_reply.specs.Sessions.{Session as State};
-    ghost use Rattle.std.specs.Prelude.{length, unwrap_or, []};
-    ghost use Rattle.ls_theory.specs.Starts.{Free};
-    ghost use Rattle.ls_shell.specs.Kept.{IsKept};
 
     ghost Value = { State };
 
-    ghost view = { λ s. record {
-      names = unwrap_or s.domain [];
-      interview = record { count = length (unwrap_or s.domain []); start = Free; block = s.block; answers = s.answers.items; next = s.next };
-    } };
+    ghost use Rattle.ls_shell.specs.Courses.{session_of};
 
-    ghost invariant = { λ s. IsKept s.domain s.answers.items s.next s.family.inner s.family.rules };
+    ghost view = { λ s. session_of s.course };
+}
+
+// Whether the command is built and needs a domain.
+fn needs_domain(command: &Command) -> bool
+    ensures { result ≡ needs_domain command.now }
+{
+    matches!(
+        command,
+        Command::Blocks { .. }
+            | Command::Yes { .. }
+            | Command::No { .. }
+            | Command::Known { .. }
+            | Command::Ask
+            | Command::States { .. }
+    )
 }
 
 impl Session {
@@ -66,11 +61,7 @@ impl Session {
     {
         Session {
             alloc,
-            domain: None,
-            block: 1,
-            answers: Vec::new(alloc),
-            next: 1,
-            family: Ruled::new(alloc, Free::new(0)),
+            course: None,
         }
     }
 
@@ -90,8 +81,10 @@ impl Session {
             return self.refuse_long(line.len() as u64, out);
         }
         match read_command(self.alloc, line) {
-            Ok(command) => self.answer_command(command, out, shelf),
-            Err(LineFault::Shape { place }) => refuse_at(self.alloc, b"10", place as usize, out),
+            Ok(command) => { Ok(self.answer::<K, H, Brand>(&command, out, shelf, Blank::new(1))?) }
+            Err(LineFault::Shape { place }) => {
+                Ok(refuse_at(self.alloc, b"10", u64::from(place), out)?)
+            }
             Err(LineFault::Memory(e)) => Err(StepFault::Memory(e)),
         }
     }
@@ -103,199 +96,119 @@ impl Session {
         ensures sink { MovesSink (K.written out.old) (K.written out.new) (K.faults out.old) (K.faults out.new) result }
     {
         let length = bytes.to_string(self.alloc)?;
-        say(self.alloc, &[b"no", b"10", b"long", length.as_bytes()], out)
+        Ok(say(self.alloc, &[b"no", b"10", b"long", length.as_bytes()], out)?)
     }
 
-    // Answers one command.
-    #[tactic(auto, unfolding(ls_reply::specs::Replies::row))]
-    fn answer_command<K: Sink, H: Shelf>(
+    // Answers one command. Its interiors are counted from the blank on.
+    fn answer<K: Sink, H: Shelf, L: Ledger>(
         &mut self,
-        command: Command,
+        command: &Command,
         out: &mut K,
         shelf: &mut H,
-    ) -> Result<bool, StepFault>
-        ensures answered { IfOk result (Steps (λ files. command_answer self.old files command) self.new (H.files shelf.old) (H.faults shelf.old) (H.faults shelf.new) (K.written out.old) (K.written out.new)) }
+        blank: Blank,
+    ) -> Result<bool, SinkFault>
+        requires name { blank.name ≡ L.name }
+        requires parts { blank.parts ≡ L.parts }
+        requires one { blank.parts ≡ 1 }
+        ensures answered { FollowsSeen self.old (λ files. row self.old files command.now) self.new (H.files shelf.old) (H.faults shelf.old) (H.faults shelf.new)
+            (K.written out.old) (K.written out.new) (K.faults out.old) (K.faults out.new) result }
         ensures shelf { LeavesShelf (H.files shelf.old) (H.files shelf.new) (H.faults shelf.old) (H.faults shelf.new) }
-        ensures sink { MovesSink (K.written out.old) (K.written out.new) (K.faults out.old) (K.faults out.new) result }
     {
+        let mut steps = Interiors::<L>::new(blank);
+        if needs_domain(command) {
+            return self.answer_within(command, out, &mut steps);
+        }
         match command {
             Command::Nothing => Ok(false),
-            Command::Items { names } => self.begin(&names, out),
-            Command::LoadItems { file } => self.load(&file, out, shelf),
-            Command::Blocks { size } => self.set_blocks(size, out),
-            Command::Yes { names, item } => self.answer(&names, &item, out),
-            Command::States { count, after } => self.list(count, &after, out),
-            other => refuse_unbuilt(self.alloc, other, out),
+            Command::Items { names } => self.begin(names, out, &mut steps),
+            Command::LoadItems { file } => self.load(file, out, shelf, &mut steps),
+            _ => say(self.alloc, &[b"no", b"49"], out),
         }
+    }
+
+    // Answers a command that needs a domain.
+    fn answer_within<K: Sink, L: Ledger>(
+        &mut self,
+        command: &Command,
+        out: &mut K,
+        steps: &mut Interiors<L>,
+    ) -> Result<bool, SinkFault>
+        requires { needs_domain command.now ≡ true }
+        ensures { (files : Files) → FollowsRow self.old (row self.old files command.now) self.new
+            (K.written out.old) (K.written out.new) (K.faults out.old) (K.faults out.new) result }
+    {
+        let Some(course) = &mut self.course else {
+            return refuse_at(self.alloc, b"15", 0, out);
+        };
+        course.answer(self.alloc, command, out, steps)
     }
 
     // `items NAMES`
-    fn begin<K: Sink>(&mut self, names: &WordList, out: &mut K) -> Result<bool, StepFault>
-        ensures answered { IfOk result (Gives (row_answer self.old (items_row self.old names.now)) self.new (K.written out.old) (K.written out.new)) }
-        ensures sink { MovesSink (K.written out.old) (K.written out.new) (K.faults out.old) (K.faults out.new) result }
+    fn begin<K: Sink, L: Ledger>(
+        &mut self,
+        names: &WordList,
+        out: &mut K,
+        steps: &mut Interiors<L>,
+    ) -> Result<bool, SinkFault>
+        ensures { FollowsRow self.old (items_row self.old names.now) self.new (K.written out.old) (K.written out.new) (K.faults out.old) (K.faults out.new) result }
     {
-        if self.domain.is_some() {
+        if self.course.is_some() {
             return say(self.alloc, &[b"no", b"11"], out);
         }
         match Domain::from_names(self.alloc, names) {
-            Ok(domain) => self.start(domain, out),
+            Ok(domain) => self.start(domain, out, steps),
             Err(fault) => refuse_domain(self.alloc, fault, out),
         }
     }
 
     // `load-items FILE`
-    fn load<K: Sink, H: Shelf>(
+    fn load<K: Sink, H: Shelf, L: Ledger>(
         &mut self,
         file: &Word,
         out: &mut K,
         shelf: &mut H,
-    ) -> Result<bool, StepFault>
-        ensures answered { IfOk result (Steps (λ files. row_answer self.old (load_items_row self.old (files file.now))) self.new (H.files shelf.old) (H.faults shelf.old) (H.faults shelf.new) (K.written out.old) (K.written out.new)) }
+        steps: &mut Interiors<L>,
+    ) -> Result<bool, SinkFault>
+        ensures answered { FollowsSeen self.old (λ files. load_items_row self.old (files file.now)) self.new (H.files shelf.old) (H.faults shelf.old) (H.faults shelf.new)
+            (K.written out.old) (K.written out.new) (K.faults out.old) (K.faults out.new) result }
         ensures shelf { LeavesShelf (H.files shelf.old) (H.files shelf.new) (H.faults shelf.old) (H.faults shelf.new) }
-        ensures sink { MovesSink (K.written out.old) (K.written out.new) (K.faults out.old) (K.faults out.new) result }
     {
-        if self.domain.is_some() {
+        if self.course.is_some() {
             return say(self.alloc, &[b"no", b"11"], out);
         }
         match shelf.fetch(file.as_str()) {
-            Ok(bytes) => self.read_table(&bytes, out),
+            Ok(bytes) => self.read_table(&bytes, out, steps),
             Err(fault) => refuse_fetch(self.alloc, fault, out),
         }
     }
 
     // Begins with the names of a table.
-    fn read_table<K: Sink>(&mut self, bytes: &[u8], out: &mut K) -> Result<bool, StepFault>
-        ensures answered { IfOk result (Gives (row_answer self.old (begins_with self.old (names_of_table bytes.now))) self.new (K.written out.old) (K.written out.new)) }
-        ensures sink { MovesSink (K.written out.old) (K.written out.new) (K.faults out.old) (K.faults out.new) result }
+    fn read_table<K: Sink, L: Ledger>(
+        &mut self,
+        bytes: &[u8],
+        out: &mut K,
+        steps: &mut Interiors<L>,
+    ) -> Result<bool, SinkFault>
+        ensures { FollowsRow self.old (begins_with self.old (names_of_table bytes.now)) self.new (K.written out.old) (K.written out.new) (K.faults out.old) (K.faults out.new) result }
     {
         match Domain::from_csv(self.alloc, bytes) {
-            Ok(domain) => self.start(domain, out),
+            Ok(domain) => self.start(domain, out, steps),
             Err(fault) => refuse_domain(self.alloc, fault, out),
         }
     }
 
     // Begins with a domain.
-    fn start<K: Sink>(&mut self, domain: Domain, out: &mut K) -> Result<bool, StepFault>
-        ensures answered { IfOk result (Gives (becomes (started domain) (decimal (length domain) ∷ [])) self.new (K.written out.old) (K.written out.new)) }
-        ensures sink { MovesSink (K.written out.old) (K.written out.new) (K.faults out.old) (K.faults out.new) result }
+    fn start<K: Sink, L: Ledger>(
+        &mut self,
+        domain: Domain,
+        out: &mut K,
+        steps: &mut Interiors<L>,
+    ) -> Result<bool, SinkFault>
+        ensures { FollowsRow self.old (begins_with self.old (Ok domain)) self.new (K.written out.old) (K.written out.new) (K.faults out.old) (K.faults out.new) result }
     {
         let count = domain.count();
-        let text = count.to_string(self.alloc)?;
-        self.family = Ruled::new(self.alloc, Free::new(count));
-        self.domain = Some(domain);
-        self.block = 1;
-        self.answers = Vec::new(self.alloc);
-        self.next = 1;
-        say(self.alloc, &[b"ok", text.as_bytes()], out)
-    }
-
-    // `blocks SIZE`
-    fn set_blocks<K: Sink>(&mut self, size: u32, out: &mut K) -> Result<bool, StepFault>
-        ensures answered { IfOk result (Gives (row_answer self.old (within_domain self.old (command.Blocks size) (blocks_row self.old size))) self.new (K.written out.old) (K.written out.new)) }
-        ensures sink { MovesSink (K.written out.old) (K.written out.new) (K.faults out.old) (K.faults out.new) result }
-    {
-        let Some(domain) = &self.domain else {
-            return refuse_at(self.alloc, b"15", 0, out);
-        };
-        match Blocks::new(domain.count(), size) {
-            Ok(blocks) => self.take_blocks(size, blocks.count(), out),
-            Err(fault) => refuse_blocks(self.alloc, fault, out),
-        }
-    }
-
-    // The blocks up to the size, of so many sets.
-    fn take_blocks<K: Sink>(
-        &mut self,
-        size: u32,
-        count: u32,
-        out: &mut K,
-    ) -> Result<bool, StepFault>
-        ensures answered { IfOk result (Gives (becomes (record self.old { interview = record self.old.interview { block = size } }) (decimal count ∷ [])) self.new (K.written out.old) (K.written out.new)) }
-        ensures sink { MovesSink (K.written out.old) (K.written out.new) (K.faults out.old) (K.faults out.new) result }
-    {
-        let text = count.to_string(self.alloc)?;
-        self.block = size;
-        say(self.alloc, &[b"ok", text.as_bytes()], out)
-    }
-
-    // `yes NAMES : ITEM`
-    fn answer<K: Sink>(
-        &mut self,
-        names: &WordList,
-        item: &Word,
-        out: &mut K,
-    ) -> Result<bool, StepFault>
-        ensures answered { IfOk result (Gives (row_answer self.old (within_domain self.old (command.Yes names.now item.now) (answer_row self.old true names.now item.now))) self.new (K.written out.old) (K.written out.new)) }
-        ensures sink { MovesSink (K.written out.old) (K.written out.new) (K.faults out.old) (K.faults out.new) result }
-    {
-        match query_of(&self.domain, names, item) {
-            Ok(query) => self.accept(query, out),
-            Err(place) => refuse_at(self.alloc, b"15", place, out),
-        }
-    }
-
-    // A Yes to a query of items.
-    fn accept<K: Sink>(&mut self, query: Query, out: &mut K) -> Result<bool, StepFault>
-        ensures answered { IfOk result (Gives (row_answer self.old (query_row self.old true query)) self.new (K.written out.old) (K.written out.new)) }
-        ensures sink { MovesSink (K.written out.old) (K.written out.new) (K.faults out.old) (K.faults out.new) result }
-    {
-        if !query.is_good(self.family.items()) {
-            return say(self.alloc, &[b"no", b"18"], out);
-        }
-        if self.cannot_accept(&query) {
-            return say(self.alloc, &[b"no", b"49"], out);
-        }
-        let number = self.next;
-        let text = number.to_string(self.alloc)?;
-        self.family.reserve()?;
-        self.answers.reserve(1)?;
-        let answer = Answer {
-            number,
-            query,
-            yes: true,
-        };
-        self.answers.push(answer).unwrap();
-        self.family.push_reserved(query);
-        self.next += 1;
-        say(self.alloc, &[b"ok", text.as_bytes()], out)
-    }
-
-    fn cannot_accept(&self, query: &Query) -> bool
-        ensures { result ≡ (is_full self.now.interview || stands self.now.interview query.now) }
-    {
-        self.is_full() || self.stands(query)
-    }
-
-    fn is_full(&self) -> bool
-        ensures { result ≡ is_full self.now.interview }
-    {
-        self.answers.len() >= MOST_ANSWERS
-    }
-
-    // Whether the query was answered, and the answer stands.
-    #[tactic(auto, unfolding(ls_set::specs::ItemSet::is_same))]
-    fn stands(&self, query: &Query) -> bool
-        ensures { result ≡ stands self.now.interview query.now }
-    {
-        self.answers.iter().any(|a| a.query == *query)
-    }
-
-    // `states COUNT after CURSOR`
-    fn list<K: Sink>(
-        &self,
-        count: u32,
-        after: &Option<Word>,
-        out: &mut K,
-    ) -> Result<bool, StepFault>
-        ensures answered { IfOk result (Gives (row_answer self.now (within_domain self.now (command.States count after.now) (states_row self.now count after.now))) self.now (K.written out.old) (K.written out.new)) }
-        ensures sink { MovesSink (K.written out.old) (K.written out.new) (K.faults out.old) (K.faults out.new) result }
-    {
-        let Some(domain) = &self.domain else {
-            return refuse_at(self.alloc, b"15", 0, out);
-        };
-        match cursor_set(domain.count(), after) {
-            Ok(after) => write_listing(self.alloc, &self.family, domain, after, count, out),
-            Err(fault) => refuse_cursor(self.alloc, fault, out),
-        }
+        let course = Course::begin(self.alloc, domain, steps).map_err(SinkFault::Memory)?;
+        self.course = Some(course);
+        say_ok(self.alloc, u64::from(count), out)
     }
 }

@@ -6,7 +6,7 @@ use Rattle.std.specs.Io.KnownBytes.{Consumes}
 use Rattle.ls_edge.proofs.Known.{appends_more}
 use Rattle.ls_shell.specs.declared.step_fault.StepFault.TheVariants as fault
 use Rattle.ls_shell.proofs.Pieces.{read_more, read_end}
-use Rattle.ls_shell.proofs.Moves.{rose_since}
+use Rattle.ls_shell.proofs.Moves.{rose_since, never_read}
 use Rattle.ls_shell.proofs.Taken.{leaves_more}
 use Rattle.ls_shell.proofs.reading.answer_source.Goals as goal
 
@@ -88,3 +88,21 @@ returns-in_err-take-clause-kept g c =
     let before = c.pieces.invariant in
     let more = c.take.ensures.sink.kept in
     (before.kept.0 ++ more.0, appends_more (g.K.Sink.written c.args.out.now) (g.K.Sink.written c.pieces.out) (g.K.Sink.written c.take.new.out) before.kept.0 more.0 before.kept.1 more.1)
+
+pub returns-in_err-finish-clause-write : goal.returns-in_err-finish-clause-write
+returns-in_err-finish-clause-write g c = λ e.
+    let before = c.pieces.invariant in
+    let read = before.read in
+    let piece = take c.in-Ok.taken c.read.new.buf in
+    let within : c.in-Ok.taken ≤ length c.read.new.buf = c.in-Ok.ensures.bound.0 in
+    let failed : IsErrOf c.finish.result fault.Write = grind (arith, common_steps) in (
+      rose_since (g.K.Sink.faults c.args.out.now) (g.K.Sink.faults c.pieces.out) (g.K.Sink.faults c.finish.new.out) before.sink_later (c.finish.ensures.sink.cause failed),
+      (
+        read.taken ++ piece,
+        Consumes-trans (g.S.Source.left c.args.src.now) (g.S.Source.left c.pieces.src) (g.S.Source.left c.read.new.self) read.taken piece read.consumed c.in-Ok.ensures.bytes.0,
+        omega (arith, length-append read.taken piece, c.in-Ok.ensures.bound.1, read.counted, before.few, c.if-taken-eq0.true),
+      ),
+    )
+
+pub returns-in_err-take-clause-read : goal.returns-in_err-take-clause-read
+returns-in_err-take-clause-read g c = λ e. absurd (never_read c.in_err-take.field-0.0 c.from_residual-in_err-take.result c.from_residual-in_err-take.ensures.1 e)

@@ -3,7 +3,7 @@ use Rattle.ls_reply.specs.Replies.{line_answer}
 use Rattle.ls_reply.specs.Scenes.{files_of}
 use Rattle.ls_shell.specs.Sayings.{Gives}
 use Rattle.ls_shell.proofs.Answered.{gives_told, whole_line}
-use Rattle.ls_shell.proofs.Moves.{IfOk_map}
+use Rattle.ls_views.proofs.Fronts.{IfOk_map}
 use Rattle.ls_shell.proofs.run.Run.step.Goals as goal
 
 pub returns-in-Whole-clause-answered : goal.returns-in-Whole-clause-answered

@@ -1,0 +1,4 @@
+pub mod Joins
+pub mod Fronts
+pub mod Bytes
+pub mod Placing

@@ -1,0 +1,3 @@
+pub mod Sayings
+pub mod Places
+pub mod Views
