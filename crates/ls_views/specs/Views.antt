@@ -10,6 +10,7 @@ abbrev pub is_reading : Command → Bool
 is_reading (command.Known names item) = true
 is_reading command.Ask = true
 is_reading (command.States count after) = true
+is_reading command.Base = true
 is_reading c = false
 
 -- how many interiors a reply takes at most, on n items

@@ -2,6 +2,7 @@
 #![tactic(auto)]
 
 mod ask;
+mod base;
 mod cursors;
 mod known;
 mod lines;

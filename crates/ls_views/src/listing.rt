@@ -48,8 +48,8 @@ pub fn write_listing<I: Interior, K: Sink, L: Ledger>(
     say_more(alloc, is_more, out)
 }
 
-// Writes the line of a set, which is made in the given room.
-fn write_set<K: Sink>(
+/// Writes the line of a set, which is made in the given room.
+pub fn write_set<K: Sink>(
     domain: &Domain,
     set: ItemSet,
     line: &mut Vec<u8>,

@@ -7,6 +7,7 @@ ghost use Rattle.ls_views.specs.Sayings.{Says, row_bytes};
 ghost use Rattle.ls_views.specs.Views.{is_reading, most_steps, session_on};
 
 use crate::ask::say_question;
+use crate::base::write_base;
 use crate::known::say_known;
 use crate::states::write_states;
 use ls_domain::Domain;
@@ -42,6 +43,7 @@ pub fn view<K: Sink, L: Ledger>(
         Command::States { count, after } => {
             write_states(alloc, domain, interview, *count, after, out, steps)
         }
+        Command::Base => write_base(alloc, domain, interview, out),
         _ => unreachable!(),
     }
 }
