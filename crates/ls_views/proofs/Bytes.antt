@@ -54,18 +54,23 @@ module _ (names : List Text) (f : List Items) where
       ∙ ap (λ l. l ++ page_of sets more) (bytes_of-one (set_words names k))
 
   -- a set of the page, and what follows it
-  pub page-next : (cursor : Option Items) (k : Items) (count done : ℕ) → IsInOrder f → find (comes_after comes_before cursor) f ≡ Some k → done < count
+  page-next : (cursor : Option Items) (k : Items) (count done : ℕ) → IsInOrder f → find (comes_after comes_before cursor) f ≡ Some k → done < count
       → page_bytes cursor (count - done) ≡ line_of (set_words names k) ++ page_bytes (Some k) (count - (done + 1))
   page-next cursor k count done order e l =
       let first = left-first cursor f k order e in
       ap₂ page_of (take-left (left_after cursor f) (left_after (Some k) f) k count done first l) (more-left (left_after cursor f) (left_after (Some k) f) k count done first l)
       ∙ page_of-next k (take (count - (done + 1)) (left_after (Some k) f)) (ltb (count - (done + 1)) (length (left_after (Some k) f)))
 
+  -- the same behind what was written
+  pub page-left : (given whole : List ℕ) (cursor : Option Items) (k : Items) (count done : ℕ) → IsInOrder f → find (comes_after comes_before cursor) f ≡ Some k → done < count → given ++ page_bytes cursor (count - done) ≡ whole
+      → given ++ (line_of (set_words names k) ++ page_bytes (Some k) (count - (done + 1))) ≡ whole
+  page-left given whole cursor k count done order e l h = ap (λ p. given ++ p) (sym (page-next cursor k count done order e l)) ∙ h
+
   -- no set is left
-  pub page-ended : (cursor : Option Items) (k : ℕ) → find (comes_after comes_before cursor) f ≡ None → page_bytes cursor k ≡ line_of (more_words false)
-  page-ended cursor k e =
+  pub page-ended : (given whole : List ℕ) (cursor : Option Items) (k : ℕ) → find (comes_after comes_before cursor) f ≡ None → given ++ page_bytes cursor k ≡ whole → given ++ line_of (more_words false) ≡ whole
+  page-ended given whole cursor k e h =
       let none = left-none cursor f e in
-      ap₂ page_of (take-ended (left_after cursor f) k none) (more-ended (left_after cursor f) k none) ∙ page_of-last false
+      ap (λ p. given ++ p) (sym (ap₂ page_of (take-ended (left_after cursor f) k none) (more-ended (left_after cursor f) k none) ∙ page_of-last false)) ∙ h
 
   -- a further set follows where one is found
   found-more : (cursor : Option Items) (r : Option Items) → IsInOrder f → r ≡ find (comes_after comes_before cursor) f → is_some r ≡ ltb 0 (length (left_after cursor f))
@@ -73,12 +78,12 @@ module _ (names : List Text) (f : List Items) where
   found-more cursor (Some k) order e = sym (ap (λ l. ltb 0 (length l)) (left-first cursor f k order (sym e)) ∙ lt-ltb 0 (length (k ∷ left_after (Some k) f)) (omega arith))
 
   -- the page is full
-  pub page-full : (cursor : Option Items) (r : Option Items) (count done : ℕ) → IsInOrder f → r ≡ find (comes_after comes_before cursor) f → count ≤ done
-      → page_bytes cursor (count - done) ≡ line_of (more_words (is_some r))
-  page-full cursor r count done order e l =
+  pub page-full : (given whole : List ℕ) (cursor : Option Items) (r : Option Items) (count done : ℕ) → IsInOrder f → r ≡ find (comes_after comes_before cursor) f → count ≤ done → given ++ page_bytes cursor (count - done) ≡ whole
+      → given ++ line_of (more_words (is_some r)) ≡ whole
+  page-full given whole cursor r count done order e l h =
       let none : count - done ≡ 0 = omega arith in
-      ap₂ page_of (take-full (left_after cursor f) count done l) (ap (λ n. ltb n (length (left_after cursor f))) none ∙ sym (found-more cursor r order e))
-      ∙ page_of-last (is_some r)
+      let last = ap₂ page_of (take-full (left_after cursor f) count done l) (ap (λ n. ltb n (length (left_after cursor f))) none ∙ sym (found-more cursor r order e)) ∙ page_of-last (is_some r) in
+      ap (λ p. given ++ p) (sym last) ∙ h
 
   -- no line of a page begins with `no `
   page_of-told : (sets : List Items) (more : Bool) → is_refusal (page_of sets more) ≡ false
@@ -86,8 +91,8 @@ module _ (names : List Text) (f : List Items) where
   page_of-told [] more = refl
   page_of-told (k ∷ sets) more = refl
 
-  pub page-told : (cursor : Option Items) (k : ℕ) → is_refusal (page_bytes cursor k) ≡ false
-  page-told cursor k = page_of-told (take k (left_after cursor f)) (ltb k (length (left_after cursor f)))
+  pub page-told : (cursor : Option Items) (k : ℕ) (more : Bool) → is_refusal (line_of (more_words more)) ≡ is_refusal (page_bytes cursor k)
+  page-told cursor k more = ap is_refusal (sym (page_of-last more)) ∙ page_of-told [] more ∙ sym (page_of-told (take k (left_after cursor f)) (ltb k (length (left_after cursor f))))
 
 -- ---- rows
 
