@@ -1,6 +1,6 @@
 -- Domains of sessions: whether one stands, the rows that begin with one, and what is fetched.
 use Rattle.std.specs.Fmt.{digits}
-use Rattle.std.proofs.Common.{◌≡◌, ◌⊎◌, inl, inr, ℕ, Bool, true, false, cond, ltb, List, [], ◌∷◌, length, Option, Some, None, is_some, Result, Ok, Err, IsErrOf, MatchResult, Vec, codes, decimal, refl, sym, ap, ◌∙◌}
+use Rattle.std.proofs.Common.{◌≡◌, ◌⊎◌, inl, inr, ℕ, Bool, true, false, cond, ltb, List, [], ◌∷◌, length, Option, Some, None, is_some, Result, Ok, Err, IsErrOf, MatchResult, Vec, codes, refl, sym, ap, ◌∙◌}
 use Rattle.std.specs.declared.alloc.AllocError.{AllocError}
 use Rattle.std.specs.declared.alloc.Global.{Global}
 use Rattle.std.specs.FinMap as map

@@ -1,9 +1,9 @@
 -- The rows of commands that change an interview.
 use Rattle.std.specs.Fmt.{digits}
-use Rattle.std.proofs.Common.{◌≡◌, ◌⊎◌, inl, inr, ℕ, Bool, List, [], ◌∷◌, Option, Some, None, Result, Ok, Err, length, codes, decimal, refl, sym, ap, ap₂, ◌∙◌}
+use Rattle.std.proofs.Common.{◌≡◌, ◌⊎◌, inl, inr, ℕ, Bool, true, false, is_none, IsSome, IsNone, List, [], ◌∷◌, Option, Some, None, Result, Ok, length, codes, decimal, refl, sym, ap, ap₂, ◌∙◌}
 use Rattle.std.specs.declared.alloc.AllocError.{AllocError}
 use Rattle.ls_set.specs.declared.query.Query.{Query}
-use Rattle.ls_theory.specs.Interviews.{Interview, accepted}
+use Rattle.ls_theory.specs.Interviews.{Interview, accepted, retracted}
 use Rattle.ls_theory.specs.Queries.{blocks}
 use Rattle.ls_query.specs.Blocks.{BlockRange, made}
 use Rattle.ls_query.specs.declared.block_fault.BlockFault.{BlockFault}
@@ -14,14 +14,22 @@ use Rattle.ls_expert.specs.declared.answer_fault.AnswerFault.{AnswerFault}
 use Rattle.ls_expert.specs.declared.answer_fault.AnswerFault.TheVariants as answer
 use Rattle.ls_lines.specs.Lines.{Text}
 use Rattle.ls_reply.specs.Sessions.{Session}
-use Rattle.ls_reply.specs.Refusals.{Answer, outcome, becomes}
-use Rattle.ls_reply.specs.Rows.{query_of, query_row, answer_row, answer_refusals, blocks_row, block_refusals}
+use Rattle.ls_reply.specs.Refusals.{Answer, outcome, refuse, becomes}
+use Rattle.ls_reply.specs.Rows.{query_of, query_row, answer_row, answer_refusals, blocks_row, block_refusals, retract_row}
 use Rattle.ls_views.specs.Sayings.{row_answer}
 use Rattle.ls_views.specs.Views.{session_on}
 use Rattle.ls_shell.specs.Answers.{answer_words}
 use Rattle.ls_shell.specs.Blocked.{block_words}
 use Rattle.ls_shell.proofs.Following.{one_line}
 use Rattle.ls_shell.proofs.Refusing.{refusal}
+
+found_is : {X : Type 0} (o : Option X) → IsSome o → is_none o ≡ false
+found_is None h = absurd (cc h)
+found_is (Some x) h = refl
+
+absent_is : {X : Type 0} (o : Option X) → IsNone o → is_none o ≡ true
+absent_is None h = refl
+absent_is (Some x) h = absurd (cc h)
 
 module _ (names : List Text) (i new : Interview) where
   abbrev s : Session
@@ -87,3 +95,18 @@ module _ (names : List Text) (i new : Interview) where
     pub blocks-refused : (fault : BlockFault) {P : AllocError → Type 0} → new ≡ i → IsBlockFault (made i.count size) fault → ((e : AllocError) → fault ≡ block.Memory e → P e)
         → ((e : AllocError) × P e) ⊎ (row_answer s (blocks_row s size) ≡ refusal left (block_words fault))
     blocks-refused fault stays of memory = size-said _ (made i.count size) _ fault blocks-is (λ e. e ∙ unchanged (block_words fault) stays) of memory
+
+  -- ---- retractions
+
+  module _ (number : ℕ) where
+    abbrev back_of : Bool → Answer
+    back_of absent = outcome s (refuse 23 [] absent) (becomes (session_on names (retracted i number)) (decimal number ∷ []))
+
+    pub answer-back : IsSome (expert.answer_with i number) → new ≡ retracted i number → row_answer s (retract_row s number) ≡ one_line left (codes "ok" ∷ decimal number ∷ [])
+    answer-back stood to =
+        ap back_of (found_is (expert.answer_with i number) stood)
+        ∙ ap (λ (j : Interview). one_line (session_on names j) (codes "ok" ∷ decimal number ∷ [])) (sym to)
+
+    pub answer-not_back : IsNone (expert.answer_with i number) → new ≡ i → row_answer s (retract_row s number) ≡ refusal left (codes "23" ∷ [])
+    unfolding digits
+    answer-not_back absent stays = ap back_of (absent_is (expert.answer_with i number) absent) ∙ unchanged (codes "23" ∷ []) stays

@@ -1,7 +1,6 @@
 -- The outcome of a row, refusal by refusal.
 use Rattle.std.specs.Fmt.{digits}
-use Rattle.std.proofs.Common.{◌≡◌, ℕ, ◌<◌, Bool, true, false, cond, not, eqb, ne_eqb, List, [], ◌∷◌, ◌++◌, map, length, slice_get, Some, None, codes, decimal, refl, ap, ◌∙◌, arith}
-use Rattle.std.specs.declared.option.Option.{Option}
+use Rattle.std.proofs.Common.{◌≡◌, ℕ, ◌<◌, Bool, true, false, cond, not, ne_eqb, List, [], ◌∷◌, ◌++◌, map, length, slice_get, Some, None, codes, decimal, refl, ap, ◌∙◌, arith}
 use Rattle.ls_lines.specs.Lines.{Text}
 use Rattle.ls_lines.specs.declared.command.Command.{Command}
 use Rattle.ls_lines.specs.declared.command.Command.TheVariants as command
@@ -9,7 +8,7 @@ use Rattle.ls_reply.specs.Sessions.{Session, has_domain}
 use Rattle.ls_reply.specs.Scenes.{Files}
 use Rattle.ls_reply.specs.Meanings.{unnamed_places}
 use Rattle.ls_reply.specs.Refusals.{Refusal, Answer, Row, outcome, refuse, faults, says}
-use Rattle.ls_reply.specs.Rows.{blocks_row, answer_row, known_row, ask_row, states_row, not_built_row}
+use Rattle.ls_reply.specs.Rows.{blocks_row, answer_row, retract_row, known_row, ask_row, states_row, base_row, not_built_row}
 use Rattle.ls_reply.specs.Replies.{row, within_domain}
 use Rattle.ls_views.specs.Sayings.{row_answer}
 use Rattle.ls_views.specs.Views.{is_reading}
@@ -66,9 +65,11 @@ abbrev inner_row : Session → Command → Row
 inner_row s (command.Blocks size) = blocks_row s size
 inner_row s (command.Yes names item) = answer_row s true names item
 inner_row s (command.No names item) = answer_row s false names item
+inner_row s (command.Retract number) = retract_row s number
 inner_row s (command.Known names item) = known_row s names item
 inner_row s command.Ask = ask_row s
 inner_row s (command.States count after) = states_row s count after
+inner_row s command.Base = base_row s
 inner_row s c = not_built_row s
 
 pub needs-row : (s : Session) (files : Files) (c : Command) → needs_domain c ≡ true → (r : Row) × (row s files c ≡ within_domain s c r)
@@ -76,18 +77,21 @@ unfolding row
 needs-row s files (command.Blocks size) e = (inner_row s (command.Blocks size), refl)
 needs-row s files (command.Yes names item) e = (inner_row s (command.Yes names item), refl)
 needs-row s files (command.No names item) e = (inner_row s (command.No names item), refl)
+needs-row s files (command.Retract number) e = (inner_row s (command.Retract number), refl)
 needs-row s files (command.Known names item) e = (inner_row s (command.Known names item), refl)
 needs-row s files command.Ask e = (inner_row s command.Ask, refl)
 needs-row s files (command.States count after) e = (inner_row s (command.States count after), refl)
+needs-row s files command.Base e = (inner_row s command.Base, refl)
 needs-row s files c e = absurd (cc e)
 
 -- what is left of them reads the interview
-pub needs-reading : (c : Command) → needs_domain c ≡ true → ((size : ℕ) → c ≡ command.Blocks size → ⊥) → ((names : List Text) (item : Text) → c ≡ command.Yes names item → ⊥) → ((names : List Text) (item : Text) → c ≡ command.No names item → ⊥)
+pub needs-reading : (c : Command) → needs_domain c ≡ true → ((size : ℕ) → c ≡ command.Blocks size → ⊥) → ((names : List Text) (item : Text) → c ≡ command.Yes names item → ⊥) → ((names : List Text) (item : Text) → c ≡ command.No names item → ⊥) → ((number : ℕ) → c ≡ command.Retract number → ⊥)
     → is_reading c ≡ true
-needs-reading (command.Blocks size) e a b d = absurd (a size refl)
-needs-reading (command.Yes names item) e a b d = absurd (b names item refl)
-needs-reading (command.No names item) e a b d = absurd (d names item refl)
-needs-reading c e a b d = e
+needs-reading (command.Blocks size) e a b d f = absurd (a size refl)
+needs-reading (command.Yes names item) e a b d f = absurd (b names item refl)
+needs-reading (command.No names item) e a b d f = absurd (d names item refl)
+needs-reading (command.Retract number) e a b d f = absurd (f number refl)
+needs-reading c e a b d f = e
 
 -- a reading command changes nothing
 says-stays : (s : Session) (rs : List Refusal) (lines : List (List Text)) → (outcome s rs (says s lines)).session ≡ s
@@ -99,6 +103,7 @@ unfolding row
 reading-stays s files (command.Known names item) e = says-stays s _ _
 reading-stays s files command.Ask e = says-stays s _ _
 reading-stays s files (command.States count after) e = says-stays s _ _
+reading-stays s files command.Base e = says-stays s _ _
 reading-stays s files c e = absurd (cc e)
 
 -- the row of a command that is not built
@@ -108,9 +113,11 @@ unfolding row digits
 other-row s files (command.Blocks size) e a b d = absurd (cc e)
 other-row s files (command.Yes names item) e a b d = absurd (cc e)
 other-row s files (command.No names item) e a b d = absurd (cc e)
+other-row s files (command.Retract number) e a b d = absurd (cc e)
 other-row s files (command.Known names item) e a b d = absurd (cc e)
 other-row s files command.Ask e a b d = absurd (cc e)
 other-row s files (command.States count after) e a b d = absurd (cc e)
+other-row s files command.Base e a b d = absurd (cc e)
 other-row s files command.Nothing e a b d = absurd (a refl)
 other-row s files (command.Items names) e a b d = absurd (b names refl)
 other-row s files (command.LoadItems file) e a b d = absurd (d file refl)

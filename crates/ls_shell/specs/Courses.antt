@@ -11,6 +11,7 @@ abbrev pub needs_domain : Command → Bool
 needs_domain (command.Blocks size) = true
 needs_domain (command.Yes names item) = true
 needs_domain (command.No names item) = true
+needs_domain (command.Retract number) = true
 needs_domain c = is_reading c
 
 abbrev pub state_of : Course → Session

@@ -3,7 +3,7 @@ ghost use Rattle.std.specs.Prelude.{◌≡◌, ◌<◌, true, [], length, IfOk};
 ghost use Rattle.ls_reply.specs.Scenes.{Files};
 ghost use Rattle.ls_reply.specs.Sessions.{started};
 ghost use Rattle.ls_reply.specs.Meanings.{query_words, unnamed_places};
-ghost use Rattle.ls_reply.specs.Rows.{answer_row, blocks_row};
+ghost use Rattle.ls_reply.specs.Rows.{answer_row, blocks_row, retract_row};
 ghost use Rattle.ls_reply.specs.Replies.{row};
 ghost use Rattle.ls_views.specs.Places.{unnamed};
 ghost use Rattle.ls_shell.specs.Sayings.{FollowsRow};
@@ -12,10 +12,10 @@ use crate::answers::refuse_answer;
 use crate::blocks::refuse_blocks;
 use ls_domain::Domain;
 use ls_edge::{Sink, SinkFault};
-use ls_expert::{Interview, Start};
+use ls_expert::{Interview, RetractFault, Start};
 use ls_interior::Steps;
 use ls_lines::{Command, Word, WordList};
-use ls_views::{query_of, refuse_at, say_ok, unnamed_place, view};
+use ls_views::{query_of, refuse_at, say, say_ok, unnamed_place, view};
 use std::alloc::{AllocError, Global};
 use std::sync::ledger::Ledger;
 
@@ -78,6 +78,7 @@ impl Course {
             Command::Blocks { size } => self.set_blocks(alloc, *size, out, steps),
             Command::Yes { names, item } => self.take(alloc, names, item, true, out, steps),
             Command::No { names, item } => self.take(alloc, names, item, false, out, steps),
+            Command::Retract { number } => self.retract(alloc, *number, out, steps),
             _ => view(alloc, &self.domain, &self.interview, command, out, steps),
         }
     }
@@ -117,6 +118,24 @@ impl Course {
         match self.interview.answer(query, is_yes, steps) {
             Ok(number) => say_ok(alloc, number, out),
             Err(fault) => refuse_answer(alloc, fault, out),
+        }
+    }
+
+    // `retract NUMBER`
+    fn retract<K: Sink, L: Ledger>(
+        &mut self,
+        alloc: Global,
+        number: u64,
+        out: &mut K,
+        steps: &mut Steps<L>,
+    ) -> Result<bool, SinkFault>
+        ensures { FollowsRow (state_of self.old) (retract_row (state_of self.old) number) (state_of self.new)
+            (K.written out.old) (K.written out.new) (K.faults out.old) (K.faults out.new) result }
+    {
+        match self.interview.retract(number, steps) {
+            Ok(()) => say_ok(alloc, number, out),
+            Err(RetractFault::NotStanding) => say(alloc, &[b"no", b"23"], out),
+            Err(RetractFault::Memory(e)) => Err(SinkFault::Memory(e)),
         }
     }
 }

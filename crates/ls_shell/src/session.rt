@@ -48,9 +48,11 @@ fn needs_domain(command: &Command) -> bool
         Command::Blocks { .. }
             | Command::Yes { .. }
             | Command::No { .. }
+            | Command::Retract { .. }
             | Command::Known { .. }
             | Command::Ask
             | Command::States { .. }
+            | Command::Base
     )
 }
 

@@ -3,7 +3,7 @@ use Rattle.ls_lines.specs.declared.command.Command.{Command}
 use Rattle.ls_lines.specs.declared.command.Command.TheVariants as command
 use Rattle.ls_reply.specs.Meanings.{unnamed_places}
 use Rattle.ls_reply.specs.Replies.{row}
-use Rattle.ls_reply.specs.Rows.{blocks_row, answer_row}
+use Rattle.ls_reply.specs.Rows.{blocks_row, answer_row, retract_row}
 use Rattle.ls_views.specs.Sayings.{row_answer}
 use Rattle.ls_shell.specs.Courses.{state_of}
 use Rattle.ls_shell.proofs.Following.{follows_as, follows_said}
@@ -39,8 +39,17 @@ returns-in-No g c = λ files.
     (ap (λ (k : Command). row_answer s (row s files k)) c.in-No.is ∙ within-named s no (answer_row s false c.in-No.names c.in-No.item) (some_names s c.args.self.now.some) named)
     c.take-in-No.ensures
 
+pub returns-in-Retract : goal.returns-in-Retract
+unfolding row
+returns-in-Retract g c = λ files.
+    let s = state_of c.args.self.now in
+    let retract = command.Retract c.in-Retract.number in
+    follows_as g.K.Sink.written g.K.Sink.faults c.args.out.now c.retract.new.out c.retract.result s (state_of c.retract.new.self) (row s files c.args.command.now) (retract_row s c.in-Retract.number)
+    (ap (λ (k : Command). row_answer s (row s files k)) c.in-Retract.is ∙ within-named s retract (retract_row s c.in-Retract.number) (some_names s c.args.self.now.some) refl)
+    c.retract.ensures
+
 pub returns-in_default : goal.returns-in_default
 returns-in_default g c = λ files.
     let s = state_of c.args.self.now in
-    let reading = needs-reading c.args.command.now c.requires.needs c.in_default.not-Blocks c.in_default.not-Yes c.in_default.not-No in
+    let reading = needs-reading c.args.command.now c.requires.needs c.in_default.not-Blocks c.in_default.not-Yes c.in_default.not-No c.in_default.not-Retract in
     follows_said g.K.Sink.written g.K.Sink.faults c.args.out.now c.view.new.out c.view.result s s (row s files c.args.command.now) (reading-stays s files c.args.command.now reading) (c.view.ensures.answered files)

@@ -1,7 +1,5 @@
-use Rattle.std.proofs.Common.{◌∙◌, inr, sym, ap, length}
-use Rattle.ls_theory.specs.Interviews.{Interview}
+use Rattle.std.proofs.Common.{◌∙◌, ap, length}
 use Rattle.ls_query.specs.Blocks.{BlockRange, sets_of}
-use Rattle.ls_lines.specs.Lines.{Text}
 use Rattle.ls_reply.specs.Rows.{blocks_row}
 use Rattle.ls_views.specs.Views.{session_on}
 use Rattle.ls_shell.specs.Courses.{state_of}

@@ -1,6 +1,5 @@
 use Rattle.std.proofs.Common.{◌∙◌, ap, sym}
 use Rattle.ls_lines.specs.declared.command.Command.{Command}
-use Rattle.ls_lines.specs.declared.command.Command.TheVariants as command
 use Rattle.ls_reply.specs.Rows.{items_row, load_items_row}
 use Rattle.ls_reply.specs.Replies.{row}
 use Rattle.ls_views.specs.Sayings.{row_answer}

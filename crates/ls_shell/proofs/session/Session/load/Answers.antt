@@ -2,7 +2,6 @@ use Rattle.std.proofs.Common.{◌≡◌, ◌∙◌, List, ℕ, true, false, sym,
 use Rattle.ls_edge.specs.Files.{Fetches}
 use Rattle.ls_domain.specs.Domains.{names_of_table}
 use Rattle.ls_lines.specs.Lines.{Text}
-use Rattle.ls_reply.specs.Scenes.{Files}
 use Rattle.ls_reply.specs.Sessions.{has_domain}
 use Rattle.ls_reply.specs.Rows.{begins_with, load_items_row}
 use Rattle.ls_views.specs.Sayings.{row_answer}

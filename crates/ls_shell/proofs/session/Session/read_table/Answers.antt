@@ -1,4 +1,4 @@
-use Rattle.std.proofs.Common.{List, Ok, Result, sym, ap}
+use Rattle.std.proofs.Common.{List, Ok, Result, ap}
 use Rattle.ls_lines.specs.Lines.{Text}
 use Rattle.ls_domain.specs.Domains.{names_of_table}
 use Rattle.ls_domain.specs.declared.domain_fault.DomainFault.{DomainFault}
