@@ -15,6 +15,8 @@ ghost use Rattle.ls_base.specs.Followed.{IsFollowed};
 ghost use Rattle.ls_expert.specs.Held.{blocks_of, IsStanding};
 ghost use Rattle.ls_expert.specs.Answers.{refusal, standing_number, answer_with, steps_back, opposed, is_full, IsFaultOf, IsBlockFault, most_steps};
 
+mod resumed;
+
 use crate::answer_fault::AnswerFault;
 use crate::answers::{answer_with, nos, opposed, put_last, rules_before, take_out, yes_others};
 use crate::on_items::OnItems;
@@ -203,7 +205,11 @@ impl Interview {
     }
 
     // Takes a Yes that is not refused.
-    fn take_yes<L: Ledger>(&mut self, query: &Query, steps: &mut Steps<L>) -> Result<u64, AllocError>
+    fn take_yes<L: Ledger>(
+        &mut self,
+        query: &Query,
+        steps: &mut Steps<L>,
+    ) -> Result<u64, AllocError>
         requires { refusal self.old query.now true ≡ None }
         ensures number { IfOk result (λ m. m ≡ self.old.next) }
         ensures ok { OnOk result (self.new ≡ accepted self.old query.now true) }
@@ -217,7 +223,8 @@ impl Interview {
         let followed = self.followed.after_yes(position, query)?;
         self.followed = followed;
         self.family.push_reserved(*query);
-        self.table.yes_added(&Counted::new(&self.family), query, steps);
+        self.table
+            .yes_added(&Counted::new(&self.family), query, steps);
         Ok(put_last(&mut self.answers, &mut self.next, query, true))
     }
 
