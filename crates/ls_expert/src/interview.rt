@@ -22,6 +22,7 @@ use crate::answers::{answer_with, nos, opposed, put_last, rules_before, take_out
 use crate::on_items::OnItems;
 use crate::retract_fault::RetractFault;
 use crate::start::Start;
+use crate::unfit_query::UnfitQuery;
 use ls_base::Followed;
 use ls_infer::Table;
 use ls_interior::{Counted, Inside, Steps};
@@ -38,10 +39,6 @@ pub const MOST_ANSWERS: usize = 8192;
 
 /// The greatest number of an answer.
 pub const MOST_NUMBER: u64 = 999_999_999;
-
-/// A query that is not good.
-#[derive(Clone, Copy, Debug, PartialEq, Eq)]
-pub struct UnfitQuery;
 
 /// The interview of an expert: the items, the start, the greatest size of the sets that are asked,
 /// the standing answers in order of number, and the number of the next. Some space fits its answers.
