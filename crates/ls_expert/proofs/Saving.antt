@@ -1,5 +1,5 @@
 -- Whether answers from which an interview is to go on stand.
-use Rattle.std.proofs.Common.{ℕ, suc, ◌+◌, ◌-◌, ◌<◌, ◌≤◌, ◌≡◌, ◌⊎◌, inl, inr, Bool, true, false, not, ◌&&◌, ◌||◌, ltb, length, get_or, take, drop, List, [], ◌∷◌, map, filter, cond, Result, Ok, refl, sym, ap, ap₂, ◌∙◌, subst, arith, ltb-true, lt-ltb, le-ltb}
+use Rattle.std.proofs.Common.{ℕ, suc, ◌+◌, ◌-◌, ◌<◌, ◌≤◌, ◌≡◌, ◌⊎◌, inl, inr, Bool, true, false, not, ◌&&◌, ◌||◌, ltb, length, get_or, take, drop, List, [], ◌∷◌, map, filter, Result, Ok, refl, sym, ap, ap₂, ◌∙◌, subst, arith, ltb-true, lt-ltb, le-ltb}
 use Rattle.std.specs.Bool.{Decides}
 use Rattle.std.specs.Cmp.{nat_cmp_is}
 use Rattle.std.specs.Ordering.{nat_cmp}
@@ -33,8 +33,7 @@ use Rattle.ls_query.specs.declared.block_fault.BlockFault.{BlockFault}
 use Rattle.ls_expert.specs.declared.start.Start.{Start}
 use Rattle.ls_expert.specs.Starts.{StartOn, start_of}
 use Rattle.ls_expert.specs.Answers.{is_same_query}
-use Rattle.ls_expert.proofs.Ruling.{ruled-compat}
-use Rattle.ls_expert.proofs.Retracting.{good-yeses}
+use Rattle.ls_expert.proofs.Ruling.{ruled-compat, all-told}
 use Rattle.ls_expert.proofs.Holding.{start-whole, range-of}
 
 -- ---- what is left of a list
@@ -172,16 +171,6 @@ has-greatest n f r small l =
 pub made-as : (n k : ℕ) (r : Result BlockRange BlockFault) (b : BlockRange) → r ≡ made n k → r ≡ Ok b → made n k ≡ Ok (record { item_count = n; largest = k })
 made-as n k r b e f = let is = sym e ∙ f in is ∙ ap Ok (range-of n k b is)
 
--- what holds of the query of each answer holds of those that were answered No
-good-no_queries : (q : Query → Bool) (answers : List Answer) → list_all (λ a. q a.query) answers ≡ true → list_all q (no_queries answers) ≡ true
-good-no_queries q [] h = refl
-good-no_queries q (x ∷ xs) h =
-    let b = and_parts (q x.query) (list_all (λ a. q a.query) xs) h in
-    elim x.yes as (λ k. list_all q (map (λ a. a.query) (cond (not k) (x ∷ filter (λ a. not a.yes) xs) (filter (λ a. not a.yes) xs))) ≡ true) [
-      | true ↦ good-no_queries q xs b.1
-      | false ↦ and_from (q x.query) (list_all q (no_queries xs)) b.0 (good-no_queries q xs b.1)
-    ]
-
 -- some space fits good answers exactly where each No is broken by some set of the start that breaks no Yes
 pub fit-decides : (i : Interview) (start : Start) (b : Bool) (s : StartOn) (rules : List Query) → start_of start ≡ i.start → list_all (λ a. is_good i.count a.query) i.answers ≡ true
     → s ≡ record { item_count = i.count; start = i.start } → rules ≡ yes_queries i.answers
@@ -198,11 +187,11 @@ fit-decides i start b s rules e good es er told =
         some_fits = fitting_some n i.start yeses ns f (record {
           in_order = compat-in_order n i.start yeses;
           is_family = compat-IsUnionFamily n i.start yeses;
-          holds_full = (space-from (full n) f (start-space n i.start yeses space (good-yeses (is_good n) i.answers good))).holds_whole;
+          holds_full = (space-from (full n) f (start-space n i.start yeses space (all-told (is_good n) (λ a. a.yes) (λ a. a.query) i.answers good))).holds_whole;
           compatible = λ k c. c;
           broken = list_all-All (some_breaks f) ns (sym broken ∙ h);
         });
-        are_good = good-no_queries (is_good n) i.answers good;
+        are_good = all-told (is_good n) (λ a. not a.yes) (λ a. a.query) i.answers good;
       },
       λ sound. broken ∙ All-list_all (some_breaks f) ns (compatible_fit i sound.some_fits).broken,
     )

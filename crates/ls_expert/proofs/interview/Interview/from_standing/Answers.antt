@@ -14,8 +14,7 @@ use Rattle.ls_query.specs.Blocks.{BlockRange}
 use Rattle.ls_rules.specs.Ruled.{RuledState}
 use Rattle.ls_expert.specs.Starts.{StartOn, start_of}
 use Rattle.ls_expert.specs.Held.{IsHeld}
-use Rattle.ls_expert.proofs.Ruling.{followed-by}
-use Rattle.ls_expert.proofs.Retracting.{good-yeses}
+use Rattle.ls_expert.proofs.Ruling.{all-told, followed-by}
 use Rattle.ls_expert.proofs.Holding.{range-of, tabled-by}
 use Rattle.ls_expert.proofs.Saving.{made-as, fit-decides}
 use Rattle.ls_expert.proofs.interview.Interview.from_standing.Goals as goal
@@ -78,7 +77,7 @@ returns-in_err-from_slice-clause-fault g c =
 pub with_rules-requires : goal.with_rules-requires
 with_rules-requires g c =
     ap₂ (λ (m : ℕ) (l : List Query). list_all (is_good m) l) c.new-2.ensures.items (c.deref.ensures.value ∙ c.in_ok-yeses.ensures)
-    ∙ good-yeses (is_good c.args.n) c.args.answers.now (c.can_stand.ensures.good c.if-not-can_stand.false)
+    ∙ all-told (is_good c.args.n) (λ a. a.yes) (λ a. a.query) c.args.answers.now (c.can_stand.ensures.good c.if-not-can_stand.false)
 
 pub build-requires-clause-items : goal.build-requires-clause-items
 build-requires-clause-items g c =
