@@ -60,7 +60,7 @@ tabled-by i b s rules answers t h eb es er ea =
 pub begun-as : (n m : ℕ) (s t : theory.Start) (answers : List Answer) → n ≡ m → s ≡ t → answers ≡ [] → begun n s ≡ (let i : Interview = record { count = m; start = t; block = 1; answers = answers; next = 1 } in i)
 begun-as n m s t answers en es ea = cc
 
-start-whole : (start : Start) (n : ℕ) → is_space (full n) (compat n (start_of start) []) ≡ true
+pub start-whole : (start : Start) (n : ℕ) → is_space (full n) (compat n (start_of start) []) ≡ true
 start-whole Free n = compat-space n theory.Free [] refl refl
 
 none-distinct : IsDistinct is_same_query []

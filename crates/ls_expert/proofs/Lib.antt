@@ -2,3 +2,4 @@ mod Ruling
 mod Holding
 mod Taking
 mod Retracting
+mod Saving

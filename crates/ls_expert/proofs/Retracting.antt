@@ -2,7 +2,7 @@
 use Rattle.std.proofs.Common.{ℕ, suc, ◌+◌, ◌*◌, ◌≤◌, ◌<◌, ◌≡◌, ◌⊎◌, inl, inr, Bool, true, false, cond, not, ◌&&◌, eqb, ltb, length, List, [], ◌∷◌, map, filter, find, count_by, remove, Some, None, refl, sym, ap, ap₂, ◌∙◌, subst, arith, eq-eqb, ne_eqb, lt-ltb, le-ltb}
 use Rattle.std.specs.List.{AllByRecursion, IsDistinct, list_all}
 use Rattle.std.proofs.Math.Bool.{and_assoc, and_comm}
-use Rattle.std.proofs.lemmas.Bool.{cases_Bool, cases_eq, cases_lt, and_parts, and_from}
+use Rattle.std.proofs.lemmas.Bool.{cases_Bool, cases_eq, cases_lt, and_parts}
 use Rattle.std.proofs.lemmas.List.{length-map}
 use Rattle.std.proofs.lemmas.List.Sums.{length-filter, count_by-le-length}
 use Rattle.ls_set.specs.ItemSet.{Items, full, is_within, subsets}
@@ -24,6 +24,7 @@ use Rattle.ls_base.specs.Followed.{IsFollowed}
 use Rattle.ls_base.specs.declared.followed.Followed.{Followed}
 use Rattle.ls_expert.specs.Answers.{answer_with, is_same_query, closures_over}
 use Rattle.ls_expert.specs.Held.{blocks_of, closures_of, IsHeld}
+use Rattle.ls_expert.proofs.Ruling.{all-fewer, all-told}
 use Rattle.ls_laws.proofs.Numbered.{IsRising, rising-from, retracted-numbered}
 
 -- all answers but the one with the number
@@ -145,15 +146,6 @@ module _ {X : Type 0} (p : Answer → Bool) (g : Answer → X) (m : ℕ) (a : An
 
 -- ---- what is kept
 
-all-fewer : (q p : Answer → Bool) (answers : List Answer) → list_all q answers ≡ true → list_all q (filter p answers) ≡ true
-all-fewer q p [] h = refl
-all-fewer q p (x ∷ xs) h =
-    let b = and_parts (q x) (list_all q xs) h in
-    elim (p x) as (λ k. list_all q (cond k (x ∷ filter p xs) (filter p xs)) ≡ true) [
-      | true ↦ and_from (q x) (list_all q (filter p xs)) b.0 (all-fewer q p xs b.1)
-      | false ↦ all-fewer q p xs b.1
-    ]
-
 -- fewer queries are distinct too
 others_fewer : (p : Answer → Bool) (x : Query) (answers : List Answer) → AllByRecursion (λ y. is_same_query x y ≡ false) (map (λ a. a.query) answers) → AllByRecursion (λ y. is_same_query x y ≡ false) (map (λ a. a.query) (filter p answers))
 others_fewer p x [] h = tt
@@ -173,18 +165,8 @@ distinct-fewer p (x ∷ answers) d = elim (p x) as (λ b. IsDistinct is_same_que
 length-fewer : (p : Answer → Bool) (answers : List Answer) → length (filter p answers) ≤ length answers
 length-fewer p answers = omega (arith, length-filter p answers, count_by-le-length p answers)
 
--- each Yes is an answer
-pub good-yeses : (q : Query → Bool) (answers : List Answer) → list_all (λ a. q a.query) answers ≡ true → list_all q (yes_queries answers) ≡ true
-good-yeses q [] h = refl
-good-yeses q (x ∷ xs) h =
-    let b = and_parts (q x.query) (list_all (λ a. q a.query) xs) h in
-    elim x.yes as (λ k. list_all q (map (λ a. a.query) (cond k (x ∷ filter (λ a. a.yes) xs) (filter (λ a. a.yes) xs))) ≡ true) [
-      | true ↦ and_from (q x.query) (list_all q (yes_queries xs)) b.0 (good-yeses q xs b.1)
-      | false ↦ good-yeses q xs b.1
-    ]
-
 pub good-others : (q : Query → Bool) (m : ℕ) (answers : List Answer) → list_all (λ a. q a.query) answers ≡ true → list_all q (yes_queries (filter (is_other m) answers)) ≡ true
-good-others q m answers h = good-yeses q (filter (is_other m) answers) (all-fewer (λ a. q a.query) (is_other m) answers h)
+good-others q m answers h = all-told q (λ a. a.yes) (λ a. a.query) (filter (is_other m) answers) (all-fewer (λ a. q a.query) (is_other m) answers h)
 
 -- ---- interiors
 

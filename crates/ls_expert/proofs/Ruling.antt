@@ -1,13 +1,13 @@
 -- The compatible sets as a family with rules, and the lists of an interview's answers.
-use Rattle.std.proofs.Common.{ℕ, ◌≡◌, inl, inr, Bool, true, false, cond, not, ◌&&◌, List, [], ◌∷◌, map, filter, find, Option, Some, None, IfSome, is_some, Result, Ok, Err, IfOk, refl, sym, ap, ◌∙◌, subst, true≢false}
+use Rattle.std.proofs.Common.{ℕ, ◌≡◌, inl, inr, Bool, true, false, cond, not, ◌&&◌, List, [], ◌∷◌, map, filter, find, Option, Some, None, IfSome, is_some, refl, sym, ap, ◌∙◌, subst, true≢false}
 use Rattle.std.specs.List.{list_all}
+use Rattle.std.proofs.lemmas.List.Folds.{list_all-map}
 use Rattle.std.proofs.lemmas.Bool.{and_from, and_parts, false_from_ne_true}
 use Rattle.ls_set.specs.ItemSet.{Items, full, is_within, subsets, IsWithin}
 use Rattle.ls_set.specs.Query.{is_good}
 use Rattle.ls_set.specs.declared.query.Query.{Query}
 use Rattle.ls_set.proofs.Sets.{and-true, is_within-from}
 use Rattle.ls_theory.specs.declared.answer.Answer.{Answer}
-use Rattle.ls_theory.specs.declared.no.No.{No}
 use Rattle.ls_theory.specs.Queries.{breaks_none, queries, query_before}
 use Rattle.ls_theory.specs.Interviews.{Interview, nos}
 use Rattle.ls_theory.specs.Starts as theory
@@ -65,15 +65,19 @@ own_blocks i t h = h ∙ ap (λ (b : BlockRange). table_of b (compatible_sets i)
 
 -- ---- answers
 
--- what holds of each answer holds of each that is No
-pub good-nos : (q : Query → Bool) (answers : List Answer) → list_all (λ a. q a.query) answers ≡ true → list_all (λ a. q a.query) (nos answers) ≡ true
-good-nos q [] h = refl
-good-nos q (a ∷ answers) h =
-    let p = and_parts (q a.query) (list_all (λ a. q a.query) answers) h in
-    elim a.yes as (λ b. list_all (λ x. q x.query) (map (λ x. let n : No = record { number = x.number; query = x.query } in n) (cond (not b) (a ∷ filter (λ x. not x.yes) answers) (filter (λ x. not x.yes) answers))) ≡ true) [
-      | true ↦ good-nos q answers p.1
-      | false ↦ and_from (q a.query) (list_all (λ x. q x.query) (nos answers)) p.0 (good-nos q answers p.1)
+-- what holds of each answer holds of those that pass
+pub all-fewer : (q p : Answer → Bool) (answers : List Answer) → list_all q answers ≡ true → list_all q (filter p answers) ≡ true
+all-fewer q p [] h = refl
+all-fewer q p (x ∷ xs) h =
+    let b = and_parts (q x) (list_all q xs) h in
+    elim (p x) as (λ k. list_all q (cond k (x ∷ filter p xs) (filter p xs)) ≡ true) [
+      | true ↦ and_from (q x) (list_all q (filter p xs)) b.0 (all-fewer q p xs b.1)
+      | false ↦ all-fewer q p xs b.1
     ]
+
+-- and of what these tell
+pub all-told : {X : Type 0} (q : X → Bool) (p : Answer → Bool) (g : Answer → X) (answers : List Answer) → list_all (λ a. q (g a)) answers ≡ true → list_all q (map g (filter p answers)) ≡ true
+all-told q p g answers h = list_all-map q g (filter p answers) ∙ all-fewer (λ a. q (g a)) p answers h
 
 -- ---- questions
 
@@ -102,9 +106,3 @@ question-good i last =
 pub settled-is : (i : Interview) (r : Option Query) (b : Bool) → r ≡ next_question i None → is_some r ≡ not b → b ≡ is_settled i
 settled-is i r true e h = let none : is_some r ≡ false = h in sym ((no_question i).1 (sym e ∙ nothing r none))
 settled-is i r false e h = sym (false_from_ne_true (is_settled i) (λ t. let none : r ≡ None = e ∙ (no_question i).0 t in true≢false (sym h ∙ ap is_some none)))
-
--- ---- results
-
-pub IfOk_map : {T E : Type 0} (r : Result T E) {P Q : T → Type 0} → ((x : T) → P x → Q x) → IfOk r P → IfOk r Q
-IfOk_map (Ok x) f h = f x h
-IfOk_map (Err e) f h = tt

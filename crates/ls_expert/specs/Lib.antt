@@ -1,3 +1,4 @@
 pub mod Starts
 pub mod Answers
 pub mod Held
+pub mod Saved

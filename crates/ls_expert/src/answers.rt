@@ -23,12 +23,19 @@ pub fn nos(alloc: Global, answers: &[Answer]) -> Result<Vec<No>, AllocError>
         .collect(alloc)
 }
 
+/// The queries that were answered Yes.
+pub fn yes_queries(alloc: Global, answers: &[Answer]) -> Result<Vec<Query>, AllocError>
+    ensures { IfOk result (λ v. v.items ≡ yes_queries answers.now) }
+{
+    answers
+        .iter()
+        .filter(|a| a.yes)
+        .map(|a| a.query)
+        .collect(alloc)
+}
+
 /// The queries that were answered Yes but for the answer with the number.
-pub fn yes_others(
-    alloc: Global,
-    answers: &[Answer],
-    number: u64,
-) -> Result<Vec<Query>, AllocError>
+pub fn yes_others(alloc: Global, answers: &[Answer], number: u64) -> Result<Vec<Query>, AllocError>
     ensures { IfOk result (λ v. v.items ≡ yes_queries (filter (λ a. not (a.number == number)) answers.now)) }
 {
     answers

@@ -15,11 +15,14 @@ ghost use Rattle.ls_base.specs.Followed.{IsFollowed};
 ghost use Rattle.ls_expert.specs.Held.{blocks_of, IsStanding};
 ghost use Rattle.ls_expert.specs.Answers.{refusal, standing_number, answer_with, steps_back, opposed, is_full, IsFaultOf, IsBlockFault, most_steps};
 
+mod resumed;
+
 use crate::answer_fault::AnswerFault;
 use crate::answers::{answer_with, nos, opposed, put_last, rules_before, take_out, yes_others};
 use crate::on_items::OnItems;
 use crate::retract_fault::RetractFault;
 use crate::start::Start;
+use crate::unfit_query::UnfitQuery;
 use ls_base::Followed;
 use ls_infer::Table;
 use ls_interior::{Counted, Inside, Steps};
@@ -36,10 +39,6 @@ pub const MOST_ANSWERS: usize = 8192;
 
 /// The greatest number of an answer.
 pub const MOST_NUMBER: u64 = 999_999_999;
-
-/// A query that is not good.
-#[derive(Clone, Copy, Debug, PartialEq, Eq)]
-pub struct UnfitQuery;
 
 /// The interview of an expert: the items, the start, the greatest size of the sets that are asked,
 /// the standing answers in order of number, and the number of the next. Some space fits its answers.
@@ -203,7 +202,11 @@ impl Interview {
     }
 
     // Takes a Yes that is not refused.
-    fn take_yes<L: Ledger>(&mut self, query: &Query, steps: &mut Steps<L>) -> Result<u64, AllocError>
+    fn take_yes<L: Ledger>(
+        &mut self,
+        query: &Query,
+        steps: &mut Steps<L>,
+    ) -> Result<u64, AllocError>
         requires { refusal self.old query.now true ≡ None }
         ensures number { IfOk result (λ m. m ≡ self.old.next) }
         ensures ok { OnOk result (self.new ≡ accepted self.old query.now true) }
@@ -217,7 +220,8 @@ impl Interview {
         let followed = self.followed.after_yes(position, query)?;
         self.followed = followed;
         self.family.push_reserved(*query);
-        self.table.yes_added(&Counted::new(&self.family), query, steps);
+        self.table
+            .yes_added(&Counted::new(&self.family), query, steps);
         Ok(put_last(&mut self.answers, &mut self.next, query, true))
     }
 

@@ -1,0 +1,12 @@
+use Rattle.std.proofs.Common.{true, false, arith, sym, ap, ◌∙◌}
+use Rattle.std.proofs.lemmas.List.{drop_all}
+use Rattle.ls_expert.proofs.Saving.{apart, apart-decides, repeats}
+use Rattle.ls_expert.proofs.saved.are_distinct.Goals as goal
+
+pub returns-then-has_answer : goal.returns-then-has_answer
+returns-then-has_answer c =
+    apart-decides c.args.answers.now false
+    (repeats c.loop-place.place c.args.answers.now c.index-answers-place.result c.loop-place-test.true c.index-answers-place.is (sym c.if-has_answer.true ∙ c.has_answer.ensures) c.loop-place.invariant)
+
+pub returns : goal.returns
+returns c = apart-decides c.args.answers.now true (sym (ap apart (drop_all c.loop-place.place c.args.answers.now (omega arith))) ∙ c.loop-place.invariant)

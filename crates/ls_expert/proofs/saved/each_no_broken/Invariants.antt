@@ -1,0 +1,9 @@
+use Rattle.std.proofs.Common.{◌≡◌, drop}
+use Rattle.std.specs.List.{list_all}
+use Rattle.ls_theory.specs.Queries.{some_breaks}
+use Rattle.ls_theory.specs.Interviews.{no_queries}
+use Rattle.ls_expert.proofs.saved.each_no_broken.Given as goal
+
+-- each No is broken where each is that is left
+abbrev pub invariant-loop-answer : goal.invariant-loop-answer
+invariant-loop-answer g l = list_all (some_breaks (g.I.Interior.members l.f)) (no_queries (drop l.answer-index l.answers)) ≡ list_all (some_breaks (g.I.Interior.members l.f)) (no_queries l.answers)

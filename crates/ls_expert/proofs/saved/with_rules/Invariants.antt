@@ -1,0 +1,9 @@
+use Rattle.std.proofs.Common.{◌≡◌, take}
+use Rattle.ls_expert.proofs.saved.with_rules.Given as goal
+
+-- the queries so far are rules
+abbrev pub invariant-loop-rule : goal.invariant-loop-rule
+invariant-loop-rule l = record {
+  inner : l.family.inner ≡ l.fn.first;
+  rules : l.family.rules ≡ take l.rule-index l.rules;
+}

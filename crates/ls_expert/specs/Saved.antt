@@ -1,0 +1,22 @@
+-- Why an interview does not go on from answers.
+use Rattle.std.specs.Prelude.{◌≡◌, Ok, Err}
+use Rattle.ls_theory.specs.Interviews.{Interview}
+use Rattle.ls_query.specs.Blocks.{made}
+use Rattle.ls_query.specs.declared.block_fault.BlockFault.{BlockFault}
+use Rattle.ls_query.specs.declared.block_fault.BlockFault.TheVariants as block
+use Rattle.ls_expert.specs.declared.standing_fault.StandingFault.{StandingFault}
+use Rattle.ls_expert.specs.declared.standing_fault.StandingFault.TheVariants.{BadBlock, TooWide, BadAnswers, Memory}
+use Rattle.ls_expert.specs.Held.{blocks_of, IsStanding}
+
+-- the fault of blocks that are not made
+abbrev pub standing_fault : BlockFault → StandingFault
+standing_fault block.BadBlock = BadBlock
+standing_fault (block.TooWide size) = TooWide size
+standing_fault (block.Memory e) = Memory e
+
+-- The fault is that of the blocks; or these are made, and the answers do not stand or memory ran out.
+abbrev pub IsStandingFault : Interview → StandingFault → Type 0
+IsStandingFault i BadBlock = made i.count i.block ≡ Err block.BadBlock
+IsStandingFault i (TooWide size) = made i.count i.block ≡ Err (block.TooWide size)
+IsStandingFault i BadAnswers = (made i.count i.block ≡ Ok (blocks_of i)) × (IsStanding i → ⊥)
+IsStandingFault i (Memory e) = made i.count i.block ≡ Ok (blocks_of i)

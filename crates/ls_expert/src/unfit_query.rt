@@ -1,0 +1,5 @@
+// Queries that are not good.
+
+/// A query that is not good.
+#[derive(Clone, Copy, Debug, PartialEq, Eq)]
+pub struct UnfitQuery;
