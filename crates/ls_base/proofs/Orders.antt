@@ -10,7 +10,7 @@ use Rattle.ls_set.proofs.Sets.{has-differing, has-empty, same_set, Decides-is_sa
 use Rattle.ls_set.proofs.Members.{among-here, among-there, among-cases}
 use Rattle.ls_set.proofs.Ascending.{least-cases}
 use Rattle.ls_set.proofs.Firsts.{items-none}
-use Rattle.ls_set.proofs.Order.{comes_before-at, differs_first, comes_before-asymmetric, comes_before-transitive}
+use Rattle.ls_set.proofs.Order.{comes_before-at, comes_before-asymmetric, comes_before-transitive}
 use Rattle.ls_laws.proofs.Counts.{len-zero}
 
 agree : (p q : Bool) → not (beq p q) ≡ false → p ≡ q

@@ -76,12 +76,7 @@ fn push_joins(
 
 // Whether the set is the union of the others within it, of the sets that stay and the joins.
 #[tactic(auto, unfolding(ls_set::specs::ItemSet::is_same))]
-fn is_union_of(
-    staying: &[ItemSet],
-    breaking: &[ItemSet],
-    least: &[ItemSet],
-    set: ItemSet,
-) -> bool
+fn is_union_of(staying: &[ItemSet], breaking: &[ItemSet], least: &[ItemSet], set: ItemSet) -> bool
     ensures { result ≡ is_union_in (staying.now ++ joins breaking.now least.now) set }
 {
     union_below(staying, set).union(joined_below(breaking, least, set)) == set
@@ -137,11 +132,7 @@ fn keep_needed(
 /// other such set lies, since a union with a greater one is a union with such a one, and the greater
 /// one itself. No set both breaks the query and has an item of its A, so of a base with
 /// [`MOST_BASE_SETS`](crate::MOST_BASE_SETS) sets there are at most 4,194,304 joins.
-pub fn base_left(
-    alloc: Global,
-    sets: &[ItemSet],
-    r: &Query,
-) -> Result<Vec<ItemSet>, AllocError>
+pub fn base_left(alloc: Global, sets: &[ItemSet], r: &Query) -> Result<Vec<ItemSet>, AllocError>
     requires { r.now.q < PLACES }
     ensures { IfOk result (λ needed. (n : ℕ) → base (spanned n sets.now) ≡ sets.now →
         base (left_by r.now (spanned n sets.now)) ≡ needed.items) }

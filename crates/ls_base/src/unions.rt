@@ -35,16 +35,16 @@ pub fn union_within(sets: &[ItemSet], s: ItemSet) -> ItemSet
 pub fn union_below(sets: &[ItemSet], s: ItemSet) -> ItemSet
     ensures { result ≡ union_below sets.now s }
 {
-    let mut union = ItemSet::empty();
+    let mut below = ItemSet::empty();
     for set in sets {
         if is_proper(*set, s) {
-            union = union.union(*set);
-            if union == s {
-                return union;
+            below = below.union(*set);
+            if below == s {
+                return below;
             }
         }
     }
-    union
+    below
 }
 
 // The same of the unions of a set with one of the others.

@@ -1,4 +1,4 @@
-use Rattle.std.proofs.Common.{not, filter, length, refl, arith, sym, ap, ◌∙◌}
+use Rattle.std.proofs.Common.{not, length, refl, arith, sym, ap, ◌∙◌}
 use Rattle.std.proofs.lemmas.List.Filters.{length-filter_both}
 use Rattle.std.proofs.lemmas.Result.{IfOk-weaker}
 use Rattle.ls_laws.specs.Spans.{needed}

@@ -1,5 +1,4 @@
 use Rattle.std.proofs.Common.{◌++◌, not, filter, ap, ap₂, ◌∙◌}
-use Rattle.ls_set.specs.ItemSet.{is_among}
 use Rattle.ls_laws.specs.Spans.{joins}
 use Rattle.ls_base.specs.Unions.{least_sets, is_union_in}
 use Rattle.ls_base.proofs.Yeses.{base-left}

@@ -1,4 +1,4 @@
-use Rattle.std.proofs.Common.{List, Ok, sym, ap, ◌∙◌, subst}
+use Rattle.std.proofs.Common.{Ok, sym, ap, ◌∙◌}
 use Rattle.std.proofs.lemmas.Result.{err_from_is_err_and}
 use Rattle.ls_laws.specs.Spans.{spanned}
 use Rattle.ls_laws.proofs.Spans.{spanned-in_order, spanned-IsUnionFamily}
