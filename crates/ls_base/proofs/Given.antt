@@ -1,7 +1,8 @@
 -- The sets that are given for a base: whether they have each item, and the base of what they span.
-use Rattle.std.proofs.Common.{ℕ, ◌≤◌, ◌≡◌, List, length, Some, None, Option, Ok, Err, refl, ap, ap₂, ◌∙◌, sym, lt-ltb, le-ltb}
-use Rattle.ls_set.specs.ItemSet.{Items, full, is_within, minus, least}
+use Rattle.std.proofs.Common.{ℕ, ◌≤◌, ◌≡◌, Bool, true, List, [], ◌∷◌, length, filter, Some, None, Option, Ok, Err, refl, ap, ap₂, ◌∙◌, sym, subst, lt-ltb, le-ltb}
+use Rattle.ls_set.specs.ItemSet.{Items, full, is_among, is_within, minus, least}
 use Rattle.ls_set.proofs.Sets.{is_within-from}
+use Rattle.ls_set.proofs.Members.{among-here, among-there}
 use Rattle.ls_theory.specs.Families.{unions, interior}
 use Rattle.ls_theory.specs.Bases.{base, most_base_sets}
 use Rattle.ls_laws.specs.Spans.{IsOn, spanned}
@@ -9,7 +10,10 @@ use Rattle.ls_base.specs.Bases.{first_missing, limited, based, base_fault, IsFau
 use Rattle.ls_base.specs.declared.fault.PastFault.{PastFault}
 use Rattle.ls_base.specs.declared.fault.PastFault.TheVariants as Limit
 use Rattle.ls_base.specs.declared.fault.BaseFault.TheVariants.{NotSpanning, Past}
-use Rattle.ls_base.proofs.Reducing.{filter-each}
+
+filter-each : (p : Items → Bool) (f : List Items) → ((k : Items) → is_among f k ≡ true → p k ≡ true) → filter p f ≡ f
+filter-each p [] h = refl
+filter-each p (t ∷ f) h = rw (h t (among-here t t f refl)) (ap (λ l. t ∷ l) (filter-each p f (λ k c. h k (among-there k t f c))))
 
 -- all of the sets lie within the items
 interior-full : (n : ℕ) (sets : List Items) → IsOn n sets → interior sets (full n) ≡ unions sets
@@ -26,11 +30,15 @@ based-missing n sets q e = rw e refl
 based-spanning : (n : ℕ) (sets : List Items) → first_missing n sets ≡ None → based n sets ≡ limited (base (spanned n sets))
 based-spanning n sets e = rw e refl
 
-pub based-base : (n : ℕ) (sets : List Items) → first_missing n sets ≡ None → length (base (spanned n sets)) ≤ most_base_sets → based n sets ≡ Ok (base (spanned n sets))
-based-base n sets e few = based-spanning n sets e ∙ rw (le-ltb most_base_sets (length (base (spanned n sets))) few) refl
+-- the base that was made of a copy of the sets
+pub base-given : (n : ℕ) (sets given made : List Items) → given ≡ sets → IsOn n sets → ((m : ℕ) → IsOn m given → base (spanned m given) ≡ made) → base (spanned n sets) ≡ made
+base-given n sets given made e small is = ap (λ g. base (spanned n g)) (sym e) ∙ is n (subst (λ (g : List Items). IsOn n g) (sym e) small)
+
+pub based-base : (n : ℕ) (sets made : List Items) → first_missing n sets ≡ None → base (spanned n sets) ≡ made → length made ≤ most_base_sets → based n sets ≡ Ok made
+based-base n sets made e is few = based-spanning n sets e ∙ ap limited is ∙ rw (le-ltb most_base_sets (length made) few) refl
 
 -- a fault of the base is one of the sets
-pub IsFaultOf-past : (n : ℕ) (sets : List Items) (fault : PastFault) → first_missing n sets ≡ None → IsPastOf (base (spanned n sets)) fault → IsFaultOf (based n sets) (base_fault fault)
-IsFaultOf-past n sets (Limit.Past count) e past =
-    based-spanning n sets e ∙ rw (lt-ltb most_base_sets (length (base (spanned n sets))) past.0) (ap (λ c. Err (Past c)) (sym past.1))
-IsFaultOf-past n sets (Limit.Memory fault) e past = tt
+pub IsFaultOf-past : (n : ℕ) (sets made : List Items) (fault : PastFault) → first_missing n sets ≡ None → base (spanned n sets) ≡ made → IsPastOf made fault → IsFaultOf (based n sets) (base_fault fault)
+IsFaultOf-past n sets made (Limit.Past count) e is past =
+    based-spanning n sets e ∙ ap limited is ∙ rw (lt-ltb most_base_sets (length made) past.0) (ap (λ c. Err (Past c)) (sym past.1))
+IsFaultOf-past n sets made (Limit.Memory fault) e is past = tt

@@ -1,6 +1,6 @@
 pub mod Turns
 pub mod Orders
-pub mod Reducing
+pub mod Below
 pub mod Spanned
 pub mod Yeses
 pub mod Peaks

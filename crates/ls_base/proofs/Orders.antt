@@ -1,15 +1,16 @@
--- The order of sets compares any two sets; a set comes before those within it.
-use Rattle.std.proofs.Common.{ℕ, suc, ◌+◌, ◌<◌, ◌≡◌, ◌⊎◌, inl, inr, Bool, true, false, not, List, [], ◌∷◌, length, get_or, None, Some, refl, sym, ap, ◌∙◌, subst, arith, true≢false}
+-- The order of sets compares any two sets; what is left of sets put in it, each once.
+use Rattle.std.proofs.Common.{ℕ, suc, ◌+◌, ◌<◌, ◌≡◌, ◌⊎◌, inl, inr, Bool, true, false, cond, not, ◌||◌, List, [], ◌∷◌, length, get_or, None, Some, refl, sym, ap, ◌∙◌, subst, arith, true≢false}
 use Rattle.std.specs.Cmp.{IsStrictWeakOrder}
+use Rattle.std.specs.List.{AllByRecursion, dedup, dedup_from}
 use Rattle.std.specs.List.Sorted.{IsSortedBy}
 use Rattle.std.proofs.lemmas.Bool.{false_from_ne_true}
 use mathlib.Core.Bool.{beq}
-use Rattle.ls_set.specs.ItemSet.{Items, has, differing, len, least, is_among, is_same, comes_before, IsWithin}
+use Rattle.ls_set.specs.ItemSet.{Items, has, differing, len, least, is_among, is_same, comes_before, IsInOrder}
 use Rattle.ls_set.proofs.Sets.{has-differing, has-empty, same_set, Decides-is_same}
-use Rattle.ls_set.proofs.Members.{among-cases}
+use Rattle.ls_set.proofs.Members.{among-here, among-there, among-cases}
 use Rattle.ls_set.proofs.Ascending.{least-cases}
 use Rattle.ls_set.proofs.Firsts.{items-none}
-use Rattle.ls_set.proofs.Order.{comes_before-at, differs_first, comes_before-asymmetric, comes_before-transitive}
+use Rattle.ls_set.proofs.Order.{comes_before-at, comes_before-asymmetric, comes_before-transitive}
 use Rattle.ls_laws.proofs.Counts.{len-zero}
 
 agree : (p q : Bool) → not (beq p q) ≡ false → p ≡ q
@@ -52,13 +53,9 @@ comes_before-chain s t u a b = false_from_ne_true (comes_before s u) (λ h. elim
 pub order_of_sets : IsStrictWeakOrder comes_before
 order_of_sets = record { one_way = comes_before-asymmetric; chain = comes_before-chain }
 
--- a set comes before each other set within it
-pub proper-later : (s t : Items) → IsWithin s t → is_same s t ≡ false → comes_before t s ≡ true
-proper-later s t w n = elim (order_cases s t) [
-  | inl e ↦ absurd (true≢false (sym ((Decides-is_same s t).1 e) ∙ n))
-  | inr (inl b) ↦ let d = differs_first s t b in absurd (true≢false (sym (w d.0 d.1.in_first) ∙ d.1.not_in_second))
-  | inr (inr b) ↦ b
-]
+Each-from : (P : Items → Type 0) (f : List Items) → ((k : Items) → is_among f k ≡ true → P k) → AllByRecursion P f
+Each-from P [] h = tt
+Each-from P (t ∷ f) h = (h t (among-here t t f refl), Each-from P f (λ k c. h k (among-there k t f c)))
 
 -- no set comes before an earlier one
 abbrev pub Ascends : List Items → Type 0
@@ -76,3 +73,53 @@ Ascends-sorted (s ∷ t ∷ ts) h =
       λ u c. elim (among-cases u t ts c) [ inl e ↦ subst (λ x. comes_before x s ≡ false) (sym e) first | inr a ↦ comes_before-chain u t s (rest.0 u a) first ],
       rest,
     )
+
+-- ---- each set once
+
+later_once : (k x : Items) (xs : List Items) → Ascends (k ∷ x ∷ xs) → is_same x k ≡ false → (t : Items) → is_among (x ∷ xs) t ≡ true → comes_before k t ≡ true
+later_once k x xs a n t c =
+    let first : comes_before k x ≡ true = elim (order_cases k x) [
+      | inl e ↦ absurd (true≢false (sym ((Decides-is_same x k).1 (sym e)) ∙ n))
+      | inr (inl b) ↦ b
+      | inr (inr b) ↦ absurd (true≢false (sym b ∙ a.0 x (among-here x x xs refl)))
+    ] in
+    elim (order_cases k t) [
+      | inl e ↦ elim (among-cases t x xs c) [
+        | inl q ↦ subst (λ y. comes_before k y ≡ true) (sym q) first
+        | inr d ↦ absurd (true≢false (sym first ∙ subst (λ y. comes_before y x ≡ false) (sym e) (a.1.0 t d)))
+      ]
+      | inr (inl b) ↦ b
+      | inr (inr b) ↦ absurd (true≢false (sym b ∙ a.0 t c))
+    ]
+
+among-dedup_from : (k : Items) (xs : List Items) (t : Items) → is_among (dedup_from is_same k xs) t ≡ is_among (k ∷ xs) t
+among-dedup_from k [] t = refl
+among-dedup_from k (x ∷ xs) t = elim (is_same x k) as (λ b. is_same x k ≡ b → is_among (cond b (dedup_from is_same k xs) (k ∷ dedup_from is_same x xs)) t ≡ is_among (k ∷ x ∷ xs) t) [
+  | true ↦ λ e.
+      let same = (Decides-is_same x k).0 e in
+      among-dedup_from k xs t ∙ again (is_same t k) (is_among xs t) ∙ ap (λ y. is_same t k || (is_same t y || is_among xs t)) (sym same)
+  | false ↦ λ e. ap (λ b. is_same t k || b) (among-dedup_from x xs t)
+] refl
+  where
+    again : (p q : Bool) → (p || q) ≡ (p || (p || q))
+    again true q = refl
+    again false q = refl
+
+dedup_from-in_order : (k : Items) (xs : List Items) → Ascends (k ∷ xs) → IsInOrder (dedup_from is_same k xs)
+dedup_from-in_order k [] a = (tt, tt)
+dedup_from-in_order k (x ∷ xs) a = elim (is_same x k) as (λ b. is_same x k ≡ b → IsInOrder (cond b (dedup_from is_same k xs) (k ∷ dedup_from is_same x xs))) [
+  | true ↦ λ e. dedup_from-in_order k xs (λ t c. a.0 t (among-there t x xs c), a.1.1)
+  | false ↦ λ e. (
+    Each-from (λ t. comes_before k t ≡ true) (dedup_from is_same x xs) (λ t c. later_once k x xs a e t (sym (among-dedup_from x xs t) ∙ c)),
+    dedup_from-in_order x xs a.1,
+  )
+] refl
+
+pub among-dedup : (xs : List Items) (t : Items) → is_among (dedup is_same xs) t ≡ is_among xs t
+among-dedup [] t = refl
+among-dedup (x ∷ xs) t = among-dedup_from x xs t
+
+-- of sets none of which comes before an earlier one, each once is in order
+pub dedup-in_order : (xs : List Items) → Ascends xs → IsInOrder (dedup is_same xs)
+dedup-in_order [] a = tt
+dedup-in_order (x ∷ xs) a = dedup_from-in_order x xs a

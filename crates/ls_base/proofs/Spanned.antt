@@ -10,13 +10,13 @@ use Rattle.ls_set.proofs.Members.{among-here, among-there, among-cases, among-fi
 use Rattle.ls_set.proofs.Order.{among-subsets, subsets_from-in_order}
 use Rattle.ls_theory.specs.Families.{interior}
 use Rattle.ls_theory.specs.Bases.{base, is_atom_at, atoms_at, most_base_sets}
-use Rattle.ls_laws.specs.Spans.{IsOn, IsPart, Spans, spanned}
+use Rattle.ls_laws.specs.Spans.{IsOn, IsPart, Spans, needed, spanned}
 use Rattle.ls_laws.proofs.Lists.{some-among, some-from, IsInOrder-filter, same_members}
 use Rattle.ls_laws.proofs.Interiors.{IsUnionFamily, subsets-IsUnionFamily, from-interior, to-interior, interior-whole}
 use Rattle.ls_laws.proofs.Atoms.{IsAtom-from, atom_within, among-base, base-member}
-use Rattle.ls_laws.proofs.Spans.{spanned-has, spanned-whole, spanned-same, spanned-IsUnionFamily, spanned-in_order, base-in_order, spanned-needed, base-needed}
-use Rattle.ls_base.specs.Bases.{IsBase, IsReduced, single_sets}
-use Rattle.ls_base.proofs.Reducing.{interior-through}
+use Rattle.ls_laws.proofs.Spans.{spanned-has, spanned-whole, spanned-same, spanned-IsUnionFamily, spanned-in_order, spanned-base, base-in_order, base-needed}
+use Rattle.ls_base.specs.Bases.{single_sets}
+use Rattle.ls_base.proofs.Below.{interior-same}
 
 -- ---- what a base spans
 
@@ -40,19 +40,17 @@ interior-spanned n g s small = same_within (interior g s) (interior (spanned n g
 
 -- ---- the base of what a list spans
 
-pub base-reduced : (n : ℕ) (all kept : List Items) → IsOn n all → IsReduced all kept → base (spanned n all) ≡ kept
-base-reduced n all kept small r =
-    base-needed (spanned n all) kept (spanned-in_order n all) r.in_order
-    (λ k c. spanned-has n all small k (r.part k c))
-    (λ k c. interior-through all kept k r.span (spanned-whole n all k c))
-    ∙ r.are_needed
+-- the sets that are needed of those that span a family, put in order
+pub base-told : (f all sorted : List Items) → IsInOrder f → IsPart all f → Spans all f → IsInOrder sorted → ((k : Items) → is_among sorted k ≡ is_among all k) → base f ≡ needed sorted
+base-told f all sorted order part span sorted_order same =
+    base-needed f sorted order sorted_order (λ k c. part k (sym (same k) ∙ c)) (λ k c. interior-same sorted all k same ∙ span k c)
 
-pub reduced-IsBase : (n : ℕ) (all kept : List Items) → n ≤ PLACES → IsOn n all → IsReduced all kept → length kept ≤ most_base_sets → IsBase (record { item_count = n; sets = kept })
-reduced-IsBase n all kept few_items small r few = record {
-  few_items = few_items;
-  is_base = spanned-needed n kept r.in_order (λ k c. small k (r.part k c)) ∙ r.are_needed;
-  few = few;
-}
+pub base-listed : (n : ℕ) (all sorted : List Items) → IsOn n all → IsInOrder sorted → ((k : Items) → is_among sorted k ≡ is_among all k) → base (spanned n all) ≡ needed sorted
+base-listed n all sorted small order same = base-told (spanned n all) all sorted (spanned-in_order n all) (spanned-has n all small) (spanned-whole n all) order same
+
+-- a base of a family is the base of what it spans
+pub base-again : (n : ℕ) (f sets : List Items) → IsInOrder f → IsUnionFamily n f → base f ≡ sets → base (spanned n sets) ≡ sets
+base-again n f sets order family e = ap (λ g. base (spanned n g)) (sym e) ∙ ap base (spanned-base n f order family) ∙ e
 
 -- ---- atoms
 
@@ -123,5 +121,5 @@ spanned-singles n =
     let l : q < n = ltb-true q n (sym (has-full n q) ∙ (subsets-IsUnionFamily n).small k c q h) in
     (with empty q, among-singles 0 n q (omega arith) (omega arith), alone-within q k h, has-alone q q ∙ eq-eqb q q refl)))
 
-pub few-singles : (n : ℕ) (kept : List Items) → n ≤ PLACES → IsReduced (single_sets n) kept → length kept ≤ most_base_sets
-few-singles n kept few r = omega (arith, r.few, length-map-range_with_len (with empty) 0 n)
+pub few-singles : (n m : ℕ) → n ≤ PLACES → m ≤ length (single_sets n) → m ≤ most_base_sets
+few-singles n m few h = omega (arith, length-map-range_with_len (with empty) 0 n)

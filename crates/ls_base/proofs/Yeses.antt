@@ -1,25 +1,25 @@
 -- The sets that span what a Yes leaves.
-use Rattle.std.proofs.Common.{ℕ, ◌≡◌, inl, inr, true, false, not, ◌&&◌, List, filter, sym, ap, ◌∙◌, subst, true≢false}
+use Rattle.std.proofs.Common.{ℕ, ◌≡◌, inl, inr, true, false, not, ◌&&◌, List, ◌++◌, filter, sym, ap, ap₂, ◌∙◌, subst, true≢false}
 use Rattle.std.specs.List.{list_any}
 use Rattle.std.proofs.lemmas.Bool.{or_cases, or_left, or_right, and_parts, and_from, not_from_false, not-true, false_from_ne_true}
-use Rattle.ls_set.specs.ItemSet.{Items, has, empty, union, meet, is_among, is_same, is_within, IsWithin}
+use Rattle.ls_set.specs.ItemSet.{Items, has, empty, union, meet, is_among, is_same, is_within, IsWithin, IsInOrder}
 use Rattle.ls_set.specs.declared.query.Query.{Query}
 use Rattle.ls_set.proofs.Sets.{union-left, union-right, union-within, same_within, Decides-is_same, IsWithin-from, is_within-from}
 use Rattle.ls_set.proofs.Members.{among-append, among-filter}
 use Rattle.ls_theory.specs.Queries.{breaks}
 use Rattle.ls_theory.specs.Families.{interior}
 use Rattle.ls_theory.specs.Bases.{base}
-use Rattle.ls_laws.specs.Spans.{IsOn, IsPart, Spans, is_proper, spanned, left_by, touches, joins, after_yes}
+use Rattle.ls_laws.specs.Spans.{IsPart, Spans, is_proper, spanned, left_by, touches, joins, after_yes}
 use Rattle.ls_laws.proofs.Lists.{some-from, IsInOrder-filter}
-use Rattle.ls_laws.proofs.Interiors.{IsUnionFamily, interior-member}
+use Rattle.ls_laws.proofs.Interiors.{interior-member}
 use Rattle.ls_laws.proofs.Counts.{as_many}
 use Rattle.ls_laws.proofs.Atoms.{fewest_of}
 use Rattle.ls_laws.proofs.Spans.{interior-union, spanned-IsUnionFamily, spanned-in_order}
 use Rattle.ls_laws.proofs.Remains.{among-joins, from-joins, after_yes-part, after_yes-whole}
 use Rattle.ls_laws.proofs.Closures.{left-IsUnionFamily}
-use Rattle.ls_base.specs.Bases.{least_sets, spanning_after}
-use Rattle.ls_base.proofs.Reducing.{interior-through}
-use Rattle.ls_base.proofs.Spanned.{spanned-is}
+use Rattle.ls_base.specs.Unions.{least_sets, is_union_in, spanning_after}
+use Rattle.ls_base.proofs.Below.{interior-through, needed-same}
+use Rattle.ls_base.proofs.Spanned.{base-told, base-again}
 
 -- ---- least sets
 
@@ -91,19 +91,21 @@ spanning-spans b r k c =
 
 -- ---- what they span
 
-after-part : (n : ℕ) (f : List Items) (r : Query) → IsUnionFamily n f → IsPart (spanning_after (base f) r) (left_by r f)
-after-part n f r family k c = after_yes-part f r family.holds_unions k (spanning-part (base f) r k c)
-
-pub spanned-after : (n : ℕ) (b : List Items) (r : Query) → base (spanned n b) ≡ b → spanned n (spanning_after b r) ≡ left_by r (spanned n b)
-spanned-after n b r e =
+-- the sets that are needed of those that were made are the base of what the Yes leaves
+pub base-left : (n : ℕ) (b staying broken near least made sorted kept : List Items) (r : Query) → staying ≡ left_by r b → broken ≡ breaking b r → near ≡ touching b r → least ≡ least_sets near → made ≡ staying ++ joins broken least
+    → IsInOrder sorted → ((k : Items) → is_among sorted k ≡ is_among made k) → kept ≡ filter (λ k. not (is_union_in (staying ++ joins broken least) k)) sorted
+    → base (spanned n b) ≡ b → base (left_by r (spanned n b)) ≡ kept
+base-left n b staying broken near least made sorted kept r a c d l m order same is e =
     let f = spanned n b in
-    let family = spanned-IsUnionFamily n b in
-    ap (λ x. spanned n (spanning_after x r)) (sym e)
-    ∙ spanned-is n (left_by r f) (spanning_after (base f) r) (IsInOrder-filter (λ k. not (breaks k r)) f (spanned-in_order n b)) (left-IsUnionFamily n f r family) (after-part n f r family)
+    let all : made ≡ spanning_after b r = m ∙ ap₂ (λ x y. x ++ y) a (ap₂ joins c (l ∙ ap least_sets d)) in
+    base-told (left_by r f) (spanning_after (base f) r) sorted (IsInOrder-filter (λ k. not (breaks k r)) f (spanned-in_order n b))
+    (λ k c. after_yes-part f r (spanned-IsUnionFamily n b).holds_unions k (spanning-part (base f) r k c))
     (λ k c. interior-through (after_yes (base f) r) (spanning_after (base f) r) k (spanning-spans (base f) r) (after_yes-whole f r k c))
+    order (λ k. same k ∙ ap (λ x. is_among x k) (all ∙ ap (λ x. spanning_after x r) (sym e)))
+    ∙ sym (is ∙ needed-same sorted (staying ++ joins broken least) (λ k. same k ∙ ap (λ x. is_among x k) m))
 
-pub spanning_after-on : (n : ℕ) (b : List Items) (r : Query) → base (spanned n b) ≡ b → IsOn n (spanning_after b r)
-spanning_after-on n b r e k c =
+-- it is the base of the sets that it spans
+pub base-left_again : (n : ℕ) (b sets : List Items) (r : Query) → base (left_by r (spanned n b)) ≡ sets → base (spanned n sets) ≡ sets
+base-left_again n b sets r e =
     let f = spanned n b in
-    let family = spanned-IsUnionFamily n b in
-    (left-IsUnionFamily n f r family).small k (after-part n f r family k (ap (λ x. is_among (spanning_after x r) k) e ∙ c))
+    base-again n (left_by r f) sets (IsInOrder-filter (λ k. not (breaks k r)) f (spanned-in_order n b)) (left-IsUnionFamily n f r (spanned-IsUnionFamily n b)) e

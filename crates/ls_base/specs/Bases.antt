@@ -1,14 +1,12 @@
 -- Bases: what contracts see of them, and which base lists of sets give.
-use Rattle.std.specs.Prelude.{ℕ, ◌≡◌, ◌<◌, ◌≤◌, not, nat_lt, if◌then◌else◌, List, ◌++◌, map, filter, length, Option, Result, Ok, Err, ⊤}
-use Rattle.std.specs.List.{list_any, range_with_len}
+use Rattle.std.specs.Prelude.{ℕ, ◌≡◌, ◌<◌, ◌≤◌, nat_lt, if◌then◌else◌, List, map, length, Option, Result, Ok, Err, ⊤}
+use Rattle.std.specs.List.{range_with_len}
 use Rattle.std.specs.Option.{option_map_or}
-use Rattle.ls_set.specs.ItemSet.{Items, empty, full, with, minus, least, IsInOrder}
+use Rattle.ls_set.specs.ItemSet.{Items, empty, full, with, minus, least}
 use Rattle.ls_set.specs.declared.item_set.TheConstants.{PLACES}
-use Rattle.ls_set.specs.declared.query.Query.{Query}
 use Rattle.ls_theory.specs.Families.{unions}
-use Rattle.ls_theory.specs.Queries.{breaks}
 use Rattle.ls_theory.specs.Bases.{base, most_base_sets}
-use Rattle.ls_laws.specs.Spans.{IsPart, Spans, is_proper, needed, spanned, left_by, touches, joins}
+use Rattle.ls_laws.specs.Spans.{spanned}
 use Rattle.ls_base.specs.declared.fault.PastFault.{PastFault}
 use Rattle.ls_base.specs.declared.fault.PastFault.TheVariants as Limit
 use Rattle.ls_base.specs.declared.fault.BaseFault.{BaseFault}
@@ -60,21 +58,3 @@ base_fault (Limit.Memory e) = Memory e
 -- each of the n items alone
 abbrev pub single_sets : ℕ → List Items
 single_sets n = map (with empty) (range_with_len 0 n)
-
--- sets of the list in the order, none the union of others, of which each of the list is a union
-pub record IsReduced (all kept : List Items) : Type 0 where
-  pub in_order : IsInOrder kept
-  pub part : IsPart kept all
-  pub span : Spans kept all
-  pub are_needed : needed kept ≡ kept
-  pub few : length kept ≤ length all
-
--- ---- after a Yes
-
--- the sets within which no other of the list lies
-abbrev pub least_sets : List Items → List Items
-least_sets g = filter (λ k. not (list_any (λ l. is_proper l k) g)) g
-
--- the sets of b that do not break r, and each union of one that breaks it with a least one of those that have an item of its A
-abbrev pub spanning_after : List Items → Query → List Items
-spanning_after b r = left_by r b ++ joins (filter (λ k. breaks k r) b) (least_sets (filter (λ g. touches g r.a) b))

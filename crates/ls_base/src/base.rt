@@ -8,9 +8,9 @@ ghost use Rattle.ls_base.specs.Bases.{family, based, single_sets, IsFaultOf, IsP
 
 use crate::atoms::is_atom_at;
 use crate::fault::{BaseFault, PastFault};
-use crate::reduction::reduced;
-use crate::spanning::spanning_after;
-use crate::within::union_within;
+use crate::reduction::base_of;
+use crate::remaining::base_left;
+use crate::unions::union_within;
 use ls_interior::Inside;
 use ls_set::{ItemSet, PLACES, Query, SetList};
 use std::alloc::{AllocError, Global};
@@ -46,22 +46,21 @@ fn single_sets(alloc: Global, n: u32) -> Result<Vec<ItemSet>, AllocError>
     (0..n).map(|i| ItemSet::empty().with(i)).collect(alloc)
 }
 
-// The base of what the sets span, unless it has too many sets.
-fn base_of(alloc: Global, n: u32, sets: Vec<ItemSet>) -> Result<Base, PastFault>
-    requires few_items { n ≤ PLACES }
-    requires is_on { IsOn n sets.items }
-    ensures sets { IfOk result (λ b. b ≡ record { item_count = n; sets = base (spanned n sets.items) }) }
-    ensures few { OnOk result (length (base (spanned n sets.items)) ≤ MOST_BASE_SETS) }
-    ensures past { IfErr result (IsPastOf (base (spanned n sets.items))) }
-{
-    let sets = reduced(alloc, sets)?;
-    if sets.len() > MOST_BASE_SETS {
-        return Err(PastFault::Past { count: sets.len() });
-    }
-    Ok(Base { n, sets, alloc })
-}
-
 impl Base {
+    // The base with the sets, unless there are too many.
+    fn limited(alloc: Global, n: u32, sets: Vec<ItemSet>) -> Result<Base, PastFault>
+        requires few_items { n ≤ PLACES }
+        requires base { base (spanned n sets.items) ≡ sets.items }
+        ensures ok { IfOk result (λ b. b ≡ record { item_count = n; sets = sets.items }) }
+        ensures few { OnOk result (length sets.items ≤ MOST_BASE_SETS) }
+        ensures past { IfErr result (IsPastOf sets.items) }
+    {
+        if sets.len() > MOST_BASE_SETS {
+            return Err(PastFault::Past { count: sets.len() });
+        }
+        Ok(Base { n, sets, alloc })
+    }
+
     /// The base of the family of all unions of the given sets, which have items below `n` alone. The
     /// error is `NotSpanning` where an item below `n` is in no given set; otherwise `Past`, where the
     /// base has more sets than [`MOST_BASE_SETS`]; or memory ran out.
@@ -77,7 +76,8 @@ impl Base {
             return Err(BaseFault::NotSpanning { item });
         }
         let given = Vec::from_slice(alloc, sets)?;
-        Ok(base_of(alloc, n, given)?)
+        let needed = base_of(alloc, given)?;
+        Ok(Base::limited(alloc, n, needed)?)
     }
 
     /// The base of the family of all sets of the items below `n`: each of the items alone.
@@ -85,7 +85,7 @@ impl Base {
         requires { n ≤ PLACES }
         ensures { IfOk result (λ b. b ≡ record { item_count = n; sets = base (subsets n) }) }
     {
-        let sets = reduced(alloc, single_sets(alloc, n)?)?;
+        let sets = base_of(alloc, single_sets(alloc, n)?)?;
         Ok(Base { n, sets, alloc })
     }
 
@@ -109,8 +109,8 @@ impl Base {
         ensures few { OnOk result (length (base (left_by r.now (family self.now))) ≤ MOST_BASE_SETS) }
         ensures past { IfErr result (IsPastOf (base (left_by r.now (family self.now)))) }
     {
-        let sets = spanning_after(self.alloc, &self.sets, r)?;
-        base_of(self.alloc, self.n, sets)
+        let left = base_left(self.alloc, &self.sets, r)?;
+        Base::limited(self.alloc, self.n, left)
     }
 
     /// The sets, in their order.

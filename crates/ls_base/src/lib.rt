@@ -6,8 +6,8 @@ mod base;
 mod fault;
 mod followed;
 mod reduction;
-mod spanning;
-mod within;
+mod remaining;
+mod unions;
 
 pub use base::{Base, MOST_BASE_SETS};
 pub use fault::{BaseFault, PastFault};

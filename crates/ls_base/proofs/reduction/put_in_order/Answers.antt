@@ -1,8 +1,28 @@
-use Rattle.std.proofs.Common.{rules}
-use Rattle.std.proofs.lemmas.List.Sorted.{answers_always}
-use Rattle.ls_set.specs.ItemSet.{comes_before}
-use Rattle.ls_base.proofs.Orders.{order_of_sets}
+use Rattle.std.proofs.Common.{◌≡◌, IsPermutation, sym, ap, ◌∙◌, subst, arith}
+use Rattle.std.specs.List.{dedup}
+use Rattle.std.proofs.lemmas.List.{with_items_is}
+use Rattle.std.proofs.lemmas.List.Filters.{dedup_is}
+use Rattle.std.proofs.lemmas.List.Sorted.{length_permutation, list_any-IsPermutation}
+use Rattle.ls_set.specs.ItemSet.{is_among, is_same, IsInOrder}
+use Rattle.ls_base.proofs.Orders.{Ascends-sorted, among-dedup, dedup-in_order}
 use Rattle.ls_base.proofs.reduction.put_in_order.Goals as goal
 
-pub returns-clause-sorted : goal.returns-clause-sorted
-returns-clause-sorted c = c.sort_unstable_by.ensures.sorted comes_before order_of_sets (answers_always _ _ _ (λ f a r g h. search rules))
+moved : (c : goal.After-dedup) → IsPermutation c.args.sets.now.items c.sort.new.sets
+moved c = subst (λ l. IsPermutation l c.sort.new.sets) c.deref_mut.ensures.value c.sort.ensures.permutation
+
+-- the sorted sets, each once
+once : (c : goal.After-dedup) → c.dedup.new.self.items ≡ dedup is_same c.sort.new.sets
+unfolding is_same
+once c =
+    dedup_is is_same _ c.dedup.new.self.items c.dedup.ensures.filtered
+    ∙ ap (dedup is_same) (with_items_is c.args.sets.now c.sort.new.sets (omega (arith, length_permutation c.args.sets.now.items c.sort.new.sets (moved c))))
+
+pub returns-clause-in_order : goal.returns-clause-in_order
+returns-clause-in_order c = subst IsInOrder (sym (once c)) (dedup-in_order c.sort.new.sets (Ascends-sorted c.sort.new.sets c.sort.ensures.sorted))
+
+pub returns-clause-same : goal.returns-clause-same
+returns-clause-same c = λ k.
+    ap (λ l. is_among l k) (once c) ∙ among-dedup c.sort.new.sets k ∙ sym (list_any-IsPermutation (is_same k) c.args.sets.now.items c.sort.new.sets (moved c))
+
+pub returns-clause-few : goal.returns-clause-few
+returns-clause-few c = omega (arith, c.dedup.ensures.bound, length_permutation c.args.sets.now.items c.sort.new.sets (moved c))

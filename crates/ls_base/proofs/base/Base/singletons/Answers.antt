@@ -1,19 +1,24 @@
-use Rattle.std.proofs.Common.{List, sym, ap, subst, ◌∙◌}
-use Rattle.ls_set.specs.ItemSet.{Items}
+use Rattle.std.proofs.Common.{◌≡◌, ◌≤◌, List, length, sym, ap, subst, ◌∙◌}
+use Rattle.ls_set.specs.ItemSet.{Items, subsets}
+use Rattle.ls_set.proofs.Order.{subsets_from-in_order}
 use Rattle.ls_theory.specs.Bases.{base}
-use Rattle.ls_base.specs.Bases.{BaseState, IsReduced, single_sets}
-use Rattle.ls_base.proofs.Spanned.{base-reduced, reduced-IsBase, singles-on, spanned-singles, few-singles}
+use Rattle.ls_laws.proofs.Interiors.{subsets-IsUnionFamily}
+use Rattle.ls_base.specs.Bases.{BaseState, single_sets}
+use Rattle.ls_base.proofs.Given.{base-given}
+use Rattle.ls_base.proofs.Spanned.{base-again, singles-on, spanned-singles, few-singles}
 use Rattle.ls_base.proofs.base.Base.singletons.Goals as goal
 
+made : (c : goal.In_ok-sets) → base (subsets c.args.n) ≡ c.in_ok-sets.sets.items
+made c =
+    ap base (sym (spanned-singles c.args.n))
+    ∙ base-given c.args.n (single_sets c.args.n) c.in_ok-single_sets.field-0.items c.in_ok-sets.sets.items c.in_ok-single_sets.ensures (singles-on c.args.n) c.in_ok-sets.ensures.base
+
 pub invariant_of-result : goal.invariant_of-result
-invariant_of-result c =
-    let kept = c.in_ok-sets.sets.items in
-    let r : IsReduced (single_sets c.args.n) kept = subst (λ all. IsReduced all kept) c.in_ok-single_sets.ensures c.in_ok-sets.ensures in
-    reduced-IsBase c.args.n (single_sets c.args.n) kept c.requires (singles-on c.args.n) r (few-singles c.args.n kept c.requires r)
+invariant_of-result c = record {
+  few_items = c.requires;
+  is_base = base-again c.args.n (subsets c.args.n) c.in_ok-sets.sets.items (subsets_from-in_order 0 c.args.n) (subsets-IsUnionFamily c.args.n) (made c);
+  few = few-singles c.args.n (length c.in_ok-sets.sets.items) c.requires (subst (λ (g : List Items). length c.in_ok-sets.sets.items ≤ length g) c.in_ok-single_sets.ensures c.in_ok-sets.ensures.few);
+}
 
 pub returns : goal.returns
-returns c =
-    let kept = c.in_ok-sets.sets.items in
-    let r : IsReduced (single_sets c.args.n) kept = subst (λ all. IsReduced all kept) c.in_ok-single_sets.ensures c.in_ok-sets.ensures in
-    let is = sym (base-reduced c.args.n (single_sets c.args.n) kept (singles-on c.args.n) r) ∙ ap base (spanned-singles c.args.n) in
-    ap (λ (sets : List Items). let b : BaseState = record { item_count = c.args.n; sets = sets } in b) is
+returns c = ap (λ (sets : List Items). let b : BaseState = record { item_count = c.args.n; sets = sets } in b) (sym (made c))
