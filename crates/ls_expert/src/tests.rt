@@ -40,7 +40,10 @@ fn assert_refusals<L: Ledger>(
 ) -> Result<(), Fail> {
     let bad = asked(0, 0);
     assert_eq!(rt; interview.known(&bad, steps), Err(UnfitQuery));
-    assert_eq!(rt; interview.answer(bad, true, steps), Err(AnswerFault::BadQuery));
+    assert_eq!(rt;
+        interview.answer(bad, true, steps),
+        Err(AnswerFault::BadQuery)
+    );
     let repeat = interview.answer(asked(0, 1), false, steps);
     assert_eq!(rt; repeat, Err(AnswerFault::Repeat { number: 1 }));
     let forced_no = interview.answer(asked(1, 2), true, steps);
@@ -64,11 +67,17 @@ fn assert_answers<L: Ledger>(rt: &impl Abort, alloc: Global, blank: Blank) -> Re
     assert_eq!(rt; interview.answer(asked(0, 2), false, &mut steps)?, 2);
     assert_eq!(rt; interview.answer(asked(2, 0), true, &mut steps)?, 3);
     assert_refusals(rt, &mut interview, &mut steps)?;
-    assert_eq!(rt; interview.known(&asked(1, 2), &mut steps), Ok(Known::No { by: 2 }));
+    assert_eq!(rt;
+        interview.known(&asked(1, 2), &mut steps),
+        Ok(Known::No { by: 2 })
+    );
     assert_eq!(rt; interview.next_question(None), Some(asked(1, 0)));
     assert!(rt; !interview.settled());
     interview.retract(2, &mut steps)?;
-    assert_eq!(rt; interview.known(&asked(0, 2), &mut steps), Ok(Known::Unsettled));
+    assert_eq!(rt;
+        interview.known(&asked(0, 2), &mut steps),
+        Ok(Known::Unsettled)
+    );
     interview.set_blocks(2, &mut steps)?;
     assert_eq!(rt; interview.next_number(), 4);
     assert_eq!(rt; interview.standing().len(), 2);
@@ -88,7 +97,11 @@ fn assert_resumed<L: Ledger>(rt: &impl Abort, alloc: Global, blank: Blank) -> Re
     requires one { blank.parts ≡ 1 }
 {
     let mut steps = Steps::<L>::new(blank);
-    let alike = [answered(1, 0, 1, true), answered(3, 1, 2, true), answered(4, 2, 0, true)];
+    let alike = [
+        answered(1, 0, 1, true),
+        answered(3, 1, 2, true),
+        answered(4, 2, 0, true),
+    ];
     let mut resume = |k, next, answers: &[Answer]| {
         Interview::from_standing(alloc, 3, Start::Free, k, next, answers, &mut steps)
     };
@@ -98,8 +111,15 @@ fn assert_resumed<L: Ledger>(rt: &impl Abort, alloc: Global, blank: Blank) -> Re
     assert_eq!(rt; interview.next_number(), 5);
     assert_eq!(rt; resume(0, 5, &alike).err(), Some(StandingFault::BadBlock));
     assert_eq!(rt; resume(1, 4, &alike).err(), Some(StandingFault::BadAnswers));
-    let opposed = [answered(1, 0, 1, true), answered(2, 1, 2, true), answered(3, 0, 2, false)];
-    assert_eq!(rt; resume(1, 4, &opposed).err(), Some(StandingFault::BadAnswers));
+    let opposed = [
+        answered(1, 0, 1, true),
+        answered(2, 1, 2, true),
+        answered(3, 0, 2, false),
+    ];
+    assert_eq!(rt;
+        resume(1, 4, &opposed).err(),
+        Some(StandingFault::BadAnswers)
+    );
     Ok(())
 }
 

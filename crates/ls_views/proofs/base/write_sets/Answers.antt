@@ -11,7 +11,7 @@ use Rattle.ls_views.proofs.base.write_sets.Goals as goal
 
 pub write_set-requires : goal.write_set-requires
 write_set-requires g c = record {
-  within = IsWithin-from c.set-item.result (full (length c.args.domain.now)) (passes-at (λ k. is_within k (full (length c.args.domain.now))) c.args.sets.now c.loop-set.set-index c.set-item.result c.requires c.loop-set-test.true c.set-item.is)
+  within = IsWithin-from c.set-item.result (full (length c.args.domain.now)) (passes-at (λ k. is_within k (full (length c.args.domain.now))) c.args.sets.now c.loop-set.set-index c.set-item.result c.requires c.loop-set-test.true c.set-item.is);
 }
 
 pub loop-set-preserved : goal.loop-set-preserved
