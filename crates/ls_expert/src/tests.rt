@@ -1,5 +1,5 @@
 // Each call of an interview once, over three items.
-ghost use Rattle.std.specs.Prelude.{◌≡◌, ◌<◌, Ok, IfOk};
+ghost use Rattle.std.specs.Prelude.{◌≡◌, ◌<◌};
 
 use crate::{AnswerFault, Interview, RetractFault, StandingFault, Start, UnfitQuery};
 use ls_base::Followed;
