@@ -1,7 +1,7 @@
 -- Examples: whole scripts, byte for byte.
 use Rattle.std.proofs.Common.{◌≡◌, refl, true, false, [], ◌∷◌, codes, decimal, replicate}
 use Rattle.std.specs.Fmt.{digits}
-use Rattle.std.specs.Prelude.{ℕ}
+use Rattle.std.specs.Prelude.{ℕ, map as map_of}
 use Rattle.ls_set.specs.ItemSet.{has, empty, full, with, union, meet, single, differing, is_within, is_same, bound, items, least, comes_before, len}
 use Rattle.ls_set.specs.Cursor.{cursor, cursor_set, read_cursor}
 use Rattle.ls_theory.specs.Compatible.{compat}
@@ -11,8 +11,8 @@ use Rattle.ls_theory.specs.Bases.{base, peak}
 use Rattle.ls_theory.specs.Fitting.{fitting_spaces}
 use Rattle.ls_theory.specs.declared.known.Known.{Known}
 use Rattle.ls_theory.specs.Forced.{known, next_question}
-use Rattle.ls_expert.specs.Answers.{opposed}
-use Rattle.ls_query.specs.Blocks.{is_too_wide, made}
+use Rattle.ls_theory.specs.Answering.{opposed}
+use Rattle.ls_theory.specs.Blocks.{is_too_wide, made}
 use Rattle.ls_lines.specs.Lines.{lines, words}
 use Rattle.ls_lines.specs.Kinds.{is_of}
 use Rattle.ls_lines.specs.Forms.{spelling, parts, command, forms}
@@ -22,15 +22,16 @@ use Rattle.ls_domain.specs.Domains.{names_from}
 use Rattle.ls_reply.specs.Texts.{line_of, bytes_of}
 use Rattle.std.specs.FinMap as map
 use Rattle.ls_reply.specs.Sessions.{started}
-use Rattle.ls_reply.specs.Scenes.{files_of, Missing, TooLarge, Failed}
-use Rattle.ls_reply.specs.Refusals.{refuse}
-use Rattle.ls_reply.specs.Rows.{answer_refusals}
-use Rattle.ls_reply.specs.Replies.{row, line_answer, reply}
+use Rattle.ls_reply.specs.Scenes.{calls_of, Missing, TooLarge, Failed}
+use Rattle.ls_reply.specs.Refusals.{refusal_words}
+use Rattle.ls_reply.specs.Effects.{refuse_fault}
+use Rattle.ls_reply.specs.declared.refusal.Refusal.TheVariants.{Answer}
+use Rattle.ls_reply.specs.Replies.{command_effect, line_effect, reply_of}
 use Rattle.ls_reply.specs.Transcripts.{replies, refuses, transcript, is_some_refused}
 
 -- an example that opens this opens each word
 unfoldable answering : ℕ
-unfolding digits has empty full with union meet single differing is_within is_same bound items least comes_before cursor cursor_set read_cursor compat lines words is_of spelling parts command forms cut is_begun command_of fault_place line_of bytes_of names_of_set names_from row line_answer replies refuses is_too_wide made blocks len families fitting_spaces known next_question queries query_before block_before base peak
+unfolding digits has empty full with union meet single differing is_within is_same bound items least comes_before cursor cursor_set read_cursor compat lines words is_of spelling parts command forms cut is_begun command_of fault_place line_of bytes_of names_of_set names_from command_effect line_effect replies refuses is_too_wide made blocks len families fitting_spaces known next_question queries query_before block_before base peak
 answering = 0
 
 -- three items, the answer that who fails a fails b, and the six states that it leaves
@@ -76,10 +77,10 @@ unfolding answering
 alone = refl
 
 -- what answers force rules the other reply out
-forced : answer_refusals (opposed Known.Yes false) ≡ refuse 20 [] true
+forced : map_of refusal_words (refuse_fault Answer (opposed Known.Yes false)) ≡ (codes "20" ∷ []) ∷ []
 forced = refl
 
-opposed_by : answer_refusals (opposed (Known.No 2) true) ≡ refuse 21 (decimal 2 ∷ []) true
+opposed_by : map_of refusal_words (refuse_fault Answer (opposed (Known.No 2) true)) ≡ (codes "21" ∷ decimal 2 ∷ []) ∷ []
 opposed_by = refl
 
 -- blocks of three items
@@ -101,7 +102,7 @@ unfolding answering
 one_item = refl
 
 -- a line of more bytes than are read
-long : reply (started []) (files_of map.empty false) (replicate 65537 97) ≡ codes "no 10 long 65537\n"
+long : reply_of (line_effect (started []) (calls_of map.empty false) (replicate 65537 97)) ≡ codes "no 10 long 65537\n"
 unfolding answering
 long = refl
 
@@ -120,18 +121,18 @@ unfolding answering
 not_built = refl
 
 -- a file that is missing, is too large, or can't be fetched; and one that isn't looked for
-missing : reply (started []) (λ name. Missing) (codes "load-items none") ≡ codes "no 26\n"
+missing : reply_of (line_effect (started []) (record { file = λ name. Missing; failed = false }) (codes "load-items none")) ≡ codes "no 26\n"
 unfolding answering
 missing = refl
 
-too_large : reply (started []) (λ name. TooLarge 16777217) (codes "load-items i") ≡ codes "no 28 16777217\n"
+too_large : reply_of (line_effect (started []) (record { file = λ name. TooLarge 16777217; failed = false }) (codes "load-items i")) ≡ codes "no 28 16777217\n"
 unfolding answering
 too_large = refl
 
-failed : reply (started []) (λ name. Failed) (codes "load-items i") ≡ codes "no 27\n"
+failed : reply_of (line_effect (started []) (record { file = λ name. Failed; failed = true }) (codes "load-items i")) ≡ codes "no 27\n"
 unfolding answering
 failed = refl
 
-standing : reply (started (codes "a" ∷ [])) (λ name. Failed) (codes "load-items i") ≡ codes "no 11\n"
+standing : reply_of (line_effect (started (codes "a" ∷ [])) (record { file = λ name. Failed; failed = true }) (codes "load-items i")) ≡ codes "no 11\n"
 unfolding answering
 standing = refl

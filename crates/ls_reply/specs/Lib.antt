@@ -3,7 +3,8 @@ pub mod Sessions
 pub mod Scenes
 pub mod Meanings
 pub mod Refusals
-pub mod Cursors
+pub mod Lines
+pub mod Effects
 pub mod Rows
 pub mod Replies
 pub mod Transcripts

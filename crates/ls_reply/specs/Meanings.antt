@@ -1,9 +1,17 @@
--- The words of a command that must name an item, where a list of names gives the items.
-use Rattle.std.specs.Prelude.{ℕ, suc, ◌+◌, not, List, [], ◌∷◌, ◌++◌, map, filter, length}
+-- What a command's words mean, where a list of names gives the items.
+use Rattle.std.specs.Prelude.{ℕ, suc, ◌+◌, true, false, not, List, [], ◌∷◌, ◌++◌, map, filter, length, Option, Some, None, Result, Ok, Err}
+use Rattle.ls_set.specs.ItemSet.{Items}
+use Rattle.ls_set.specs.Cursor.{read_cursor}
+use Rattle.ls_set.specs.declared.cursor.CursorFault.{CursorFault}
+use Rattle.ls_set.specs.declared.query.Query.{Query}
 use Rattle.ls_lines.specs.Lines.{Text}
-use Rattle.ls_domain.specs.Meanings.{is_named}
 use Rattle.ls_lines.specs.declared.command.Command.{Command}
 use Rattle.ls_lines.specs.declared.command.Command.TheVariants as command
+use Rattle.ls_domain.specs.Meanings.{is_named, item_of, items_of}
+use Rattle.ls_reply.specs.declared.request.Request.{Request}
+use Rattle.ls_reply.specs.declared.request.Request.TheVariants.{View, Edit}
+use Rattle.ls_reply.specs.declared.request.View.TheVariants as view
+use Rattle.ls_reply.specs.declared.request.Edit.TheVariants as edit
 
 -- words with their places, counted from p on
 abbrev pub placed : ℕ → List Text → List (ℕ × Text)
@@ -21,6 +29,35 @@ item_words (command.No names item) = query_words names item
 item_words (command.Known names item) = query_words names item
 item_words c = []
 
--- the places of those that don't
+-- the places of those of some words that don't
+abbrev pub unnamed : List Text → List (ℕ × Text) → List ℕ
+unnamed names ws = map (λ w. w.0) (filter (λ w. not (is_named names w.1)) ws)
+
+-- the places of those of a command
 abbrev pub unnamed_places : List Text → Command → List ℕ
-unnamed_places names c = map (λ w. w.0) (filter (λ w. not (is_named names w.1)) (item_words c))
+unnamed_places names c = unnamed names (item_words c)
+
+-- the query of a command's words
+abbrev pub query_of : List Text → List Text → Text → Query
+query_of names ws w = record { a = items_of names ws; q = item_of names w }
+
+abbrev pub some_read : Result Items CursorFault → Result (Option Items) CursorFault
+some_read (Ok k) = Ok (Some k)
+some_read (Err fault) = Err fault
+
+-- the set of the cursor after which a page begins, where there is one
+abbrev pub after_of : ℕ → Option Text → Result (Option Items) CursorFault
+after_of n None = Ok None
+after_of n (Some w) = some_read (read_cursor n w)
+
+-- what a command asks of an interview on the named items; nothing, where it is another kind of command
+abbrev pub request_of : List Text → Command → Option Request
+request_of names (command.Blocks size) = Some (Edit (edit.Blocks size))
+request_of names (command.Yes ws w) = Some (Edit (edit.Answer (query_of names ws w) true))
+request_of names (command.No ws w) = Some (Edit (edit.Answer (query_of names ws w) false))
+request_of names (command.Retract number) = Some (Edit (edit.Retract number))
+request_of names (command.Known ws w) = Some (View (view.Known (query_of names ws w)))
+request_of names command.Ask = Some (View view.Ask)
+request_of names (command.States count after) = Some (View (view.States count (after_of (length names) after)))
+request_of names command.Base = Some (View view.Base)
+request_of names c = None

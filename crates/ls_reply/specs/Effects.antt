@@ -1,0 +1,51 @@
+-- What a command does. Its refusals stand in their order; a list of refusals has those that hold.
+use Rattle.std.specs.Prelude.{ℕ, Bool, if◌then◌else◌, List, [], ◌∷◌, Option, Some, None}
+use Rattle.ls_theory.specs.Interviews.{Interview}
+use Rattle.ls_lines.specs.Lines.{Text}
+use Rattle.ls_reply.specs.Sessions.{Session}
+use Rattle.ls_reply.specs.declared.refusal.Refusal.{Refusal}
+use Rattle.ls_reply.specs.declared.response.Response.{Response}
+use Rattle.ls_reply.specs.declared.response.Response.TheVariants.{Refused}
+
+-- a refusal, where it holds
+abbrev pub refuse : Refusal → Bool → List Refusal
+refuse refusal holds = if holds then refusal ∷ [] else []
+
+-- that of a fault, if there is one
+abbrev pub refuse_fault : {F : Type 0} → (F → Refusal) → Option F → List Refusal
+refuse_fault refusal None = []
+refuse_fault refusal (Some fault) = refusal fault ∷ []
+
+-- the first refusal, or else the response
+infix 3 ◌otherwise◌
+abbrev pub ◌otherwise◌ : List Refusal → Response → Response
+[] otherwise response = response
+(refusal ∷ refusals) otherwise response = Refused refusal
+
+-- a response, and what a part of the session becomes
+pub record Change (A : Type 0) : Type 0 where
+  pub response : Response
+  pub next : A
+
+-- The part is as it was where there is a refusal, of which the first is told; or else it becomes another, with this response.
+abbrev pub changed : {A : Type 0} → A → List Refusal → Response → A → Change A
+changed old [] response next = record { response = response; next = next }
+changed old (refusal ∷ refusals) response next = record { response = Refused refusal; next = old }
+
+-- what a line does: its response, the session after it, and the file that it stores, with its bytes, if it stores one
+pub record Effect : Type 0 where
+  pub response : Response
+  pub session : Session
+  pub stored : Option (Text × List ℕ)
+
+-- nothing changes
+abbrev pub answers : Session → Response → Effect
+answers s response = record { response = response; session = s; stored = None }
+
+-- the session becomes another
+abbrev pub changes : Change Session → Effect
+changes c = record { response = c.response; session = c.next; stored = None }
+
+-- its interview becomes another
+abbrev pub changes_interview : Session → Change Interview → Effect
+changes_interview s c = record { response = c.response; session = record s { interview = c.next }; stored = None }

@@ -1,0 +1,52 @@
+-- The lines of a reply, line by line and word by word.
+use Rattle.std.specs.Prelude.{if◌then◌else◌, List, [], ◌∷◌, ◌++◌, map, length, Option, Some, None, codes, decimal}
+use Rattle.ls_set.specs.ItemSet.{Items, comes_before}
+use Rattle.ls_set.specs.Cursor.{cursor}
+use Rattle.ls_set.specs.declared.query.Query.{Query}
+use Rattle.ls_theory.specs.declared.known.Known.{Known}
+use Rattle.ls_theory.specs.Bases.{base}
+use Rattle.ls_theory.specs.Pages.{Page, page}
+use Rattle.ls_lines.specs.Lines.{Text}
+use Rattle.ls_domain.specs.Texts.{name_of, joined_names, set_text}
+use Rattle.ls_reply.specs.Sessions.{Session, states}
+use Rattle.ls_reply.specs.Refusals.{refusal_words}
+use Rattle.ls_reply.specs.declared.response.Response.{Response}
+use Rattle.ls_reply.specs.declared.response.Response.TheVariants.{Silence, Refused, Done, Shown}
+use Rattle.ls_reply.specs.declared.response.Shown.{Shown as Showing}
+use Rattle.ls_reply.specs.declared.response.Shown.TheVariants as shown
+
+-- what is known of a query
+abbrev pub known_words : Known → List Text
+known_words Known.Yes = codes "known" ∷ codes "yes" ∷ []
+known_words (Known.No by) = codes "known" ∷ codes "no" ∷ decimal by ∷ []
+known_words Known.Unsettled = codes "known" ∷ codes "open" ∷ []
+
+-- the next question
+abbrev pub question_words : List Text → Option Query → List Text
+question_words names None = codes "settled" ∷ []
+question_words names (Some r) = codes "ask" ∷ joined_names names r.a ∷ codes ":" ∷ name_of names r.q ∷ []
+
+-- a set: its cursor and its names
+abbrev pub set_words : List Text → Items → List Text
+set_words names k = codes "set" ∷ cursor (length names) k ∷ set_text names k ∷ []
+
+-- the sets of a base, and how many they are
+abbrev pub base_lines : List Text → List Items → List (List Text)
+base_lines names sets = map (set_words names) sets ++ (codes "base" ∷ decimal (length sets) ∷ []) ∷ []
+
+-- the sets of a page, and whether a further one follows
+abbrev pub page_lines : List Text → Page Items → List (List Text)
+page_lines names p = map (set_words names) p.members ++ (codes "more" ∷ (if p.more then codes "yes" else codes "no") ∷ []) ∷ []
+
+-- what is shown of an interview on named items
+abbrev pub shown_lines : Session → Showing → List (List Text)
+shown_lines s (shown.Known known) = known_words known ∷ []
+shown_lines s (shown.Question next) = question_words s.names next ∷ []
+shown_lines s (shown.States count after) = page_lines s.names (page comes_before (states s) after count)
+shown_lines s shown.Base = base_lines s.names (base (states s))
+
+abbrev pub lines_of : Session → Response → List (List Text)
+lines_of s Silence = []
+lines_of s (Refused refusal) = (codes "no" ∷ refusal_words refusal) ∷ []
+lines_of s (Done number) = (codes "ok" ∷ decimal number ∷ []) ∷ []
+lines_of s (Shown what) = shown_lines s what

@@ -1,0 +1,37 @@
+// Refusals.
+use ls_domain::DomainFault;
+use ls_set::CursorFault;
+use ls_theory::{AnswerFault, BlockFault};
+
+/// Why a line is refused.
+#[derive(Clone, Copy, Debug)]
+pub enum Refusal {
+    /// The line is no command: no command begins with its words up to this place, counted from 1.
+    NoCommand { place: u32 },
+    /// The line has so many bytes, more than a line that is read.
+    LongLine { bytes: u64 },
+    /// A domain stands already.
+    DomainStands,
+    /// The names are no domain.
+    Domain(DomainFault),
+    /// The word at this place must name an item and doesn't; at place 0, no domain stands.
+    Unnamed { place: usize },
+    /// The blocks can't be made.
+    Block(BlockFault),
+    /// The answer can't be taken, or the query can't be asked.
+    Answer(AnswerFault),
+    /// No standing answer has the number.
+    NotStanding,
+    /// The text is no cursor.
+    Cursor(CursorFault),
+    /// The base had too many sets under the first `position` Yes answers, and `count` then.
+    Past { position: usize, count: usize },
+    /// The folder lacks the file.
+    NoFile,
+    /// A call on the folder failed.
+    FileFailed,
+    /// The file has so many bytes, more than a file that is read.
+    LargeFile { bytes: u64 },
+    /// The command isn't built yet.
+    NotBuilt,
+}

@@ -1,0 +1,36 @@
+// Commands whose names are resolved.
+use ls_set::{CursorFault, ItemSet, Query};
+
+/// What a command asks of a domain's interview, in the items' numbers.
+#[derive(Clone, Copy, Debug)]
+pub enum Request {
+    View(View),
+    Edit(Edit),
+}
+
+/// What is asked of an interview that stays as it is.
+#[derive(Clone, Copy, Debug)]
+pub enum View {
+    /// What the answers tell of a query.
+    Known { query: Query },
+    /// The next question.
+    Ask,
+    /// At most `count` states: those after a set, or the first ones; or why the cursor's text is none.
+    States {
+        count: u32,
+        after: Result<Option<ItemSet>, CursorFault>,
+    },
+    /// The base of the states.
+    Base,
+}
+
+/// How an interview is to change.
+#[derive(Clone, Copy, Debug)]
+pub enum Edit {
+    /// Questions are asked of sets of 1 to `size` items.
+    Blocks { size: u32 },
+    /// The expert answers a query.
+    Answer { query: Query, yes: bool },
+    /// The answer with the number is taken back.
+    Retract { number: u64 },
+}
