@@ -1,0 +1,6 @@
+//! A domain with the interview on its items, and the commands that ask something of it.
+#![tactic(auto)]
+
+mod course;
+
+pub use course::Course;
