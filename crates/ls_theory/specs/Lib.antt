@@ -7,6 +7,8 @@ pub mod Compatible
 pub mod Fitting
 pub mod Pages
 pub mod Forced
+pub mod Blocks
+pub mod Answering
 pub mod Bases
 pub mod Verdict
 pub mod Fringes

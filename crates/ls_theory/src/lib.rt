@@ -2,7 +2,9 @@
 #![tactic(auto)]
 
 mod answer;
+mod answer_fault;
 mod asked;
+mod block_fault;
 mod fringe_pair;
 mod known;
 mod listed_interview;
@@ -20,7 +22,9 @@ mod reply;
 mod verdict;
 
 pub use answer::Answer;
+pub use answer_fault::AnswerFault;
 pub use asked::Asked;
+pub use block_fault::BlockFault;
 pub use fringe_pair::FringePair;
 pub use known::Known;
 pub use listed_interview::ListedInterview;

@@ -27,7 +27,7 @@ pub enum AnswerFault {
 
 impl From<AllocError> for AnswerFault {
     ghost use Rattle.std.specs.Prelude.{◌≡◌};
-    ghost use Rattle.ls_expert.specs.declared.answer_fault.AnswerFault.TheVariants.{Memory};
+    ghost use Rattle.ls_theory.specs.declared.answer_fault.AnswerFault.TheVariants.{Memory};
 
     ghost from_gives = { λ e f. f ≡ Memory e };
 
