@@ -10,11 +10,12 @@ use Rattle.ls_theory.specs.Families.{is_space}
 use Rattle.ls_theory.specs.Compatible.{compat}
 use Rattle.ls_theory.specs.Interviews.{Interview, begun, yes_queries, nos}
 use Rattle.ls_theory.specs.declared.answer.Answer.{Answer}
+use Rattle.ls_theory.specs.Blocks.{BlockRange, made, most_sets}
+use Rattle.ls_theory.specs.Answering.{is_same_query}
 use Rattle.ls_laws.proofs.Compat.{compat-space}
 use Rattle.ls_laws.proofs.Accepting.{begun-sound}
 use Rattle.ls_laws.proofs.Numbered.{begun-numbered}
-use Rattle.ls_query.specs.Blocks.{BlockRange, choose, made}
-use Rattle.ls_query.specs.declared.block_fault.TheConstants.{MOST_SETS}
+use Rattle.ls_query.specs.Blocks.{choose}
 use Rattle.ls_query.proofs.Made.{made_of}
 use Rattle.ls_query.proofs.Binomials.{choose-none, choose-more, choose-zero_more}
 use Rattle.ls_query.proofs.BySize.{length-blocks_more, length-blocks_none}
@@ -25,7 +26,6 @@ use Rattle.ls_base.specs.declared.followed.Followed.{Followed}
 use Rattle.ls_expert.specs.declared.start.Start.{Start}
 use Rattle.ls_expert.specs.declared.start.Start.TheVariants.{Free}
 use Rattle.ls_expert.specs.Starts.{start_of}
-use Rattle.ls_expert.specs.Answers.{is_same_query}
 use Rattle.ls_expert.specs.Held.{blocks_of, closures_of, IsHeld}
 
 -- ---- blocks of single items
@@ -38,7 +38,7 @@ choose-one (suc n) = choose-more n 0 ∙ omega (arith, choose-none n, choose-one
 pub made-one : (n : ℕ) → 0 < n → n ≤ PLACES → made n 1 ≡ Ok (record { item_count = n; largest = 1 })
 made-one n some few =
     let sets : length (blocks n 1) ≡ length (blocks n 0) + choose n 1 = length-blocks_more n 0 in
-    let many : length (blocks n 1) ≤ MOST_SETS = omega (arith, sets, length-blocks_none n, choose-one n) in
+    let many : length (blocks n 1) ≤ most_sets = omega (arith, sets, length-blocks_none n, choose-one n) in
     made-ok n 1 (λ e. cc) (omega arith) (none_too_wide n 1 many)
 
 -- the blocks that are made are those that are asked for

@@ -15,14 +15,15 @@ use Rattle.ls_theory.specs.Queries.{blocks, breaks, breaks_none}
 use Rattle.ls_theory.specs.Families.{closure}
 use Rattle.ls_theory.specs.Starts.{meets}
 use Rattle.ls_theory.specs.Compatible.{is_compatible, compat, compatible_sets}
+use Rattle.ls_theory.specs.Blocks.{BlockRange}
+use Rattle.ls_theory.specs.Answering.{answer_with, is_same_query}
 use Rattle.ls_laws.specs.Spans.{left_by}
 use Rattle.ls_laws.proofs.Lists.{filter-both, filter-same}
 use Rattle.ls_laws.proofs.Accepting.{taken_out}
-use Rattle.ls_query.specs.Blocks.{BlockRange}
 use Rattle.ls_infer.specs.Tables.{TableState, standing, table_of}
 use Rattle.ls_base.specs.Followed.{IsFollowed}
 use Rattle.ls_base.specs.declared.followed.Followed.{Followed}
-use Rattle.ls_expert.specs.Answers.{answer_with, is_same_query, closures_over}
+use Rattle.ls_expert.specs.Steps.{closures_over}
 use Rattle.ls_expert.specs.Held.{blocks_of, closures_of, IsHeld}
 use Rattle.ls_expert.proofs.Ruling.{all-fewer, all-told}
 use Rattle.ls_laws.proofs.Numbered.{IsRising, rising-from, retracted-numbered}

@@ -18,6 +18,7 @@ use Rattle.ls_theory.specs.Forced.{is_open, next_question, is_settled}
 use Rattle.ls_theory.specs.Pages.{comes_after}
 use Rattle.ls_theory.specs.Families.{interior}
 use Rattle.ls_theory.specs.Bases.{base}
+use Rattle.ls_theory.specs.Blocks.{BlockRange}
 use Rattle.ls_laws.proofs.Lists.{filter-both, filter-same}
 use Rattle.ls_laws.proofs.Interiors.{interior-member}
 use Rattle.ls_laws.proofs.Breaks.{good-to}
@@ -25,7 +26,6 @@ use Rattle.ls_laws.proofs.Compat.{among-compat}
 use Rattle.ls_laws.proofs.Answering.{no_question}
 use Rattle.ls_query.proofs.Sorted.{IsIn, filter-in}
 use Rattle.ls_query.proofs.QuerySets.{queries-in}
-use Rattle.ls_query.specs.Blocks.{BlockRange}
 use Rattle.ls_infer.specs.Tables.{TableState, table_of}
 use Rattle.ls_base.specs.Followed.{IsFollowed}
 use Rattle.ls_base.specs.declared.followed.Followed.{Followed}

@@ -20,6 +20,9 @@ use Rattle.ls_theory.specs.Queries.{breaks_none, some_breaks}
 use Rattle.ls_theory.specs.Families.{interior, is_space}
 use Rattle.ls_theory.specs.Interviews.{Interview, yes_queries, no_queries}
 use Rattle.ls_theory.specs.Compatible.{compat, compatible_sets}
+use Rattle.ls_theory.specs.Blocks.{BlockRange, made}
+use Rattle.ls_theory.specs.declared.block_fault.BlockFault.{BlockFault}
+use Rattle.ls_theory.specs.Answering.{is_same_query}
 use Rattle.ls_laws.specs.Spans.{IsOn}
 use Rattle.ls_laws.specs.Forced.{IsSound}
 use Rattle.ls_laws.proofs.Closures.{has-closure}
@@ -28,11 +31,8 @@ use Rattle.ls_laws.proofs.Compat.{compat-IsUnionFamily, compat-in_order, start-s
 use Rattle.ls_laws.proofs.Numbered.{IsRising, rising-from}
 use Rattle.ls_laws.proofs.Search.{fitting_some, All-list_all, list_all-All}
 use Rattle.ls_laws.proofs.Answering.{compatible_fit}
-use Rattle.ls_query.specs.Blocks.{BlockRange, made}
-use Rattle.ls_query.specs.declared.block_fault.BlockFault.{BlockFault}
 use Rattle.ls_expert.specs.declared.start.Start.{Start}
 use Rattle.ls_expert.specs.Starts.{StartOn, start_of}
-use Rattle.ls_expert.specs.Answers.{is_same_query}
 use Rattle.ls_expert.proofs.Ruling.{ruled-compat, all-told}
 use Rattle.ls_expert.proofs.Holding.{start-whole, range-of}
 

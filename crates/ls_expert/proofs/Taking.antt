@@ -16,24 +16,23 @@ use Rattle.ls_theory.specs.Interviews.{Interview, accepted, yes_queries, nos}
 use Rattle.ls_theory.specs.Compatible.{compat, compatible_sets}
 use Rattle.ls_theory.specs.Fitting.{spaces_of}
 use Rattle.ls_theory.specs.Forced.{known, is_forced_yes, is_forced_no}
+use Rattle.ls_theory.specs.Blocks.{BlockRange}
+use Rattle.ls_theory.specs.Starts.{Start}
+use Rattle.ls_theory.specs.Answering.{most_answers, most_number, is_same_query, standing_number, is_full, opposed, first_fault, refusal}
+use Rattle.ls_theory.specs.declared.answer_fault.AnswerFault.{AnswerFault}
+use Rattle.ls_theory.specs.declared.answer_fault.AnswerFault.TheVariants.{BadQuery, Repeat, Full}
 use Rattle.ls_laws.specs.Spans.{left_by}
 use Rattle.ls_laws.specs.Forced.{SomeFits, IsSound}
 use Rattle.ls_laws.proofs.Accepting.{yes_added, no_added, compatible-yes, compatible-no}
 use Rattle.ls_laws.specs.Families.{IsFamily}
 use Rattle.ls_laws.proofs.Families.{compat-IsFamily}
 use Rattle.ls_laws.proofs.Compat.{compat-more}
-use Rattle.ls_query.specs.Blocks.{BlockRange}
 use Rattle.ls_laws.proofs.Answering.{not_both}
 use Rattle.ls_laws.proofs.Numbered.{accepted-numbered}
 use Rattle.ls_infer.specs.Tables.{TableState, table_of}
-use Rattle.ls_theory.specs.Starts.{Start}
 use Rattle.ls_base.specs.Followed.{IsFollowed, IsAskable}
 use Rattle.ls_base.specs.declared.followed.Followed.{Followed}
 use Rattle.ls_base.specs.declared.followed.Followed.TheVariants.{Within, Past}
-use Rattle.ls_expert.specs.declared.interview.TheConstants.{MOST_ANSWERS, MOST_NUMBER}
-use Rattle.ls_expert.specs.declared.answer_fault.AnswerFault.{AnswerFault}
-use Rattle.ls_expert.specs.declared.answer_fault.AnswerFault.TheVariants.{BadQuery, Repeat, Full}
-use Rattle.ls_expert.specs.Answers.{is_same_query, standing_number, is_full, opposed, first_fault, refusal}
 use Rattle.ls_expert.specs.Held.{blocks_of, closures_of, IsHeld}
 
 -- ---- what a refusal that isn't found tells
@@ -149,7 +148,7 @@ distinct-last (x ∷ answers) a d e =
     (other_queries answers x.query a d.0 parts.0, distinct-last answers a d.1 parts.1)
 
 -- there is room for one more answer and its number
-room_left : (i : Interview) → is_full i ≡ false → (length i.answers < MOST_ANSWERS) × (i.next ≤ MOST_NUMBER)
+room_left : (i : Interview) → is_full i ≡ false → (length i.answers < most_answers) × (i.next ≤ most_number)
 room_left i e = grind (arith, nat_tests)
 
 -- an answer is taken

@@ -7,14 +7,13 @@ use Rattle.ls_set.specs.Query.{is_good}
 use Rattle.ls_theory.specs.declared.answer.Answer.{Answer}
 use Rattle.ls_theory.specs.Interviews.{Interview, yes_queries, nos}
 use Rattle.ls_theory.specs.Compatible.{compatible_sets}
+use Rattle.ls_theory.specs.Blocks.{BlockRange}
+use Rattle.ls_theory.specs.Answering.{most_answers, most_number, is_same_query}
 use Rattle.ls_laws.specs.Forced.{IsSound, IsNumbered}
-use Rattle.ls_query.specs.Blocks.{BlockRange}
 use Rattle.ls_infer.specs.Tables.{TableState, table_of}
 use Rattle.ls_base.specs.Followed.{IsFollowed}
 use Rattle.ls_base.specs.declared.followed.Followed.{Followed}
-use Rattle.ls_expert.specs.declared.interview.TheConstants.{MOST_ANSWERS, MOST_NUMBER}
 use Rattle.ls_expert.specs.Starts.{StartOn}
-use Rattle.ls_expert.specs.Answers.{is_same_query}
 
 -- the interview that the parts make
 abbrev pub interview_of : StartOn → ℕ → List Answer → ℕ → Interview
@@ -35,9 +34,9 @@ pub record IsStanding (i : Interview) : Type 0 where
   pub good : list_all (λ a. is_good i.count a.query) i.answers ≡ true
   pub distinct : IsDistinct is_same_query (map (λ a. a.query) i.answers)
   pub numbered : IsNumbered i
-  pub few_answers : length i.answers ≤ MOST_ANSWERS
+  pub few_answers : length i.answers ≤ most_answers
   pub some_number : 0 < i.next
-  pub numbers_left : i.next ≤ MOST_NUMBER + 1
+  pub numbers_left : i.next ≤ most_number + 1
 
 -- The answers stand, the rules are the Yes answers, the table is that of what stands, and the base is followed over the Yes answers.
 pub record IsHeld (i : Interview) (rules : List Query) (table : TableState) (followed : Followed) : Type 0 where

@@ -1,4 +1,4 @@
 pub mod Starts
-pub mod Answers
+pub mod Steps
 pub mod Held
 pub mod Saved

@@ -1,9 +1,9 @@
 -- Why an interview does not go on from answers.
 use Rattle.std.specs.Prelude.{◌≡◌, Ok, Err}
 use Rattle.ls_theory.specs.Interviews.{Interview}
-use Rattle.ls_query.specs.Blocks.{made}
-use Rattle.ls_query.specs.declared.block_fault.BlockFault.{BlockFault}
-use Rattle.ls_query.specs.declared.block_fault.BlockFault.TheVariants as block
+use Rattle.ls_theory.specs.Blocks.{made}
+use Rattle.ls_theory.specs.declared.block_fault.BlockFault.{BlockFault}
+use Rattle.ls_theory.specs.declared.block_fault.BlockFault.TheVariants as block
 use Rattle.ls_expert.specs.declared.standing_fault.StandingFault.{StandingFault}
 use Rattle.ls_expert.specs.declared.standing_fault.StandingFault.TheVariants.{BadBlock, TooWide, BadAnswers, Memory}
 use Rattle.ls_expert.specs.Held.{blocks_of, IsStanding}

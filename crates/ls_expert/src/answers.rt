@@ -1,12 +1,11 @@
 // Lists of answers.
 ghost use Rattle.std.specs.Prelude.{◌≡◌, ◌+◌, ◌<◌, ◌≤◌, ◌++◌, ◌∷◌, [], ◌&&◌, ◌==◌, not, nat_lt, filter, find, count_by, vec_len, vec_capacity, IfOk, IfSome};
 ghost use Rattle.ls_theory.specs.Interviews.{nos, yes_queries};
-ghost use Rattle.ls_expert.specs.Answers.{opposed};
+ghost use Rattle.ls_theory.specs.Answering.{opposed};
 
-use crate::answer_fault::AnswerFault;
 use crate::interview::MOST_NUMBER;
 use ls_set::Query;
-use ls_theory::{Answer, Known, No};
+use ls_theory::{Answer, AnswerFault, Known, No};
 use std::alloc::{AllocError, Global};
 
 /// The answers that are No.

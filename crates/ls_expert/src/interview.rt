@@ -8,28 +8,28 @@ ghost use Rattle.ls_theory.specs.Interviews.{begun, accepted, retracted, yes_que
 ghost use Rattle.ls_theory.specs.Compatible.{compat, compatible_sets};
 ghost use Rattle.ls_theory.specs.Fitting.{spaces_of};
 ghost use Rattle.ls_theory.specs.Forced.{known, next_question, is_settled};
-ghost use Rattle.ls_query.specs.Blocks.{made};
-ghost use Rattle.ls_query.specs.declared.block_fault.BlockFault.TheVariants as block;
+ghost use Rattle.ls_theory.specs.Blocks.{made, IsBlockFault};
+ghost use Rattle.ls_theory.specs.declared.block_fault.BlockFault.TheVariants as block;
+ghost use Rattle.ls_theory.specs.Answering.{refusal, standing_number, answer_with, opposed, is_full, IsFaultOf};
 ghost use Rattle.ls_infer.specs.Tables.{table_of};
 ghost use Rattle.ls_base.specs.Followed.{IsFollowed};
 ghost use Rattle.ls_expert.specs.Held.{blocks_of, IsStanding};
-ghost use Rattle.ls_expert.specs.Answers.{refusal, standing_number, answer_with, steps_back, opposed, is_full, IsFaultOf, IsBlockFault, most_steps};
+ghost use Rattle.ls_expert.specs.Steps.{steps_back, most_steps};
 
 mod resumed;
 
-use crate::answer_fault::AnswerFault;
 use crate::answers::{answer_with, nos, opposed, put_last, rules_before, take_out, yes_others};
+use crate::bad_query::BadQuery;
 use crate::on_items::OnItems;
 use crate::retract_fault::RetractFault;
 use crate::start::Start;
-use crate::unfit_query::UnfitQuery;
 use ls_base::Followed;
 use ls_infer::Table;
 use ls_interior::{Counted, Inside, Steps};
 use ls_query::{BlockFault, Blocks};
 use ls_rules::Ruled;
 use ls_set::{PLACES, Query};
-use ls_theory::{Answer, Known, No};
+use ls_theory::{Answer, AnswerFault, Known, No};
 use std::alloc::{AllocError, Global};
 use std::marker::Model;
 use std::sync::ledger::Ledger;
@@ -302,14 +302,14 @@ impl Interview {
     }
 
     /// What the standing answers tell of the query, in at most one interior and without memory.
-    pub fn known<L: Ledger>(&self, q: &Query, steps: &mut Steps<L>) -> Result<Known, UnfitQuery>
+    pub fn known<L: Ledger>(&self, q: &Query, steps: &mut Steps<L>) -> Result<Known, BadQuery>
         ensures value { IfOk result (λ k. k ≡ known self.now q.now) }
         ensures good { OnOk result (is_good self.now.count q.now ≡ true) }
         ensures bad { OnErr result (is_good self.now.count q.now ≡ false) }
         ensures cost { steps.new ≤ steps.old + 1 }
     {
         if !q.is_good(self.family.items()) {
-            return Err(UnfitQuery);
+            return Err(BadQuery);
         }
         Ok(self.table.answer_of(&Counted::new(&self.family), q, steps))
     }

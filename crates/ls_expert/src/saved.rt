@@ -7,8 +7,8 @@ ghost use Rattle.ls_set.specs.Query.{is_good};
 ghost use Rattle.ls_theory.specs.Starts.{Start};
 ghost use Rattle.ls_theory.specs.Queries.{some_breaks};
 ghost use Rattle.ls_theory.specs.Interviews.{no_queries};
+ghost use Rattle.ls_theory.specs.Answering.{is_same_query};
 ghost use Rattle.ls_laws.specs.Forced.{IsSound};
-ghost use Rattle.ls_expert.specs.Answers.{is_same_query};
 ghost use Rattle.ls_expert.specs.Held.{interview_of, IsStanding};
 
 use crate::interview::{MOST_ANSWERS, MOST_NUMBER};

@@ -1,7 +1,7 @@
 // Each call of an interview once, over three items.
 ghost use Rattle.std.specs.Prelude.{◌≡◌, ◌<◌};
 
-use crate::{AnswerFault, Interview, RetractFault, StandingFault, Start, UnfitQuery};
+use crate::{AnswerFault, BadQuery, Interview, RetractFault, StandingFault, Start};
 use ls_base::Followed;
 use ls_interior::Steps;
 use ls_query::BlockFault;
@@ -39,7 +39,7 @@ fn assert_refusals<L: Ledger>(
     steps: &mut Steps<L>,
 ) -> Result<(), Fail> {
     let bad = asked(0, 0);
-    assert_eq!(rt; interview.known(&bad, steps), Err(UnfitQuery));
+    assert_eq!(rt; interview.known(&bad, steps), Err(BadQuery));
     assert_eq!(rt;
         interview.answer(bad, true, steps),
         Err(AnswerFault::BadQuery)

@@ -12,10 +12,11 @@ use Rattle.ls_theory.specs.Compatible.{compatible_sets}
 use Rattle.ls_theory.specs.Fitting.{spaces_of}
 use Rattle.ls_theory.specs.Forced.{is_open, next_question}
 use Rattle.ls_theory.specs.Pages.{comes_after}
+use Rattle.ls_theory.specs.Blocks.{BlockRange}
 use Rattle.ls_laws.specs.Forced.{IsSound, is_forced_by_closures}
 use Rattle.ls_laws.proofs.Breaks.{good-to}
 use Rattle.ls_laws.proofs.Answering.{forced_yes_is, forced_no_by}
-use Rattle.ls_query.specs.Blocks.{BlockRange, queries_of}
+use Rattle.ls_query.specs.Blocks.{queries_of}
 use Rattle.ls_query.proofs.Sorted.{IsIn, filter-in, find-same}
 use Rattle.ls_query.proofs.QuerySets.{queries-in}
 use Rattle.ls_infer.specs.Tables.{TableState, standing, forces, is_open_in, table_of}

@@ -11,10 +11,11 @@ use Rattle.ls_theory.specs.Families.{closure}
 use Rattle.ls_theory.specs.Interviews.{Interview, nos}
 use Rattle.ls_theory.specs.Compatible.{compatible_sets}
 use Rattle.ls_theory.specs.Forced.{known}
+use Rattle.ls_theory.specs.Blocks.{BlockRange}
 use Rattle.ls_laws.specs.Forced.{IsSound, is_forced_by_closures}
 use Rattle.ls_laws.proofs.Breaks.{good-from}
 use Rattle.ls_laws.proofs.Answering.{known_is}
-use Rattle.ls_query.specs.Blocks.{BlockRange, sets_of}
+use Rattle.ls_query.specs.Blocks.{sets_of}
 use Rattle.ls_query.proofs.Placed.{position-get}
 use Rattle.ls_infer.specs.Tables.{TableState, standing, forces, closed_of, table_of}
 use Rattle.ls_infer.proofs.Places.{get-map}

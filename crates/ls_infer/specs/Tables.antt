@@ -11,8 +11,8 @@ use Rattle.ls_set.specs.Query.{is_good}
 use Rattle.ls_set.specs.declared.query.Query.{Query}
 use Rattle.ls_theory.specs.declared.no.No.{No}
 use Rattle.ls_theory.specs.Families.{closure}
-use Rattle.ls_query.specs.Blocks.{BlockRange, sets_of}
-use Rattle.ls_query.specs.declared.block_fault.TheConstants.{MOST_SETS}
+use Rattle.ls_theory.specs.Blocks.{BlockRange, most_sets}
+use Rattle.ls_query.specs.Blocks.{sets_of}
 use Rattle.ls_infer.specs.declared.standing_no.StandingNo.{StandingNo}
 
 -- the items r below n such that q is in the closure of the closed set with r
@@ -65,6 +65,6 @@ pub record IsTable (n : ℕ) (t : TableState) : Type 0 where
   pub items : n ≡ t.blocks.item_count
   pub few : n ≤ PLACES
   pub each : length t.closures ≡ length (sets_of t.blocks)
-  pub few_sets : length t.closures ≤ MOST_SETS
+  pub few_sets : length t.closures ≤ most_sets
   pub within : list_all (λ c. is_within c (full n)) t.closures ≡ true
   pub good : list_all (λ s. is_good n s.no.query) t.standing ≡ true

@@ -5,6 +5,7 @@ mod closures;
 mod standing_no;
 mod table;
 
+pub use ls_theory::{Known, No};
 pub use table::Table;
 
 #[cfg(test)]

@@ -4,9 +4,9 @@ use Rattle.std.specs.Result.{IsOk}
 use Rattle.ls_set.specs.ItemSet.{numbers_from}
 use Rattle.ls_set.proofs.Ascending.{find_none}
 use Rattle.ls_theory.specs.Queries.{blocks}
-use Rattle.ls_query.specs.Blocks.{choose, is_too_wide, made}
-use Rattle.ls_query.specs.declared.block_fault.BlockFault.TheVariants.{BadBlock, TooWide}
-use Rattle.ls_query.specs.declared.block_fault.TheConstants.{MOST_SETS}
+use Rattle.ls_theory.specs.Blocks.{is_too_wide, made, most_sets}
+use Rattle.ls_theory.specs.declared.block_fault.BlockFault.TheVariants.{BadBlock, TooWide}
+use Rattle.ls_query.specs.Blocks.{choose}
 use Rattle.ls_query.proofs.Binomials.{choose-none}
 use Rattle.ls_query.proofs.BySize.{length-blocks_more, length-blocks_shorter, choose-within}
 
@@ -17,22 +17,22 @@ pub choose-few : (n size most : ℕ) → length (blocks n size) ≤ most → 1 �
 choose-few n zero most h l = omega (arith, choose-none n)
 choose-few n (suc size) most h l = omega (arith, h, choose-within n (suc size) (suc size) (omega arith) (omega arith))
 
-pub too_wide : (n size : ℕ) → MOST_SETS < length (blocks n size) → is_too_wide n size ≡ true
+pub too_wide : (n size : ℕ) → most_sets < length (blocks n size) → is_too_wide n size ≡ true
 unfolding is_too_wide
-too_wide n size h = lt-ltb MOST_SETS (length (blocks n size)) h
+too_wide n size h = lt-ltb most_sets (length (blocks n size)) h
 
-pub not_too_wide : (n size : ℕ) → length (blocks n size) ≤ MOST_SETS → is_too_wide n size ≡ false
+pub not_too_wide : (n size : ℕ) → length (blocks n size) ≤ most_sets → is_too_wide n size ≡ false
 unfolding is_too_wide
-not_too_wide n size h = le-ltb MOST_SETS (length (blocks n size)) h
+not_too_wide n size h = le-ltb most_sets (length (blocks n size)) h
 
 -- blocks that are not too many are not too many up to any size
-pub none_too_wide : (n k : ℕ) → length (blocks n k) ≤ MOST_SETS → find (is_too_wide n) (numbers_from 1 k) ≡ None
+pub none_too_wide : (n k : ℕ) → length (blocks n k) ≤ most_sets → find (is_too_wide n) (numbers_from 1 k) ≡ None
 none_too_wide n k h =
     find_none (is_too_wide n) 1 k (λ j l m.
     not_too_wide n j (omega (arith, length-blocks_shorter n j k (omega arith), h)))
 
 -- so the count of them succeeds
-pub counted : (n k : ℕ) (r : Result ℕ ℕ) → length (blocks n k) ≤ MOST_SETS → ((size : ℕ) → r ≡ Err size → find (is_too_wide n) (numbers_from 1 k) ≡ Some size) → IsOk r
+pub counted : (n k : ℕ) (r : Result ℕ ℕ) → length (blocks n k) ≤ most_sets → ((size : ℕ) → r ≡ Err size → find (is_too_wide n) (numbers_from 1 k) ≡ Some size) → IsOk r
 counted n k (Ok x) h past = refl
 counted n k (Err size) h past = let e = sym (none_too_wide n k h) ∙ past size refl in cc
 

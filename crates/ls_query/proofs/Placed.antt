@@ -10,10 +10,10 @@ use Rattle.ls_set.specs.ItemSet.{Items, has, empty, with, without, len, is_same}
 use Rattle.ls_set.proofs.Sets.{members, same_set, has-empty, has-without, has-full, Decides-is_same}
 use Rattle.ls_set.proofs.Order.{IsBetween}
 use Rattle.ls_theory.specs.Queries.{blocks, block_before}
+use Rattle.ls_theory.specs.Blocks.{most_sets}
 use Rattle.ls_laws.proofs.Counts.{len-empty}
 use Rattle.ls_query.specs.Blocks.{choose}
 use Rattle.ls_query.specs.Places.{with_first, place_from}
-use Rattle.ls_query.specs.declared.block_fault.TheConstants.{MOST_SETS}
 use Rattle.ls_query.proofs.Sorted.{IsIn, IsSorted, get-in}
 use Rattle.ls_query.proofs.Binomials.{choose-grows}
 use Rattle.ls_query.proofs.BySize.{of_size, of_size-more, of_size-none, length-of_size, len-with, blocks-more, length-blocks_shorter}
@@ -163,9 +163,9 @@ find-place n k (suc size) a h e =
     (rw (blocks-more n size) (get-append_right (blocks n size) (of_size 0 n (suc size)) (place_from a 0 n (suc size)) a here)))))
 
 -- in blocks that are not too many, no coefficient on the way is too large
-pub choose-bounded : (n k m j : ℕ) → length (blocks n k) ≤ MOST_SETS → m ≤ n → j ≤ k → choose m j ≤ MOST_SETS
+pub choose-bounded : (n k m j : ℕ) → length (blocks n k) ≤ most_sets → m ≤ n → j ≤ k → choose m j ≤ most_sets
 choose-bounded n k m j h l g =
     let f : m + (n - m) ≡ n = omega arith in
-    let wide : choose n j ≤ MOST_SETS = choose-few n j MOST_SETS (omega (arith, length-blocks_shorter n j k g, h)) (omega arith) in
+    let wide : choose n j ≤ most_sets = choose-few n j most_sets (omega (arith, length-blocks_shorter n j k g, h)) (omega arith) in
     let less : choose m j ≤ choose n j = rw (sym f) (choose-grows m (n - m) j) in
     omega (arith, wide, less)

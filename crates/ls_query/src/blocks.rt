@@ -8,11 +8,11 @@ ghost use Rattle.ls_theory.specs.Queries.{block_before, query_before};
 ghost use Rattle.ls_theory.specs.Pages.{comes_after};
 
 use crate::asking::{query_after, query_after_set};
-use crate::block_fault::{BlockFault, MOST_SETS};
-use crate::counting::count_sets;
+use crate::counting::{MOST_SETS, count_sets};
 use crate::moving::set_after;
 use crate::placing;
 use ls_set::{ItemSet, PLACES, Query};
+use ls_theory::BlockFault;
 use std::alloc::AllocError;
 use std::marker::Model;
 
@@ -27,7 +27,8 @@ pub struct Blocks {
 }
 
 impl Model for Blocks {
-    ghost use Rattle.ls_query.specs.Blocks.{BlockRange, AreBounded};
+    ghost use Rattle.ls_theory.specs.Blocks.{BlockRange};
+    ghost use Rattle.ls_query.specs.Blocks.{AreBounded};
 
     ghost Value = { BlockRange };
 
@@ -39,8 +40,9 @@ impl Model for Blocks {
 }
 
 impl Blocks {
-    ghost use Rattle.ls_query.specs.Blocks.{made, sets_of, queries_of};
-    ghost use Rattle.ls_query.specs.declared.block_fault.BlockFault.TheVariants.{Memory};
+    ghost use Rattle.ls_theory.specs.Blocks.{made};
+    ghost use Rattle.ls_theory.specs.declared.block_fault.BlockFault.TheVariants.{Memory};
+    ghost use Rattle.ls_query.specs.Blocks.{sets_of, queries_of};
 
     /// The sets of 1 to `k` of `n` items. `BadBlock` comes exactly where `k` is 0, or above both 1 and
     /// `n - 1`; then `TooWide` exactly where they are more than [`MOST_SETS`], with the least size up

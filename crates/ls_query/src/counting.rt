@@ -2,10 +2,13 @@
 ghost use Rattle.std.specs.Prelude.{◌≡◌, ◌<◌, ◌≤◌, ◌+◌, ◌*◌, ℕ, length, find, IfOk, OnOk, Ok, Err, None, Some};
 ghost use Rattle.ls_set.specs.ItemSet.{numbers_from};
 ghost use Rattle.ls_theory.specs.Queries.{blocks};
-ghost use Rattle.ls_query.specs.Blocks.{choose, is_too_wide};
+ghost use Rattle.ls_theory.specs.Blocks.{is_too_wide};
+ghost use Rattle.ls_query.specs.Blocks.{choose};
 
-use crate::block_fault::MOST_SETS;
 use ls_set::PLACES;
+
+/// How many sets blocks have at most.
+pub const MOST_SETS: u32 = 400_000;
 
 // How many sets of `size + 1` of `n` items there are, from how many of `size` there are.
 pub fn of_next_size(n: u32, size: u32, of_size: u32) -> u32

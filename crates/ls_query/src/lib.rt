@@ -3,13 +3,13 @@
 #![tactic(auto)]
 
 mod asking;
-mod block_fault;
 mod blocks;
 mod counting;
 mod moving;
 mod placing;
 mod turns;
 
-pub use block_fault::{BlockFault, MOST_SETS};
 pub use blocks::Blocks;
+pub use counting::MOST_SETS;
+pub use ls_theory::BlockFault;
 pub use turns::each_comes_in_turn;

@@ -6,8 +6,7 @@ ghost use Rattle.ls_theory.specs.Queries.{blocks};
 ghost use Rattle.ls_query.specs.Blocks.{choose};
 ghost use Rattle.ls_query.specs.Places.{with_first, place_from};
 
-use crate::block_fault::MOST_SETS;
-use crate::counting::{count_sets, of_next_size};
+use crate::counting::{MOST_SETS, count_sets, of_next_size};
 use ls_set::{ItemSet, PLACES};
 
 // How many sets of a size of `m` items there are.

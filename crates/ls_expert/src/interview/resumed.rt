@@ -1,6 +1,6 @@
 // Interviews that go on from answers.
 ghost use Rattle.std.specs.Prelude.{◌≡◌, ◌<◌, ◌≤◌, Ok, IfOk, IfErr, OnOk};
-ghost use Rattle.ls_query.specs.Blocks.{made};
+ghost use Rattle.ls_theory.specs.Blocks.{made};
 ghost use Rattle.ls_expert.specs.Starts.{start_of};
 ghost use Rattle.ls_expert.specs.Held.{blocks_of, interview_of, IsStanding};
 ghost use Rattle.ls_expert.specs.Saved.{IsStandingFault};

@@ -2,7 +2,7 @@ use Rattle.std.proofs.Common.{sym, ap, ◌∙◌, arith}
 use Rattle.std.specs.Option.{option_map_or}
 use Rattle.std.proofs.lemmas.Grind.{common_steps}
 use Rattle.ls_set.specs.Query.{is_good}
-use Rattle.ls_query.specs.Blocks.{BlockRange}
+use Rattle.ls_theory.specs.Blocks.{BlockRange}
 use Rattle.ls_query.proofs.Made.{made_of}
 use Rattle.ls_infer.proofs.tests.assert_answers.Goals as goal
 

@@ -3,8 +3,8 @@ use Rattle.std.proofs.lemmas.Bool.{cases_eq}
 use Rattle.ls_set.specs.ItemSet.{numbers_from}
 use Rattle.ls_set.proofs.Ascending.{find_first, find_none}
 use Rattle.ls_theory.specs.Queries.{blocks}
-use Rattle.ls_query.specs.Blocks.{choose, is_too_wide}
-use Rattle.ls_query.specs.declared.block_fault.TheConstants.{MOST_SETS}
+use Rattle.ls_theory.specs.Blocks.{is_too_wide, most_sets}
+use Rattle.ls_query.specs.Blocks.{choose}
 use Rattle.ls_query.proofs.Binomials.{choose-none}
 use Rattle.ls_query.proofs.BySize.{length-blocks_none}
 use Rattle.ls_query.proofs.Counted.{length-blocks_next, choose-few, too_wide, not_too_wide}
@@ -18,8 +18,8 @@ loop-size-init c = record {
   before = λ j l m. absurd (omega arith);
 }
 
-few_of_size : (n size of_size sets : ℕ) → of_size ≡ choose n size → sets ≡ length (blocks n size) → sets ≤ MOST_SETS → of_size ≤ MOST_SETS
-few_of_size n size of_size sets e f l = rw e (choose-few n size MOST_SETS (omega arith) (omega arith))
+few_of_size : (n size of_size sets : ℕ) → of_size ≡ choose n size → sets ≡ length (blocks n size) → sets ≤ most_sets → of_size ≤ most_sets
+few_of_size n size of_size sets e f l = rw e (choose-few n size most_sets (omega arith) (omega arith))
 
 pub of_next_size-of_size-requires-clause-few : goal.of_next_size-of_size-requires-clause-few
 of_next_size-of_size-requires-clause-few c =
@@ -29,8 +29,8 @@ of_next_size-of_size-requires-clause-few c =
 pub overflow_add-sets : goal.overflow_add-sets
 overflow_add-sets c =
     let v = c.loop-size.invariant in
-    let one : c.loop-size.of_size ≤ MOST_SETS = few_of_size c.args.n c.loop-size.size c.loop-size.of_size c.loop-size.sets v.coefficient v.counted v.few in
-    let all : c.loop-size.sets ≤ MOST_SETS = v.few in
+    let one : c.loop-size.of_size ≤ most_sets = few_of_size c.args.n c.loop-size.size c.loop-size.of_size c.loop-size.sets v.coefficient v.counted v.few in
+    let all : c.loop-size.sets ≤ most_sets = v.few in
     omega (arith, one, all, c.of_next_size-of_size.ensures.small)
 
 pub loop-size-preserved : goal.loop-size-preserved
@@ -39,7 +39,7 @@ loop-size-preserved c =
     let n = c.args.n in
     let size = c.loop-size.size in
     let next : c.loop-size.sets + c.of_next_size-of_size.result ≡ length (blocks n (size + 1)) = rw (v.counted, c.of_next_size-of_size.ensures.value) (sym (length-blocks_next n size)) in
-    let few : c.loop-size.sets + c.of_next_size-of_size.result ≤ MOST_SETS = c.if-sets-gt-MOST_SETS.false in
+    let few : c.loop-size.sets + c.of_next_size-of_size.result ≤ most_sets = c.if-sets-gt-MOST_SETS.false in
     record {
       coefficient = c.of_next_size-of_size.ensures.value;
       counted = next;
@@ -50,7 +50,7 @@ loop-size-preserved c =
       ];
     }
 
-first_wide : (n k size sets : ℕ) → size < k → sets ≡ length (blocks n (size + 1)) → MOST_SETS < sets → ((j : ℕ) → 1 ≤ j → j < size + 1 → is_too_wide n j ≡ false) → find (is_too_wide n) (numbers_from 1 k) ≡ Some (size + 1)
+first_wide : (n k size sets : ℕ) → size < k → sets ≡ length (blocks n (size + 1)) → most_sets < sets → ((j : ℕ) → 1 ≤ j → j < size + 1 → is_too_wide n j ≡ false) → find (is_too_wide n) (numbers_from 1 k) ≡ Some (size + 1)
 first_wide n k size sets l e wide before = find_first (is_too_wide n) 1 k (size + 1) (omega arith) (omega arith) (too_wide n (size + 1) (omega arith)) before
 
 pub returns-then-sets-gt-MOST_SETS-clause-past : goal.returns-then-sets-gt-MOST_SETS-clause-past

@@ -1,7 +1,7 @@
 use Rattle.std.proofs.Common.{◌≡◌, ◌<◌, ◌≤◌, ◌+◌, ℕ, false, length}
 use Rattle.ls_theory.specs.Queries.{blocks}
-use Rattle.ls_query.specs.Blocks.{choose, is_too_wide}
-use Rattle.ls_query.specs.declared.block_fault.TheConstants.{MOST_SETS}
+use Rattle.ls_theory.specs.Blocks.{is_too_wide, most_sets}
+use Rattle.ls_query.specs.Blocks.{choose}
 use Rattle.ls_query.proofs.counting.count_sets.Given as goal
 
 -- the sets up to the size so far are counted, and are not too many
@@ -9,6 +9,6 @@ abbrev pub invariant-loop-size : goal.invariant-loop-size
 invariant-loop-size l = record {
   coefficient : l.of_size ≡ choose l.n l.size;
   counted : l.sets ≡ length (blocks l.n l.size);
-  few : l.sets ≤ MOST_SETS;
+  few : l.sets ≤ most_sets;
   before : (j : ℕ) → 1 ≤ j → j < l.size + 1 → is_too_wide l.n j ≡ false;
 }

@@ -9,8 +9,8 @@ use Rattle.ls_theory.specs.Starts as theory
 use Rattle.ls_theory.specs.Bases.{base}
 use Rattle.ls_theory.specs.Compatible.{compat}
 use Rattle.ls_theory.specs.Interviews.{Interview, yes_queries}
+use Rattle.ls_theory.specs.Blocks.{BlockRange}
 use Rattle.ls_laws.specs.Forced.{IsSound}
-use Rattle.ls_query.specs.Blocks.{BlockRange}
 use Rattle.ls_rules.specs.Ruled.{RuledState}
 use Rattle.ls_expert.specs.Starts.{StartOn, start_of}
 use Rattle.ls_expert.specs.Held.{IsHeld}

@@ -1,7 +1,8 @@
 use Rattle.std.proofs.Common.{List, find, eqb, ◌≡◌, ◌+◌, ◌≤◌, Option, Some, sym, ap, ◌∙◌, subst}
 use Rattle.ls_theory.specs.declared.answer.Answer.{Answer}
 use Rattle.ls_theory.specs.Interviews.{Interview}
-use Rattle.ls_expert.specs.Answers.{answer_with, steps_back}
+use Rattle.ls_theory.specs.Answering.{answer_with}
+use Rattle.ls_expert.specs.Steps.{steps_back}
 use Rattle.ls_expert.proofs.interview.Interview.retract.Goals as goal
 
 pub returns-in_err-take_back_yes-clause-cost : goal.returns-in_err-take_back_yes-clause-cost

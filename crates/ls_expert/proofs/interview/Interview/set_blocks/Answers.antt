@@ -3,7 +3,7 @@ use Rattle.std.specs.List.{list_all}
 use Rattle.ls_set.specs.Query.{is_good}
 use Rattle.ls_theory.specs.declared.answer.Answer.{Answer}
 use Rattle.ls_theory.specs.Interviews.{Interview}
-use Rattle.ls_query.specs.Blocks.{BlockRange, made}
+use Rattle.ls_theory.specs.Blocks.{BlockRange, made}
 use Rattle.ls_expert.specs.Held.{interview_of}
 use Rattle.ls_expert.proofs.Holding.{range-of, tabled-by, held-blocks}
 use Rattle.ls_expert.proofs.interview.Interview.set_blocks.Goals as goal

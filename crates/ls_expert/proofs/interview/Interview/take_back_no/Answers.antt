@@ -1,6 +1,6 @@
 use Rattle.std.proofs.Common.{ap, ◌∙◌}
 use Rattle.ls_theory.specs.Interviews.{Interview}
-use Rattle.ls_expert.specs.Answers.{answer_with}
+use Rattle.ls_theory.specs.Answering.{answer_with}
 use Rattle.ls_expert.specs.Held.{interview_of}
 use Rattle.ls_expert.proofs.Retracting.{held-without_no}
 use Rattle.ls_expert.proofs.interview.Interview.take_back_no.Goals as goal

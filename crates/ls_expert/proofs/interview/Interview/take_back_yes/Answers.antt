@@ -7,9 +7,9 @@ use Rattle.ls_theory.specs.declared.answer.Answer.{Answer}
 use Rattle.ls_theory.specs.Starts.{Start}
 use Rattle.ls_theory.specs.Bases.{base}
 use Rattle.ls_theory.specs.Compatible.{compat}
+use Rattle.ls_theory.specs.Answering.{answer_with}
 use Rattle.ls_infer.specs.Tables.{TableState}
 use Rattle.ls_expert.specs.Starts.{StartOn}
-use Rattle.ls_expert.specs.Answers.{answer_with}
 use Rattle.ls_expert.specs.Held.{interview_of}
 use Rattle.ls_expert.proofs.Ruling.{ruled-compat, followed-by}
 use Rattle.ls_expert.proofs.Retracting.{held-without_yes, rule-within, good-of, good-others, steps-over}

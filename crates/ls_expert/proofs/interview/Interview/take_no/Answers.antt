@@ -1,7 +1,7 @@
 use Rattle.std.proofs.Common.{false, refl, ap, ◌∙◌}
 use Rattle.ls_theory.specs.Interviews.{Interview}
 use Rattle.ls_theory.specs.Compatible.{compat}
-use Rattle.ls_expert.specs.Answers.{refusal}
+use Rattle.ls_theory.specs.Answering.{refusal}
 use Rattle.ls_expert.specs.Held.{interview_of}
 use Rattle.ls_expert.proofs.Ruling.{ruled-compat}
 use Rattle.ls_expert.proofs.Taking.{held-no, tabled-no}

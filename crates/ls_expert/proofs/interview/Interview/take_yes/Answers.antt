@@ -2,8 +2,8 @@ use Rattle.std.proofs.Common.{◌≡◌, ◌∷◌, ◌++◌, ◌+◌, [], lengt
 use Rattle.ls_set.specs.declared.query.Query.{Query}
 use Rattle.ls_theory.specs.Interviews.{Interview, yes_queries}
 use Rattle.ls_theory.specs.Compatible.{compat}
+use Rattle.ls_theory.specs.Answering.{refusal}
 use Rattle.ls_expert.specs.Starts.{StartOn}
-use Rattle.ls_expert.specs.Answers.{refusal}
 use Rattle.ls_expert.specs.Held.{interview_of}
 use Rattle.ls_expert.proofs.Ruling.{ruled-compat}
 use Rattle.ls_expert.proofs.Taking.{held-yes, tabled-yes}

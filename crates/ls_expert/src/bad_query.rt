@@ -2,4 +2,4 @@
 
 /// A query that is not good.
 #[derive(Clone, Copy, Debug, PartialEq, Eq)]
-pub struct UnfitQuery;
+pub struct BadQuery;
