@@ -1,0 +1,80 @@
+-- The place of the first word that names no item.
+use Rattle.std.proofs.Common.{◌≡◌, ℕ, suc, ◌+◌, ◌<◌, inl, inr, Bool, true, false, cond, not, lt-ltb, le-ltb, List, [], ◌∷◌, ◌++◌, length, map, filter, Some, None, Result, Ok, Err, IfErr, IsOk, is_some, option_map, slice_get, refl, sym, ap, ◌∙◌, arith}
+use Rattle.std.specs.declared.option.Option.{Option}
+use Rattle.std.specs.List.{position, position_or_len}
+use Rattle.std.proofs.lemmas.Bool.{cases_Bool, cases_lt}
+use Rattle.std.proofs.lemmas.List.{map-append}
+use Rattle.std.proofs.lemmas.List.Elements.{filter-append}
+use Rattle.ls_lines.specs.Lines.{Text}
+use Rattle.ls_domain.specs.Meanings.{is_named, number_of, first_unnamed}
+use Rattle.ls_domain.specs.declared.unknown_at.UnknownAt.{UnknownAt}
+use Rattle.ls_domain.proofs.Positions.{position-here, position-later, is_some-position}
+use Rattle.ls_reply.specs.Meanings.{placed, query_words, unnamed}
+
+-- the first of what is joined is that of the front, or else that of the rest
+first-front : {X : Type 0} (xs ys : List X) (x : X) → slice_get xs 0 ≡ Some x → slice_get (xs ++ ys) 0 ≡ Some x
+first-front [] ys x e = absurd (cc e)
+first-front (z ∷ zs) ys x e = e
+
+first-rest : {X : Type 0} (xs ys : List X) → slice_get xs 0 ≡ None → slice_get (xs ++ ys) 0 ≡ slice_get ys 0
+first-rest [] ys e = refl
+first-rest (z ∷ zs) ys e = absurd (cc e)
+
+position-lt : {X : Type 0} (p : X → Bool) (xs : List X) (i : ℕ) → position p xs ≡ Some i → i < length xs
+position-lt p xs i e = elim (cases_lt (position_or_len p xs) (length xs)) [
+  | inl l ↦ let f : Some (position_or_len p xs) ≡ Some i = rw (lt-ltb _ _ l) at e in let same : position_or_len p xs ≡ i = cc in omega arith
+  | inr g ↦ absurd (let f : None ≡ Some i = rw (le-ltb _ _ g) at e in cc)
+]
+
+pub none-first : {X : Type 0} (xs : List X) → slice_get xs 0 ≡ None → xs ≡ []
+none-first [] e = refl
+none-first (x ∷ xs) e = absurd (cc e)
+
+next_place : (n : ℕ) (o : Option ℕ) → option_map (λ i. suc n + i) o ≡ option_map (λ i. n + i) (option_map (λ i. 1 + i) o)
+next_place n None = refl
+next_place n (Some i) = ap Some (omega arith)
+
+module _ (names : List Text) where
+  abbrev names_none : Text → Bool
+  names_none w = not (is_named names w)
+
+  -- of words that stand from place n on
+  pub unnamed-placed : (ws : List Text) (n : ℕ) → slice_get (unnamed names (placed n ws)) 0 ≡ option_map (λ i. n + i) (first_unnamed names ws)
+  unnamed-placed [] n = refl
+  unnamed-placed (w ∷ ws) n =
+      elim (cases_Bool (names_none w)) [
+        | inl e ↦ rw (position-here names_none w ws e, e) (ap Some (omega arith))
+        | inr e ↦ rw (position-later names_none w ws e, e) (unnamed-placed ws (suc n) ∙ next_place n (first_unnamed names ws))
+      ]
+
+  pub first_unnamed-lt : (ws : List Text) (i : ℕ) → first_unnamed names ws ≡ Some i → i < length ws
+  first_unnamed-lt ws i e = position-lt names_none ws i e
+
+  -- ---- the words of a query
+
+  module _ (ws : List Text) (item : Text) where
+    unnamed-query : unnamed names (query_words ws item) ≡ unnamed names (placed 2 ws) ++ unnamed names ((length ws + 3, item) ∷ [])
+    unnamed-query =
+        ap (map (λ w. w.0)) (filter-append (λ w. names_none w.1) (placed 2 ws) ((length ws + 3, item) ∷ []))
+        ∙ map-append (λ w. w.0) (filter (λ w. names_none w.1) (placed 2 ws)) (filter (λ w. names_none w.1) ((length ws + 3, item) ∷ []))
+
+    pub query-first : (place : ℕ) → Some place ≡ slice_get (unnamed names (placed 2 ws)) 0 → Some place ≡ slice_get (unnamed names (query_words ws item)) 0
+    query-first place e = sym (ap (λ ps. slice_get ps 0) unnamed-query ∙ first-front (unnamed names (placed 2 ws)) _ place (sym e))
+
+    query-last : None ≡ slice_get (unnamed names (placed 2 ws)) 0 → slice_get (unnamed names (query_words ws item)) 0 ≡ slice_get (unnamed names ((length ws + 3, item) ∷ [])) 0
+    query-last e = ap (λ ps. slice_get ps 0) unnamed-query ∙ first-rest (unnamed names (placed 2 ws)) _ (sym e)
+
+    named-is : (o : Option ℕ) → o ≡ number_of names item → is_named names item ≡ is_some o
+    named-is o e = sym (ap is_some e ∙ is_some-position _ names)
+
+    -- every name names an item
+    pub query-item : (o : Option ℕ) → None ≡ slice_get (unnamed names (placed 2 ws)) 0 → o ≡ number_of names item
+        → slice_get (unnamed names (query_words ws item)) 0 ≡ cond (is_some o) None (Some (length ws + 3))
+    query-item None e f = query-last e ∙ rw (named-is None f) refl
+    query-item (Some i) e f = query-last e ∙ rw (named-is (Some i) f) refl
+
+    -- all words name items
+    pub query-named : unnamed names (placed 2 ws) ≡ [] → is_some (number_of names item) ≡ true → unnamed names (query_words ws item) ≡ []
+    query-named e f =
+        unnamed-query ∙ ap (λ ps. ps ++ unnamed names ((length ws + 3, item) ∷ [])) e
+        ∙ rw (sym (is_some-position _ names) ∙ f) refl

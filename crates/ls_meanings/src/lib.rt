@@ -1,0 +1,9 @@
+//! What the words of commands mean on named items: each command is resolved once, and what carries it out speaks of items.
+#![tactic(auto)]
+
+mod query;
+mod request;
+mod unnamed;
+
+pub use request::{asks, resolve};
+pub use unnamed::Unnamed;
