@@ -23,13 +23,13 @@ fn listings_begin_after_any_cursor(rt: HostRuntime) -> Result<(), Fail> {
     let alloc = rt.alloc();
     let all = names_from(alloc, 0)?;
     let without_first = names_from(alloc, 1)?;
-    let fs = "fffffffffffffffffffffffffffffff";
-    let zeros = "0000000000000000000000000000000";
+    let fs = "f".repeat(alloc, 127)?;
+    let zeros = "0".repeat(alloc, 127)?;
     let script = format!(in alloc;
         "items {all}\nstates 1\nyes i1 : i0\nstates 1 after c{zeros}\n"
     )?;
     let replies = format!(in alloc;
-        "ok 128\nset f{fs} {{{all}}}\nmore yes\nok 1\nset 7{fs} {{{without_first}}}\nmore yes\n"
+        "ok 512\nset f{fs} {{{all}}}\nmore yes\nok 1\nset 7{fs} {{{without_first}}}\nmore yes\n"
     )?;
     let outcome = run(
         &rt,
@@ -43,15 +43,15 @@ fn listings_begin_after_any_cursor(rt: HostRuntime) -> Result<(), Fail> {
     Ok(())
 }
 
-// Name 129 is one too many, unless it is a name that came before.
+// Name 513 is one too many, unless it is a name that came before.
 #[test]
 fn one_item_too_many_is_refused(rt: HostRuntime) -> Result<(), Fail> {
     let alloc = rt.alloc();
     let all = names_from(alloc, 0)?;
     for (name, replies) in [
         ("more", "no 12 many\n"),
-        ("i0", "no 12 repeat 129 1\n"),
-        ("i127", "no 12 repeat 129 128\n"),
+        ("i0", "no 12 repeat 513 1\n"),
+        ("i511", "no 12 repeat 513 512\n"),
     ] {
         let script = format!(in alloc; "items {all} {name}\n")?;
         let outcome = run(
@@ -71,7 +71,7 @@ fn one_item_too_many_is_refused(rt: HostRuntime) -> Result<(), Fail> {
 fn blocks_have_a_limit(rt: HostRuntime) -> Result<(), Fail> {
     let alloc = rt.alloc();
     let all = names_from(alloc, 0)?;
-    let script = format!(in alloc; "items {all}\nblocks 3\nblocks 4\nblocks 127\nblocks 128\n")?;
+    let script = format!(in alloc; "items {all}\nblocks 2\nblocks 3\nblocks 511\nblocks 512\n")?;
     let outcome = run(
         &rt,
         Trial {
@@ -81,7 +81,7 @@ fn blocks_have_a_limit(rt: HostRuntime) -> Result<(), Fail> {
     )?;
     assert_eq!(rt;
         outcome.written.as_slice(),
-        b"ok 128\nok 349632\nno 16 4\nno 16 4\nno 17\n".as_slice()
+        b"ok 512\nok 131328\nno 16 3\nno 16 3\nno 17\n".as_slice()
     );
     assert_eq!(rt; outcome.status, Status::Refused);
     Ok(())
