@@ -156,8 +156,9 @@ gained-among f r gs i closed low k c =
 -- sets are gained only at an item of a member
 pub gained-where : (f : List Items) (r : Query) (gs : List Items) (i : ℕ) (k : Items) → is_among (gained f r gs i) k ≡ true → (l : Items) × (is_among f l ≡ true) × (has l i ≡ true)
 gained-where f r gs i k c =
-    let p = among-parts (has_none_within (having i (left_by r (base f)))) (joined f r gs i) k (IsLeast-from (filter (has_none_within (having i (left_by r (base f)))) (joined f r gs i)) k c).member in
-    let j = from-joins k (filter (λ k. breaks k r) (atoms_at f i)) gs p.0 in
+    let p = among-parts (has_none_within (having i (left_by r (base f)))) (least_sets (joined f r gs i)) k c in
+    let x = IsLeast-from (joined f r gs i) k p.0 in
+    let j = from-joins k (filter (λ k. breaks k r) (atoms_at f i)) gs x.member in
     let a = atom-of f i j.left (among-parts (λ k. breaks k r) (atoms_at f i) j.left j.left_in).0 in
     (j.left, a.member, a.has_q)
 

@@ -1,21 +1,19 @@
 // Laws of the base after a Yes, by its atoms.
-ghost use Rattle.std.specs.Prelude.{◌≡◌, ◌⊎◌, ℕ, true, false, List, [], ◌∷◌, ◌++◌};
-ghost use Rattle.ls_set.specs.ItemSet.{Items, is_among, IsInOrder};
+ghost use Rattle.std.specs.Prelude.{◌≡◌, ◌⊎◌, ℕ, true, false, List};
+ghost use Rattle.ls_set.specs.ItemSet.{Items, is_among};
 ghost use Rattle.ls_set.specs.declared.query.Query.{Query};
 ghost use Rattle.ls_theory.specs.Queries.{some_breaks};
 ghost use Rattle.ls_theory.specs.Families.{is_union_closed};
 ghost use Rattle.ls_theory.specs.Bases.{atoms_at, base};
 ghost use Rattle.ls_laws.specs.Spans.{IsPart, left_by};
-ghost use Rattle.ls_changes.specs.Least.{least_sets, least_with, IsLeastOf, IsBelow, having, near, gained};
+ghost use Rattle.ls_changes.specs.Least.{least_sets, IsBelow, having, near, gained};
 
 /// The atoms at an item are the least members with it; and sets of a list, one of which lies within
-/// each set of the list, have its least sets. These can be found set by set, in any order.
+/// each set of the list, have its least sets.
 pub fn atoms_are_least()
     ensures atoms { (f : List Items) (i : ℕ) → atoms_at f i ≡ least_sets (having i f) }
     ensures members { (c g : List Items) → IsBelow c g →
         (k : Items) → is_among (least_sets g) k ≡ is_among (least_sets c) k }
-    ensures step { (g h : List Items) (k : Items) → IsLeastOf h g →
-        IsLeastOf (least_with h k) (g ++ (k ∷ [])) }
 {}
 
 /// After a Yes the base has the base sets that do not break the query, and what is gained at each
