@@ -13,14 +13,6 @@ use Rattle.ls_base.specs.Unions.{union_below, is_union_in}
 
 -- ---- interiors in a list, set by set
 
-unions-append : (f g : List Items) → unions (f ++ g) ≡ union (unions f) (unions g)
-unions-append [] g = sym (union-empty_left (unions g))
-unions-append (k ∷ f) g = ap (union k) (unions-append f g) ∙ sym (union_assoc k (unions f) (unions g))
-
-interior-append : (f g : List Items) (s : Items) → interior (f ++ g) s ≡ union (interior f s) (interior g s)
-unfolding interior
-interior-append f g s = ap unions (filter-append (λ k. is_within k s) f g) ∙ unions-append (filter (λ k. is_within k s) f) (filter (λ k. is_within k s) g)
-
 pub interior-none : (s : Items) → interior [] s ≡ empty
 unfolding interior
 interior-none s = refl
@@ -43,25 +35,6 @@ below-without k s h f = rw h refl
 
 pub below-within : (s : Items) (f : List Items) → IsWithin (union_below f s) s
 below-within s f = interior-within (filter (λ l. is_proper l s) f) s
-
-pub below-append : (f g : List Items) (s : Items) → union_below (f ++ g) s ≡ union (union_below f s) (union_below g s)
-below-append f g s = ap (λ l. interior l s) (filter-append (λ l. is_proper l s) f g) ∙ interior-append (filter (λ l. is_proper l s) f) (filter (λ l. is_proper l s) g) s
-
--- a union with a set that is not within s is not
-below-outside : (k s : Items) → is_within k s ≡ false → (gs : List Items) → union_below (map (union k) gs) s ≡ empty
-below-outside k s h [] = interior-none s
-below-outside k s h (g ∷ gs) =
-    below-without (union k g) s (false_from_ne_true (is_proper (union k g) s) (λ p.
-    let w = IsWithin-from (union k g) s (and_parts (is_within (union k g) s) (not (is_same (union k g) s)) p).0 in
-    true≢false (sym (is_within-from k s (λ i a. w i (union-left k g i a))) ∙ h))) (map (union k) gs)
-    ∙ below-outside k s h gs
-
-pub joins-with : (k s given : Items) (gs : List Items) → given ≡ union_below (map (union k) gs) s → (ks : List Items) → union_below (joins (k ∷ ks) gs) s ≡ union given (union_below (joins ks gs) s)
-joins-with k s given gs e ks = below-append (map (union k) gs) (joins ks gs) s ∙ ap (λ u. union u (union_below (joins ks gs) s)) (sym e)
-
-pub joins-without : (k s : Items) (gs : List Items) → is_within k s ≡ false → (ks : List Items) → union_below (joins (k ∷ ks) gs) s ≡ union_below (joins ks gs) s
-joins-without k s gs h ks =
-    below-append (map (union k) gs) (joins ks gs) s ∙ ap (λ u. union u (union_below (joins ks gs) s)) (below-outside k s h gs) ∙ union-empty_left (union_below (joins ks gs) s)
 
 -- ---- unions of the sets of another list
 

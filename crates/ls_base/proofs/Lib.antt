@@ -2,7 +2,8 @@ pub mod Turns
 pub mod Orders
 pub mod Below
 pub mod Spanned
-pub mod Yeses
+pub mod Joins
+pub mod Gains
 pub mod Peaks
 pub mod Given
 pub mod Followings

@@ -1,3 +1,4 @@
 pub mod Unions
+pub mod Gains
 pub mod Bases
 pub mod Followed

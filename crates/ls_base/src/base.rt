@@ -8,8 +8,8 @@ ghost use Rattle.ls_base.specs.Bases.{family, based, single_sets, IsFaultOf, IsP
 
 use crate::atoms::is_atom_at;
 use crate::fault::{BaseFault, PastFault};
+use crate::left::base_left;
 use crate::reduction::base_of;
-use crate::remaining::base_left;
 use crate::unions::union_within;
 use ls_interior::Inside;
 use ls_set::{ItemSet, PLACES, Query, SetList};
@@ -109,7 +109,7 @@ impl Base {
         ensures few { OnOk result (length (base (left_by r.now (family self.now))) ≤ MOST_BASE_SETS) }
         ensures past { IfErr result (IsPastOf (base (left_by r.now (family self.now)))) }
     {
-        let left = base_left(self.alloc, &self.sets, r)?;
+        let left = base_left(self.alloc, self.n, &self.sets, r)?;
         Base::limited(self.alloc, self.n, left)
     }
 

@@ -5,8 +5,9 @@ mod atoms;
 mod base;
 mod fault;
 mod followed;
+mod least;
+mod left;
 mod reduction;
-mod remaining;
 mod unions;
 
 pub use base::{Base, MOST_BASE_SETS};

@@ -1,8 +1,7 @@
 // Unions of the sets of a list that lie within a set.
-ghost use Rattle.std.specs.Prelude.{◌≡◌, map};
-ghost use Rattle.ls_set.specs.ItemSet.{union};
+ghost use Rattle.std.specs.Prelude.{◌≡◌};
 ghost use Rattle.ls_theory.specs.Families.{interior};
-ghost use Rattle.ls_laws.specs.Spans.{is_proper, joins};
+ghost use Rattle.ls_laws.specs.Spans.{is_proper};
 ghost use Rattle.ls_base.specs.Unions.{union_below};
 
 use ls_set::ItemSet;
@@ -45,32 +44,4 @@ pub fn union_below(sets: &[ItemSet], s: ItemSet) -> ItemSet
         }
     }
     below
-}
-
-// The same of the unions of a set with one of the others.
-fn joined_with(set: ItemSet, others: &[ItemSet], s: ItemSet) -> ItemSet
-    ensures { result ≡ union_below (map (union set) others.now) s }
-{
-    let mut union = ItemSet::empty();
-    for other in others {
-        let joined = set.union(*other);
-        if is_proper(joined, s) {
-            union = union.union(joined);
-        }
-    }
-    union
-}
-
-/// The same of the unions of a set of the first list with one of the second, none of which is formed
-/// with a set of the first that does not lie within `s`.
-pub fn joined_below(sets: &[ItemSet], others: &[ItemSet], s: ItemSet) -> ItemSet
-    ensures { result ≡ union_below (joins sets.now others.now) s }
-{
-    let mut union = ItemSet::empty();
-    for set in sets {
-        if set.is_within(s) {
-            union = union.union(joined_with(*set, others, s));
-        }
-    }
-    union
 }

@@ -1,0 +1,95 @@
+// The least sets of a list, and the least joins of two lists.
+ghost use Rattle.std.specs.Prelude.{◌≡◌, ◌&&◌, ◌++◌, map, filter, IfOk, OnOk};
+ghost use Rattle.std.specs.List.{list_any};
+ghost use Rattle.ls_set.specs.ItemSet.{union, is_within};
+ghost use Rattle.ls_laws.specs.Spans.{is_proper, joins};
+ghost use Rattle.ls_changes.specs.Least.{least_sets};
+ghost use Rattle.ls_base.specs.Gains.{is_gained};
+
+use crate::unions::is_proper;
+use ls_set::ItemSet;
+use std::alloc::{AllocError, Global};
+
+// Whether another set of the list lies within the set.
+fn has_proper(sets: &[ItemSet], set: ItemSet) -> bool
+    ensures { result ≡ list_any (λ l. is_proper l set) sets.now }
+{
+    sets.iter().any(|l| is_proper(*l, set))
+}
+
+/// The sets of the list within which no other lies.
+pub fn least_sets(alloc: Global, sets: &[ItemSet]) -> Result<Vec<ItemSet>, AllocError>
+    ensures { IfOk result (λ least. least.items ≡ least_sets sets.now) }
+{
+    sets.iter()
+        .copied()
+        .filter(|set| !has_proper(sets, *set))
+        .collect(alloc)
+}
+
+// Whether some set of the list lies within the set.
+fn has_within(sets: &[ItemSet], set: ItemSet) -> bool
+    ensures { result ≡ list_any (λ l. is_within l set) sets.now }
+{
+    sets.iter().any(|l| l.is_within(set))
+}
+
+// Whether a union of the set with one of `near` lies within `k`, and is not the same.
+fn has_union_below(set: ItemSet, near: &[ItemSet], k: ItemSet) -> bool
+    ensures { result ≡ list_any (λ g. is_proper (union set g) k) near.now }
+{
+    near.iter().any(|g| is_proper(set.union(*g), k))
+}
+
+// Whether a join does, of which none is formed with a set that does not lie within `k`.
+fn has_join_below(sets: &[ItemSet], near: &[ItemSet], k: ItemSet) -> bool
+    ensures { result ≡ list_any (λ set.
+        is_within set k && list_any (λ g. is_proper (union set g) k) near.now) sets.now }
+{
+    sets.iter()
+        .any(|set| set.is_within(k) && has_union_below(*set, near, k))
+}
+
+// Whether no set of `staying` and no other join lies within `k`.
+fn is_gained(staying: &[ItemSet], sets: &[ItemSet], near: &[ItemSet], k: ItemSet) -> bool
+    ensures { result ≡ is_gained staying.now sets.now near.now k }
+{
+    !has_within(staying, k) && !has_join_below(sets, near, k)
+}
+
+// Appends those unions of the set with one of `near` that are gained.
+fn push_unions(
+    gained: &mut Vec<ItemSet>,
+    staying: &[ItemSet],
+    sets: &[ItemSet],
+    near: &[ItemSet],
+    set: ItemSet,
+) -> Result<(), AllocError>
+    ensures { OnOk result (gained.new.items ≡ gained.old.items
+        ++ filter (is_gained staying.now sets.now near.now) (map (union set) near.now)) }
+{
+    for other in near {
+        let joined = set.union(*other);
+        if is_gained(staying, sets, near, joined) {
+            gained.push(joined)?;
+        }
+    }
+    Ok(())
+}
+
+/// Appends the joins of a set of `sets` with one of `near` within which no other join lies, and none
+/// of `staying`.
+pub fn push_joins(
+    gained: &mut Vec<ItemSet>,
+    staying: &[ItemSet],
+    sets: &[ItemSet],
+    near: &[ItemSet],
+) -> Result<(), AllocError>
+    ensures { OnOk result (gained.new.items ≡ gained.old.items
+        ++ filter (is_gained staying.now sets.now near.now) (joins sets.now near.now)) }
+{
+    for set in sets {
+        push_unions(gained, staying, sets, near, *set)?;
+    }
+    Ok(())
+}
