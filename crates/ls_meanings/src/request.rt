@@ -1,6 +1,9 @@
 // What commands ask of an interview.
-ghost use Rattle.std.specs.Prelude.{◌≡◌, ◌≤◌, [], Some, is_some, slice_get, IfOk, IfErr, OnOk};
+ghost use Rattle.std.specs.Prelude.{◌≡◌, ◌≤◌, [], Some, is_some, length, slice_get, IfOk, IfErr, OnOk};
+ghost use Rattle.std.specs.Option.{ForSome};
+ghost use Rattle.ls_set.specs.ItemSet.{full, IsWithin};
 ghost use Rattle.ls_reply.specs.Meanings.{unnamed_places, request_of, after_of};
+ghost use Rattle.ls_meanings.specs.Asked.{IsAskedOn};
 
 use crate::query::read_query;
 use crate::unnamed::Unnamed;
@@ -30,6 +33,7 @@ pub fn asks(command: &Command) -> bool
 /// first of its words that must name an item and doesn't.
 pub fn resolve(domain: &Domain, command: &Command) -> Result<Option<Request>, Unnamed>
     ensures request { IfOk result (λ r. r ≡ request_of domain.now command.now) }
+    ensures on { IfOk result (IsAskedOn (length domain.now)) }
     ensures named { OnOk result (unnamed_places domain.now command.now ≡ []) }
     ensures unnamed { IfErr result (λ u. slice_get (unnamed_places domain.now command.now) 0 ≡ Some u.place) }
 {
@@ -61,7 +65,8 @@ pub fn resolve(domain: &Domain, command: &Command) -> Result<Option<Request>, Un
 // The set of the cursor after which a page of sets of `n` items begins, if there is one.
 fn read_after(n: u32, after: &Option<Word>) -> Result<Option<ItemSet>, CursorFault>
     requires { n ≤ PLACES }
-    ensures { result ≡ after_of n after.now }
+    ensures read { result ≡ after_of n after.now }
+    ensures on { IfOk result (λ after. ForSome after (λ k. IsWithin k (full n))) }
 {
     match after {
         None => Ok(None),

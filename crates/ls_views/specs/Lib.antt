@@ -1,3 +1,1 @@
-pub mod Sayings
-pub mod Places
 pub mod Views

@@ -1,10 +1,22 @@
--- The commands that read an interview and change nothing.
-use Rattle.std.specs.Prelude.{ℕ, ◌+◌, ◌*◌, Bool, true, false, List}
+-- The commands that look at an interview, and how many interiors their replies take.
+use Rattle.std.specs.Prelude.{ℕ, ◌≡◌, ◌+◌, ◌*◌, Bool, true, false, List, length, Option, ⊤}
+use Rattle.std.specs.Option.{ForSome}
+use Rattle.ls_set.specs.ItemSet.{Items, full, IsWithin}
+use Rattle.ls_set.specs.Query.{is_good}
 use Rattle.ls_theory.specs.Interviews.{Interview}
+use Rattle.ls_theory.specs.Bases.{base}
 use Rattle.ls_lines.specs.Lines.{Text}
 use Rattle.ls_lines.specs.declared.command.Command.{Command}
 use Rattle.ls_lines.specs.declared.command.Command.TheVariants as command
-use Rattle.ls_reply.specs.Sessions.{Session}
+use Rattle.ls_reply.specs.Sessions.{Session, states}
+use Rattle.ls_reply.specs.declared.request.View.{View}
+use Rattle.ls_reply.specs.declared.request.View.TheVariants as view
+use Rattle.ls_reply.specs.declared.response.Shown.{Shown}
+use Rattle.ls_reply.specs.declared.response.Shown.TheVariants as shown
+
+-- the session of an interview on named items
+abbrev pub session_on : List Text → Interview → Session
+session_on names i = record { names = names; interview = i }
 
 abbrev pub is_reading : Command → Bool
 is_reading (command.Known names item) = true
@@ -13,12 +25,25 @@ is_reading (command.States count after) = true
 is_reading command.Base = true
 is_reading c = false
 
--- how many interiors a reply takes at most, on n items
+-- whether the base is asked for
+abbrev pub is_based : View → Bool
+is_based view.Base = true
+is_based v = false
+
+-- What is shown speaks of the items alone; and of the base, where these are its sets.
+abbrev pub CanShow : Session → List Items → Shown → Type 0
+CanShow s sets (shown.Known known) = ⊤
+CanShow s sets (shown.Question next) = ForSome next (λ r. is_good (length s.names) r ≡ true)
+CanShow s sets (shown.States count after) = ForSome after (λ k. IsWithin k (full (length s.names)))
+CanShow s sets shown.Base = sets ≡ base (states s)
+
+-- how many interiors what is shown takes at most, on n items
+abbrev pub shown_steps : Shown → ℕ → ℕ
+shown_steps (shown.States count after) n = (count + 1) * (n + 1)
+shown_steps s n = 0
+
+-- and the reply to a command
 abbrev pub most_steps : Command → ℕ → ℕ
 most_steps (command.Known names item) n = 1
 most_steps (command.States count after) n = (count + 1) * (n + 1)
 most_steps c n = 0
-
--- the session of an interview on named items
-abbrev pub session_on : List Text → Interview → Session
-session_on names i = record { names = names; interview = i }

@@ -1,22 +1,10 @@
-//! The replies of the commands that read an interview and change nothing, and the lines of which replies are made.
+//! What commands show of an interview: it is decided first, and then said.
 #![tactic(auto)]
 
-mod ask;
-mod base;
-mod cursors;
-mod known;
-mod lines;
-mod listing;
-mod places;
-mod print;
-mod queries;
+mod deciding;
 mod reading;
-mod states;
+mod showing;
 
-pub use cursors::{cursor_set, refuse_cursor};
-pub use lines::{refuse_at, say, say_ok};
-pub use listing::write_listing;
-pub use places::unnamed_place;
-pub use print::{push_line, push_set_line};
-pub use queries::query_of;
+pub use deciding::{based, decide};
 pub use reading::view;
+pub use showing::put_shown;

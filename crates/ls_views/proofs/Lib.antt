@@ -1,5 +1,0 @@
-pub mod Joins
-pub mod Fronts
-pub mod Bytes
-pub mod Placing
-mod Basing

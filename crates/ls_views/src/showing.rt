@@ -1,0 +1,68 @@
+// What is shown of an interview, said.
+ghost use Rattle.std.specs.Prelude.{◌≡◌, ◌≤◌, ◌+◌, ◌∷◌, [], true, length, Some, None};
+ghost use Rattle.ls_set.specs.Query.{is_good};
+ghost use Rattle.ls_reply.specs.Texts.{line_of, bytes_of};
+ghost use Rattle.ls_reply.specs.Lines.{known_words, question_words, shown_lines};
+ghost use Rattle.ls_writing.specs.Rooms.{Says};
+ghost use Rattle.ls_views.specs.Views.{CanShow, session_on, shown_steps};
+
+use ls_edge::Sink;
+use ls_expert::{Inquiry, Known};
+use ls_interior::{Counted, Steps};
+use ls_reply::Shown;
+use ls_set::{ItemSet, Query};
+use ls_writing::{Room, SetTexts, put_base, put_line, put_listing, put_numbered};
+use std::sync::ledger::Ledger;
+
+/// Says what is shown of the interview on named items. `sets` are those of its base, where that is shown.
+pub fn put_shown<K: Sink, L: Ledger>(
+    texts: &SetTexts,
+    inquiry: &Inquiry,
+    sets: &[ItemSet],
+    shown: &Shown,
+    room: &mut Room,
+    out: &mut K,
+    steps: &mut Steps<L>,
+)
+    requires items { length texts.now ≡ inquiry.now.count }
+    requires can { CanShow (session_on texts.now inquiry.now) sets.now shown.now }
+    ensures says { Says (K.written out.old) (K.faults out.old) room.old (K.written out.new) (K.faults out.new) room.new
+        (bytes_of (shown_lines (session_on texts.now inquiry.now) shown.now)) }
+    ensures cost { steps.new ≤ steps.old + shown_steps shown.now inquiry.now.count }
+{
+    match shown {
+        Shown::Known(known) => put_known(*known, room, out),
+        Shown::Question(Some(query)) => put_question(texts, query, room, out),
+        Shown::Question(None) => put_line(&[b"settled"], room, out),
+        Shown::States { count, after } => {
+            let states = Counted::new(inquiry.family());
+            put_listing(&states, texts, *after, *count, room, out, steps);
+        }
+        Shown::Base => put_base(texts, sets, room, out),
+    }
+}
+
+// Says what is known of a query.
+fn put_known<K: Sink>(known: Known, room: &mut Room, out: &mut K)
+    ensures { Says (K.written out.old) (K.faults out.old) room.old (K.written out.new) (K.faults out.new) room.new
+        (line_of (known_words known)) }
+{
+    match known {
+        Known::Yes => put_line(&[b"known", b"yes"], room, out),
+        Known::No { by } => put_numbered(&[b"known", b"no"], &[by], room, out),
+        Known::Unsettled => put_line(&[b"known", b"open"], room, out),
+    }
+}
+
+// Says a question.
+fn put_question<K: Sink>(texts: &SetTexts, query: &Query, room: &mut Room, out: &mut K)
+    requires { is_good (length texts.now) query.now ≡ true }
+    ensures { Says (K.written out.old) (K.faults out.old) room.old (K.written out.new) (K.faults out.new) room.new
+        (line_of (question_words texts.now (Some query.now))) }
+{
+    room.put(b"ask ", out);
+    texts.put_names(query.a, room, out);
+    room.put(b" : ", out);
+    texts.put_names(ItemSet::empty().with(query.q), room, out);
+    room.end_line(out);
+}
