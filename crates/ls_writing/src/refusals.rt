@@ -1,0 +1,118 @@
+// The lines of refusals, and of commands that were carried out.
+ghost use Rattle.std.specs.Prelude.{[], ◌∷◌, codes, decimal};
+ghost use Rattle.ls_reply.specs.Texts.{line_of};
+ghost use Rattle.ls_reply.specs.Refusals.{domain_words, block_words, answer_words, cursor_words, refusal_words};
+ghost use Rattle.ls_writing.specs.Rooms.{Says};
+
+use crate::{Room, put_line, put_numbered};
+use ls_domain::DomainFault;
+use ls_edge::Sink;
+use ls_reply::Refusal;
+use ls_set::CursorFault;
+use ls_theory::{AnswerFault, BlockFault};
+
+/// Says the line of a command that was carried out, with the number that it tells.
+pub fn put_done<K: Sink>(number: u64, room: &mut Room, out: &mut K)
+    ensures { Says (K.written out.old) (K.faults out.old) room.old (K.written out.new) (K.faults out.new) room.new
+        (line_of (codes "ok" ∷ decimal number ∷ [])) }
+{
+    put_numbered(&[b"ok"], &[number], room, out);
+}
+
+/// Says the line of a refusal: its code and its details.
+pub fn put_refusal<K: Sink>(refusal: &Refusal, room: &mut Room, out: &mut K)
+    ensures { Says (K.written out.old) (K.faults out.old) room.old (K.written out.new) (K.faults out.new) room.new
+        (line_of (codes "no" ∷ refusal_words refusal.now)) }
+{
+    match refusal {
+        Refusal::NoCommand { place } => {
+            put_numbered(&[b"no", b"10"], &[u64::from(*place)], room, out);
+        }
+        Refusal::LongLine { bytes } => put_numbered(&[b"no", b"10", b"long"], &[*bytes], room, out),
+        Refusal::DomainStands => put_line(&[b"no", b"11"], room, out),
+        Refusal::Domain(fault) => put_domain_fault(*fault, room, out),
+        Refusal::Unnamed { place } => put_numbered(&[b"no", b"15"], &[*place as u64], room, out),
+        Refusal::Block(fault) => put_block_fault(*fault, room, out),
+        Refusal::Answer(fault) => put_answer_fault(*fault, room, out),
+        Refusal::NotStanding => put_line(&[b"no", b"23"], room, out),
+        Refusal::Cursor(fault) => put_cursor_fault(*fault, room, out),
+        Refusal::Past { position, count } => {
+            put_numbered(&[b"no", b"25"], &[*position as u64, *count as u64], room, out);
+        }
+        Refusal::NoFile => put_line(&[b"no", b"26"], room, out),
+        Refusal::FileFailed => put_line(&[b"no", b"27"], room, out),
+        Refusal::LargeFile { bytes } => put_numbered(&[b"no", b"28"], &[*bytes], room, out),
+        Refusal::NotBuilt => put_line(&[b"no", b"49"], room, out),
+    }
+}
+
+// Says the refusal of names that are no domain.
+fn put_domain_fault<K: Sink>(fault: DomainFault, room: &mut Room, out: &mut K)
+    ensures { Says (K.written out.old) (K.faults out.old) room.old (K.written out.new) (K.faults out.new) room.new
+        (line_of (codes "no" ∷ domain_words fault)) }
+{
+    match fault {
+        DomainFault::NoItems => put_line(&[b"no", b"12", b"none"], room, out),
+        DomainFault::BadCsv { row } => put_row(b"csv", row, room, out),
+        DomainFault::BadName { row } => put_row(b"name", row, room, out),
+        DomainFault::Repeat { row, first } => {
+            let rows = [u64::from(row), u64::from(first)];
+            put_numbered(&[b"no", b"12", b"repeat"], &rows, room, out);
+        }
+        DomainFault::TooMany => put_line(&[b"no", b"12", b"many"], room, out),
+        DomainFault::Memory(_) => put_line(&[b"no", b"12"], room, out),
+    }
+}
+
+// Says the refusal of a row.
+fn put_row<K: Sink>(fault: &[u8], row: u32, room: &mut Room, out: &mut K)
+    ensures { Says (K.written out.old) (K.faults out.old) room.old (K.written out.new) (K.faults out.new) room.new
+        (line_of (codes "no" ∷ codes "12" ∷ fault.now ∷ decimal row ∷ [])) }
+{
+    put_numbered(&[b"no", b"12", fault], &[u64::from(row)], room, out);
+}
+
+// Says the refusal of blocks.
+fn put_block_fault<K: Sink>(fault: BlockFault, room: &mut Room, out: &mut K)
+    ensures { Says (K.written out.old) (K.faults out.old) room.old (K.written out.new) (K.faults out.new) room.new
+        (line_of (codes "no" ∷ block_words fault)) }
+{
+    match fault {
+        BlockFault::TooWide { size } => {
+            put_numbered(&[b"no", b"16"], &[u64::from(size)], room, out);
+        }
+        BlockFault::BadBlock => put_line(&[b"no", b"17"], room, out),
+        BlockFault::Memory(_) => put_line(&[b"no", b"16"], room, out),
+    }
+}
+
+// Says the refusal of an answer.
+fn put_answer_fault<K: Sink>(fault: AnswerFault, room: &mut Room, out: &mut K)
+    ensures { Says (K.written out.old) (K.faults out.old) room.old (K.written out.new) (K.faults out.new) room.new
+        (line_of (codes "no" ∷ answer_words fault)) }
+{
+    match fault {
+        AnswerFault::BadQuery => put_line(&[b"no", b"18"], room, out),
+        AnswerFault::Repeat { number } => put_numbered(&[b"no", b"19"], &[number], room, out),
+        AnswerFault::ForcedYes => put_line(&[b"no", b"20"], room, out),
+        AnswerFault::ForcedNo { by } => put_numbered(&[b"no", b"21"], &[by], room, out),
+        AnswerFault::Full => put_line(&[b"no", b"22"], room, out),
+        AnswerFault::Memory(_) => put_line(&[b"no", b"22"], room, out),
+    }
+}
+
+// Says the refusal of a cursor's text.
+fn put_cursor_fault<K: Sink>(fault: CursorFault, room: &mut Room, out: &mut K)
+    ensures { Says (K.written out.old) (K.faults out.old) room.old (K.written out.new) (K.faults out.new) room.new
+        (line_of (codes "no" ∷ cursor_words fault)) }
+{
+    match fault {
+        CursorFault::Length { had } => {
+            put_numbered(&[b"no", b"24", b"length"], &[had as u64], room, out);
+        }
+        CursorFault::Digit { place } => {
+            put_numbered(&[b"no", b"24", b"digit"], &[place as u64], room, out);
+        }
+        CursorFault::Spare => put_line(&[b"no", b"24", b"spare"], room, out),
+    }
+}
