@@ -4,34 +4,47 @@ ghost use Rattle.ls_reply.specs.Texts.{bytes_of};
 ghost use Rattle.ls_reply.specs.Sessions.{started};
 ghost use Rattle.ls_reply.specs.Meanings.{request_of};
 ghost use Rattle.ls_reply.specs.Lines.{shown_lines};
+ghost use Rattle.ls_reply.specs.Rows.{view_row, base_row, edit_row, retract_row};
 ghost use Rattle.ls_reply.specs.Replies.{asked_effect, unnamed_at};
 ghost use Rattle.ls_writing.specs.Rooms.{Says};
-ghost use Rattle.ls_course.specs.States.{CanShow, CanSay};
+ghost use Rattle.ls_meanings.specs.Asked.{IsOn};
+ghost use Rattle.ls_views.specs.Views.{CanShow, is_based};
+ghost use Rattle.ls_course.specs.States.{CanSay};
 
+use crate::changing::{set_blocks, take, take_back};
+use ls_base::Trail;
 use ls_domain::Domain;
 use ls_edge::Sink;
+use ls_expert::{Inquiry, Start};
 use ls_interior::Steps;
 use ls_lines::Command;
-use ls_reply::{Response, Shown};
-use ls_writing::Room;
+use ls_meanings::{Unnamed, resolve};
+use ls_reply::{Edit, Refusal, Request, Response, Shown, View};
+use ls_views::{based, decide, put_shown};
+use ls_writing::{Room, SetTexts};
 use std::alloc::{AllocError, Global};
 use std::marker::Model;
 use std::sync::ledger::Ledger;
 
-/// A domain, and the interview on its items.
+/// A domain, and the interview on its items. Its base is followed when it is asked for.
 #[derive(Drop)]
 pub struct Course {
     domain: Domain,
+    texts: SetTexts,
+    inquiry: Inquiry,
+    trail: Trail,
 }
 
 impl Model for Course {
-    ghost use Rattle.std.specs.Prelude.{[]};
-    ghost use Rattle.ls_reply.specs.Sessions.{started};
-    ghost use Rattle.ls_course.specs.States.{CourseState};
+    ghost use Rattle.ls_base.specs.Trails.{last_sets};
+    ghost use Rattle.ls_views.specs.Views.{session_on};
+    ghost use Rattle.ls_course.specs.States.{CourseState, IsCourse};
 
     ghost Value = { CourseState };
 
-    ghost view = { λ c. record { session = started c.domain; followed = [] } };
+    ghost view = { λ c. record { session = session_on c.domain c.inquiry; followed = last_sets c.trail } };
+
+    ghost invariant = { λ c. IsCourse c.domain c.texts c.inquiry c.trail };
 }
 
 impl Course {
@@ -43,13 +56,25 @@ impl Course {
     ) -> Result<Course, AllocError>
         ensures { IfOk result (λ c. c.session ≡ started domain) }
     {
-        let _ = alloc;
-        let _ = domain;
-        let _ = steps;
-        Err(AllocError)
+        let texts = SetTexts::new(alloc, &domain)?;
+        let inquiry = Inquiry::new(alloc, domain.count(), Start::Free, steps)?;
+        Ok(Course {
+            domain,
+            texts,
+            inquiry,
+            trail: Trail::new(alloc),
+        })
     }
 
-    /// Carries out what a command asks: answers its response. Where memory runs out nothing changes.
+    /// The names of the items.
+    pub fn domain(&self) -> &Domain
+        ensures value { result.now ≡ self.now.session.names }
+        ensures some { 0 < length result.now }
+    {
+        &self.domain
+    }
+
+    /// Carries out what a command asks, and answers the response. Where memory runs out nothing changes.
     pub fn ask<L: Ledger>(
         &mut self,
         command: &Command,
@@ -62,9 +87,12 @@ impl Course {
         ensures said { IfOk result (CanSay self.new) }
         ensures err { OnErr result (self.new.session ≡ self.old.session) }
     {
-        let _ = command;
-        let _ = steps;
-        Err(AllocError)
+        match resolve(&self.domain, command) {
+            Ok(Some(Request::View(view))) => self.view(&view, steps),
+            Ok(Some(Request::Edit(edit))) => self.edit(&edit, steps),
+            Ok(None) => Ok(Response::Refused(Refusal::NotBuilt)),
+            Err(Unnamed { place }) => Ok(Response::Refused(Refusal::Unnamed { place })),
+        }
     }
 
     /// Says what is shown of the interview.
@@ -75,18 +103,86 @@ impl Course {
         out: &mut K,
         steps: &mut Steps<L>,
     )
-        requires { CanShow self.now shown.now }
+        requires { CanShow self.now.session self.now.followed shown.now }
         ensures { Says (K.written out.old) (K.faults out.old) room.old (K.written out.new) (K.faults out.new) room.new
             (bytes_of (shown_lines self.now.session shown.now)) }
     {
-        loop {}
+        put_shown(
+            &self.texts,
+            &self.inquiry,
+            self.trail.sets(),
+            shown,
+            room,
+            out,
+            steps,
+        );
     }
 
-    /// The names of the items.
-    pub fn domain(&self) -> &Domain
-        ensures value { result.now ≡ self.now.session.names }
-        ensures some { 0 < length result.now }
+    // What is shown. The base is followed where it is asked for.
+    fn view<L: Ledger>(
+        &mut self,
+        view: &View,
+        steps: &mut Steps<L>,
+    ) -> Result<Response, AllocError>
+        requires { IsOn (length self.old.session.names) view.now }
+        ensures response { IfOk result (λ r. r ≡ view_row self.old.session.interview view.now) }
+        ensures session { self.new.session ≡ self.old.session }
+        ensures said { IfOk result (CanSay self.new) }
     {
-        &self.domain
+        match view {
+            View::Base => self.base(),
+            _ => Ok(decide(&self.inquiry, view, steps)),
+        }
+    }
+
+    // `base`
+    fn base(&mut self) -> Result<Response, AllocError>
+        ensures response { IfOk result (λ r. r ≡ base_row self.old.session.interview) }
+        ensures session { self.new.session ≡ self.old.session }
+        ensures said { IfOk result (CanSay self.new) }
+    {
+        if !self.trail.is_begun() {
+            let first = self.inquiry.first_base()?;
+            self.trail.begin(first)?;
+        }
+        self.trail.follow(self.inquiry.yes_queries())?;
+        match self.trail.last() {
+            Some(followed) => Ok(based(followed)),
+            None => unreachable!(),
+        }
+    }
+
+    // How the interview changes.
+    fn edit<L: Ledger>(
+        &mut self,
+        edit: &Edit,
+        steps: &mut Steps<L>,
+    ) -> Result<Response, AllocError>
+        ensures response { IfOk result (λ r. r ≡ (edit_row self.old.session.interview edit.now).response) }
+        ensures interview { OnOk result (self.new.session.interview ≡ (edit_row self.old.session.interview edit.now).next) }
+        ensures names { self.new.session.names ≡ self.old.session.names }
+        ensures said { IfOk result (CanSay self.new) }
+        ensures err { OnErr result (self.new.session ≡ self.old.session) }
+    {
+        match edit {
+            Edit::Blocks { size } => set_blocks(&mut self.inquiry, *size, steps),
+            Edit::Answer { query, yes } => take(&mut self.inquiry, *query, *yes, steps),
+            Edit::Retract { number } => Ok(self.take_back(*number, steps)),
+        }
+    }
+
+    // `retract NUMBER`: of the trail, what stands for the Yes answers before it is kept.
+    fn take_back<L: Ledger>(&mut self, number: u64, steps: &mut Steps<L>) -> Response
+        ensures response { result ≡ (retract_row self.old.session.interview number).response }
+        ensures interview { self.new.session.interview ≡ (retract_row self.old.session.interview number).next }
+        ensures names { self.new.session.names ≡ self.old.session.names }
+    {
+        let before = self.inquiry.rules_before(number);
+        let count = self.inquiry.yes_queries().len();
+        let response = take_back(&mut self.inquiry, number, steps);
+        if self.inquiry.yes_queries().len() < count {
+            self.trail.give_up(before);
+        }
+        response
     }
 }

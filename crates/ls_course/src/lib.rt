@@ -1,6 +1,7 @@
 //! A domain with the interview on its items, and the commands that ask something of it.
 #![tactic(auto)]
 
+mod changing;
 mod course;
 
 pub use course::Course;
