@@ -21,8 +21,6 @@ use Rattle.ls_query.proofs.Binomials.{choose-none, choose-more, choose-zero_more
 use Rattle.ls_query.proofs.BySize.{length-blocks_more, length-blocks_none}
 use Rattle.ls_query.proofs.Counted.{made-ok, none_too_wide}
 use Rattle.ls_infer.specs.Tables.{TableState, table_of}
-use Rattle.ls_base.specs.Followed.{IsFollowed}
-use Rattle.ls_base.specs.declared.followed.Followed.{Followed}
 use Rattle.ls_expert.specs.declared.start.Start.{Start}
 use Rattle.ls_expert.specs.declared.start.Start.TheVariants.{Free}
 use Rattle.ls_expert.specs.Starts.{start_of}
@@ -67,10 +65,9 @@ none-distinct : IsDistinct is_same_query []
 unfolding IsDistinct
 none-distinct = tt
 
-pub held-begun : (n : ℕ) (start : Start) (i : Interview) (rules : List Query) (t : TableState) (f : Followed) → 0 < n → n ≤ PLACES → begun n (start_of start) ≡ i → rules ≡ [] → t ≡ closures_of i → IsFollowed n (start_of start) [] f → IsHeld i rules t f
-held-begun n start i rules t f some few e none table based =
-    subst (λ (j : Interview). t ≡ closures_of j → IsHeld j rules t f) e (λ table. record {
-      based = based;
+pub held-begun : (n : ℕ) (start : Start) (i : Interview) (rules : List Query) (t : TableState) → 0 < n → n ≤ PLACES → begun n (start_of start) ≡ i → rules ≡ [] → t ≡ closures_of i → IsHeld i rules t
+held-begun n start i rules t some few e none table =
+    subst (λ (j : Interview). t ≡ closures_of j → IsHeld j rules t) e (λ table. record {
       some_items = some;
       few_items = few;
       ruled = none;
@@ -87,9 +84,8 @@ held-begun n start i rules t f some few e none table based =
     }) table
 
 -- other blocks, with their table
-pub held-blocks : (i : Interview) (k : ℕ) (rules : List Query) (t new : TableState) (f : Followed) → IsHeld i rules t f → new ≡ closures_of (record i { block = k }) → IsHeld (record i { block = k }) rules new f
-held-blocks i k rules t new f h table = record {
-  based = h.based;
+pub held-blocks : (i : Interview) (k : ℕ) (rules : List Query) (t new : TableState) → IsHeld i rules t → new ≡ closures_of (record i { block = k }) → IsHeld (record i { block = k }) rules new
+held-blocks i k rules t new h table = record {
   some_items = h.some_items;
   few_items = h.few_items;
   ruled = h.ruled;

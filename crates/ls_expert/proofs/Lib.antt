@@ -1,3 +1,4 @@
+pub mod AnswerLists
 mod Ruling
 mod Holding
 mod Taking

@@ -63,22 +63,6 @@ followed-by n m s t rs qs f en es eq h = subst (λ k. IsFollowed k t qs f) en (s
 pub own_blocks : (i : Interview) (t : TableState) → t ≡ closures_of i → t ≡ table_of t.blocks (compatible_sets i) (nos i.answers)
 own_blocks i t h = h ∙ ap (λ (b : BlockRange). table_of b (compatible_sets i) (nos i.answers)) (sym (ap (λ (t : TableState). t.blocks) h))
 
--- ---- answers
-
--- what holds of each answer holds of those that pass
-pub all-fewer : (q p : Answer → Bool) (answers : List Answer) → list_all q answers ≡ true → list_all q (filter p answers) ≡ true
-all-fewer q p [] h = refl
-all-fewer q p (x ∷ xs) h =
-    let b = and_parts (q x) (list_all q xs) h in
-    elim (p x) as (λ k. list_all q (cond k (x ∷ filter p xs) (filter p xs)) ≡ true) [
-      | true ↦ and_from (q x) (list_all q (filter p xs)) b.0 (all-fewer q p xs b.1)
-      | false ↦ all-fewer q p xs b.1
-    ]
-
--- and of what these tell
-pub all-told : {X : Type 0} (q : X → Bool) (p : Answer → Bool) (g : Answer → X) (answers : List Answer) → list_all (λ a. q (g a)) answers ≡ true → list_all q (map g (filter p answers)) ≡ true
-all-told q p g answers h = list_all-map q g (filter p answers) ∙ all-fewer (λ a. q (g a)) p answers h
-
 -- ---- questions
 
 found-in : {X : Type 0} (p : X → Bool) (xs : List X) (x : X) → find p xs ≡ Some x → IsIn x xs

@@ -33,7 +33,8 @@ use Rattle.ls_laws.proofs.Search.{fitting_some, All-list_all, list_all-All}
 use Rattle.ls_laws.proofs.Answering.{compatible_fit}
 use Rattle.ls_expert.specs.declared.start.Start.{Start}
 use Rattle.ls_expert.specs.Starts.{StartOn, start_of}
-use Rattle.ls_expert.proofs.Ruling.{ruled-compat, all-told}
+use Rattle.ls_expert.proofs.AnswerLists.{all-told}
+use Rattle.ls_expert.proofs.Ruling.{ruled-compat}
 use Rattle.ls_expert.proofs.Holding.{start-whole, range-of}
 
 -- ---- what is left of a list

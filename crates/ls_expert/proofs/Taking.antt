@@ -34,6 +34,7 @@ use Rattle.ls_base.specs.Followed.{IsFollowed, IsAskable}
 use Rattle.ls_base.specs.declared.followed.Followed.{Followed}
 use Rattle.ls_base.specs.declared.followed.Followed.TheVariants.{Within, Past}
 use Rattle.ls_expert.specs.Held.{blocks_of, closures_of, IsHeld}
+use Rattle.ls_expert.proofs.AnswerLists.{yes_queries-yes, yes_queries-no, nos-yes, nos-no}
 
 -- ---- what a refusal that isn't found tells
 
@@ -87,43 +88,6 @@ pub free-no : (i : Interview) (r : Query) → opposed (known i r) false ≡ None
 unfolding known
 free-no i r e = unopposed_no (is_forced_yes (spaces_of i) r) _ e
 
--- ---- lists of answers
-
-module _ {X : Type 0} (p : Answer → Bool) (g : Answer → X) where
-  -- the images of the answers that pass
-  abbrev told : List Answer → List X
-  told answers = map g (filter p answers)
-
-  told-last : (answers : List Answer) (a : Answer) → p a ≡ true → told (answers ++ a ∷ []) ≡ told answers ++ g a ∷ []
-  told-last [] a e = rw e refl
-  told-last (x ∷ answers) a e = elim (p x) as (λ b. map g (cond b (x ∷ filter p (answers ++ a ∷ [])) (filter p (answers ++ a ∷ []))) ≡ map g (cond b (x ∷ filter p answers) (filter p answers)) ++ g a ∷ []) [
-    | true ↦ ap (λ l. g x ∷ l) (told-last answers a e)
-    | false ↦ told-last answers a e
-  ]
-
-  told-passed : (answers : List Answer) (a : Answer) → p a ≡ false → told (answers ++ a ∷ []) ≡ told answers
-  told-passed [] a e = rw e refl
-  told-passed (x ∷ answers) a e = elim (p x) as (λ b. map g (cond b (x ∷ filter p (answers ++ a ∷ [])) (filter p (answers ++ a ∷ []))) ≡ map g (cond b (x ∷ filter p answers) (filter p answers))) [
-    | true ↦ ap (λ l. g x ∷ l) (told-passed answers a e)
-    | false ↦ told-passed answers a e
-  ]
-
-module _ (i : Interview) (r : Query) where
-  abbrev answer_of : Bool → Answer
-  answer_of is_yes = record { number = i.next; query = r; yes = is_yes }
-
-  pub yes_queries-yes : yes_queries (accepted i r true).answers ≡ yes_queries i.answers ++ r ∷ []
-  yes_queries-yes = told-last (λ a. a.yes) (λ a. a.query) i.answers (answer_of true) refl
-
-  pub yes_queries-no : yes_queries (accepted i r false).answers ≡ yes_queries i.answers
-  yes_queries-no = told-passed (λ a. a.yes) (λ a. a.query) i.answers (answer_of false) refl
-
-  pub nos-no : nos (accepted i r false).answers ≡ nos i.answers ++ record { number = i.next; query = r } ∷ []
-  nos-no = told-last (λ a. not a.yes) (λ a. record { number = a.number; query = a.query }) i.answers (answer_of false) refl
-
-  pub nos-yes : nos (accepted i r true).answers ≡ nos i.answers
-  nos-yes = told-passed (λ a. not a.yes) (λ a. record { number = a.number; query = a.query }) i.answers (answer_of true) refl
-
 -- ---- what is kept
 
 all-last : (q : Answer → Bool) (answers : List Answer) (a : Answer) → list_all q answers ≡ true → q a ≡ true → list_all q (answers ++ a ∷ []) ≡ true
@@ -152,12 +116,11 @@ room_left : (i : Interview) → is_full i ≡ false → (length i.answers < most
 room_left i e = grind (arith, nat_tests)
 
 -- an answer is taken
-taken : (i : Interview) (r : Query) (is_yes : Bool) (rules after : List Query) (t new : TableState) (f g : Followed) → IsHeld i rules t f → Passes i r is_yes → IsSound (accepted i r is_yes)
-    → after ≡ yes_queries (accepted i r is_yes).answers → new ≡ closures_of (accepted i r is_yes) → IsFollowed i.count i.start (yes_queries (accepted i r is_yes).answers) g → IsHeld (accepted i r is_yes) after new g
-taken i r is_yes rules after t new f g h p sound ruled tabled based =
+taken : (i : Interview) (r : Query) (is_yes : Bool) (rules after : List Query) (t new : TableState) → IsHeld i rules t → Passes i r is_yes → IsSound (accepted i r is_yes)
+    → after ≡ yes_queries (accepted i r is_yes).answers → new ≡ closures_of (accepted i r is_yes) → IsHeld (accepted i r is_yes) after new
+taken i r is_yes rules after t new h p sound ruled tabled =
     let room = room_left i p.room in
     record {
-      based = based;
       some_items = h.some_items;
       few_items = h.few_items;
       ruled = ruled;
@@ -173,27 +136,17 @@ taken i r is_yes rules after t new f g h p sound ruled tabled based =
       };
     }
 
--- a good query can be asked of what is followed
-askable-from : (n : ℕ) (start : Start) (yeses : List Query) (f : Followed) (r : Query) → IsFollowed n start yeses f → is_good n r ≡ true → IsAskable f r
-askable-from n start yeses (Within b) r h good = ap (λ m. is_good m r) h.items ∙ good
-askable-from n start yeses (Past position count) r h good = tt
-
-module _ (i : Interview) (r : Query) (rules : List Query) (t new : TableState) (f : Followed) (h : IsHeld i rules t f) where
-  pub askable-yes : refusal i r true ≡ None → IsAskable f r
-  askable-yes e = askable-from i.count i.start (yes_queries i.answers) f r h.based (passes-from i r true e).good
-
-  pub held-yes : (after : List Query) (g : Followed) → refusal i r true ≡ None → after ≡ rules ++ r ∷ [] → new ≡ closures_of (accepted i r true) → IsFollowed i.count i.start (yes_queries i.answers ++ r ∷ []) g → IsHeld (accepted i r true) after new g
-  held-yes after g e ruled tabled based =
+module _ (i : Interview) (r : Query) (rules : List Query) (t new : TableState) (h : IsHeld i rules t) where
+  pub held-yes : (after : List Query) → refusal i r true ≡ None → after ≡ rules ++ r ∷ [] → new ≡ closures_of (accepted i r true) → IsHeld (accepted i r true) after new
+  held-yes after e ruled tabled =
       let p = passes-from i r true e in
-      taken i r true rules after t new f g h p (yes_added i r h.standing.sound p.good (free-yes i r h.standing.sound.some_fits p.unopposed))
+      taken i r true rules after t new h p (yes_added i r h.standing.sound p.good (free-yes i r h.standing.sound.some_fits p.unopposed))
       (ruled ∙ ap (λ l. l ++ r ∷ []) h.ruled ∙ sym (yes_queries-yes i r)) tabled
-      (subst (λ (rs : List Query). IsFollowed i.count i.start rs g) (sym (yes_queries-yes i r)) based)
 
-  pub held-no : refusal i r false ≡ None → new ≡ closures_of (accepted i r false) → IsHeld (accepted i r false) rules new f
+  pub held-no : refusal i r false ≡ None → new ≡ closures_of (accepted i r false) → IsHeld (accepted i r false) rules new
   held-no e tabled =
       let p = passes-from i r false e in
-      taken i r false rules rules t new f f h p (no_added i r h.standing.sound p.good (free-no i r p.unopposed)) (h.ruled ∙ sym (yes_queries-no i r)) tabled
-      (subst (λ (rs : List Query). IsFollowed i.count i.start rs f) (sym (yes_queries-no i r)) h.based)
+      taken i r false rules rules t new h p (no_added i r h.standing.sound p.good (free-no i r p.unopposed)) (h.ruled ∙ sym (yes_queries-no i r)) tabled
 
 -- ---- tables
 

@@ -1,5 +1,5 @@
--- What an interview keeps true of its parts.
-use Rattle.std.specs.Prelude.{◌≡◌, ℕ, ◌+◌, ◌<◌, ◌≤◌, true, List, map, length}
+-- What an inquiry keeps true of its parts.
+use Rattle.std.specs.Prelude.{◌≡◌, ℕ, ◌+◌, ◌<◌, ◌≤◌, true, ◌&&◌, nat_lt, List, map, length, count_by}
 use Rattle.std.specs.List.{list_all, IsDistinct}
 use Rattle.ls_set.specs.declared.item_set.TheConstants.{PLACES}
 use Rattle.ls_set.specs.declared.query.Query.{Query}
@@ -11,8 +11,6 @@ use Rattle.ls_theory.specs.Blocks.{BlockRange}
 use Rattle.ls_theory.specs.Answering.{most_answers, most_number, is_same_query}
 use Rattle.ls_laws.specs.Forced.{IsSound, IsNumbered}
 use Rattle.ls_infer.specs.Tables.{TableState, table_of}
-use Rattle.ls_base.specs.Followed.{IsFollowed}
-use Rattle.ls_base.specs.declared.followed.Followed.{Followed}
 use Rattle.ls_expert.specs.Starts.{StartOn}
 
 -- the interview that the parts make
@@ -38,11 +36,14 @@ pub record IsStanding (i : Interview) : Type 0 where
   pub some_number : 0 < i.next
   pub numbers_left : i.next ≤ most_number + 1
 
--- The answers stand, the rules are the Yes answers, the table is that of what stands, and the base is followed over the Yes answers.
-pub record IsHeld (i : Interview) (rules : List Query) (table : TableState) (followed : Followed) : Type 0 where
+-- how many Yes answers have a smaller number
+abbrev pub rules_before : List Answer → ℕ → ℕ
+rules_before answers number = count_by (λ a. a.yes && nat_lt a.number number) answers
+
+-- The answers stand, the rules are the Yes answers, and the table is that of what stands.
+pub record IsHeld (i : Interview) (rules : List Query) (table : TableState) : Type 0 where
   pub some_items : 0 < i.count
   pub few_items : i.count ≤ PLACES
   pub ruled : rules ≡ yes_queries i.answers
   pub tabled : table ≡ closures_of i
   pub standing : IsStanding i
-  pub based : IsFollowed i.count i.start (yes_queries i.answers) followed

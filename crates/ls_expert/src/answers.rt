@@ -2,8 +2,9 @@
 ghost use Rattle.std.specs.Prelude.{◌≡◌, ◌+◌, ◌<◌, ◌≤◌, ◌++◌, ◌∷◌, [], ◌&&◌, ◌==◌, not, nat_lt, filter, find, count_by, vec_len, vec_capacity, IfOk, IfSome};
 ghost use Rattle.ls_theory.specs.Interviews.{nos, yes_queries};
 ghost use Rattle.ls_theory.specs.Answering.{opposed};
+ghost use Rattle.ls_expert.specs.Held.{rules_before};
 
-use crate::interview::MOST_NUMBER;
+use crate::inquiry::MOST_NUMBER;
 use ls_set::Query;
 use ls_theory::{Answer, AnswerFault, Known, No};
 use std::alloc::{AllocError, Global};
@@ -77,7 +78,7 @@ pub fn put_last(answers: &mut Vec<Answer>, next: &mut u64, query: &Query, yes: b
 
 /// How many Yes answers have a smaller number.
 pub fn rules_before(answers: &[Answer], number: u64) -> usize
-    ensures { result ≡ count_by (λ a. a.yes && nat_lt a.number number) answers.now }
+    ensures { result ≡ rules_before answers.now number }
 {
     answers
         .iter()

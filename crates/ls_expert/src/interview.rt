@@ -1,85 +1,52 @@
 // The interview of an expert.
-ghost use Rattle.std.specs.Prelude.{◌≡◌, ◌+◌, ◌-◌, max, ◌*◌, ◌<◌, ◌≤◌, ◌++◌, ◌∷◌, [], true, false, length, filter, count_by, not, ◌&&◌, ◌==◌, nat_lt, find, vec_len, vec_capacity, Some, None, Ok, Err, IsSome, IsNone, IfOk, IfErr, IfSome, OnOk, OnErr};
+ghost use Rattle.std.specs.Prelude.{◌≡◌, ◌+◌, ◌-◌, max, ◌<◌, ◌≤◌, ◌∷◌, [], true, false, filter, Some, None, Ok, Err, IsSome, IsNone, IfOk, IfErr, IfSome, OnOk, OnErr};
 ghost use Rattle.std.specs.Option.{ForSome, option_map};
-ghost use Rattle.std.specs.List.{list_all};
 ghost use Rattle.ls_set.specs.Query.{is_good};
 ghost use Rattle.ls_theory.specs.Queries.{breaks_none};
-ghost use Rattle.ls_theory.specs.Interviews.{begun, accepted, retracted, yes_queries, nos};
+ghost use Rattle.ls_theory.specs.Interviews.{begun, accepted, retracted, yes_queries};
 ghost use Rattle.ls_theory.specs.Compatible.{compat, compatible_sets};
 ghost use Rattle.ls_theory.specs.Fitting.{spaces_of};
 ghost use Rattle.ls_theory.specs.Forced.{known, next_question, is_settled};
 ghost use Rattle.ls_theory.specs.Blocks.{made, IsBlockFault};
-ghost use Rattle.ls_theory.specs.declared.block_fault.BlockFault.TheVariants as block;
-ghost use Rattle.ls_theory.specs.Answering.{refusal, standing_number, answer_with, opposed, is_full, IsFaultOf};
-ghost use Rattle.ls_infer.specs.Tables.{table_of};
+ghost use Rattle.ls_theory.specs.Answering.{refusal, answer_with, IsFaultOf};
 ghost use Rattle.ls_base.specs.Followed.{IsFollowed};
 ghost use Rattle.ls_expert.specs.Held.{blocks_of, IsStanding};
+ghost use Rattle.ls_expert.specs.Saved.{IsStandingFault};
 ghost use Rattle.ls_expert.specs.Steps.{steps_back, most_steps};
 
-mod resumed;
-
-use crate::answers::{answer_with, nos, opposed, put_last, rules_before, take_out, yes_others};
 use crate::bad_query::BadQuery;
+use crate::inquiry::Inquiry;
 use crate::on_items::OnItems;
 use crate::retract_fault::RetractFault;
+use crate::standing_fault::StandingFault;
 use crate::start::Start;
 use ls_base::Followed;
-use ls_infer::Table;
-use ls_interior::{Counted, Inside, Steps};
+use ls_interior::Steps;
 use ls_query::{BlockFault, Blocks};
 use ls_rules::Ruled;
 use ls_set::{PLACES, Query};
-use ls_theory::{Answer, AnswerFault, Known, No};
+use ls_theory::{Answer, AnswerFault, Known};
 use std::alloc::{AllocError, Global};
 use std::marker::Model;
 use std::sync::ledger::Ledger;
 
-/// The most answers that stand.
-pub const MOST_ANSWERS: usize = 8192;
-
-/// The greatest number of an answer.
-pub const MOST_NUMBER: u64 = 999_999_999;
-
-/// The interview of an expert: the items, the start, the greatest size of the sets that are asked,
-/// the standing answers in order of number, and the number of the next. Some space fits its answers.
-/// (The QUERY routine.)
+/// The interview of an expert: an inquiry, with the base of its compatible sets, which is kept at
+/// each Yes and so is there without memory.
 #[derive(Drop)]
 pub struct Interview {
-    alloc: Global,
-    // the sets that meet the start, with the Yes answers as rules
-    family: Ruled<OnItems>,
-    answers: Vec<Answer>,
-    next: u64,
-    block: u32,
-    table: Table,
+    inquiry: Inquiry,
     followed: Followed,
 }
 
 impl Model for Interview {
-    ghost use Rattle.ls_theory.specs.Interviews.{Interview as Standing};
-    ghost use Rattle.ls_expert.specs.Held.{interview_of, IsHeld};
+    ghost use Rattle.ls_theory.specs.Interviews.{Interview as Standing, yes_queries};
+    ghost use Rattle.ls_base.specs.Followed.{IsFollowed};
 
     ghost Value = { Standing };
 
-    ghost view = { λ s. interview_of s.family.inner s.block s.answers.items s.next };
+    ghost view = { λ s. s.inquiry };
 
-    ghost invariant = { λ s. IsHeld (interview_of s.family.inner s.block s.answers.items s.next) s.family.rules s.table.table s.followed };
-}
-
-// The table of a family with rules, for the answers that are No.
-fn build<L: Ledger>(
-    alloc: Global,
-    blocks: Blocks,
-    family: &Ruled<OnItems>,
-    answers: &[Answer],
-    steps: &mut Steps<L>,
-) -> Result<Table, AllocError>
-    requires items { family.now.inner.item_count ≡ blocks.item_count }
-    requires good { list_all (λ a. is_good blocks.item_count a.query) answers.now ≡ true }
-    ensures { IfOk result (λ t. t.table ≡ table_of blocks (compat blocks.item_count family.now.inner.start family.now.rules) (nos answers.now)) }
-{
-    let nos = nos(alloc, answers)?;
-    Table::build(alloc, blocks, &Counted::new(family), &nos, steps)
+    ghost invariant = { λ s. IsFollowed s.inquiry.count s.inquiry.start (yes_queries s.inquiry.answers) s.followed };
 }
 
 impl Interview {
@@ -97,20 +64,33 @@ impl Interview {
         requires few { n ≤ PLACES }
         ensures { IfOk result (λ i. i ≡ begun n (start_of start)) }
     {
-        let family = Ruled::new(alloc, OnItems::new(n, start));
-        let answers = Vec::new(alloc);
-        let blocks = Blocks::new(n, 1).unwrap();
-        let table = build(alloc, blocks, &family, &answers, steps)?;
-        let followed = Followed::begin(family.inner().base(alloc)?);
-        Ok(Interview {
-            alloc,
-            family,
-            answers,
-            next: 1,
-            block: 1,
-            table,
-            followed,
-        })
+        let inquiry = Inquiry::new(alloc, n, start, steps)?;
+        let followed = Followed::begin(inquiry.first_base()?);
+        Ok(Interview { inquiry, followed })
+    }
+
+    /// The interview on `n` items that began with the start and goes on from answers that stand, as
+    /// from saved ones: `next` is the number of the next, and queries of sets of 1 to `k` items are
+    /// asked. Blocks that cannot be made are refused first.
+    pub fn from_standing<L: Ledger>(
+        alloc: Global,
+        n: u32,
+        start: Start,
+        k: u32,
+        next: u64,
+        answers: &[Answer],
+        steps: &mut Steps<L>,
+    ) -> Result<Interview, StandingFault>
+        requires some { 0 < n }
+        requires few { n ≤ PLACES }
+        ensures ok { IfOk result (λ i. i ≡ record { count = n; start = start_of start; block = k; answers = answers.now; next = next }) }
+        ensures made { IfOk result (λ i. made n k ≡ Ok (blocks_of i)) }
+        ensures standing { IfOk result (λ i. IsStanding i) }
+        ensures fault { IfErr result (IsStandingFault (record { count = n; start = start_of start; block = k; answers = answers.now; next = next })) }
+    {
+        let inquiry = Inquiry::from_standing(alloc, n, start, k, next, answers, steps)?;
+        let followed = Followed::over(inquiry.first_base()?, inquiry.yes_queries())?;
+        Ok(Interview { inquiry, followed })
     }
 
     /// Asks queries of sets of 1 to `k` items from now on; it may be called at any time. It is refused
@@ -121,14 +101,7 @@ impl Interview {
         ensures fault { IfErr result (IsBlockFault (made self.old.count k)) }
         ensures err { OnErr result (self.new ≡ self.old) }
     {
-        let blocks = Blocks::new(self.family.items(), k)?;
-        let table = match build(self.alloc, blocks, &self.family, &self.answers, steps) {
-            Ok(table) => table,
-            Err(e) => return Err(BlockFault::Memory(e)),
-        };
-        self.table = table;
-        self.block = k;
-        Ok(())
+        self.inquiry.set_blocks(k, steps)
     }
 
     /// Takes the expert's answer to a query, and gives its number. It is refused by the first of these
@@ -149,56 +122,13 @@ impl Interview {
         ensures cost { steps.new ≤ steps.old + most_steps self.old query yes }
         ensures refused { OnErr result (steps.new ≤ steps.old + 1) }
     {
-        self.test(&query, yes, steps)?;
+        self.inquiry.test(&query, yes, steps)?;
         let number = if yes {
             self.take_yes(&query, steps)
         } else {
-            self.take_no(&query, steps)
+            self.inquiry.take(&query, false, steps)
         };
         Ok(number?)
-    }
-
-    // Whether the answer is taken, or why it isn't.
-    fn test<L: Ledger>(
-        &self,
-        query: &Query,
-        yes: bool,
-        steps: &mut Steps<L>,
-    ) -> Result<(), AnswerFault>
-        ensures ok { OnOk result (refusal self.now query.now yes ≡ None) }
-        ensures fault { IfErr result (λ e. refusal self.now query.now yes ≡ Some e) }
-        ensures cost { steps.new ≤ steps.old + 1 }
-    {
-        let Ok(known) = self.known(query, steps) else {
-            return Err(AnswerFault::BadQuery);
-        };
-        if let Some(number) = self.standing_number(query) {
-            return Err(AnswerFault::Repeat { number });
-        }
-        if let Some(fault) = opposed(known, yes) {
-            return Err(fault);
-        }
-        if self.is_full() {
-            return Err(AnswerFault::Full);
-        }
-        Ok(())
-    }
-
-    // The number of the standing answer to the query, if there is one.
-    #[tactic(auto, unfolding(ls_set::specs::ItemSet::is_same))]
-    fn standing_number(&self, query: &Query) -> Option<u64>
-        ensures { result ≡ standing_number self.now query.now }
-    {
-        self.answers
-            .iter()
-            .find(|a| a.query == *query)
-            .map(|a| a.number)
-    }
-
-    fn is_full(&self) -> bool
-        ensures { result ≡ is_full self.now }
-    {
-        self.answers.len() >= MOST_ANSWERS || self.next > MOST_NUMBER
     }
 
     // Takes a Yes that is not refused.
@@ -214,34 +144,11 @@ impl Interview {
         ensures cost { steps.new + 1 ≤ steps.old + most_steps self.old query.now true }
         ensures refused { OnErr result (steps.new ≡ steps.old) }
     {
-        self.answers.reserve(1)?;
-        self.family.reserve()?;
-        let position = self.family.rules().len() + 1;
+        let position = self.inquiry.yes_queries().len() + 1;
         let followed = self.followed.after_yes(position, query)?;
+        let number = self.inquiry.take(query, true, steps)?;
         self.followed = followed;
-        self.family.push_reserved(*query);
-        self.table
-            .yes_added(&Counted::new(&self.family), query, steps);
-        Ok(put_last(&mut self.answers, &mut self.next, query, true))
-    }
-
-    // Takes a No that is not refused.
-    fn take_no<L: Ledger>(&mut self, query: &Query, steps: &mut Steps<L>) -> Result<u64, AllocError>
-        requires { refusal self.old query.now false ≡ None }
-        ensures number { IfOk result (λ m. m ≡ self.old.next) }
-        ensures ok { OnOk result (self.new ≡ accepted self.old query.now false) }
-        ensures err { OnErr result (self.new ≡ self.old) }
-        ensures cost { steps.new + 1 ≤ steps.old + most_steps self.old query.now false }
-        ensures refused { OnErr result (steps.new ≡ steps.old) }
-    {
-        self.answers.reserve(1)?;
-        self.table.reserve_no()?;
-        let no = No {
-            number: self.next,
-            query: *query,
-        };
-        self.table.no_added(&Counted::new(&self.family), no, steps);
-        Ok(put_last(&mut self.answers, &mut self.next, query, false))
+        Ok(number)
     }
 
     /// Takes back the answer with the number, which is never given again. It is refused where no
@@ -257,13 +164,13 @@ impl Interview {
         ensures err { OnErr result (self.new ≡ self.old) }
         ensures cost { steps.new ≤ steps.old + steps_back self.old (answer_with self.old number) }
     {
-        let Some(answer) = answer_with(&self.answers, number) else {
+        let Some(answer) = self.inquiry.answer_with(number) else {
             return Err(RetractFault::NotStanding);
         };
         if answer.yes {
             self.take_back_yes(&answer, steps)?;
         } else {
-            self.take_back_no(&answer);
+            self.inquiry.take_back(&answer, steps);
         }
         Ok(())
     }
@@ -274,31 +181,16 @@ impl Interview {
         answer: &Answer,
         steps: &mut Steps<L>,
     ) -> Result<(), AllocError>
-        requires stands { answer_with self.old answer.now.number ≡ Some answer.now }
-        requires yes { answer.now.yes ≡ true }
+        requires { answer_with self.old answer.now.number ≡ Some answer.now }
         ensures ok { OnOk result (self.new ≡ retracted self.old answer.now.number) }
         ensures err { OnErr result (self.new ≡ self.old) }
         ensures cost { steps.new ≤ steps.old + steps_back self.old (Some answer.now) }
     {
-        let others = yes_others(self.alloc, &self.answers, answer.number)?;
-        let followed = Followed::over(self.family.inner().base(self.alloc)?, &others)?;
+        let others = self.inquiry.yes_others(answer.number)?;
+        let followed = Followed::over(self.inquiry.first_base()?, &others)?;
+        self.inquiry.take_back(answer, steps);
         self.followed = followed;
-        let rule = rules_before(&self.answers, answer.number);
-        self.family.remove(rule);
-        self.table
-            .yes_removed(&Counted::new(&self.family), &answer.query, steps);
-        take_out(&mut self.answers, answer.number);
         Ok(())
-    }
-
-    // Takes back a No that stands.
-    fn take_back_no(&mut self, answer: &Answer)
-        requires stands { answer_with self.old answer.now.number ≡ Some answer.now }
-        requires no { answer.now.yes ≡ false }
-        ensures ok { self.new ≡ retracted self.old answer.now.number }
-    {
-        self.table.no_removed(answer.number);
-        take_out(&mut self.answers, answer.number);
     }
 
     /// What the standing answers tell of the query, in at most one interior and without memory.
@@ -308,10 +200,7 @@ impl Interview {
         ensures bad { OnErr result (is_good self.now.count q.now ≡ false) }
         ensures cost { steps.new ≤ steps.old + 1 }
     {
-        if !q.is_good(self.family.items()) {
-            return Err(BadQuery);
-        }
-        Ok(self.table.answer_of(&Counted::new(&self.family), q, steps))
+        self.inquiry.known(q, steps)
     }
 
     /// The first open query of the blocks that comes after the given good one, or the first of all. It
@@ -321,7 +210,7 @@ impl Interview {
         ensures value { result ≡ next_question self.now (option_map (λ r. r.now) after.entry) }
         ensures good { IfSome result (λ r. is_good self.now.count r ≡ true) }
     {
-        self.table.next_unsettled(after)
+        self.inquiry.next_question(after)
     }
 
     /// Whether no query of the blocks is open. Where the largest sets are asked, exactly one space then
@@ -330,7 +219,7 @@ impl Interview {
         ensures value { result ≡ is_settled self.now }
         ensures one { result ≡ true → self.now.block ≡ max 1 (self.now.count - 1) → spaces_of self.now ≡ compatible_sets self.now ∷ [] }
     {
-        self.table.next_unsettled(None).is_none()
+        self.inquiry.settled()
     }
 
     /// The standing answers, in order of number.
@@ -338,14 +227,14 @@ impl Interview {
         ensures value { result.now ≡ self.now.answers }
         ensures standing { IsStanding self.now }
     {
-        &self.answers
+        self.inquiry.standing()
     }
 
     /// The number of the next answer.
     pub fn next_number(&self) -> u64
         ensures { result ≡ self.now.next }
     {
-        self.next
+        self.inquiry.next_number()
     }
 
     /// How many items there are.
@@ -354,28 +243,28 @@ impl Interview {
         ensures some { 0 < result }
         ensures few { result ≤ PLACES }
     {
-        self.family.items()
+        self.inquiry.items()
     }
 
     /// The greatest size of the sets that are asked.
     pub fn block(&self) -> u32
         ensures { result ≡ self.now.block }
     {
-        self.block
+        self.inquiry.block()
     }
 
     /// The blocks of the sets that are asked.
     pub fn blocks(&self) -> Blocks
         ensures { result ≡ blocks_of self.now }
     {
-        self.table.blocks()
+        self.inquiry.blocks()
     }
 
     /// The start.
     pub fn start(&self) -> &Start
         ensures { start_of result.now ≡ self.now.start }
     {
-        self.family.inner().start()
+        self.inquiry.start()
     }
 
     /// The family of the compatible sets: those that meet the start and break no Yes.
@@ -384,7 +273,14 @@ impl Interview {
         ensures rules { result.now.rules ≡ yes_queries self.now.answers }
         ensures members { filter (breaks_none result.now.rules) (compat result.now.inner.item_count result.now.inner.start []) ≡ compatible_sets self.now }
     {
-        &self.family
+        self.inquiry.family()
+    }
+
+    /// The inquiry.
+    pub fn inquiry(&self) -> &Inquiry
+        ensures { result.now ≡ self.now }
+    {
+        &self.inquiry
     }
 
     /// The base of the compatible sets; or, where it had too many sets under the first Yes answers, the

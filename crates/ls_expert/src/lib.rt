@@ -1,8 +1,10 @@
-//! The interview of an expert: what was asked and answered, and what follows from it.
+//! The interview of an expert: what was asked and answered, and what follows from it; and the base of
+//! what is left, followed over the Yes answers.
 #![tactic(auto)]
 
 mod answers;
 mod bad_query;
+mod inquiry;
 mod interview;
 mod on_items;
 mod retract_fault;
@@ -11,7 +13,8 @@ mod standing_fault;
 mod start;
 
 pub use bad_query::BadQuery;
-pub use interview::{Interview, MOST_ANSWERS, MOST_NUMBER};
+pub use inquiry::{Inquiry, MOST_ANSWERS, MOST_NUMBER};
+pub use interview::Interview;
 pub use ls_theory::{Answer, AnswerFault, Known, No};
 pub use on_items::OnItems;
 pub use retract_fault::RetractFault;

@@ -11,7 +11,7 @@ ghost use Rattle.ls_theory.specs.Answering.{is_same_query};
 ghost use Rattle.ls_laws.specs.Forced.{IsSound};
 ghost use Rattle.ls_expert.specs.Held.{interview_of, IsStanding};
 
-use crate::interview::{MOST_ANSWERS, MOST_NUMBER};
+use crate::inquiry::{MOST_ANSWERS, MOST_NUMBER};
 use crate::on_items::OnItems;
 use ls_interior::{Interior, Steps};
 use ls_rules::Ruled;

@@ -1,27 +1,14 @@
-use Rattle.std.proofs.Common.{◌≡◌, ◌∷◌, ◌++◌, ◌+◌, [], length, List, true, ap, ap₂, ◌∙◌}
+use Rattle.std.proofs.Common.{◌≡◌, ◌+◌, List, length, sym, ap, subst}
 use Rattle.ls_set.specs.declared.query.Query.{Query}
 use Rattle.ls_theory.specs.Interviews.{Interview, yes_queries}
-use Rattle.ls_theory.specs.Compatible.{compat}
-use Rattle.ls_theory.specs.Answering.{refusal}
-use Rattle.ls_expert.specs.Starts.{StartOn}
-use Rattle.ls_expert.specs.Held.{interview_of}
-use Rattle.ls_expert.proofs.Ruling.{ruled-compat}
-use Rattle.ls_expert.proofs.Taking.{held-yes, tabled-yes}
+use Rattle.ls_base.specs.Followed.{IsFollowed}
+use Rattle.ls_expert.proofs.AnswerLists.{yes_queries-yes}
 use Rattle.ls_expert.proofs.interview.Interview.take_yes.Goals as goal
 
 pub invariant_of-self-2 : goal.invariant_of-self-2
 invariant_of-self-2 g c =
-    let s = c.self.inside.family.inner in
-    let i = interview_of s c.self.inside.block c.self.inside.answers.items c.self.inside.next in
-    let r = c.args.query.now in
-    let h = c.self.invariant in
-    let inner : c.push_reserved.new.self.inner ≡ s = c.push_reserved.ensures.inner ∙ c.reserve-2.ensures.inner in
-    let ruled : c.push_reserved.new.self.rules ≡ c.self.inside.family.rules ++ r ∷ [] = c.push_reserved.ensures.rules ∙ ap (λ (l : List Query). l ++ r ∷ []) c.reserve-2.ensures.rules in
-    let family =
-    ruled-compat c.push_reserved.new.self.inner.item_count c.push_reserved.new.self.inner.start c.push_reserved.new.self.rules
-    ∙ ap₂ (λ (u : StartOn) (l : List Query). compat u.item_count u.start l) inner (ruled ∙ ap (λ (l : List Query). l ++ r ∷ []) h.ruled) in
-    let held = held-yes i r c.self.inside.family.rules c.self.inside.table.table c.yes_added.new.self.table c.self.inside.followed h c.push_reserved.new.self.rules _
-    (ap (λ (j : Interview). refusal j r true) c.self.view_is ∙ c.requires) ruled
-    (tabled-yes i r c.self.inside.table.table c.yes_added.new.self.table _ h.tabled (rw c.new.ensures family) c.yes_added.ensures.kept)
-    (c.in_ok-followed.ensures.followed s.item_count s.start (yes_queries i.answers) h.based (ap (λ (l : List Query). length l + 1) (c.rules.ensures ∙ c.reserve-2.ensures.rules ∙ h.ruled))) in
-    rw (c.put_last.ensures.last, c.put_last.ensures.next, c.reserve.ensures.items, inner) held
+    let i = c.self.inside.inquiry in
+    let next = c.in_ok-followed.followed in
+    let followed = c.in_ok-followed.ensures.followed i.count i.start (yes_queries i.answers) c.self.invariant (ap (λ (l : List Query). length l + 1) c.yes_queries.ensures.value) in
+    subst (λ (j : Interview). IsFollowed j.count j.start (yes_queries j.answers) next) (sym c.in_ok-number.ensures.ok)
+    (subst (λ (l : List Query). IsFollowed i.count i.start l next) (sym (yes_queries-yes i c.args.query.now)) followed)

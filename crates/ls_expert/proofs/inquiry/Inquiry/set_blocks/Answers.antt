@@ -6,7 +6,7 @@ use Rattle.ls_theory.specs.Interviews.{Interview}
 use Rattle.ls_theory.specs.Blocks.{BlockRange, made}
 use Rattle.ls_expert.specs.Held.{interview_of}
 use Rattle.ls_expert.proofs.Holding.{range-of, tabled-by, held-blocks}
-use Rattle.ls_expert.proofs.interview.Interview.set_blocks.Goals as goal
+use Rattle.ls_expert.proofs.inquiry.Inquiry.set_blocks.Goals as goal
 
 pub build-requires-clause-items : goal.build-requires-clause-items
 build-requires-clause-items g c =
@@ -28,7 +28,7 @@ invariant_of-self g c =
     let i = interview_of s c.self.inside.block c.self.inside.answers.items c.self.inside.next in
     let j = interview_of s c.args.k c.self.inside.answers.items c.self.inside.next in
     let range = range-of s.item_count c.args.k c.in_ok-blocks.blocks (ap (λ m. made m c.args.k) (sym c.items.ensures.count) ∙ sym c.new.ensures.value ∙ c.in_ok-blocks.was) in
-    held-blocks i c.args.k c.self.inside.family.rules c.self.inside.table.table c.in-Ok.table.table c.self.inside.followed c.self.invariant
+    held-blocks i c.args.k c.self.inside.family.rules c.self.inside.table.table c.in-Ok.table.table c.self.invariant
     (tabled-by j c.in_ok-blocks.blocks s.start c.self.inside.family.rules c.deref.result.now c.in-Ok.table.table c.in-Ok.ensures range refl c.self.invariant.ruled c.deref.ensures.value)
 
 pub returns-clause-made : goal.returns-clause-made

@@ -4,7 +4,7 @@ use Rattle.ls_theory.specs.Interviews.{Interview}
 use Rattle.ls_theory.specs.Forced.{known}
 use Rattle.ls_expert.specs.Held.{interview_of}
 use Rattle.ls_expert.proofs.Ruling.{own_blocks, ruled-compat}
-use Rattle.ls_expert.proofs.interview.Interview.known.Goals as goal
+use Rattle.ls_expert.proofs.inquiry.Inquiry.known.Goals as goal
 
 pub returns-clause-value : goal.returns-clause-value
 returns-clause-value g c =

@@ -10,7 +10,7 @@ use Rattle.ls_expert.specs.Starts.{StartOn, start_of}
 use Rattle.ls_expert.specs.Held.{interview_of}
 use Rattle.ls_expert.proofs.Ruling.{followed-by}
 use Rattle.ls_expert.proofs.Holding.{made-one, tabled-by, begun-as, held-begun}
-use Rattle.ls_expert.proofs.interview.Interview.new.Goals as goal
+use Rattle.ls_expert.proofs.inquiry.Inquiry.new.Goals as goal
 
 pub unwrap-blocks-requires : goal.unwrap-blocks-requires
 unwrap-blocks-requires g c = rw (c.new-2.ensures.value ∙ made-one c.args.n c.requires.some c.requires.few) refl
@@ -31,14 +31,7 @@ invariant_of-result g c =
     let items = sym (ap (λ (s : StartOn). s.item_count) c.new-family.ensures.inner ∙ c.new.ensures.items) in
     let blocks = one c.args.n c.new-2.result c.unwrap-blocks.result c.requires.some c.requires.few c.new-2.ensures.value c.unwrap-blocks.ensures in
     let same = begun-as c.args.n s.item_count (start_of c.args.start) s.start c.new-answers.result.items items (sym (ap (λ (s : StartOn). s.start) c.new-family.ensures.inner ∙ c.new.ensures.start)) c.new-answers.ensures.items in
-    held-begun c.args.n c.args.start i rules c.in_ok-table.table.table c.begin-followed.result c.requires.some c.requires.few same c.new-family.ensures.rules
+    held-begun c.args.n c.args.start i rules c.in_ok-table.table.table c.requires.some c.requires.few same c.new-family.ensures.rules
     (tabled-by i c.unwrap-blocks.result s.start rules c.deref.result.now c.in_ok-table.table.table c.in_ok-table.ensures
     (sym blocks ∙ ap (λ (m : ℕ). let x : BlockRange = record { item_count = m; largest = 1 } in x) items)
     refl (c.new-family.ensures.rules ∙ sym (ap yes_queries c.new-answers.ensures.items)) c.deref.ensures.value)
-    (let first = c.in_ok-base.field-0 in
-    let inner = c.inner.ensures in
-    let count = c.in_ok-base.ensures.items ∙ ap (λ (s : StartOn). s.item_count) inner in
-    followed-by first.item_count c.args.n s.start (start_of c.args.start) [] [] c.begin-followed.result (count ∙ sym items)
-    (ap (λ (s : StartOn). s.start) c.new-family.ensures.inner ∙ c.new.ensures.start) refl
-    (c.begin-followed.ensures.followed s.start
-    (c.in_ok-base.ensures.sets ∙ ap₂ (λ (m : ℕ) (u : theory.Start). base (compat m u [])) (sym c.in_ok-base.ensures.items) (ap (λ (s : StartOn). s.start) inner))))

@@ -1,7 +1,7 @@
 use Rattle.std.proofs.Common.{ap, ◌∙◌}
 use Rattle.ls_theory.specs.Compatible.{compat, compatible_sets}
 use Rattle.ls_expert.proofs.Ruling.{ruled-compat}
-use Rattle.ls_expert.proofs.interview.Interview.family.Goals as goal
+use Rattle.ls_expert.proofs.inquiry.Inquiry.family.Goals as goal
 
 pub returns-clause-members : goal.returns-clause-members
 returns-clause-members c =

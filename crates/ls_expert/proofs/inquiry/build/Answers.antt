@@ -8,8 +8,9 @@ use Rattle.ls_theory.specs.declared.no.No.{No}
 use Rattle.ls_infer.specs.Tables.{table_of}
 use Rattle.ls_rules.specs.Ruled.{RuledState}
 use Rattle.ls_expert.specs.Starts.{StartOn}
-use Rattle.ls_expert.proofs.Ruling.{ruled-compat, all-told}
-use Rattle.ls_expert.proofs.interview.build.Goals as goal
+use Rattle.ls_expert.proofs.AnswerLists.{all-told}
+use Rattle.ls_expert.proofs.Ruling.{ruled-compat}
+use Rattle.ls_expert.proofs.inquiry.build.Goals as goal
 
 pub build-requires-clause-good : goal.build-requires-clause-good
 build-requires-clause-good g c =

@@ -1,4 +1,4 @@
-// Interviews that go on from answers.
+// Inquiries that go on from answers.
 ghost use Rattle.std.specs.Prelude.{◌≡◌, ◌<◌, ◌≤◌, Ok, IfOk, IfErr, OnOk};
 ghost use Rattle.ls_theory.specs.Blocks.{made};
 ghost use Rattle.ls_expert.specs.Starts.{start_of};
@@ -6,12 +6,11 @@ ghost use Rattle.ls_expert.specs.Held.{blocks_of, interview_of, IsStanding};
 ghost use Rattle.ls_expert.specs.Saved.{IsStandingFault};
 
 use crate::answers::yes_queries;
-use crate::interview::{Interview, build};
+use crate::inquiry::{Inquiry, build};
 use crate::on_items::OnItems;
 use crate::saved::{can_stand, each_no_broken, with_rules};
 use crate::standing_fault::StandingFault;
 use crate::start::Start;
-use ls_base::Followed;
 use ls_interior::{Counted, Steps};
 use ls_query::Blocks;
 use ls_set::PLACES;
@@ -19,8 +18,8 @@ use ls_theory::Answer;
 use std::alloc::Global;
 use std::sync::ledger::Ledger;
 
-impl Interview {
-    /// The interview on `n` items that began with the start and goes on from answers that stand, as
+impl Inquiry {
+    /// The inquiry on `n` items that began with the start and goes on from answers that stand, as
     /// from saved ones: `next` is the number of the next, and queries of sets of 1 to `k` items are
     /// asked. Blocks that cannot be made are refused first.
     pub fn from_standing<L: Ledger>(
@@ -31,7 +30,7 @@ impl Interview {
         next: u64,
         answers: &[Answer],
         steps: &mut Steps<L>,
-    ) -> Result<Interview, StandingFault>
+    ) -> Result<Inquiry, StandingFault>
         requires some { 0 < n }
         requires few { n ≤ PLACES }
         ensures ok { IfOk result (λ i. i ≡ record { count = n; start = start_of start; block = k; answers = answers.now; next = next }) }
@@ -49,15 +48,13 @@ impl Interview {
             return Err(StandingFault::BadAnswers);
         }
         let table = build(alloc, blocks, &family, answers, steps)?;
-        let followed = Followed::over(family.inner().base(alloc)?, &yeses)?;
-        Ok(Interview {
+        Ok(Inquiry {
             alloc,
             family,
             answers: Vec::from_slice(alloc, answers)?,
             next,
             block: k,
             table,
-            followed,
         })
     }
 }

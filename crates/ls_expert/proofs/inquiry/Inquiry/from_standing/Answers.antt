@@ -14,10 +14,10 @@ use Rattle.ls_laws.specs.Forced.{IsSound}
 use Rattle.ls_rules.specs.Ruled.{RuledState}
 use Rattle.ls_expert.specs.Starts.{StartOn, start_of}
 use Rattle.ls_expert.specs.Held.{IsHeld}
-use Rattle.ls_expert.proofs.Ruling.{all-told, followed-by}
+use Rattle.ls_expert.proofs.AnswerLists.{all-told}
 use Rattle.ls_expert.proofs.Holding.{range-of, tabled-by}
 use Rattle.ls_expert.proofs.Saving.{made-as, fit-decides}
-use Rattle.ls_expert.proofs.interview.Interview.from_standing.Goals as goal
+use Rattle.ls_expert.proofs.inquiry.Inquiry.from_standing.Goals as goal
 
 -- a start with its items, by its parts
 on : (n : ℕ) (t : theory.Start) (s : StartOn) → s.item_count ≡ n → s.start ≡ t → s ≡ record { item_count = n; start = t }
@@ -57,16 +57,6 @@ returns-in_err-table-clause-fault g c =
     let p = err_from_is_err_and c.from_residual-in_err-table.result c.from_residual-in_err-table.ensures.1 in
     rw (p.1, p.2) (made-as c.args.n c.args.k c.new.result c.in_ok-blocks.blocks c.new.ensures.value c.in_ok-blocks.was)
 
-pub returns-in_err-base-clause-fault : goal.returns-in_err-base-clause-fault
-returns-in_err-base-clause-fault g c =
-    let p = err_from_is_err_and c.from_residual-in_err-base.result c.from_residual-in_err-base.ensures.1 in
-    rw (p.1, p.2) (made-as c.args.n c.args.k c.new.result c.in_ok-blocks.blocks c.new.ensures.value c.in_ok-blocks.was)
-
-pub returns-in_err-followed-clause-fault : goal.returns-in_err-followed-clause-fault
-returns-in_err-followed-clause-fault g c =
-    let p = err_from_is_err_and c.from_residual-in_err-followed.result c.from_residual-in_err-followed.ensures.1 in
-    rw (p.1, p.2) (made-as c.args.n c.args.k c.new.result c.in_ok-blocks.blocks c.new.ensures.value c.in_ok-blocks.was)
-
 pub returns-in_err-from_slice-clause-fault : goal.returns-in_err-from_slice-clause-fault
 returns-in_err-from_slice-clause-fault g c =
     let p = err_from_is_err_and c.from_residual-in_err-from_slice.result c.from_residual-in_err-from_slice.ensures.1 in
@@ -101,18 +91,13 @@ invariant_of-result-2 g c =
     fit-decides i c.args.start c.each_no_broken.result c.new-3.result.inner c.new-3.result.rules refl (c.can_stand.ensures.good c.if-not-can_stand.false)
     (ap (λ (f : RuledState StartOn). f.inner) c.new-3.ensures ∙ c.in_ok-family.ensures.inner ∙ on c.args.n (start_of c.args.start) c.new-2.result c.new-2.ensures.items c.new-2.ensures.start)
     (ap (λ (f : RuledState StartOn). f.rules) c.new-3.ensures ∙ c.in_ok-family.ensures.rules ∙ c.deref.ensures.value ∙ c.in_ok-yeses.ensures) c.each_no_broken.ensures in
-    let base_items = c.in_ok-base.ensures.items ∙ ap (λ (u : StartOn). u.item_count) c.inner.ensures in
-    let held : IsHeld i (yes_queries i.answers) c.in_ok-table.table.table c.in_ok-followed.followed = record {
+    let held : IsHeld i (yes_queries i.answers) c.in_ok-table.table.table = record {
       some_items = c.requires.some;
       few_items = c.requires.few;
       ruled = refl;
       tabled = tabled-by i c.in_ok-blocks.blocks c.in_ok-family.family.inner.start c.in_ok-family.family.rules c.args.answers.now c.in_ok-table.table.table c.in_ok-table.ensures
           (range-of c.args.n c.args.k c.in_ok-blocks.blocks (sym c.new.ensures.value ∙ c.in_ok-blocks.was)) (ap (λ (u : StartOn). u.start) inner) ruled refl;
       standing = c.can_stand.ensures.enough i.start c.args.k c.if-not-can_stand.false (decides.0 c.if-not-each_no_broken.false);
-      based = followed-by c.in_ok-base.field-0.item_count c.args.n c.in_ok-family.family.inner.start i.start c.deref-2.result.now (yes_queries i.answers) c.in_ok-followed.followed
-          (base_items ∙ ap (λ (u : StartOn). u.item_count) inner) (ap (λ (u : StartOn). u.start) inner) (c.deref-2.ensures.value ∙ c.in_ok-yeses.ensures)
-          (c.in_ok-followed.ensures.followed c.in_ok-family.family.inner.start
-          (c.in_ok-base.ensures.sets ∙ ap₂ (λ (m : ℕ) (u : theory.Start). base (compat m u [])) (sym c.in_ok-base.ensures.items) (ap (λ (u : StartOn). u.start) c.inner.ensures)));
     } in
     rw (ap (λ (f : RuledState StartOn). f.inner) c.family.view_is ∙ inner, ap (λ (f : RuledState StartOn). f.rules) c.family.view_is ∙ ruled, c.in_ok-from_slice.ensures.items) held
 

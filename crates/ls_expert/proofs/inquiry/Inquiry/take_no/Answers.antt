@@ -5,7 +5,7 @@ use Rattle.ls_theory.specs.Answering.{refusal}
 use Rattle.ls_expert.specs.Held.{interview_of}
 use Rattle.ls_expert.proofs.Ruling.{ruled-compat}
 use Rattle.ls_expert.proofs.Taking.{held-no, tabled-no}
-use Rattle.ls_expert.proofs.interview.Interview.take_no.Goals as goal
+use Rattle.ls_expert.proofs.inquiry.Inquiry.take_no.Goals as goal
 
 pub invariant_of-self-2 : goal.invariant_of-self-2
 invariant_of-self-2 g c =
@@ -13,7 +13,7 @@ invariant_of-self-2 g c =
     let i = interview_of s c.self.inside.block c.self.inside.answers.items c.self.inside.next in
     let r = c.args.query.now in
     let h = c.self.invariant in
-    let held = held-no i r c.self.inside.family.rules c.self.inside.table.table c.no_added.new.self.table c.self.inside.followed h
+    let held = held-no i r c.self.inside.family.rules c.self.inside.table.table c.no_added.new.self.table h
     (ap (λ (j : Interview). refusal j r false) c.self.view_is ∙ c.requires)
     (tabled-no i r c.reserve_no.new.self.table c.no_added.new.self.table _ (c.reserve_no.ensures.table ∙ h.tabled) (record { number = c.self.inside.next; query = r })
     (rw c.new.ensures (ruled-compat s.item_count s.start c.self.inside.family.rules ∙ ap (compat s.item_count s.start) h.ruled)) refl c.no_added.ensures.kept) in

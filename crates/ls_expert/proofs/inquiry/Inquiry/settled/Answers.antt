@@ -4,7 +4,7 @@ use Rattle.ls_laws.specs.Forced.{SomeFits}
 use Rattle.ls_laws.proofs.Answering.{settles}
 use Rattle.ls_expert.specs.Held.{interview_of}
 use Rattle.ls_expert.proofs.Ruling.{own_blocks, settled-is}
-use Rattle.ls_expert.proofs.interview.Interview.settled.Goals as goal
+use Rattle.ls_expert.proofs.inquiry.Inquiry.settled.Goals as goal
 
 pub returns-clause-value : goal.returns-clause-value
 returns-clause-value c =

@@ -6,7 +6,7 @@ use Rattle.ls_theory.specs.Interviews.{Interview}
 use Rattle.ls_theory.specs.Forced.{next_question}
 use Rattle.ls_expert.specs.Held.{interview_of}
 use Rattle.ls_expert.proofs.Ruling.{own_blocks, question-good}
-use Rattle.ls_expert.proofs.interview.Interview.next_question.Goals as goal
+use Rattle.ls_expert.proofs.inquiry.Inquiry.next_question.Goals as goal
 
 pub returns-clause-value : goal.returns-clause-value
 returns-clause-value c =

@@ -1,0 +1,14 @@
+use Rattle.std.proofs.Common.{true, ◌≡◌, List, ap, ◌∙◌, subst}
+use Rattle.std.specs.List.{list_all}
+use Rattle.ls_set.specs.Query.{is_good}
+use Rattle.ls_set.specs.declared.query.Query.{Query}
+use Rattle.ls_theory.specs.Interviews.{Interview}
+use Rattle.ls_expert.proofs.AnswerLists.{all-told}
+use Rattle.ls_expert.proofs.inquiry.Inquiry.yes_queries.Goals as goal
+
+pub returns-clause-good : goal.returns-clause-good
+returns-clause-good c =
+    let n = c.self.inside.family.inner.item_count in
+    let told = all-told (is_good n) (λ a. a.yes) (λ a. a.query) c.self.inside.answers.items c.self.invariant.standing.good in
+    subst (λ (i : Interview). list_all (is_good i.count) c.rules.result.now ≡ true) c.self.view_is
+    (ap (λ (l : List Query). list_all (is_good n) l) (c.rules.ensures ∙ c.self.invariant.ruled) ∙ told)

@@ -1,0 +1,302 @@
+// What an expert was asked and answered.
+ghost use Rattle.std.specs.Prelude.{◌≡◌, ◌+◌, ◌-◌, max, ◌*◌, ◌<◌, ◌≤◌, ◌++◌, ◌∷◌, [], true, false, length, filter, count_by, not, ◌&&◌, ◌==◌, nat_lt, find, vec_len, vec_capacity, Some, None, Ok, Err, IsSome, IsNone, IfOk, IfErr, IfSome, OnOk, OnErr};
+ghost use Rattle.std.specs.Option.{ForSome, option_map};
+ghost use Rattle.std.specs.List.{list_all};
+ghost use Rattle.ls_set.specs.Query.{is_good};
+ghost use Rattle.ls_theory.specs.Queries.{breaks_none};
+ghost use Rattle.ls_theory.specs.Interviews.{begun, accepted, retracted, yes_queries, nos};
+ghost use Rattle.ls_theory.specs.Compatible.{compat, compatible_sets};
+ghost use Rattle.ls_theory.specs.Fitting.{spaces_of};
+ghost use Rattle.ls_theory.specs.Forced.{known, next_question, is_settled};
+ghost use Rattle.ls_theory.specs.Bases.{base};
+ghost use Rattle.ls_theory.specs.Blocks.{made, IsBlockFault};
+ghost use Rattle.ls_theory.specs.declared.block_fault.BlockFault.TheVariants as block;
+ghost use Rattle.ls_theory.specs.Answering.{refusal, standing_number, answer_with, opposed, is_full, IsFaultOf};
+ghost use Rattle.ls_infer.specs.Tables.{table_of};
+ghost use Rattle.ls_expert.specs.Held.{blocks_of, rules_before, IsStanding};
+ghost use Rattle.ls_expert.specs.Steps.{steps_back, most_steps};
+
+mod resumed;
+mod taking;
+
+use crate::answers::{answer_with, nos, rules_before, yes_others};
+use crate::bad_query::BadQuery;
+use crate::on_items::OnItems;
+use crate::retract_fault::RetractFault;
+use crate::start::Start;
+use ls_base::Base;
+use ls_infer::Table;
+use ls_interior::{Counted, Inside, Steps};
+use ls_query::{BlockFault, Blocks};
+use ls_rules::Ruled;
+use ls_set::{PLACES, Query};
+use ls_theory::{Answer, AnswerFault, Known};
+use std::alloc::{AllocError, Global};
+use std::marker::Model;
+use std::sync::ledger::Ledger;
+
+/// The most answers that stand.
+pub const MOST_ANSWERS: usize = 8192;
+
+/// The greatest number of an answer.
+pub const MOST_NUMBER: u64 = 999_999_999;
+
+/// What an expert was asked and answered: the items, the start, the greatest size of the sets that
+/// are asked, the standing answers in order of number, and the number of the next. Some space fits
+/// the answers. (The QUERY routine.)
+#[derive(Drop)]
+pub struct Inquiry {
+    alloc: Global,
+    // the sets that meet the start, with the Yes answers as rules
+    family: Ruled<OnItems>,
+    answers: Vec<Answer>,
+    next: u64,
+    block: u32,
+    table: Table,
+}
+
+impl Model for Inquiry {
+    ghost use Rattle.ls_theory.specs.Interviews.{Interview};
+    ghost use Rattle.ls_expert.specs.Held.{interview_of, IsHeld};
+
+    ghost Value = { Interview };
+
+    ghost view = { λ s. interview_of s.family.inner s.block s.answers.items s.next };
+
+    ghost invariant = { λ s. IsHeld (interview_of s.family.inner s.block s.answers.items s.next) s.family.rules s.table.table };
+}
+
+// The table of a family with rules, for the answers that are No.
+fn build<L: Ledger>(
+    alloc: Global,
+    blocks: Blocks,
+    family: &Ruled<OnItems>,
+    answers: &[Answer],
+    steps: &mut Steps<L>,
+) -> Result<Table, AllocError>
+    requires items { family.now.inner.item_count ≡ blocks.item_count }
+    requires good { list_all (λ a. is_good blocks.item_count a.query) answers.now ≡ true }
+    ensures { IfOk result (λ t. t.table ≡ table_of blocks (compat blocks.item_count family.now.inner.start family.now.rules) (nos answers.now)) }
+{
+    let nos = nos(alloc, answers)?;
+    Table::build(alloc, blocks, &Counted::new(family), &nos, steps)
+}
+
+impl Inquiry {
+    ghost use Rattle.ls_expert.specs.Starts.{start_of};
+
+    /// The inquiry on `n` items that begins with the start: blocks of single items, no answers, and
+    /// the next number 1.
+    pub fn new<L: Ledger>(
+        alloc: Global,
+        n: u32,
+        start: Start,
+        steps: &mut Steps<L>,
+    ) -> Result<Inquiry, AllocError>
+        requires some { 0 < n }
+        requires few { n ≤ PLACES }
+        ensures { IfOk result (λ i. i ≡ begun n (start_of start)) }
+    {
+        let family = Ruled::new(alloc, OnItems::new(n, start));
+        let answers = Vec::new(alloc);
+        let blocks = Blocks::new(n, 1).unwrap();
+        let table = build(alloc, blocks, &family, &answers, steps)?;
+        Ok(Inquiry {
+            alloc,
+            family,
+            answers,
+            next: 1,
+            block: 1,
+            table,
+        })
+    }
+
+    /// Asks queries of sets of 1 to `k` items from now on; it may be called at any time. It is refused
+    /// as blocks are, and nothing changes then.
+    pub fn set_blocks<L: Ledger>(&mut self, k: u32, steps: &mut Steps<L>) -> Result<(), BlockFault>
+        ensures made { OnOk result (made self.old.count k ≡ Ok (blocks_of self.new)) }
+        ensures ok { OnOk result (self.new ≡ record self.old { block = k }) }
+        ensures fault { IfErr result (IsBlockFault (made self.old.count k)) }
+        ensures err { OnErr result (self.new ≡ self.old) }
+    {
+        let blocks = Blocks::new(self.family.items(), k)?;
+        let table = match build(self.alloc, blocks, &self.family, &self.answers, steps) {
+            Ok(table) => table,
+            Err(e) => return Err(BlockFault::Memory(e)),
+        };
+        self.table = table;
+        self.block = k;
+        Ok(())
+    }
+
+    /// Takes the expert's answer to a query, and gives its number. It is refused by the first of these
+    /// that holds: the query is not good; an answer to it stands; the standing answers force the other
+    /// reply; there is no room for it. Nothing changes then. It takes at most one interior where
+    /// it is refused.
+    pub fn answer<L: Ledger>(
+        &mut self,
+        query: Query,
+        yes: bool,
+        steps: &mut Steps<L>,
+    ) -> Result<u64, AnswerFault>
+        ensures taken { OnOk result (refusal self.old query yes ≡ None) }
+        ensures number { IfOk result (λ m. m ≡ self.old.next) }
+        ensures ok { OnOk result (self.new ≡ accepted self.old query yes) }
+        ensures fault { IfErr result (IsFaultOf (refusal self.old query yes)) }
+        ensures err { OnErr result (self.new ≡ self.old) }
+        ensures cost { steps.new ≤ steps.old + most_steps self.old query yes }
+        ensures refused { OnErr result (steps.new ≤ steps.old + 1) }
+    {
+        self.test(&query, yes, steps)?;
+        Ok(self.take(&query, yes, steps)?)
+    }
+
+    /// Takes back the answer with the number, which is never given again. It is refused only where no
+    /// standing answer has the number, and nothing changes then. It takes no memory, and no interior
+    /// for a No.
+    pub fn retract<L: Ledger>(
+        &mut self,
+        number: u64,
+        steps: &mut Steps<L>,
+    ) -> Result<(), RetractFault>
+        ensures stood { OnOk result (IsSome (answer_with self.old number)) }
+        ensures ok { OnOk result (self.new ≡ retracted self.old number) }
+        ensures not_standing { OnErr result (IsNone (answer_with self.old number)) }
+        ensures fault { IfErr result (λ e. e ≡ RetractFault.NotStanding) }
+        ensures err { OnErr result (self.new ≡ self.old) }
+        ensures cost { steps.new ≤ steps.old + steps_back self.old (answer_with self.old number) }
+    {
+        let Some(answer) = self.answer_with(number) else {
+            return Err(RetractFault::NotStanding);
+        };
+        self.take_back(&answer, steps);
+        Ok(())
+    }
+
+    /// What the standing answers tell of the query, in at most one interior and without memory.
+    pub fn known<L: Ledger>(&self, q: &Query, steps: &mut Steps<L>) -> Result<Known, BadQuery>
+        ensures value { IfOk result (λ k. k ≡ known self.now q.now) }
+        ensures good { OnOk result (is_good self.now.count q.now ≡ true) }
+        ensures bad { OnErr result (is_good self.now.count q.now ≡ false) }
+        ensures cost { steps.new ≤ steps.old + 1 }
+    {
+        if !q.is_good(self.family.items()) {
+            return Err(BadQuery);
+        }
+        Ok(self.table.answer_of(&Counted::new(&self.family), q, steps))
+    }
+
+    /// The first open query of the blocks that comes after the given good one, or the first of all. It
+    /// takes no memory.
+    pub fn next_question(&self, after: Option<&Query>) -> Option<Query>
+        requires { ForSome after (λ r. is_good self.now.count r.now ≡ true) }
+        ensures value { result ≡ next_question self.now (option_map (λ r. r.now) after.entry) }
+        ensures good { IfSome result (λ r. is_good self.now.count r ≡ true) }
+    {
+        self.table.next_unsettled(after)
+    }
+
+    /// Whether no query of the blocks is open. Where the largest sets are asked, exactly one space then
+    /// fits, that of the compatible sets.
+    pub fn settled(&self) -> bool
+        ensures value { result ≡ is_settled self.now }
+        ensures one { result ≡ true → self.now.block ≡ max 1 (self.now.count - 1) → spaces_of self.now ≡ compatible_sets self.now ∷ [] }
+    {
+        self.table.next_unsettled(None).is_none()
+    }
+
+    /// The standing answers, in order of number.
+    pub fn standing(&self) -> &[Answer]
+        ensures value { result.now ≡ self.now.answers }
+        ensures standing { IsStanding self.now }
+    {
+        &self.answers
+    }
+
+    /// The number of the next answer.
+    pub fn next_number(&self) -> u64
+        ensures { result ≡ self.now.next }
+    {
+        self.next
+    }
+
+    /// How many items there are.
+    pub fn items(&self) -> u32
+        ensures count { result ≡ self.now.count }
+        ensures some { 0 < result }
+        ensures few { result ≤ PLACES }
+    {
+        self.family.items()
+    }
+
+    /// The greatest size of the sets that are asked.
+    pub fn block(&self) -> u32
+        ensures { result ≡ self.now.block }
+    {
+        self.block
+    }
+
+    /// The blocks of the sets that are asked.
+    pub fn blocks(&self) -> Blocks
+        ensures { result ≡ blocks_of self.now }
+    {
+        self.table.blocks()
+    }
+
+    /// The start.
+    pub fn start(&self) -> &Start
+        ensures { start_of result.now ≡ self.now.start }
+    {
+        self.family.inner().start()
+    }
+
+    /// The family of the compatible sets: those that meet the start and break no Yes.
+    pub fn family(&self) -> &Ruled<OnItems>
+        ensures inner { result.now.inner ≡ record { item_count = self.now.count; start = self.now.start } }
+        ensures rules { result.now.rules ≡ yes_queries self.now.answers }
+        ensures members { filter (breaks_none result.now.rules) (compat result.now.inner.item_count result.now.inner.start []) ≡ compatible_sets self.now }
+    {
+        &self.family
+    }
+
+    /// The base of the sets that meet the start, as it is before any answer.
+    pub fn first_base(&self) -> Result<Base, AllocError>
+        ensures items { IfOk result (λ b. b.item_count ≡ self.now.count) }
+        ensures sets { IfOk result (λ b. b.sets ≡ base (compat self.now.count self.now.start [])) }
+    {
+        self.family.inner().base(self.alloc)
+    }
+
+    /// The queries that were answered Yes, in order of number.
+    pub fn yes_queries(&self) -> &[Query]
+        ensures value { result.now ≡ yes_queries self.now.answers }
+        ensures good { list_all (is_good self.now.count) result.now ≡ true }
+    {
+        self.family.rules()
+    }
+
+    /// How many Yes answers have a smaller number.
+    pub fn rules_before(&self, number: u64) -> usize
+        ensures value { result ≡ rules_before self.now.answers number }
+        ensures few { result ≤ length (yes_queries self.now.answers) }
+    {
+        rules_before(&self.answers, number)
+    }
+
+    // The standing answer with the number, if there is one.
+    pub(crate) fn answer_with(&self, number: u64) -> Option<Answer>
+        ensures value { result ≡ answer_with self.now number }
+        ensures number { IfSome result (λ a. a.number ≡ number) }
+        ensures standing { IsStanding self.now }
+    {
+        answer_with(&self.answers, number)
+    }
+
+    // The queries that are answered Yes without the answer with the number.
+    pub(crate) fn yes_others(&self, number: u64) -> Result<Vec<Query>, AllocError>
+        ensures value { IfOk result (λ v. v.items ≡ yes_queries (retracted self.now number).answers) }
+        ensures good { IfOk result (λ v. list_all (is_good self.now.count) v.items ≡ true) }
+    {
+        yes_others(self.alloc, &self.answers, number)
+    }
+}
