@@ -1,0 +1,151 @@
+// The names of sets, joined beforehand.
+ghost use Rattle.std.specs.Prelude.{◌≡◌, ◌+◌, ◌-◌, ◌*◌, ◌<◌, ◌≤◌, ◌++◌, ◌∷◌, length, drop, IfOk, OnOk};
+ghost use Rattle.ls_set.specs.ItemSet.{has, full, IsWithin};
+ghost use Rattle.ls_domain.specs.Texts.{joined_names};
+ghost use Rattle.ls_reply.specs.Texts.{line_of};
+ghost use Rattle.ls_reply.specs.Rows.{set_words};
+ghost use Rattle.ls_writing.specs.Rooms.{Says};
+ghost use Rattle.ls_writing.specs.SetTexts.{group_count, group_items, group_text, group_texts, spaced_names};
+
+use crate::Room;
+use crate::text_list::TextList;
+use ls_domain::Domain;
+use ls_edge::Sink;
+use ls_set::{ItemSet, PLACES, cursor_length};
+use std::alloc::{AllocError, Global};
+use std::marker::Model;
+
+// How many digits a cursor has at most.
+const MOST_DIGITS: usize = (PLACES as usize + 3) / 4;
+
+/// The names of a domain's items, joined beforehand: for each eight items, a group, the texts of all its subsets, each
+/// name behind a space. So the names of a set are said by one text a group. Contracts see it as the list of names.
+// The text of pattern `p` of group `g` is at index `256 * g + p`.
+#[derive(Drop)]
+pub struct SetTexts {
+    domain: Domain,
+    texts: TextList,
+}
+
+impl Model for SetTexts {
+    ghost use Rattle.std.specs.Prelude.{List, ℕ, ◌≡◌};
+    ghost use Rattle.ls_writing.specs.SetTexts.{group_texts};
+
+    ghost Value = { List (List ℕ) };
+
+    ghost view = { λ t. t.domain };
+
+    ghost invariant = { λ t. t.texts ≡ group_texts t.domain };
+}
+
+impl SetTexts {
+    /// The texts of the domain's sets. They take up to 2.7 million bytes, where each of 512 names has 40.
+    pub fn new(alloc: Global, domain: &Domain) -> Result<SetTexts, AllocError>
+        ensures { IfOk result (λ t. t ≡ domain.now) }
+    {
+        Ok(SetTexts {
+            domain: domain.copy()?,
+            texts: texts_of(alloc, domain)?,
+        })
+    }
+
+    /// Says the names of the set's items, in the order of items, joined by single spaces.
+    pub fn put_names<K: Sink>(&self, s: ItemSet, room: &mut Room, out: &mut K)
+        requires { IsWithin s (full (length self.now)) }
+        ensures { Says (K.written out.old) (K.faults out.old) room.old (K.written out.new) (K.faults out.new) room.new (joined_names self.now s) }
+    {
+        let mut skipped = 1;
+        for group in 0..self.domain.count().div_ceil(8) {
+            skipped = self.put_group(s, group, skipped, room, out);
+        }
+    }
+
+    /// Says the line of a set: its cursor and its names.
+    pub fn put_set_line<K: Sink>(&self, s: ItemSet, room: &mut Room, out: &mut K)
+        requires { IsWithin s (full (length self.now)) }
+        ensures { Says (K.written out.old) (K.faults out.old) room.old (K.written out.new) (K.faults out.new) room.new (line_of (set_words self.now s)) }
+    {
+        let n = self.domain.count();
+        let mut digits = [0u8; MOST_DIGITS];
+        let cursor = &mut digits[..cursor_length(n)];
+        s.to_cursor(n, cursor);
+        room.put(b"set ", out);
+        room.put(cursor, out);
+        room.put(b" {", out);
+        self.put_names(s, room, out);
+        room.put(b"}\n", out);
+    }
+
+    // Says the names of the set's items that are in a group, each behind a space, but for the bytes that are still to
+    // be skipped: the space before the first name. Answers how many are to be skipped then.
+    fn put_group<K: Sink>(
+        &self,
+        s: ItemSet,
+        group: u32,
+        skipped: usize,
+        room: &mut Room,
+        out: &mut K,
+    ) -> usize
+        requires { 8 * group < length self.now }
+        ensures says { Says (K.written out.old) (K.faults out.old) room.old (K.written out.new) (K.faults out.new) room.new (drop skipped (spaced_names self.now (has s) (group_items (length self.now) group))) }
+        ensures skipped { result ≡ skipped - length (spaced_names self.now (has s) (group_items (length self.now) group)) }
+    {
+        let pattern = s.group(group);
+        if pattern == 0 {
+            return skipped;
+        }
+        let text = self.group_text(group, pattern);
+        let start = skipped.min(text.len());
+        room.put(&text[start..], out);
+        skipped - start
+    }
+
+    // The text of a pattern of a group.
+    fn group_text(&self, group: u32, pattern: u8) -> &[u8]
+        requires { 8 * group < length self.now }
+        ensures { result.now ≡ group_text self.now group pattern }
+    {
+        self.texts.get(256 * group as usize + pattern as usize)
+    }
+}
+
+// The texts of all patterns of all groups.
+fn texts_of(alloc: Global, domain: &Domain) -> Result<TextList, AllocError>
+    ensures { IfOk result (λ t. t ≡ group_texts domain.now) }
+{
+    let mut texts = TextList::new(alloc);
+    let mut text = Vec::new(alloc);
+    for index in 0..256 * domain.count().div_ceil(8) {
+        text.clear();
+        push_group(domain, index / 256, index % 256, &mut text)?;
+        texts.push(&text)?;
+    }
+    Ok(texts)
+}
+
+// Appends the text of a pattern of a group.
+fn push_group(
+    domain: &Domain,
+    group: u32,
+    pattern: u32,
+    out: &mut Vec<u8>,
+) -> Result<(), AllocError>
+    requires { 8 * group < length domain.now }
+    ensures { OnOk result (out.new.items ≡ out.old.items ++ group_text domain.now group pattern) }
+{
+    let first = 8 * group;
+    for item in first..domain.count().min(first + 8) {
+        if pattern >> (item - first) & 1 == 1 {
+            push_spaced(domain.name(item), out)?;
+        }
+    }
+    Ok(())
+}
+
+// Appends a name behind a space.
+fn push_spaced(name: &str, out: &mut Vec<u8>) -> Result<(), AllocError>
+    ensures { OnOk result (out.new.items ≡ out.old.items ++ 32 ∷ name.now) }
+{
+    out.push(b' ')?;
+    out.extend_from_slice(name.as_bytes())
+}
