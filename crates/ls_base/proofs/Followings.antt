@@ -40,6 +40,10 @@ followed-within n start yeses r b next h items is few =
       no_peak = peak-new most_base_sets n start yeses r h.no_peak ∙ rw (le-ltb most_base_sets (length (base (compat n start (yeses ++ r ∷ [])))) small) refl;
     }
 
+-- where the base stays, so does what is followed
+pub followed-same : (n : ℕ) (start : Start) (yeses : List Query) (r : Query) (b : BaseState) → IsFollowedBase n start yeses b → base (left_by r (family b)) ≡ b.sets → length b.sets ≤ most_base_sets → IsFollowedBase n start (yeses ++ r ∷ []) b
+followed-same n start yeses r b h same few = followed-within n start yeses r b b h refl (sym same) (subst (λ sets. length sets ≤ most_base_sets) (sym same) few)
+
 pub followed-past : (n : ℕ) (start : Start) (yeses : List Query) (r : Query) (b : BaseState) (position count : ℕ) → IsFollowedBase n start yeses b → position ≡ length yeses + 1
     → most_base_sets < length (base (left_by r (family b))) → count ≡ length (base (left_by r (family b))) → IsFollowed n start (yeses ++ r ∷ []) (Past position count)
 followed-past n start yeses r b position count h last large told =

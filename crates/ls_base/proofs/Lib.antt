@@ -7,3 +7,4 @@ pub mod Gains
 pub mod Peaks
 pub mod Given
 pub mod Followings
+pub mod Trails

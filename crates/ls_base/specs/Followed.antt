@@ -1,8 +1,10 @@
 -- The base of the compatible sets, followed over the Yes answers.
-use Rattle.std.specs.Prelude.{ℕ, ◌≡◌, true, List, Some, None, ⊤}
+use Rattle.std.specs.Prelude.{ℕ, ◌≡◌, Bool, true, not, List, [], Some, None, ⊤}
+use Rattle.ls_set.specs.ItemSet.{Items}
 use Rattle.ls_set.specs.Query.{is_good}
 use Rattle.ls_set.specs.declared.query.Query.{Query}
 use Rattle.ls_theory.specs.Starts.{Start}
+use Rattle.ls_theory.specs.Queries.{some_breaks}
 use Rattle.ls_theory.specs.Compatible.{compat}
 use Rattle.ls_theory.specs.Bases.{base, peak, most_base_sets}
 use Rattle.ls_base.specs.Bases.{BaseState}
@@ -24,3 +26,13 @@ IsFollowed n start yeses (Past position count) = peak most_base_sets n start yes
 abbrev pub IsAskable : Followed → Query → Type 0
 IsAskable (Within b) r = is_good b.item_count r ≡ true
 IsAskable (Past position count) r = ⊤
+
+-- the sets of the base; none where it is past
+abbrev pub followed_sets : Followed → List Items
+followed_sets (Within b) = b.sets
+followed_sets (Past position count) = []
+
+-- whether one more Yes changes nothing: what is past stays, and so does a base none of whose sets breaks the query
+abbrev pub is_unchanged : Followed → Query → Bool
+is_unchanged (Within b) r = not (some_breaks b.sets r)
+is_unchanged (Past position count) r = true

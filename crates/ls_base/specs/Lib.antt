@@ -2,3 +2,4 @@ pub mod Unions
 pub mod Gains
 pub mod Bases
 pub mod Followed
+pub mod Trail

@@ -1,14 +1,15 @@
 // Bases.
-ghost use Rattle.std.specs.Prelude.{◌≡◌, ◌<◌, ◌≤◌, true, Ok, length, slice_index_or, IfOk, IfErr, OnOk};
+ghost use Rattle.std.specs.Prelude.{◌≡◌, ◌<◌, ◌≤◌, true, not, Ok, length, slice_index_or, IsTrue, IfOk, IfErr, OnOk};
 ghost use Rattle.ls_set.specs.ItemSet.{empty, subsets};
 ghost use Rattle.ls_set.specs.Query.{is_good};
+ghost use Rattle.ls_theory.specs.Queries.{some_breaks};
 ghost use Rattle.ls_theory.specs.Bases.{base, is_atom_at, atoms_at};
 ghost use Rattle.ls_laws.specs.Spans.{IsOn, left_by, spanned};
 ghost use Rattle.ls_base.specs.Bases.{family, based, single_sets, IsFaultOf, IsPastOf};
 
 use crate::atoms::is_atom_at;
 use crate::fault::{BaseFault, PastFault};
-use crate::left::base_left;
+use crate::left::{base_left, some_break};
 use crate::reduction::base_of;
 use crate::unions::union_within;
 use ls_interior::Inside;
@@ -121,6 +122,16 @@ impl Base {
         ensures few_items { self.now.item_count ≤ PLACES }
     {
         &self.sets
+    }
+
+    /// Whether a Yes to the query leaves the base as it is: no set of it breaks the query.
+    pub fn is_unchanged(&self, r: &Query) -> bool
+        requires { is_good self.now.item_count r.now ≡ true }
+        ensures test { result ≡ not (some_breaks self.now.sets r.now) }
+        ensures same { IsTrue result → base (left_by r.now (family self.now)) ≡ self.now.sets }
+        ensures few { length self.now.sets ≤ MOST_BASE_SETS }
+    {
+        !some_break(&self.sets, r)
     }
 
     /// Whether the set at a place, counted from 0, is an atom at item `q`.

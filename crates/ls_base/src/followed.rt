@@ -1,16 +1,16 @@
 // The base of the compatible sets, followed over the Yes answers.
-ghost use Rattle.std.specs.Prelude.{◌≡◌, ◌+◌, ℕ, List, [], ◌∷◌, ◌++◌, true, length, IfOk};
+ghost use Rattle.std.specs.Prelude.{◌≡◌, ◌+◌, ℕ, List, [], ◌∷◌, ◌++◌, true, length, IsTrue, IfOk};
 ghost use Rattle.std.specs.List.{list_all};
 ghost use Rattle.ls_set.specs.Query.{is_good};
 ghost use Rattle.ls_set.specs.declared.query.Query.{Query};
 ghost use Rattle.ls_theory.specs.Starts.{Start};
 ghost use Rattle.ls_theory.specs.Compatible.{compat};
 ghost use Rattle.ls_theory.specs.Bases.{base};
-ghost use Rattle.ls_base.specs.Followed.{IsAskable, IsFollowed};
+ghost use Rattle.ls_base.specs.Followed.{IsAskable, IsFollowed, followed_sets, is_unchanged};
 
 use crate::base::Base;
 use crate::fault::PastFault;
-use ls_set::Query;
+use ls_set::{ItemSet, Query};
 use std::alloc::AllocError;
 
 /// The base of the compatible sets under the first Yes answers of an interview; or, from the first of
@@ -25,6 +25,7 @@ pub enum Followed {
 impl Followed {
     /// The base before any answer.
     pub fn begin(first: Base) -> Followed
+        ensures value { result ≡ Followed.Within first }
         ensures followed { (start : Start) →
             first.sets ≡ base (compat first.item_count start []) →
             IsFollowed first.item_count start [] result }
@@ -32,6 +33,30 @@ impl Followed {
     {
         let _ = first.sets();
         Followed::Within(first)
+    }
+
+    /// Whether one more Yes answer changes nothing.
+    pub fn is_unchanged(&self, r: &Query) -> bool
+        requires { IsAskable self.now r.now }
+        ensures test { result ≡ is_unchanged self.now r.now }
+        ensures followed { (n : ℕ) (start : Start) (yeses : List Query) →
+            IsFollowed n start yeses self.now → IsTrue result →
+            IsFollowed n start (yeses ++ r.now ∷ []) self.now }
+    {
+        match self {
+            Followed::Within(base) => base.is_unchanged(r),
+            Followed::Past { .. } => true,
+        }
+    }
+
+    /// The sets of the base; none where it is past.
+    pub fn sets(&self) -> &[ItemSet]
+        ensures { result.now ≡ followed_sets self.now }
+    {
+        match self {
+            Followed::Within(base) => base.sets(),
+            Followed::Past { .. } => &[],
+        }
     }
 
     /// What follows one more Yes answer, of which there are `position` with it. What is past stays.

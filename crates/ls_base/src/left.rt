@@ -28,8 +28,8 @@ fn breaks(set: ItemSet, r: &Query) -> bool
     set.meet(r.a) == ItemSet::empty() && set.has(r.q)
 }
 
-// Whether some set breaks the query.
-fn some_break(sets: &[ItemSet], r: &Query) -> bool
+/// Whether some set breaks the query.
+pub fn some_break(sets: &[ItemSet], r: &Query) -> bool
     requires { r.now.q < PLACES }
     ensures { result ≡ some_breaks sets.now r.now }
 {

@@ -8,11 +8,13 @@ mod followed;
 mod least;
 mod left;
 mod reduction;
+mod trail;
 mod unions;
 
 pub use base::{Base, MOST_BASE_SETS};
 pub use fault::{BaseFault, PastFault};
 pub use followed::Followed;
+pub use trail::Trail;
 
 #[cfg(test)]
 mod tests;

@@ -4,7 +4,7 @@ ghost use Rattle.std.specs.List.{list_all};
 ghost use Rattle.ls_set.specs.ItemSet.{is_within};
 ghost use Rattle.ls_set.specs.Query.{is_good};
 
-use crate::{Base, BaseFault, Followed, PastFault};
+use crate::{Base, BaseFault, Followed, PastFault, Trail};
 use ls_interior::Inside;
 use ls_set::{ItemSet, PLACES, Query};
 use std::alloc::Global;
@@ -87,5 +87,23 @@ fn a_base_of_thirty_three_items_grows_past_the_limit(rt: HostRuntime) -> Result<
         Followed::Past { position, count } => assert_eq!(rt; (position, count), (4, 4128)),
         Followed::Within(_) => panic!(rt; "the base is small"),
     }
+    Ok(())
+}
+
+#[test]
+fn a_trail_goes_back_to_a_kept_base(rt: HostRuntime) -> Result<(), Fail> {
+    let first = asked(&rt, 33, &[1, 2, 3, 4, 5, 6, 7, 8], 0);
+    let second = asked(&rt, 33, &[9, 10, 11, 12, 13, 14, 15, 16], 0);
+    let third = asked(&rt, 33, &[17, 18, 19, 20, 21, 22, 23, 24], 0);
+    let fourth = asked(&rt, 33, &[25, 26, 27, 28, 29, 30, 31, 32], 0);
+    let mut trail = Trail::new(rt.alloc());
+    trail.begin(Base::singletons(rt.alloc(), 33)?)?;
+    trail.follow(&[first, first, second, third, fourth])?;
+    assert_eq!(rt; trail.sets().len(), 0);
+    for (count, sets) in [(9, 0), (4, 544), (3, 96), (2, 40), (1, 40), (0, 33)] {
+        trail.give_up(count);
+        assert_eq!(rt; trail.sets().len(), sets);
+    }
+    assert!(rt; trail.is_begun());
     Ok(())
 }

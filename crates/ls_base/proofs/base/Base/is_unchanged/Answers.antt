@@ -1,0 +1,15 @@
+use Rattle.std.proofs.Common.{◌≡◌, List, sym, ap, ◌∙◌, subst}
+use Rattle.std.proofs.lemmas.Bool.{not-true}
+use Rattle.ls_set.specs.ItemSet.{Items}
+use Rattle.ls_theory.specs.Bases.{base}
+use Rattle.ls_laws.specs.Spans.{spanned, left_by}
+use Rattle.ls_base.proofs.Gains.{base-unbroken}
+use Rattle.ls_base.proofs.base.Base.is_unchanged.Goals as goal
+
+pub returns-clause-same : goal.returns-clause-same
+returns-clause-same c h =
+    let n = c.self.inside.n in
+    let sets = c.deref.result.now in
+    let is = subst (λ (g : List Items). base (spanned n g) ≡ g) (sym c.deref.ensures.value) c.self.invariant.is_base in
+    let same = base-unbroken n sets c.args.r.now (sym c.some_break.ensures ∙ not-true c.some_break.result h) is in
+    rw (← c.self.view_is) (subst (λ (g : List Items). base (left_by c.args.r.now (spanned n g)) ≡ g) c.deref.ensures.value same)
