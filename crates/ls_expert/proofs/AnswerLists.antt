@@ -170,6 +170,10 @@ module _ {X : Type 0} (p : Answer → Bool) (g : Answer → X) (m : ℕ) (a : An
         ]
   ]
 
+-- what holds of each query holds of the others that were answered Yes
+pub good-others : (q : Query → Bool) (m : ℕ) (answers : List Answer) → list_all (λ a. q a.query) answers ≡ true → list_all q (yes_queries (filter (is_other m) answers)) ≡ true
+good-others q m answers h = all-told q (λ a. a.yes) (λ a. a.query) (filter (is_other m) answers) (all-fewer (λ a. q a.query) (is_other m) answers h)
+
 -- the Nos but for the one with the number
 pub nos-others : (m : ℕ) (answers : List Answer) → filter (λ x. not (eqb x.number m)) (nos answers) ≡ nos (filter (is_other m) answers)
 nos-others m [] = refl

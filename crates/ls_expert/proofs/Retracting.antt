@@ -47,9 +47,6 @@ distinct-fewer p (x ∷ answers) d = elim (p x) as (λ b. IsDistinct is_same_que
 length-fewer : (p : Answer → Bool) (answers : List Answer) → length (filter p answers) ≤ length answers
 length-fewer p answers = omega (arith, length-filter p answers, count_by-le-length p answers)
 
-pub good-others : (q : Query → Bool) (m : ℕ) (answers : List Answer) → list_all (λ a. q a.query) answers ≡ true → list_all q (yes_queries (filter (is_other m) answers)) ≡ true
-good-others q m answers h = all-told q (λ a. a.yes) (λ a. a.query) (filter (is_other m) answers) (all-fewer (λ a. q a.query) (is_other m) answers h)
-
 -- ---- interiors
 
 filter-images : {X Y : Type 0} (p : Y → Bool) (g : X → Y) (xs : List X) → length (filter p (map g xs)) ≡ length (filter (λ x. p (g x)) xs)

@@ -1,5 +1,5 @@
 // Lists of answers.
-ghost use Rattle.std.specs.Prelude.{◌≡◌, ◌+◌, ◌<◌, ◌≤◌, ◌++◌, ◌∷◌, [], ◌&&◌, ◌==◌, not, nat_lt, filter, find, count_by, vec_len, vec_capacity, IfOk, IfSome};
+ghost use Rattle.std.specs.Prelude.{◌≡◌, ◌+◌, ◌<◌, ◌≤◌, ◌++◌, ◌∷◌, [], ◌&&◌, ◌==◌, not, filter, find, vec_len, vec_capacity, IfOk, IfSome};
 ghost use Rattle.ls_theory.specs.Interviews.{nos, yes_queries};
 ghost use Rattle.ls_theory.specs.Answering.{opposed};
 ghost use Rattle.ls_expert.specs.Held.{rules_before};

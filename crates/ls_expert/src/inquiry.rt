@@ -1,5 +1,5 @@
 // What an expert was asked and answered.
-ghost use Rattle.std.specs.Prelude.{◌≡◌, ◌+◌, ◌-◌, max, ◌*◌, ◌<◌, ◌≤◌, ◌++◌, ◌∷◌, [], true, false, length, filter, count_by, not, ◌&&◌, ◌==◌, nat_lt, find, vec_len, vec_capacity, Some, None, Ok, Err, IsSome, IsNone, IfOk, IfErr, IfSome, OnOk, OnErr};
+ghost use Rattle.std.specs.Prelude.{◌≡◌, ◌+◌, ◌-◌, max, ◌<◌, ◌≤◌, ◌∷◌, [], true, false, length, filter, Some, None, Ok, Err, IsSome, IsNone, IfOk, IfErr, IfSome, OnOk, OnErr};
 ghost use Rattle.std.specs.Option.{ForSome, option_map};
 ghost use Rattle.std.specs.List.{list_all};
 ghost use Rattle.ls_set.specs.Query.{is_good};
@@ -10,8 +10,7 @@ ghost use Rattle.ls_theory.specs.Fitting.{spaces_of};
 ghost use Rattle.ls_theory.specs.Forced.{known, next_question, is_settled};
 ghost use Rattle.ls_theory.specs.Bases.{base};
 ghost use Rattle.ls_theory.specs.Blocks.{made, IsBlockFault};
-ghost use Rattle.ls_theory.specs.declared.block_fault.BlockFault.TheVariants as block;
-ghost use Rattle.ls_theory.specs.Answering.{refusal, standing_number, answer_with, opposed, is_full, IsFaultOf};
+ghost use Rattle.ls_theory.specs.Answering.{refusal, answer_with, IsFaultOf};
 ghost use Rattle.ls_infer.specs.Tables.{table_of};
 ghost use Rattle.ls_expert.specs.Held.{blocks_of, rules_before, IsStanding};
 ghost use Rattle.ls_expert.specs.Steps.{steps_back, most_steps};

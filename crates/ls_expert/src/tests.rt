@@ -87,6 +87,11 @@ fn assert_answers<L: Ledger>(rt: &impl Abort, alloc: Global, blank: Blank) -> Re
     let last = ItemSet::empty().with(2);
     let sets = [ItemSet::full(3), last.with(0), last];
     assert_eq!(rt; base.sets(), sets.as_slice());
+    let inquiry = interview.inquiry();
+    let yeses = [asked(0, 1), asked(2, 0)];
+    assert_eq!(rt; inquiry.yes_queries(), yeses.as_slice());
+    assert_eq!(rt; inquiry.rules_before(3), 1);
+    assert_eq!(rt; inquiry.first_base()?.sets().len(), 3);
     Ok(())
 }
 

@@ -1,8 +1,8 @@
 // Inquiries that go on from answers.
-ghost use Rattle.std.specs.Prelude.{◌≡◌, ◌<◌, ◌≤◌, Ok, IfOk, IfErr, OnOk};
+ghost use Rattle.std.specs.Prelude.{◌≡◌, ◌<◌, ◌≤◌, Ok, IfOk, IfErr};
 ghost use Rattle.ls_theory.specs.Blocks.{made};
 ghost use Rattle.ls_expert.specs.Starts.{start_of};
-ghost use Rattle.ls_expert.specs.Held.{blocks_of, interview_of, IsStanding};
+ghost use Rattle.ls_expert.specs.Held.{blocks_of, IsStanding};
 ghost use Rattle.ls_expert.specs.Saved.{IsStandingFault};
 
 use crate::answers::yes_queries;

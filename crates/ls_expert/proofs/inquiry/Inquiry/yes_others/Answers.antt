@@ -5,7 +5,7 @@ use Rattle.ls_set.specs.Query.{is_good}
 use Rattle.ls_set.specs.declared.query.Query.{Query}
 use Rattle.ls_theory.specs.declared.answer.Answer.{Answer}
 use Rattle.ls_theory.specs.Interviews.{Interview, yes_queries}
-use Rattle.ls_expert.proofs.Retracting.{good-others}
+use Rattle.ls_expert.proofs.AnswerLists.{good-others}
 use Rattle.ls_expert.proofs.inquiry.Inquiry.yes_others.Goals as goal
 
 pub returns-clause-good : goal.returns-clause-good
