@@ -133,8 +133,9 @@ fn push_group(
     requires { 8 * group < length domain.now }
     ensures { OnOk result (out.new.items ≡ out.old.items ++ group_text domain.now group pattern) }
 {
+    let count = domain.count();
     let first = 8 * group;
-    for item in first..domain.count().min(first + 8) {
+    for item in first..count.min(first + 8) {
         if pattern >> (item - first) & 1 == 1 {
             push_spaced(domain.name(item), out)?;
         }
