@@ -1,5 +1,26 @@
+use Rattle.std.proofs.Common.{◌≡◌, ℕ, ◌*◌, ◌-◌, ◌%◌, ◌++◌, ◌∷◌, true, false, eqb, eq-eqb, ne_eqb, ap, ap₂, sym, ◌∙◌, append_assoc, arith}
+use Rattle.std.specs.Int.{bit_at}
+use Rattle.ls_set.specs.ItemSet.{numbers_from}
+use Rattle.ls_domain.specs.Texts.{name_of}
+use Rattle.ls_writing.specs.SetTexts.{spaced_names}
 use Rattle.ls_writing.proofs.Groups.{spaced-taken, spaced-passed}
 use Rattle.ls_writing.proofs.set_texts.push_group.Goals as goal
+use Rattle.ls_writing.proofs.set_texts.push_group.Goals.{then-pattern-item-eq1+in_ok-push_spaced, else-pattern-item-eq1}
 
 pub loop-item-preserved : goal.loop-item-preserved
-loop-item-preserved c = let b = c.if-pattern-item-eq1 in ?
+loop-item-preserved c =
+    let names = c.args.domain.now in
+    let item = c.loop-item.item in
+    let first = 8 * c.args.group in
+    let p = λ (i : ℕ). eqb (bit_at c.args.pattern (i % 8)) 1 in
+    let so_far = spaced_names names p (numbers_from first (item - first)) in
+    elim c.if-pattern-item-eq1.branch [
+      | then-pattern-item-eq1+in_ok-push_spaced w ↦
+          let t : p item ≡ true = eq-eqb _ _ ? in
+          let x = w.in_ok-push_spaced.ensures in
+          let y = w.out-is in
+          ?
+      | else-pattern-item-eq1 w ↦
+          let t : p item ≡ false = ne_eqb _ _ ? in
+          ap (λ v. v.items) ? ∙ c.loop-item.invariant ∙ ap (λ l. c.args.out.now.items ++ l) (spaced-passed names p first item c.loop-item.auto.item t)
+    ]

@@ -10,7 +10,7 @@ loop-group-preserved g c =
     let names = c.args.self.now in
     let before = names_before names c.args.s c.loop-group.group in
     let here = spaced_names names (has c.args.s) (group_items (length names) c.loop-group.group) in
-    let next : before ++ here ≡ names_before names c.args.s (c.loop-group.group + 1) = names_before-next names c.args.s c.loop-group.group ? in
+    let next : before ++ here ≡ names_before names c.args.s (c.loop-group.group + 1) = names_before-next names c.args.s c.loop-group.group (omega (arith, ap length c.self.view_is, c.count.ensures.value)) in
     record {
       said = says_as (ap (λ k. drop 1 before ++ drop k here) c.loop-group.invariant.skipped ∙ drop-parts 1 before here ∙ ap (drop 1) next) (says_then c.loop-group.invariant.said c.put_group-skipped.ensures.says);
       skipped = omega (arith, c.put_group-skipped.ensures.skipped, c.loop-group.invariant.skipped, ap length next, length-append before here);
@@ -19,5 +19,5 @@ loop-group-preserved g c =
 pub returns : goal.returns
 returns g c =
     let names = c.args.self.now in
-    let all : min (length names) (8 * c.loop-group.group) ≡ length names = ? in
+    let all : min (length names) (8 * c.loop-group.group) ≡ length names = omega (arith, ap length c.self.view_is, c.count.ensures.value) in
     says_as (ap (λ n. drop 1 (spaced_names names (has c.args.s) (numbers_from 0 n))) all ∙ joined-spaced names c.args.s c.requires) c.loop-group.invariant.said
