@@ -1,4 +1,4 @@
-use Rattle.std.proofs.Common.{Bool, false, Some, ◌+◌, ◌-◌, ◌*◌, ◌++◌, sym, ap, ◌∙◌, subst, arith, append_assoc}
+use Rattle.std.proofs.Common.{◌≡◌, Bool, false, Some, [], ◌+◌, ◌-◌, ◌*◌, ◌++◌, sym, ap, ◌∙◌, subst, arith, append_assoc}
 use Rattle.ls_set.specs.ItemSet.{full, IsWithin}
 use Rattle.ls_enum.proofs.Left.{more_steps}
 use Rattle.ls_reply.specs.Texts.{line_of}
@@ -6,6 +6,17 @@ use Rattle.ls_reply.specs.Rows.{set_words}
 use Rattle.ls_writing.proofs.Saying.{says_then, says_as, says_nothing, says_void}
 use Rattle.ls_writing.proofs.Pages.{page_bytes, page-left, page-ended, page-full, more_words}
 use Rattle.ls_writing.proofs.listing.put_listing.Goals as goal
+
+pub loop-done-init : goal.loop-done-init
+loop-done-init g c = (
+      [],
+      record {
+        said = says_nothing _ _ _;
+        whole = ap (page_bytes c.args.texts.now (g.I.Interior.members c.args.f.now) c.args.after) (let e : c.args.count - 0 ≡ c.args.count = omega arith in e);
+        within = c.requires.after;
+        cost = omega arith;
+      },
+    )
 
 pub loop-done-preserved : goal.loop-done-preserved
 loop-done-preserved g c =
@@ -25,7 +36,9 @@ loop-done-preserved g c =
     )
 
 pub returns-then-has_failed-clause-says : goal.returns-then-has_failed-clause-says
-returns-then-has_failed-clause-says g c = let b = c.has_failed in ?
+returns-then-has_failed-clause-says g c =
+    let before = c.loop-done.invariant.1 in
+    says_as before.whole (says_then before.said (says_void (page_bytes c.args.texts.now (g.I.Interior.members c.args.f.now) c.loop-done.cursor (c.args.count - c.loop-done._done)) (sym c.has_failed.ensures ∙ c.if-has_failed.true)))
 
 pub returns-in_default-clause-says : goal.returns-in_default-clause-says
 returns-in_default-clause-says g c =

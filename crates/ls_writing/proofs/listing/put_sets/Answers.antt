@@ -19,4 +19,4 @@ loop-set-preserved g c =
 pub returns : goal.returns
 returns g c =
     let test : length c.args.sets.now ≤ c.loop-set.set-index = omega arith in
-    says_as (ap (λ l. bytes_of (map (set_words c.args.texts.now) l)) (take_all c.args.sets.now c.loop-set.set-index test)) c.loop-set.invariant
+    says_as (ap (λ l. bytes_of (map (set_words c.args.texts.now) l)) (take_all c.loop-set.set-index c.args.sets.now test)) c.loop-set.invariant

@@ -1,5 +1,6 @@
-use Rattle.std.proofs.Common.{◌≡◌, ℕ, ◌*◌, ◌-◌, ◌%◌, ◌++◌, ◌∷◌, true, false, eqb, eq-eqb, ne_eqb, ap, ap₂, sym, ◌∙◌, append_assoc, arith}
+use Rattle.std.proofs.Common.{◌≡◌, ℕ, Vec, Global, ◌/◌, ◌^◌, ◌*◌, ◌-◌, ◌%◌, ◌++◌, ◌∷◌, true, false, eqb, eq-eqb, ne_eqb, ap, ap₂, sym, ◌∙◌, append_assoc, arith}
 use Rattle.std.specs.Int.{bit_at}
+use Rattle.std.proofs.lemmas.Nat.{and_mask}
 use Rattle.ls_set.specs.ItemSet.{numbers_from}
 use Rattle.ls_domain.specs.Texts.{name_of}
 use Rattle.ls_writing.specs.SetTexts.{spaced_names}
@@ -14,13 +15,13 @@ loop-item-preserved c =
     let first = 8 * c.args.group in
     let p = λ (i : ℕ). eqb (bit_at c.args.pattern (i % 8)) 1 in
     let so_far = spaced_names names p (numbers_from first (item - first)) in
+    let digit = and_mask (c.args.pattern / 2 ^ (item % 8)) 1 in
     elim c.if-pattern-item-eq1.branch [
       | then-pattern-item-eq1+in_ok-push_spaced w ↦
-          let t : p item ≡ true = eq-eqb _ _ ? in
-          let x = w.in_ok-push_spaced.ensures in
-          let y = w.out-is in
-          ?
+          let passes : p item ≡ true = eq-eqb _ _ (sym digit ∙ w.if-pattern-item-eq1.true) in
+          ap (λ (v : Vec ℕ Global). v.items) w.out-is ∙ w.in_ok-push_spaced.ensures ∙ ap₂ (λ l n. l ++ (32 ∷ n)) c.loop-item.invariant w.name.ensures
+          ∙ append_assoc c.args.out.now.items so_far (32 ∷ name_of names item) ∙ ap (λ l. c.args.out.now.items ++ l) (spaced-taken names p first item c.loop-item.auto.item passes)
       | else-pattern-item-eq1 w ↦
-          let t : p item ≡ false = ne_eqb _ _ ? in
-          ap (λ v. v.items) ? ∙ c.loop-item.invariant ∙ ap (λ l. c.args.out.now.items ++ l) (spaced-passed names p first item c.loop-item.auto.item t)
+          let fails : p item ≡ false = ne_eqb _ _ (λ q. w.if-pattern-item-eq1.false (digit ∙ q)) in
+          ap (λ (v : Vec ℕ Global). v.items) w.out-is ∙ c.loop-item.invariant ∙ ap (λ l. c.args.out.now.items ++ l) (spaced-passed names p first item c.loop-item.auto.item fails)
     ]
