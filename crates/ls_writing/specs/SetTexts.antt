@@ -18,9 +18,9 @@ group_items n g = numbers_from (8 * g) (min 8 (n - 8 * g))
 abbrev pub spaced_names : List Text → (ℕ → Bool) → List ℕ → Text
 spaced_names names p is = flat_map (λ i. 32 ∷ name_of names i) (filter p is)
 
--- the text of a pattern of group g: item 8 * g + j has digit j
+-- the text of a pattern of group g: item 8 * g + j is in it where digit j is 1
 abbrev pub group_text : List Text → ℕ → ℕ → Text
-group_text names g pattern = spaced_names names (λ i. bit_at pattern (i - 8 * g) == 1) (group_items (length names) g)
+group_text names g pattern = spaced_names names (λ i. bit_at pattern (i % 8) == 1) (group_items (length names) g)
 
 -- the texts of all patterns of all groups
 unfoldable pub group_texts : List Text → List Text

@@ -86,7 +86,8 @@ impl SetTexts {
         room: &mut Room,
         out: &mut K,
     ) -> usize
-        requires { 8 * group < length self.now }
+        requires group { 8 * group < length self.now }
+        requires few { length self.now ≤ PLACES }
         ensures says { Says (K.written out.old) (K.faults out.old) room.old (K.written out.new) (K.faults out.new) room.new (drop skipped (spaced_names self.now (has s) (group_items (length self.now) group))) }
         ensures skipped { result ≡ skipped - length (spaced_names self.now (has s) (group_items (length self.now) group)) }
     {
@@ -133,9 +134,9 @@ fn push_group(
     requires { 8 * group < length domain.now }
     ensures { OnOk result (out.new.items ≡ out.old.items ++ group_text domain.now group pattern) }
 {
-    let first = 8 * group;
-    for item in first..domain.count().min(first + 8) {
-        if pattern >> (item - first) & 1 == 1 {
+    let count = domain.count();
+    for item in 8 * group..count.min(8 * group + 8) {
+        if pattern >> (item % 8) & 1 == 1 {
             push_spaced(domain.name(item), out)?;
         }
     }
