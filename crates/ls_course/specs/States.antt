@@ -2,7 +2,8 @@
 use Rattle.std.specs.Prelude.{◌≡◌, ◌<◌, ℕ, List, length, ⊤}
 use Rattle.ls_set.specs.ItemSet.{Items}
 use Rattle.ls_theory.specs.Interviews.{Interview, yes_queries}
-use Rattle.ls_base.specs.Trails.{TrailState, IsTrail}
+use Rattle.ls_base.specs.Trail.{IsTrail}
+use Rattle.ls_base.specs.declared.trail.Entry.{Entry}
 use Rattle.ls_lines.specs.Lines.{Text}
 use Rattle.ls_reply.specs.Sessions.{Session}
 use Rattle.ls_reply.specs.declared.response.Response.{Response}
@@ -20,8 +21,7 @@ CanSay c (Shown what) = CanShow c.session c.followed what
 CanSay c response = ⊤
 
 -- the parts of a course belong together: names for each item, and a trail of the bases under the Yes answers
-pub record IsCourse (names texts : List Text) (i : Interview) (trail : TrailState) : Type 0 where
-  pub same : texts ≡ names
+pub record IsCourse (names : List Text) (i : Interview) (trail : List Entry) : Type 0 where
   pub items : length names ≡ i.count
   pub some : 0 < length names
   pub trailed : IsTrail i.count i.start (yes_queries i.answers) trail

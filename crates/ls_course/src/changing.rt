@@ -1,11 +1,9 @@
 // How the interview of a course changes.
-ghost use Rattle.std.specs.Prelude.{◌≡◌, ℕ, List, IfOk, OnOk, OnErr};
+ghost use Rattle.std.specs.Prelude.{◌≡◌, IfOk, OnOk, OnErr};
 ghost use Rattle.ls_theory.specs.Interviews.{yes_queries};
 ghost use Rattle.ls_reply.specs.Rows.{blocks_row, answer_row, retract_row};
-ghost use Rattle.ls_base.specs.Trails.{IsTrail};
 
-use ls_base::Trail;
-use ls_expert::{AnswerFault, BlockFault, Inquiry, RetractFault};
+use ls_expert::{AnswerFault, BlockFault, Inquiry};
 use ls_interior::Steps;
 use ls_reply::{Refusal, Response};
 use ls_set::Query;
@@ -61,6 +59,6 @@ pub fn take_back<L: Ledger>(
 {
     match inquiry.retract(number, steps) {
         Ok(()) => Response::Done { number },
-        Err(RetractFault::NotStanding) => Response::Refused(Refusal::NotStanding),
+        Err(_) => Response::Refused(Refusal::NotStanding),
     }
 }

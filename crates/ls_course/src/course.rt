@@ -29,22 +29,21 @@ use std::sync::ledger::Ledger;
 /// A domain, and the interview on its items. Its base is followed when it is asked for.
 #[derive(Drop)]
 pub struct Course {
-    domain: Domain,
     texts: SetTexts,
     inquiry: Inquiry,
     trail: Trail,
 }
 
 impl Model for Course {
-    ghost use Rattle.ls_base.specs.Trails.{last_sets};
+    ghost use Rattle.ls_base.specs.Trail.{trail_sets};
     ghost use Rattle.ls_views.specs.Views.{session_on};
     ghost use Rattle.ls_course.specs.States.{CourseState, IsCourse};
 
     ghost Value = { CourseState };
 
-    ghost view = { λ c. record { session = session_on c.domain c.inquiry; followed = last_sets c.trail } };
+    ghost view = { λ c. record { session = session_on c.texts c.inquiry; followed = trail_sets c.trail } };
 
-    ghost invariant = { λ c. IsCourse c.domain c.texts c.inquiry c.trail };
+    ghost invariant = { λ c. IsCourse c.texts c.inquiry c.trail };
 }
 
 impl Course {
@@ -56,11 +55,9 @@ impl Course {
     ) -> Result<Course, AllocError>
         ensures { IfOk result (λ c. c.session ≡ started domain) }
     {
-        let texts = SetTexts::new(alloc, &domain)?;
         let inquiry = Inquiry::new(alloc, domain.count(), Start::Free, steps)?;
         Ok(Course {
-            domain,
-            texts,
+            texts: SetTexts::new(alloc, domain)?,
             inquiry,
             trail: Trail::new(alloc),
         })
@@ -71,7 +68,7 @@ impl Course {
         ensures value { result.now ≡ self.now.session.names }
         ensures some { 0 < length result.now }
     {
-        &self.domain
+        self.texts.domain()
     }
 
     /// Carries out what a command asks, and answers the response. Where memory runs out nothing changes.
@@ -87,7 +84,7 @@ impl Course {
         ensures said { IfOk result (CanSay self.new) }
         ensures err { OnErr result (self.new.session ≡ self.old.session) }
     {
-        match resolve(&self.domain, command) {
+        match resolve(self.texts.domain(), command) {
             Ok(Some(Request::View(view))) => self.view(&view, steps),
             Ok(Some(Request::Edit(edit))) => self.edit(&edit, steps),
             Ok(None) => Ok(Response::Refused(Refusal::NotBuilt)),

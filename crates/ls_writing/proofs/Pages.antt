@@ -7,7 +7,7 @@ use Rattle.ls_enum.specs.Listings.{left_after}
 use Rattle.ls_enum.proofs.Left.{left-first, left-none, take-left, more-left, take-ended, more-ended, take-full}
 use Rattle.ls_lines.specs.Lines.{Text}
 use Rattle.ls_reply.specs.Texts.{line_of, bytes_of}
-use Rattle.ls_reply.specs.Rows.{set_words, page_lines}
+use Rattle.ls_reply.specs.Lines.{set_words, page_lines}
 use Rattle.ls_writing.proofs.Joins.{bytes_of-one, bytes_of-append}
 
 -- ---- pages

@@ -3,7 +3,7 @@ ghost use Rattle.std.specs.Prelude.{◌≡◌, ◌+◌, ◌-◌, ◌*◌, ◌<�
 ghost use Rattle.ls_set.specs.ItemSet.{has, full, IsWithin};
 ghost use Rattle.ls_domain.specs.Texts.{joined_names};
 ghost use Rattle.ls_reply.specs.Texts.{line_of};
-ghost use Rattle.ls_reply.specs.Rows.{set_words};
+ghost use Rattle.ls_reply.specs.Lines.{set_words};
 ghost use Rattle.ls_writing.specs.Rooms.{Says};
 ghost use Rattle.ls_writing.specs.SetTexts.{group_count, group_items, group_text, group_texts, spaced_names};
 
@@ -40,13 +40,18 @@ impl Model for SetTexts {
 
 impl SetTexts {
     /// The texts of the domain's sets. They take up to 2.7 million bytes, where each of 512 names has 40.
-    pub fn new(alloc: Global, domain: &Domain) -> Result<SetTexts, AllocError>
-        ensures { IfOk result (λ t. t ≡ domain.now) }
+    pub fn new(alloc: Global, domain: Domain) -> Result<SetTexts, AllocError>
+        ensures { IfOk result (λ t. t ≡ domain) }
     {
-        Ok(SetTexts {
-            domain: domain.copy()?,
-            texts: texts_of(alloc, domain)?,
-        })
+        let texts = texts_of(alloc, &domain)?;
+        Ok(SetTexts { domain, texts })
+    }
+
+    /// The names themselves.
+    pub fn domain(&self) -> &Domain
+        ensures { result.now ≡ self.now }
+    {
+        &self.domain
     }
 
     /// Says the names of the set's items, in the order of items, joined by single spaces.

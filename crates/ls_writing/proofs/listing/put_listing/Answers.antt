@@ -2,7 +2,7 @@ use Rattle.std.proofs.Common.{◌≡◌, Bool, false, Some, [], ◌+◌, ◌-◌
 use Rattle.ls_set.specs.ItemSet.{full, IsWithin}
 use Rattle.ls_enum.proofs.Left.{more_steps}
 use Rattle.ls_reply.specs.Texts.{line_of}
-use Rattle.ls_reply.specs.Rows.{set_words}
+use Rattle.ls_reply.specs.Lines.{set_words}
 use Rattle.ls_writing.proofs.Saying.{says_then, says_as, says_nothing, says_void}
 use Rattle.ls_writing.proofs.Pages.{page_bytes, page-left, page-ended, page-full, more_words}
 use Rattle.ls_writing.proofs.listing.put_listing.Goals as goal
