@@ -2,9 +2,7 @@
 #![tactic(auto)]
 
 mod deciding;
-mod reading;
 mod showing;
 
 pub use deciding::{based, decide};
-pub use reading::view;
 pub use showing::put_shown;

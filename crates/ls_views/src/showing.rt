@@ -63,6 +63,6 @@ fn put_question<K: Sink>(texts: &SetTexts, query: &Query, room: &mut Room, out: 
     room.put(b"ask ", out);
     texts.put_names(query.a, room, out);
     room.put(b" : ", out);
-    texts.put_names(ItemSet::empty().with(query.q), room, out);
+    room.put(texts.domain().name(query.q).as_bytes(), out);
     room.end_line(out);
 }
