@@ -49,11 +49,7 @@ pub fn take<L: Ledger>(
 }
 
 /// `retract NUMBER`
-pub fn take_back<L: Ledger>(
-    inquiry: &mut Inquiry,
-    number: u64,
-    steps: &mut Steps<L>,
-) -> Response
+pub fn take_back<L: Ledger>(inquiry: &mut Inquiry, number: u64, steps: &mut Steps<L>) -> Response
     ensures response { result ≡ (retract_row inquiry.old number).response }
     ensures next { inquiry.new ≡ (retract_row inquiry.old number).next }
 {

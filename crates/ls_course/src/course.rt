@@ -116,11 +116,7 @@ impl Course {
     }
 
     // What is shown. The base is followed where it is asked for.
-    fn view<L: Ledger>(
-        &mut self,
-        view: &View,
-        steps: &mut Steps<L>,
-    ) -> Result<Response, AllocError>
+    fn view<L: Ledger>(&mut self, view: &View, steps: &mut Steps<L>) -> Result<Response, AllocError>
         requires { IsOn (length self.old.session.names) view.now }
         ensures response { IfOk result (λ r. r ≡ view_row self.old.session.interview view.now) }
         ensures session { self.new.session ≡ self.old.session }
@@ -150,11 +146,7 @@ impl Course {
     }
 
     // How the interview changes.
-    fn edit<L: Ledger>(
-        &mut self,
-        edit: &Edit,
-        steps: &mut Steps<L>,
-    ) -> Result<Response, AllocError>
+    fn edit<L: Ledger>(&mut self, edit: &Edit, steps: &mut Steps<L>) -> Result<Response, AllocError>
         ensures response { IfOk result (λ r. r ≡ (edit_row self.old.session.interview edit.now).response) }
         ensures interview { OnOk result (self.new.session.interview ≡ (edit_row self.old.session.interview edit.now).next) }
         ensures names { self.new.session.names ≡ self.old.session.names }

@@ -1,1 +1,1 @@
-mod Showing
+mod Shown

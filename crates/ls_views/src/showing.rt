@@ -1,5 +1,6 @@
 // What is shown of an interview, said.
-ghost use Rattle.std.specs.Prelude.{◌≡◌, ◌≤◌, ◌+◌, ◌∷◌, [], true, length, Some, None};
+ghost use Rattle.std.specs.Prelude.{◌≡◌, ◌≤◌, ◌+◌, ◌∷◌, [], true, length, Some};
+ghost use Rattle.std.specs.Option.{ForSome};
 ghost use Rattle.ls_set.specs.Query.{is_good};
 ghost use Rattle.ls_reply.specs.Texts.{line_of, bytes_of};
 ghost use Rattle.ls_reply.specs.Lines.{known_words, question_words, shown_lines};
@@ -32,8 +33,7 @@ pub fn put_shown<K: Sink, L: Ledger>(
 {
     match shown {
         Shown::Known(known) => put_known(*known, room, out),
-        Shown::Question(Some(query)) => put_question(texts, query, room, out),
-        Shown::Question(None) => put_line(&[b"settled"], room, out),
+        Shown::Question(next) => put_question(texts, next, room, out),
         Shown::States { count, after } => {
             let states = Counted::new(inquiry.family());
             put_listing(&states, texts, *after, *count, room, out, steps);
@@ -54,8 +54,20 @@ fn put_known<K: Sink>(known: Known, room: &mut Room, out: &mut K)
     }
 }
 
+// Says the next question, or that none is open.
+fn put_question<K: Sink>(texts: &SetTexts, next: &Option<Query>, room: &mut Room, out: &mut K)
+    requires { ForSome next.now (λ r. is_good (length texts.now) r ≡ true) }
+    ensures { Says (K.written out.old) (K.faults out.old) room.old (K.written out.new) (K.faults out.new) room.new
+        (line_of (question_words texts.now next.now)) }
+{
+    match next {
+        Some(query) => put_query(texts, query, room, out),
+        None => put_line(&[b"settled"], room, out),
+    }
+}
+
 // Says a question.
-fn put_question<K: Sink>(texts: &SetTexts, query: &Query, room: &mut Room, out: &mut K)
+fn put_query<K: Sink>(texts: &SetTexts, query: &Query, room: &mut Room, out: &mut K)
     requires { is_good (length texts.now) query.now ≡ true }
     ensures { Says (K.written out.old) (K.faults out.old) room.old (K.written out.new) (K.faults out.new) room.new
         (line_of (question_words texts.now (Some query.now))) }

@@ -1,8 +1,27 @@
-use Rattle.ls_writing.proofs.Saying.{says_then, says_as}
+use Rattle.std.proofs.Common.{◌≡◌, [], ◌∷◌, codes, Some, None, ap, sym, ◌∙◌, subst, length}
+use Rattle.ls_theory.specs.Compatible.{compatible_sets}
+use Rattle.ls_theory.specs.Bases.{base}
+use Rattle.ls_reply.specs.Lines.{known_words, question_words}
+use Rattle.ls_reply.specs.declared.response.Shown.{Shown}
+use Rattle.ls_reply.specs.declared.response.Shown.TheVariants as shown
+use Rattle.ls_writing.proofs.Saying.{says_as}
+use Rattle.ls_writing.proofs.Joins.{bytes_of-one}
+use Rattle.ls_views.specs.Views.{CanShow, session_on}
+use Rattle.ls_views.proofs.Shown.{shown_bytes, base-within}
 use Rattle.ls_views.proofs.showing.put_shown.Goals as goal
 
 pub put_base-requires : goal.put_base-requires
-put_base-requires g c = ?
+put_base-requires g c =
+    let s = session_on c.args.texts.now c.args.inquiry.now in
+    let can : c.args.sets.now ≡ base (compatible_sets c.args.inquiry.now) = subst (CanShow s c.args.sets.now) c.in-Base.is c.requires.can in
+    base-within c.args.inquiry.now (length c.args.texts.now) c.args.sets.now c.requires.items can
 
 pub returns-in-Known-clause-says : goal.returns-in-Known-clause-says
-returns-in-Known-clause-says g c = ?
+returns-in-Known-clause-says g c =
+    let s = session_on c.args.texts.now c.args.inquiry.now in
+    says_as (sym (bytes_of-one (known_words c.in-Known.known)) ∙ shown_bytes s c.args.shown.now (shown.Known c.in-Known.known) c.in-Known.is) c.put_known.ensures
+
+pub returns-in-Question-clause-says : goal.returns-in-Question-clause-says
+returns-in-Question-clause-says g c =
+    let s = session_on c.args.texts.now c.args.inquiry.now in
+    says_as (sym (bytes_of-one (question_words c.args.texts.now c.in-Question.next)) ∙ shown_bytes s c.args.shown.now (shown.Question c.in-Question.next) c.in-Question.is) c.put_question.ensures

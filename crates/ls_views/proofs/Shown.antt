@@ -1,0 +1,36 @@
+-- The bytes of what is shown, and the sets of a base.
+use Rattle.std.proofs.Common.{◌≡◌, ◌<◌, ℕ, zero, suc, List, [], ◌∷◌, ◌++◌, codes, true, refl, ap, sym, ◌∙◌, subst, length, append_assoc, arith}
+use Rattle.std.specs.Prelude.{slice_index_or}
+use Rattle.std.specs.List.{All}
+use Rattle.ls_set.specs.ItemSet.{Items, full, IsWithin, is_among}
+use Rattle.ls_theory.specs.Interviews.{Interview, yes_queries}
+use Rattle.ls_theory.specs.Compatible.{compatible_sets}
+use Rattle.ls_theory.specs.Bases.{base}
+use Rattle.ls_set.proofs.Members.{among-here, among-there}
+use Rattle.ls_laws.proofs.Atoms.{base-member}
+use Rattle.ls_laws.proofs.Compat.{compat-IsUnionFamily}
+use Rattle.ls_reply.specs.Texts.{line_of, bytes_of}
+use Rattle.ls_reply.specs.Sessions.{Session}
+use Rattle.ls_reply.specs.Lines.{shown_lines}
+use Rattle.ls_reply.specs.declared.response.Shown.{Shown}
+
+-- the line of a question, from its pieces
+pub question_line : (a name : List ℕ) → (((codes "ask " ++ a) ++ codes " : ") ++ name) ++ (10 ∷ []) ≡ line_of (codes "ask" ∷ a ∷ codes ":" ∷ name ∷ [])
+unfolding line_of
+question_line a name = simp append_assoc
+
+-- the bytes of what is shown by what it is
+pub shown_bytes : (s : Session) (a b : Shown) → a ≡ b → bytes_of (shown_lines s b) ≡ bytes_of (shown_lines s a)
+shown_bytes s a b e = ap (λ (x : Shown). bytes_of (shown_lines s x)) (sym e)
+
+all-among : (n : ℕ) (f : List Items) → ((k : Items) → is_among f k ≡ true → IsWithin k (full n)) → (i : ℕ) (d : Items) → i < length f → IsWithin (slice_index_or f i d) (full n)
+all-among n [] h i d l = absurd (omega arith)
+all-among n (t ∷ f) h zero d l = h t (among-here t t f refl)
+all-among n (t ∷ f) h (suc i) d l = all-among n f (λ k c. h k (among-there k t f c)) i d (omega arith)
+
+-- the sets of the base are sets of the items
+pub base-within : (i : Interview) (n : ℕ) (sets : List Items) → n ≡ i.count → sets ≡ base (compatible_sets i) → All (λ k. IsWithin k (full n)) sets
+base-within i n sets en e =
+    let small = (compat-IsUnionFamily i.count i.start (yes_queries i.answers)).small in
+    let found = all-among i.count (base (compatible_sets i)) (λ k m. small k (base-member (compatible_sets i) k m)) in
+    subst (λ m. All (λ k. IsWithin k (full m)) sets) (sym en) (subst (λ ks. All (λ k. IsWithin k (full i.count)) ks) (sym e) found)
