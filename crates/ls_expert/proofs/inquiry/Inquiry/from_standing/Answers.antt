@@ -1,4 +1,4 @@
-use Rattle.std.proofs.Common.{ℕ, ◌≡◌, ◌∙◌, List, [], true, refl, sym, ap, ap₂, true≢false}
+use Rattle.std.proofs.Common.{ℕ, ◌≡◌, ◌∙◌, List, true, refl, sym, ap, ap₂, true≢false}
 use Rattle.std.specs.Bool.{Decides}
 use Rattle.std.specs.List.{list_all}
 use Rattle.std.proofs.lemmas.Result.{err_from_is_err_and}
@@ -6,8 +6,6 @@ use Rattle.ls_set.specs.Query.{is_good}
 use Rattle.ls_set.specs.declared.query.Query.{Query}
 use Rattle.ls_theory.specs.declared.answer.Answer.{Answer}
 use Rattle.ls_theory.specs.Starts as theory
-use Rattle.ls_theory.specs.Bases.{base}
-use Rattle.ls_theory.specs.Compatible.{compat}
 use Rattle.ls_theory.specs.Interviews.{Interview, yes_queries}
 use Rattle.ls_theory.specs.Blocks.{BlockRange}
 use Rattle.ls_laws.specs.Forced.{IsSound}

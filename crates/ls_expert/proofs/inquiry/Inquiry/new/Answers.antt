@@ -1,14 +1,10 @@
-use Rattle.std.proofs.Common.{ℕ, ◌<◌, ◌≤◌, ◌≡◌, [], ap₂, Result, Ok, refl, sym, ap, ◌∙◌}
+use Rattle.std.proofs.Common.{ℕ, ◌<◌, ◌≤◌, ◌≡◌, Result, Ok, refl, sym, ap, ◌∙◌}
 use Rattle.ls_set.specs.declared.item_set.TheConstants.{PLACES}
 use Rattle.ls_theory.specs.Interviews.{yes_queries}
 use Rattle.ls_theory.specs.Blocks.{BlockRange, made}
 use Rattle.ls_theory.specs.declared.block_fault.BlockFault.{BlockFault}
-use Rattle.ls_theory.specs.Starts as theory
-use Rattle.ls_theory.specs.Compatible.{compat}
-use Rattle.ls_theory.specs.Bases.{base}
 use Rattle.ls_expert.specs.Starts.{StartOn, start_of}
 use Rattle.ls_expert.specs.Held.{interview_of}
-use Rattle.ls_expert.proofs.Ruling.{followed-by}
 use Rattle.ls_expert.proofs.Holding.{made-one, tabled-by, begun-as, held-begun}
 use Rattle.ls_expert.proofs.inquiry.Inquiry.new.Goals as goal
 

@@ -1,11 +1,7 @@
-use Rattle.std.proofs.Common.{ℕ, ◌&&◌, not, eqb, ltb, filter, count_by, remove, List, [], refl, sym, arith, ap, ap₂, ◌∙◌}
-use Rattle.std.specs.List.{list_all}
+use Rattle.std.proofs.Common.{remove, List, arith, ap, ◌∙◌}
 use Rattle.ls_set.specs.Query.{is_good}
-use Rattle.ls_set.specs.declared.query.Query.{Query}
-use Rattle.ls_theory.specs.Interviews.{Interview, yes_queries}
+use Rattle.ls_theory.specs.Interviews.{Interview}
 use Rattle.ls_theory.specs.declared.answer.Answer.{Answer}
-use Rattle.ls_theory.specs.Starts.{Start}
-use Rattle.ls_theory.specs.Bases.{base}
 use Rattle.ls_theory.specs.Compatible.{compat}
 use Rattle.ls_theory.specs.Answering.{answer_with}
 use Rattle.ls_infer.specs.Tables.{TableState}

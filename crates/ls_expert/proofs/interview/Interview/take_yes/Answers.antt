@@ -1,4 +1,4 @@
-use Rattle.std.proofs.Common.{◌≡◌, ◌+◌, List, length, sym, ap, subst}
+use Rattle.std.proofs.Common.{◌+◌, List, length, sym, ap, subst}
 use Rattle.ls_set.specs.declared.query.Query.{Query}
 use Rattle.ls_theory.specs.Interviews.{Interview, yes_queries}
 use Rattle.ls_base.specs.Followed.{IsFollowed}
