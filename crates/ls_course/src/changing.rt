@@ -3,10 +3,11 @@ ghost use Rattle.std.specs.Prelude.{◌≡◌, IfOk, OnOk, OnErr};
 ghost use Rattle.ls_theory.specs.Interviews.{yes_queries};
 ghost use Rattle.ls_reply.specs.Rows.{blocks_row, answer_row, retract_row};
 
-use ls_expert::{AnswerFault, BlockFault, Inquiry};
+use ls_expert::Inquiry;
 use ls_interior::Steps;
 use ls_reply::{Refusal, Response};
 use ls_set::Query;
+use ls_theory::{AnswerFault, BlockFault};
 use std::alloc::AllocError;
 use std::sync::ledger::Ledger;
 
