@@ -1,0 +1,2 @@
+mod Trailed
+mod Saying

@@ -20,8 +20,12 @@ abbrev pub CanSay : CourseState → Response → Type 0
 CanSay c (Shown what) = CanShow c.session c.followed what
 CanSay c response = ⊤
 
+-- what is followed over the first Yes answers of the interview
+abbrev pub IsTrailOf : Interview → List Entry → Type 0
+IsTrailOf i trail = IsTrail i.count i.start (yes_queries i.answers) trail
+
 -- the parts of a course belong together: names for each item, and a trail of the bases under the Yes answers
 pub record IsCourse (names : List Text) (i : Interview) (trail : List Entry) : Type 0 where
   pub items : length names ≡ i.count
   pub some : 0 < length names
-  pub trailed : IsTrail i.count i.start (yes_queries i.answers) trail
+  pub trailed : IsTrailOf i trail

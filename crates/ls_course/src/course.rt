@@ -4,7 +4,7 @@ ghost use Rattle.ls_reply.specs.Texts.{bytes_of};
 ghost use Rattle.ls_reply.specs.Sessions.{started};
 ghost use Rattle.ls_reply.specs.Meanings.{request_of};
 ghost use Rattle.ls_reply.specs.Lines.{shown_lines};
-ghost use Rattle.ls_reply.specs.Rows.{view_row, base_row, edit_row, retract_row};
+ghost use Rattle.ls_reply.specs.Rows.{view_row, base_row, edit_row};
 ghost use Rattle.ls_reply.specs.Replies.{asked_effect, unnamed_at};
 ghost use Rattle.ls_writing.specs.Rooms.{Says};
 ghost use Rattle.ls_meanings.specs.Asked.{IsOn};
@@ -12,6 +12,7 @@ ghost use Rattle.ls_views.specs.Views.{CanShow, is_based};
 ghost use Rattle.ls_course.specs.States.{CanSay};
 
 use crate::changing::{set_blocks, take, take_back};
+use crate::following::follow;
 use ls_base::Trail;
 use ls_domain::Domain;
 use ls_edge::Sink;
@@ -134,11 +135,7 @@ impl Course {
         ensures session { self.new.session ≡ self.old.session }
         ensures said { IfOk result (CanSay self.new) }
     {
-        if !self.trail.is_begun() {
-            let first = self.inquiry.first_base()?;
-            self.trail.begin(first)?;
-        }
-        self.trail.follow(self.inquiry.yes_queries())?;
+        follow(&mut self.trail, &self.inquiry)?;
         match self.trail.last() {
             Some(followed) => Ok(based(followed)),
             None => unreachable!(),
@@ -156,22 +153,10 @@ impl Course {
         match edit {
             Edit::Blocks { size } => set_blocks(&mut self.inquiry, *size, steps),
             Edit::Answer { query, yes } => take(&mut self.inquiry, *query, *yes, steps),
-            Edit::Retract { number } => Ok(self.take_back(*number, steps)),
+            Edit::Retract { number } => {
+                let response = take_back(&mut self.inquiry, &mut self.trail, *number, steps);
+                Ok(response)
+            }
         }
-    }
-
-    // `retract NUMBER`: of the trail, what stands for the Yes answers before it is kept.
-    fn take_back<L: Ledger>(&mut self, number: u64, steps: &mut Steps<L>) -> Response
-        ensures response { result ≡ (retract_row self.old.session.interview number).response }
-        ensures interview { self.new.session.interview ≡ (retract_row self.old.session.interview number).next }
-        ensures names { self.new.session.names ≡ self.old.session.names }
-    {
-        let before = self.inquiry.rules_before(number);
-        let count = self.inquiry.yes_queries().len();
-        let response = take_back(&mut self.inquiry, number, steps);
-        if self.inquiry.yes_queries().len() < count {
-            self.trail.give_up(before);
-        }
-        response
     }
 }

@@ -3,5 +3,6 @@
 
 mod changing;
 mod course;
+mod following;
 
 pub use course::Course;

@@ -1,5 +1,5 @@
 pub mod AnswerLists
-mod Ruling
+pub mod Ruling
 mod Holding
 mod Taking
 mod Retracting

@@ -282,8 +282,8 @@ impl Inquiry {
         rules_before(&self.answers, number)
     }
 
-    // The standing answer with the number, if there is one.
-    pub(crate) fn answer_with(&self, number: u64) -> Option<Answer>
+    /// The standing answer with the number, if there is one.
+    pub fn answer_with(&self, number: u64) -> Option<Answer>
         ensures value { result ≡ answer_with self.now number }
         ensures number { IfSome result (λ a. a.number ≡ number) }
         ensures standing { IsStanding self.now }

@@ -1,0 +1,9 @@
+use Rattle.std.proofs.Common.{sym, subst}
+use Rattle.ls_theory.specs.Interviews.{Interview}
+use Rattle.ls_course.specs.States.{IsTrailOf}
+use Rattle.ls_course.proofs.Trailed.{trail-accepted}
+use Rattle.ls_course.proofs.changing.take.Goals as goal
+
+pub returns-in-Ok-clause-trail : goal.returns-in-Ok-clause-trail
+returns-in-Ok-clause-trail g c = λ t h.
+    subst (λ (i : Interview). IsTrailOf i t) (sym c.in-Ok.ensures.ok) (trail-accepted c.args.inquiry.now c.args.query c.args.yes t h)
