@@ -9,14 +9,14 @@ use Rattle.ls_writing.proofs.listing.put_listing.Goals as goal
 
 pub loop-done-init : goal.loop-done-init
 loop-done-init g c = (
-      [],
-      record {
-        said = says_nothing _ _ _;
-        whole = ap (page_bytes c.args.texts.now (g.I.Interior.members c.args.f.now) c.args.after) (let e : c.args.count - 0 ≡ c.args.count = omega arith in e);
-        within = c.requires.after;
-        cost = omega arith;
-      },
-    )
+  [],
+  record {
+    said = says_nothing _ _ _;
+    whole = ap (page_bytes c.args.texts.now (g.I.Interior.members c.args.f.now) c.args.after) (let e : c.args.count - 0 ≡ c.args.count = omega arith in e);
+    within = c.requires.after;
+    cost = omega arith;
+  },
+)
 
 pub loop-done-preserved : goal.loop-done-preserved
 loop-done-preserved g c =
