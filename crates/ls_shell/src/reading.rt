@@ -18,9 +18,9 @@ pub const LONGEST_SCRIPT: usize = 67_108_864;
 // How many bytes are asked for at most.
 const PIECE: usize = 4096;
 
-/// Reads the script that a source has, and answers its lines as they come: those that have ended are answered before
-/// the next read. Says whether some reply begins with `no `. A read offers room for as many bytes as a script may still
-/// have, or for one byte where it has as many as it may.
+/// Reads the script that a source has, and answers its lines as they come: those that have ended
+/// are answered before the next read. Says whether some reply begins with `no `. A read offers room
+/// for as many bytes as a script may still have, or for one byte where it has as many as it may.
 pub fn answer_source<R: Threads + Sync, S: Source, K: Sink, H: Shelf>(
     rt: &R,
     alloc: Global,
@@ -37,7 +37,8 @@ pub fn answer_source<R: Threads + Sync, S: Source, K: Sink, H: Shelf>(
         × TakesAndAnswers 0 (S.left src.old) (S.left src.new)
         (H.files shelf.old) (H.files shelf.new) (H.faults shelf.old) (H.faults shelf.new)
         (K.written out.old) (K.written out.new) }
-    ensures long { IsErrOf result RunFault.Long → TakesAndAnswers 1 (S.left src.old) (S.left src.new)
+    ensures long { IsErrOf result RunFault.Long
+        → TakesAndAnswers 1 (S.left src.old) (S.left src.new)
         (H.files shelf.old) (H.files shelf.new) (H.faults shelf.old) (H.faults shelf.new)
         (K.written out.old) (K.written out.new) }
 

@@ -1,5 +1,6 @@
 // A run over a script as it comes.
-ghost use Rattle.std.specs.Prelude.{◌≡◌, ◌<◌, ◌≤◌, ◌^◌, ◌++◌, List, ℕ, [], length, Some, IfOk, OnOk, OnErr, IsErrOf};
+ghost use Rattle.std.specs.Prelude.{◌≡◌, ◌<◌, ◌≤◌, ◌^◌, ◌++◌, List, ℕ, [], length, Some};
+ghost use Rattle.std.specs.Prelude.{IfOk, OnOk, OnErr, IsErrOf};
 ghost use Rattle.std.specs.declared.option.Option.{Option};
 ghost use Rattle.ls_edge.specs.Files.{Folder};
 ghost use Rattle.ls_lines.specs.Lines.{lines};
@@ -13,8 +14,8 @@ use ls_session::{Session, StepFault};
 use std::alloc::{AllocError, Global};
 use std::thread::Threads;
 
-/// A run over a script as it comes: the session, the line that has not ended yet, and whether some reply so far begins
-/// with `no `.
+/// A run over a script as it comes: the session, the line that has not ended yet, and whether some
+/// reply so far begins with `no `.
 #[derive(Drop)]
 pub struct Run {
     session: Session,
@@ -38,8 +39,8 @@ impl Run {
         })
     }
 
-    /// Answers the lines that end within the bytes that follow. After an `Err` the run stopped before one of them,
-    /// whatever bytes would still have come, and isn't used again.
+    /// Answers the lines that end within the bytes that follow. After an `Err` the run stopped
+    /// before one of them, whatever bytes would still have come, and isn't used again.
     pub fn take<R: Threads + Sync, K: Sink, H: Shelf>(
         &mut self,
         rt: &R,
@@ -47,14 +48,18 @@ impl Run {
         out: &mut K,
         shelf: &mut H,
     ) -> Result<(), StepFault>
-        ensures answered { OnOk result ((m : Folder) (taken : List ℕ) (faults : ℕ) (start : Option (List ℕ))
+        ensures answered { OnOk result (
+            (m : Folder) (taken : List ℕ) (faults : ℕ) (start : Option (List ℕ))
             → length (taken ++ piece.now) < 2 ^ 64
-            → Answers m (lines taken) [] self.old (H.files shelf.old) faults (H.faults shelf.old) start (K.written out.old)
+            → Answers m (lines taken) [] self.old
+            (H.files shelf.old) faults (H.faults shelf.old) start (K.written out.old)
             → Answers m (lines (taken ++ piece.now)) [] self.new
             (H.files shelf.new) faults (H.faults shelf.new) start (K.written out.new)) }
-        ensures stopped { OnErr result ((m : Folder) (taken more : List ℕ) (faults : ℕ) (start : Option (List ℕ))
+        ensures stopped { OnErr result (
+            (m : Folder) (taken more : List ℕ) (faults : ℕ) (start : Option (List ℕ))
             → length (taken ++ piece.now) < 2 ^ 64
-            → Answers m (lines taken) [] self.old (H.files shelf.old) faults (H.faults shelf.old) start (K.written out.old)
+            → Answers m (lines taken) [] self.old
+            (H.files shelf.old) faults (H.faults shelf.old) start (K.written out.old)
             → StopsAt (IsErrOf result StepFault.Write) m (lines ((taken ++ piece.now) ++ more))
             (H.files shelf.new) faults (H.faults shelf.new) start (K.written out.new)) }
         ensures sink { MovesSink StepFault.Write
@@ -73,20 +78,26 @@ impl Run {
         Ok(())
     }
 
-    /// Answers the last line, where it has no line end, and says whether some reply begins with `no `.
+    /// Answers the last line, where it has no line end, and says whether some reply begins with
+    /// `no `. After an `Err` the run stopped before that line.
     pub fn finish<R: Threads + Sync, K: Sink, H: Shelf>(
         mut self,
         rt: &R,
         out: &mut K,
         shelf: &mut H,
     ) -> Result<bool, StepFault>
-        ensures answered { IfOk result (λ b. (m : Folder) (script : List ℕ) (faults : ℕ) (start : Option (List ℕ))
+        ensures answered { IfOk result (λ b.
+            (m : Folder) (script : List ℕ) (faults : ℕ) (start : Option (List ℕ))
             → length script < 2 ^ 64
-            → Answers m (lines script) [] self (H.files shelf.old) faults (H.faults shelf.old) start (K.written out.old)
-            → AnswersWhole m script (H.files shelf.new) faults (H.faults shelf.new) start (K.written out.new) b) }
-        ensures stopped { OnErr result ((m : Folder) (script : List ℕ) (faults : ℕ) (start : Option (List ℕ))
+            → Answers m (lines script) [] self
+            (H.files shelf.old) faults (H.faults shelf.old) start (K.written out.old)
+            → AnswersWhole m script
+            (H.files shelf.new) faults (H.faults shelf.new) start (K.written out.new) b) }
+        ensures stopped { OnErr result (
+            (m : Folder) (script : List ℕ) (faults : ℕ) (start : Option (List ℕ))
             → length script < 2 ^ 64
-            → Answers m (lines script) [] self (H.files shelf.old) faults (H.faults shelf.old) start (K.written out.old)
+            → Answers m (lines script) [] self
+            (H.files shelf.old) faults (H.faults shelf.old) start (K.written out.old)
             → StopsAt (IsErrOf result StepFault.Write) m (lines script)
             (H.files shelf.new) faults (H.faults shelf.new) start (K.written out.new)) }
         ensures sink { MovesSink StepFault.Write
@@ -108,10 +119,12 @@ impl Run {
         out: &mut K,
         shelf: &mut H,
     ) -> Result<(), StepFault>
-        ensures answered { (line : List ℕ) → ended ≡ ended_of line → self.old.cutter.line ≡ kept line
+        ensures answered { (line : List ℕ)
+            → ended ≡ ended_of line → self.old.cutter.line ≡ kept line
             → (m : Folder) → H.files shelf.old ≡ Some m
-            → AnswersLine StepFault.Write m line self.old self.new (H.files shelf.new)
-            (H.faults shelf.old) (H.faults shelf.new) (K.written out.old) (K.written out.new) result }
+            → AnswersLine StepFault.Write m line self.old self.new
+            (H.files shelf.new) (H.faults shelf.old) (H.faults shelf.new)
+            (K.written out.old) (K.written out.new) result }
         ensures sink { MovesSink StepFault.Write
             (K.written out.old) (K.written out.new) (K.faults out.old) (K.faults out.new) result }
         ensures later { H.faults shelf.old ≤ H.faults shelf.new }
@@ -129,7 +142,8 @@ impl Run {
         out: &mut K,
         shelf: &mut H,
     ) -> Result<bool, StepFault>
-        ensures answered { (line : List ℕ) → ended ≡ ended_of line → self.old.cutter.line ≡ kept line
+        ensures answered { (line : List ℕ)
+            → ended ≡ ended_of line → self.old.cutter.line ≡ kept line
             → Follows StepFault.Write (λ calls. line_effect self.old.session calls line)
             self.old.session self.new.session
             (H.files shelf.old) (H.files shelf.new) (H.faults shelf.old) (H.faults shelf.new)
