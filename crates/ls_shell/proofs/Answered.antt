@@ -41,10 +41,6 @@ module _ (m : Folder) where
     pub told : run.is_refused ≡ refuses before_all ended
     pub answered : HasAnswered m ended left shelf_before shelf_now start now
 
-  pub continues : (all : List (List ℕ)) (rest : List ℕ) (run : Run) (left : Option Folder) (shelf_before shelf_now : ℕ) (start now : Option (List ℕ)) → (a : Answers m all rest run left shelf_before shelf_now start now)
-      → Continues a.ended run left shelf_before shelf_now start now
-  continues all rest run left shelf_before shelf_now start now a = record { session = a.session; told = a.told; answered = a.answered }
-
   bare_lines-snoc : (ended : List Marked) (line : List ℕ) (failed : Bool) (others : List (List ℕ)) → bare_lines (ended ++ marked line failed ∷ []) ++ others ≡ bare_lines ended ++ line ∷ others
   bare_lines-snoc ended line failed others = ap (λ ls. ls ++ others) (bare_lines-append ended (marked line failed ∷ [])) ∙ append_assoc (bare_lines ended) (line ∷ []) others
 

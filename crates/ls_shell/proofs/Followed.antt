@@ -82,17 +82,6 @@ module _ {E : Type 0} (write : E) (line : List ℕ) (old new : Run) (next : Sess
         begun = OnErr_from r (begun_by (line_effect old.session h.calls line) (effect_at world (at h.calls.failed)) f (IsErrOf r write) (λ w. let wrote : q ≡ Err write = passed w in let same : f ≡ write = cc in same) (same_answer h files) files given);
       }
 
-gives_kept : {E : Type 0} (write : E) (effect : Effect) (old new : Session) (folder left : Option Folder) (a b : Option (List ℕ)) (q : Result Bool E) → Gives write effect old new folder left a b q → (bytes : List ℕ) × Appends a b bytes
-gives_kept write effect old new folder left a b (Ok refused) h = (_, h.1.written)
-gives_kept write effect old new folder left a b (Err e) (inl h) = (_, appends_keep a a b [] (appends_none a) h.0.written)
-gives_kept write effect old new folder left a b (Err e) (inr h) = (_, h.1.2)
-
--- what it does to the sink
-pub follows_moves : {E : Type 0} (write : E) (effect : Calls → Effect) (old new : Session) (folder left : Option Folder) (shelf_before shelf_now : ℕ) (a b : Option (List ℕ)) (faults_before faults_now : ℕ) (q : Result Bool E)
-    → Follows write effect old new folder left shelf_before shelf_now a b faults_before faults_now q → MovesSink write a b faults_before faults_now q
-follows_moves write effect old new folder left shelf_before shelf_now a b faults_before faults_now q h =
-    record { kept = gives_kept write (effect h.calls) old new folder left a b q h.gives; later = h.later; cause = h.cause }
-
 -- a line that ended whole is kept whole
 whole_by : (long : Bool) (line bytes : List ℕ) → Whole ≡ cond long (Long (length line)) Whole → bytes ≡ cond long [] line → bytes ≡ line
 whole_by true line bytes ended kept = absurd (cc ended)

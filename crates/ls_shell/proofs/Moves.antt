@@ -10,14 +10,7 @@ use Rattle.ls_session.specs.Follows.{MovesSink}
 pub rose_since : (a b c : ℕ) → a ≤ b → Rose b c → Rose a c
 rose_since a b c l h = omega arith
 
--- a count that rose before some time has risen later
-pub rose_by : (a b c : ℕ) → b ≤ c → Rose a b → Rose a c
-rose_by a b c l h = omega arith
-
 module _ {E : Type 0} (write : E) where
-  pub moves_none : {T : Type 0} (a : Option (List ℕ)) (faults : ℕ) (x : T) → MovesSink {T = T} write a a faults faults (Ok x)
-  moves_none a faults x = record { kept = ([], appends_none a); later = omega arith; cause = λ e. absurd (cc e) }
-
   -- bytes were written, and then more was done
   pub moves_more : {T : Type 0} (a b c : Option (List ℕ)) (before then now : ℕ) (r : Result T E) (bytes : List ℕ) → Appends a b bytes → before ≤ then → MovesSink write b c then now r → MovesSink write a c before now r
   moves_more a b c before then now r bytes w l m = record {

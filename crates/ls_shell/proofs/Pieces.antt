@@ -43,14 +43,6 @@ stops_first W never m bytes faults start =
     record { ended = []; at = marked f.line false; others = f.others; all_lines = f.are; front = 0; written = appends_none start; files = inl (refl, refl, never); few = few-one f.line faults }
 
 module _ (source : Option (List ℕ)) (folder : Option Folder) (shelf_before : ℕ) (start : Option (List ℕ)) where
-  pub read_none : (run : Run) → ((m : Folder) (faults : ℕ) (now : Option (List ℕ)) → Answers m (lines []) [] run (Some m) faults faults now now) → HasRead source source 0 run folder folder shelf_before shelf_before start start
-  read_none run h = record {
-    taken = [];
-    consumed = Consumes-nil source;
-    counted = omega arith;
-    answered = λ m told. subst (λ o. Answers m (lines []) [] run o shelf_before shelf_before start start) (sym told) (h m shelf_before start);
-  }
-
   -- memory ran out before a byte was taken
   pub stops_none : (W : Type 0) → (W → ⊥) → TakesAndStops W source source folder folder shelf_before shelf_before start start
   stops_none W never = record {

@@ -45,12 +45,6 @@ module _ (source source_left : Option (List ℕ)) (folder left : Option Folder) 
   stops_script W script m h told files =
       subst (λ s. StopsAt W m (lines s) left shelf_before shelf_now before after) (taken_part script source_left h.counted h.follows (subst (λ s. Consumes s source_left h.counted) told h.taken) h.follows_is) (h.stops m files)
 
-  -- more was taken than a script has
-  pub long_script : (script : List ℕ) → TakesAndAnswers 1 source source_left folder left shelf_before shelf_now before after → source ≡ Some script → TakesFew script source_left → ⊥
-  long_script script h told few =
-      let full : length h.counted ≡ longest_script = h.full (omega arith) in
-      taken_more script source_left (h.counted ++ h.past) (subst (λ s. Consumes s source_left (h.counted ++ h.past)) told h.taken) (omega (arith, length-append h.counted h.past, h.past_is, full)) few
-
 -- where the count of the shelf's faults did not rise, the transcript was written
 pub whole_unmarked : (m : Folder) (script : List ℕ) (left : Option Folder) (shelf_before shelf_now : ℕ) (before after : Option (List ℕ)) (refused : Bool) → AnswersWhole m script left shelf_before shelf_now before after refused → (Rose shelf_before shelf_now → ⊥)
     → WritesTranscript m script left before after refused
