@@ -2,10 +2,9 @@
 use Rattle.std.proofs.Common.{◌≡◌, ℕ, ◌⊎◌, inl, inr, ◌||◌, Bool, true, false, cond, List, [], length, Result, Ok, Err, OnOk, OnErr, IsErr, IsErrOf, Some, refl, sym, ap, ◌∙◌, subst}
 use Rattle.std.proofs.Math.Path.{fun_ext}
 use Rattle.std.specs.declared.option.Option.{Option}
-use Rattle.std.specs.Io.KnownBytes.{Appends, Keeps}
+use Rattle.std.specs.Io.KnownBytes.{Keeps}
 use Rattle.ls_edge.specs.Causes.{AppendsFront}
 use Rattle.ls_edge.specs.Files.{Folder}
-use Rattle.ls_edge.proofs.Known.{appends_keep, appends_none}
 use Rattle.ls_lines.specs.Lines.{Text, is_long}
 use Rattle.ls_lines.specs.Cutting.{kept, ended_of}
 use Rattle.ls_lines.specs.declared.ended.Ended.{Ended}
@@ -15,7 +14,7 @@ use Rattle.ls_reply.specs.Scenes.{Fetched, Calls, calls_of}
 use Rattle.ls_reply.specs.Effects.{Effect}
 use Rattle.ls_reply.specs.Replies.{line_effect, reply_of}
 use Rattle.ls_reply.specs.Transcripts.{World, Marked, folder_with, effect_at}
-use Rattle.ls_session.specs.Follows.{Said, Sees, IsUndone, IsDecided, Gives, Follows, MovesSink}
+use Rattle.ls_session.specs.Follows.{Said, Sees, IsUndone, IsDecided, Gives, Follows}
 use Rattle.ls_shell.specs.declared.run.Run.{Run}
 use Rattle.ls_shell.specs.Progress.{AnswersLine}
 

@@ -1,9 +1,9 @@
 -- Counts that rise, and what is done to a sink in several steps.
-use Rattle.std.proofs.Common.{ℕ, ◌≤◌, List, Result, Ok, IsErrOf, [], arith}
+use Rattle.std.proofs.Common.{ℕ, ◌≤◌, List, Result, IsErrOf, arith}
 use Rattle.std.specs.declared.option.Option.{Option}
 use Rattle.std.specs.Io.KnownBytes.{Appends}
 use Rattle.ls_edge.specs.Causes.{Rose}
-use Rattle.ls_edge.proofs.Known.{appends_more, appends_none}
+use Rattle.ls_edge.proofs.Known.{appends_more}
 use Rattle.ls_session.specs.Follows.{MovesSink}
 
 -- a count that rose since later rose since before

@@ -8,7 +8,7 @@ use Rattle.ls_edge.specs.Files.{Folder}
 use Rattle.ls_lines.specs.Lines.{lines}
 use Rattle.ls_reply.specs.Transcripts.{Marked, begun_over, unmarked, replies, world_after, refuses}
 use Rattle.ls_shell.specs.Progress.{StopsAt}
-use Rattle.ls_shell.specs.Runs.{longest_script, AnswersWhole, TakesWhole, TakesAndStops, TakesAndAnswers}
+use Rattle.ls_shell.specs.Runs.{longest_script, AnswersWhole, TakesWhole, TakesAndStops}
 use Rattle.ls_shell.specs.Scripts.{TakesFew, WritesTranscript}
 use Rattle.ls_shell.proofs.Rises.{no_marks}
 

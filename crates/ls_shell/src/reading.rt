@@ -12,8 +12,8 @@ use ls_session::StepFault;
 use std::alloc::Global;
 use std::thread::Threads;
 
-/// The most bytes that a script has.
-pub const LONGEST_SCRIPT: usize = 67_108_864;
+// The most bytes that a script has.
+const LONGEST_SCRIPT: usize = 67_108_864;
 
 // How many bytes are asked for at most.
 const PIECE: usize = 4096;

@@ -15,7 +15,7 @@ use ls_edge::{Shelf, Sink, SinkFault, Source, write_whole};
 use std::alloc::Global;
 use std::thread::Threads;
 
-/// The line that is written where the words of the command line aren't understood.
+// The line that is written where the words of the command line aren't understood.
 const USAGE: &str = "usage: lspace [--script NAME | --drill N [--number S]]\n";
 
 // Writes the usage line.

@@ -6,6 +6,7 @@ use Rattle.ls_edge.proofs.Known.{appends_more}
 use Rattle.ls_shell.specs.Faults.{run_fault}
 use Rattle.ls_session.specs.declared.step_fault.StepFault.TheVariants as fault
 use Rattle.ls_shell.specs.declared.run_fault.RunFault.TheVariants as run
+use Rattle.ls_shell.specs.Runs.{longest_script}
 use Rattle.ls_shell.proofs.Answered.{takes_if}
 use Rattle.ls_shell.proofs.Pieces.{stops_none, read_fails, read_end, stops_end, read_long, read_more, stops_more}
 use Rattle.ls_shell.proofs.Moves.{rose_since}
@@ -60,7 +61,7 @@ pub returns-then-count-gt-LONGEST_SCRIPT-clause-long : goal.returns-then-count-g
 returns-then-count-gt-LONGEST_SCRIPT-clause-long g c = λ e.
     let before = c.pieces.invariant in
     let n = c.in-Ok.taken in
-    let over : c.pieces.count + n ≡ 67108865 = grind (arith, common_steps) in
+    let over : c.pieces.count + n ≡ longest_script + 1 = grind (arith, common_steps) in
     let one : n ≡ 1 = grind (arith, common_steps) in
     read_long (g.S.Source.left c.args.src.now) (g.H.Shelf.files c.args.shelf.now) (g.H.Shelf.faults c.args.shelf.now) (g.K.Sink.written c.args.out.now) (g.S.Source.left c.pieces.src) (g.S.Source.left c.read.new.self) c.pieces.count c.pieces.run (g.H.Shelf.files c.pieces.shelf) (g.H.Shelf.files c.pieces.shelf)
     (g.H.Shelf.faults c.pieces.shelf) (g.H.Shelf.faults c.pieces.shelf) (g.K.Sink.written c.pieces.out) (g.K.Sink.written c.pieces.out) before.read before.few n (take n c.read.new.buf) c.in-Ok.ensures.bytes.0 (omega (arith, c.in-Ok.ensures.bound.1)) over one

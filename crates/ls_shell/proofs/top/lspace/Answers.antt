@@ -1,14 +1,14 @@
 use Rattle.std.proofs.Common.{[], ◌++◌, Err, ap, false, true, arith, length-append, subst, refl}
 use Rattle.std.proofs.KnownBytes.{Consumes-nil}
 use Rattle.ls_session.specs.declared.step_fault.StepFault.TheVariants as fault
-use Rattle.ls_shell.specs.Runs.{AnswersWhole}
+use Rattle.ls_shell.specs.Runs.{longest_script, AnswersWhole}
 use Rattle.ls_shell.proofs.Answered.{stops_if, takes_if}
 use Rattle.ls_shell.proofs.Scripts.{took_few, whole_script, stops_script, whole_unmarked}
 use Rattle.ls_shell.proofs.top.lspace.Goals as goal
 
 pub returns-then-not-is_empty-clause-too_long : goal.returns-then-not-is_empty-clause-too_long
 returns-then-not-is_empty-clause-too_long g c = λ taken rest before after many.
-    absurd (took_few (g.S.Source.left c.args.src.now) (g.S.Source.left c.args.src.now) [] taken rest 67108864 (Consumes-nil (g.S.Source.left c.args.src.now)) (omega arith) before after many)
+    absurd (took_few (g.S.Source.left c.args.src.now) (g.S.Source.left c.args.src.now) [] taken rest longest_script (Consumes-nil (g.S.Source.left c.args.src.now)) (omega arith) before after many)
 
 pub returns-in-Ok-true-clause-headline : goal.returns-in-Ok-true-clause-headline
 returns-in-Ok-true-clause-headline g c = λ none script folder told files few source sink shelf.
@@ -25,7 +25,7 @@ returns-in-Ok-false-clause-headline g c = λ none script folder told files few s
 pub returns-in-Err-Read-clause-too_long : goal.returns-in-Err-Read-clause-too_long
 returns-in-Err-Read-clause-too_long g c = λ taken rest before after many.
     let t = (c.in-Err-Read.ensures.read (ap Err c.in-Err-Read.field-0-is)).1 in
-    absurd (took_few (g.S.Source.left c.args.src.now) (g.S.Source.left c.answer_source.new.src) (t.counted ++ t.past) taken rest 67108864 t.taken (omega (arith, length-append t.counted t.past, t.past_is, t.few)) before after many)
+    absurd (took_few (g.S.Source.left c.args.src.now) (g.S.Source.left c.answer_source.new.src) (t.counted ++ t.past) taken rest longest_script t.taken (omega (arith, length-append t.counted t.past, t.past_is, t.few)) before after many)
 
 pub returns-in-Err-Write-clause-write_stops : goal.returns-in-Err-Write-clause-write_stops
 returns-in-Err-Write-clause-write_stops g c = λ e none. takes_if _ _ _ _ _ _ _ _ _ _ (λ w. refl) (c.in-Err-Write.ensures.stopped fault.Write (ap Err c.in-Err-Write.field-0-is))
@@ -33,7 +33,7 @@ returns-in-Err-Write-clause-write_stops g c = λ e none. takes_if _ _ _ _ _ _ _ 
 pub returns-in-Err-Write-clause-too_long : goal.returns-in-Err-Write-clause-too_long
 returns-in-Err-Write-clause-too_long g c = λ taken rest before after many.
     let t = c.in-Err-Write.ensures.stopped fault.Write (ap Err c.in-Err-Write.field-0-is) in
-    absurd (took_few (g.S.Source.left c.args.src.now) (g.S.Source.left c.answer_source.new.src) t.counted taken rest 67108864 t.taken t.few before after many)
+    absurd (took_few (g.S.Source.left c.args.src.now) (g.S.Source.left c.answer_source.new.src) t.counted taken rest longest_script t.taken t.few before after many)
 
 pub returns-in-Err-Memory-clause-complete : goal.returns-in-Err-Memory-clause-complete
 returns-in-Err-Memory-clause-complete g c = λ none script folder told files few source sink.
@@ -46,4 +46,4 @@ returns-in-Err-Memory-clause-memory g c = λ e none. takes_if _ _ _ _ _ _ _ _ _ 
 pub returns-in-Err-Memory-clause-too_long : goal.returns-in-Err-Memory-clause-too_long
 returns-in-Err-Memory-clause-too_long g c = λ taken rest before after many.
     let t = c.in-Err-Memory.ensures.stopped (fault.Memory c.in-Err-Memory.field-0-0) (ap Err c.in-Err-Memory.field-0-is) in
-    absurd (took_few (g.S.Source.left c.args.src.now) (g.S.Source.left c.answer_source.new.src) t.counted taken rest 67108864 t.taken t.few before after many)
+    absurd (took_few (g.S.Source.left c.args.src.now) (g.S.Source.left c.answer_source.new.src) t.counted taken rest longest_script t.taken t.few before after many)

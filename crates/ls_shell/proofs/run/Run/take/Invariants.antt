@@ -1,9 +1,9 @@
 use Rattle.std.proofs.Common.{ℕ, ◌≤◌, ◌<◌, ◌^◌, ◌++◌, List, [], length}
 use Rattle.std.specs.declared.option.Option.{Option}
-use Rattle.std.specs.Io.KnownBytes.{Appends}
 use Rattle.ls_edge.specs.Files.{Folder}
 use Rattle.ls_lines.specs.Lines.{lines}
 use Rattle.ls_shell.specs.Progress.{Answers}
+use Rattle.ls_shell.specs.Runs.{IsExtended}
 use Rattle.ls_shell.proofs.run.Run.take.Given as goal
 
 -- the lines that ended so far are answered
@@ -13,7 +13,7 @@ invariant-loop-rest g l = record {
       → Answers m (lines taken) [] l.fn.self (g.H.Shelf.files l.fn.shelf) faults (g.H.Shelf.faults l.fn.shelf) start (g.K.Sink.written l.fn.out)
       → Answers m (lines (taken ++ l.fn.piece)) l.rest l.self (g.H.Shelf.files l.shelf) faults (g.H.Shelf.faults l.shelf) start (g.K.Sink.written l.out);
   shelf_later : g.H.Shelf.faults l.fn.shelf ≤ g.H.Shelf.faults l.shelf;
-  kept : (bytes : List ℕ) × Appends (g.K.Sink.written l.fn.out) (g.K.Sink.written l.out) bytes;
+  kept : IsExtended (g.K.Sink.written l.fn.out) (g.K.Sink.written l.out);
   later : g.K.Sink.faults l.fn.out ≤ g.K.Sink.faults l.out;
 }
 
