@@ -1,2 +1,3 @@
+pub mod Marks
 mod Examples
 pub mod Refusing

@@ -1,11 +1,10 @@
-pub mod Following
-pub mod Refusing
-pub mod Beginnings
-pub mod Interviewed
-pub mod LineAnswers
-pub mod Seen
-pub mod Moves
 pub mod Joined
+pub mod Past
+pub mod Rises
+pub mod Moves
+pub mod Followed
 pub mod Answered
-pub mod Pieces
 pub mod Taken
+pub mod Pieces
+pub mod Scripts
+mod Numbers

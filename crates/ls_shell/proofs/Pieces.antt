@@ -1,63 +1,137 @@
 -- A script that is read piece by piece.
-use Rattle.std.proofs.Common.{◌≡◌, ℕ, ◌+◌, ◌<◌, ◌≤◌, ◌^◌, List, [], ◌++◌, Bool, Some, length, take, subst, append-nil, arith, length-append}
+use Rattle.std.proofs.Common.{◌≡◌, ℕ, ◌+◌, ◌<◌, ◌≤◌, ◌^◌, inl, List, [], ◌++◌, Bool, false, Some, None, IfSome, length, refl, sym, subst, append-nil, arith, length-append}
 use Rattle.std.specs.declared.option.Option.{Option}
-use Rattle.std.specs.Io.KnownBytes.{Consumes, Appends, IsAtEnd}
-use Rattle.std.proofs.KnownBytes.{Consumes-nil, Consumes-trans}
-use Rattle.ls_edge.specs.Causes.{Rose}
+use Rattle.std.specs.Io.KnownBytes.{Consumes, Keeps, IsAtEnd}
+use Rattle.std.proofs.KnownBytes.{Consumes-nil, Consumes-trans, Consumes-kept}
 use Rattle.ls_edge.specs.Files.{Folder}
+use Rattle.ls_edge.proofs.Known.{appends_none}
 use Rattle.ls_lines.specs.Lines.{lines}
-use Rattle.ls_reply.specs.Transcripts.{transcript, is_some_refused}
-use Rattle.ls_shell.specs.Runs.{AnswersAll}
-use Rattle.ls_shell.specs.Sayings.{LeavesShelf}
-use Rattle.ls_shell.specs.Progress.{Answers}
+use Rattle.ls_reply.specs.Transcripts.{replies, world_after}
 use Rattle.ls_shell.specs.declared.run.Run.{Run}
-use Rattle.ls_shell.proofs.Taken.{quiet_first, quiet_then}
+use Rattle.ls_shell.specs.Progress.{Answers, StopsAt}
+use Rattle.ls_shell.specs.Runs.{longest_script, AnswersWhole, TakesWhole, TakesAndAnswers, TakesAndStops}
+use Rattle.ls_shell.proofs.Past.{lines-first}
+use Rattle.ls_reply.proofs.Marks.{marked}
+use Rattle.ls_shell.proofs.Rises.{few-one}
+use Rattle.ls_shell.proofs.Answered.{answers_ended}
 
--- so many bytes were taken, and their lines that have ended are answered, where the files of a shelf are told and the count of its faults did not rise
-pub record HasRead (before after : Option (List ℕ)) (count : ℕ) (run : Run) (files : Option Folder) (faults_before faults_now : ℕ) (start now : Option (List ℕ)) : Type 0 where
+-- so many bytes were taken, and their lines that have ended are answered, where the files are told
+pub record HasRead (source source_now : Option (List ℕ)) (count : ℕ) (run : Run) (folder folder_now : Option Folder) (shelf_before shelf_now : ℕ) (start now : Option (List ℕ)) : Type 0 where
   pub taken : List ℕ
-  pub consumed : Consumes before after taken
+  pub consumed : Consumes source source_now taken
   pub counted : count ≡ length taken
-  pub answered : (m : Folder) → files ≡ Some m → (Rose faults_before faults_now → ⊥) → Answers m (lines taken) [] run start now
+  pub answered : (m : Folder) → folder ≡ Some m → Answers m (lines taken) [] run folder_now shelf_before shelf_now start now
 
-pub read_none : (before : Option (List ℕ)) (run : Run) (files : Option Folder) (faults : ℕ) (start : Option (List ℕ)) → ((m : Folder) (now : Option (List ℕ)) → Answers m (lines []) [] run now now)
-    → HasRead before before 0 run files faults faults start start
-read_none before run files faults start h = record { taken = []; consumed = Consumes-nil before; counted = omega arith; answered = λ m told quiet. h m start }
+-- what may still follow: what is left of a source, where it is told
+abbrev pub following : Option (List ℕ) → List ℕ
+following None = []
+following (Some rest) = rest
 
--- a piece more
-pub read_more : (a b c : Option (List ℕ)) (count n : ℕ) (piece : List ℕ) (old new : Run) (files then_files now_files : Option Folder) (faults_before faults_then faults_now : ℕ) (start before after : Option (List ℕ))
-    → HasRead a b count old files faults_before faults_then start before → Consumes b c piece → n ≡ length piece → count + n < 2 ^ 64
-    → LeavesShelf files then_files faults_before faults_then → LeavesShelf then_files now_files faults_then faults_now
-    → ((m : Folder) (taken : List ℕ) (start : Option (List ℕ)) → length (taken ++ piece) < 2 ^ 64 → then_files ≡ Some m → (Rose faults_then faults_now → ⊥)
-    → Answers m (lines taken) [] old start before → Answers m (lines (taken ++ piece)) [] new start after)
-    → HasRead a c (count + n) new files faults_before faults_now start after
-read_more a b c count n piece old new files then_files now_files faults_before faults_then faults_now start before after r took e few first then more = record {
-  taken = r.taken ++ piece;
-  consumed = Consumes-trans a b c r.taken piece r.consumed took;
-  counted = omega (arith, length-append r.taken piece, r.counted);
-  answered = λ m told quiet.
-      more m r.taken start (omega (arith, length-append r.taken piece, r.counted)) (first.stays m told) (quiet_then faults_before faults_then faults_now first.later quiet)
-      (r.answered m told (quiet_first faults_before faults_then faults_now then.later quiet));
-}
+following-is : (o : Option (List ℕ)) → IfSome o (λ rest. rest ≡ following o)
+following-is None = tt
+following-is (Some rest) = refl
 
--- nothing is left, and the last line is answered
-pub read_end : (a b c : Option (List ℕ)) (count n : ℕ) (buf : List ℕ) (run : Run) (files then_files now_files : Option Folder) (faults_before faults_then faults_now : ℕ) (start before after : Option (List ℕ)) (refused : Bool)
-    → HasRead a b count run files faults_before faults_then start before → Consumes b c (take n buf) → n ≡ 0 → IsAtEnd c → count ≤ 67108864
-    → LeavesShelf files then_files faults_before faults_then → LeavesShelf then_files now_files faults_then faults_now
-    → ((m : Folder) (script : List ℕ) (start : Option (List ℕ)) → length script < 2 ^ 64 → then_files ≡ Some m → (Rose faults_then faults_now → ⊥)
-    → Answers m (lines script) [] run start before → Appends start after (transcript m script) × (refused ≡ is_some_refused m script))
-    → AnswersAll a c files faults_before faults_now start after refused
-read_end a b c count n buf run files then_files now_files faults_before faults_then faults_now start before after refused r took none at_end few first then finished =
-    let last : Consumes b c [] = subst (λ k. Consumes b c (take k buf)) none took in
-    let short : length r.taken < 2 ^ 64 = omega (arith, r.counted) in
-    let ended = λ (m : Folder) (told : files ≡ Some m) (quiet : Rose faults_before faults_now → ⊥).
-    finished m r.taken start short (first.stays m told) (quiet_then faults_before faults_then faults_now first.later quiet)
-    (r.answered m told (quiet_first faults_before faults_then faults_now then.later quiet)) in
-    record {
-      script = r.taken;
-      taken = subst (Consumes a c) (append-nil r.taken) (Consumes-trans a b c r.taken [] r.consumed last);
-      at_end = at_end;
+nothing_follows : (o : Option (List ℕ)) → IsAtEnd o → IfSome o (λ rest. rest ≡ [])
+nothing_follows None h = tt
+nothing_follows (Some rest) h = h
+
+-- a run that stops before its first line
+stops_first : (W : Type 0) → (W → ⊥) → (m : Folder) (bytes : List ℕ) (faults : ℕ) (start : Option (List ℕ)) → StopsAt W m (lines bytes) (Some m) faults faults start start
+unfolding replies world_after
+stops_first W never m bytes faults start =
+    let f = lines-first bytes in
+    record { ended = []; at = marked f.line false; others = f.others; all_lines = f.are; front = 0; written = appends_none start; files = inl (refl, refl, never); few = few-one f.line faults }
+
+module _ (source : Option (List ℕ)) (folder : Option Folder) (shelf_before : ℕ) (start : Option (List ℕ)) where
+  -- memory ran out before a byte was taken
+  pub stops_none : (W : Type 0) → (W → ⊥) → TakesAndStops W source source folder folder shelf_before shelf_before start start
+  stops_none W never = record {
+    counted = [];
+    follows = following source;
+    taken = Consumes-nil source;
+    few = omega arith;
+    follows_is = following-is source;
+    stops = λ m told. subst (λ o. StopsAt W m (lines (following source)) o shelf_before shelf_before start start) (sym told) (stops_first W never m (following source) shelf_before start);
+  }
+
+  module _ (b c : Option (List ℕ)) (count : ℕ) (old : Run) (then now : Option Folder) (shelf_then shelf_now : ℕ) (before after : Option (List ℕ)) (r : HasRead source b count old folder then shelf_before shelf_then start before) (few : count ≤ longest_script) where
+    -- a read failed
+    pub read_fails : Keeps b c → TakesAndAnswers 0 source c folder then shelf_before shelf_then start before
+    read_fails kept = record {
+      counted = r.taken;
+      past = [];
+      taken = subst (Consumes source c) (sym (append-nil r.taken)) (Consumes-kept source b c r.taken r.consumed kept);
+      past_is = refl;
       few = omega (arith, r.counted);
-      written = λ m told quiet. (ended m told quiet).0;
-      told = λ m told quiet. (ended m told quiet).1;
+      full = λ some. absurd (omega arith);
+      answered = λ m told. answers_ended m r.taken old then shelf_before shelf_then start before (r.answered m told);
     }
+
+    -- nothing is left
+    module _ (last : Consumes b c []) (at_end : IsAtEnd c) where
+      all_taken : Consumes source c r.taken
+      all_taken = subst (Consumes source c) (append-nil r.taken) (Consumes-trans source b c r.taken [] r.consumed last)
+
+      short : length r.taken < 2 ^ 64
+      short = omega (arith, r.counted)
+
+      pub read_end : (refused : Bool)
+          → ((m : Folder) (script : List ℕ) (faults : ℕ) (start : Option (List ℕ)) → length script < 2 ^ 64 → Answers m (lines script) [] old then faults shelf_then start before → AnswersWhole m script now faults shelf_now start after refused)
+          → TakesWhole source c folder now shelf_before shelf_now start after refused
+      read_end refused finished = record {
+        script = r.taken;
+        taken = all_taken;
+        at_end = at_end;
+        few = omega (arith, r.counted);
+        answered = λ m told. finished m r.taken shelf_before start short (r.answered m told);
+      }
+
+      pub stops_end : (W : Type 0) → ((m : Folder) (script : List ℕ) (faults : ℕ) (start : Option (List ℕ)) → length script < 2 ^ 64 → Answers m (lines script) [] old then faults shelf_then start before → StopsAt W m (lines script) now faults shelf_now start after)
+          → TakesAndStops W source c folder now shelf_before shelf_now start after
+      stops_end W stopped = record {
+        counted = r.taken;
+        follows = [];
+        taken = all_taken;
+        few = omega (arith, r.counted);
+        follows_is = nothing_follows c at_end;
+        stops = λ m told. subst (λ bytes. StopsAt W m (lines bytes) now shelf_before shelf_now start after) (sym (append-nil r.taken)) (stopped m r.taken shelf_before start short (r.answered m told));
+      }
+
+    -- a piece more
+    module _ (n : ℕ) (piece : List ℕ) (took : Consumes b c piece) (long : n ≡ length piece) where
+      more_taken : Consumes source c (r.taken ++ piece)
+      more_taken = Consumes-trans source b c r.taken piece r.consumed took
+
+      more_length : count + n ≡ length (r.taken ++ piece)
+      more_length = omega (arith, length-append r.taken piece, r.counted)
+
+      -- past the limit
+      pub read_long : count + n ≡ longest_script + 1 → n ≡ 1 → TakesAndAnswers 1 source c folder then shelf_before shelf_then start before
+      read_long over one = record {
+        counted = r.taken;
+        past = piece;
+        taken = more_taken;
+        past_is = omega arith;
+        few = omega (arith, r.counted);
+        full = λ some. omega (arith, r.counted);
+        answered = λ m told. answers_ended m r.taken old then shelf_before shelf_then start before (r.answered m told);
+      }
+
+      module _ (within : count + n ≤ longest_script) where
+        below : length (r.taken ++ piece) < 2 ^ 64
+        below = omega (arith, more_length)
+
+        pub read_more : (new : Run) → ((m : Folder) (taken : List ℕ) (faults : ℕ) (start : Option (List ℕ)) → length (taken ++ piece) < 2 ^ 64 → Answers m (lines taken) [] old then faults shelf_then start before
+            → Answers m (lines (taken ++ piece)) [] new now faults shelf_now start after) → HasRead source c (count + n) new folder now shelf_before shelf_now start after
+        read_more new more = record { taken = r.taken ++ piece; consumed = more_taken; counted = more_length; answered = λ m told. more m r.taken shelf_before start below (r.answered m told) }
+
+        pub stops_more : (W : Type 0) → ((m : Folder) (taken more : List ℕ) (faults : ℕ) (start : Option (List ℕ)) → length (taken ++ piece) < 2 ^ 64 → Answers m (lines taken) [] old then faults shelf_then start before
+            → StopsAt W m (lines ((taken ++ piece) ++ more)) now faults shelf_now start after) → TakesAndStops W source c folder now shelf_before shelf_now start after
+        stops_more W stopped = record {
+          counted = r.taken ++ piece;
+          follows = following c;
+          taken = more_taken;
+          few = omega (arith, more_length);
+          follows_is = following-is c;
+          stops = λ m told. stopped m r.taken (following c) shelf_before start below (r.answered m told);
+        }

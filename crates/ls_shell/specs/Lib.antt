@@ -1,9 +1,5 @@
 pub mod Statuses
-pub mod Sayings
-pub mod Courses
+pub mod Faults
 pub mod Progress
 pub mod Runs
-pub mod Fetches
-pub mod Blocked
-pub mod Answers
-pub mod Faults
+pub mod Scripts

@@ -1,55 +1,70 @@
--- What a run of the program does: the bytes that it takes and writes.
-use Rattle.std.specs.Prelude.{◌≡◌, ℕ, ◌+◌, ◌<◌, ◌≤◌, ◌⊎◌, Bool, true, false, List, length, codes, Some}
+-- What a run over a script leaves, status by status.
+use Rattle.std.specs.Prelude.{ℕ, ◌≡◌, ◌<◌, ◌≤◌, List, [], ◌∷◌, ◌++◌, Bool, length, IfSome, Some}
 use Rattle.std.specs.declared.option.Option.{Option}
 use Rattle.std.specs.Io.KnownBytes.{Appends, Consumes, IsAtEnd}
-use Rattle.ls_edge.specs.Causes.{Rose}
 use Rattle.ls_edge.specs.Files.{Folder}
-use Rattle.ls_reply.specs.Transcripts.{transcript, is_some_refused}
-use Rattle.ls_shell.specs.declared.reading.TheConstants.{LONGEST_SCRIPT}
-use Rattle.ls_shell.specs.declared.status.Status.{Status}
-use Rattle.ls_shell.specs.declared.status.Status.TheVariants.{Done, Refused, Usage, WriteFault, InputLong, NoMemory}
+use Rattle.ls_lines.specs.Lines.{lines}
+use Rattle.ls_reply.specs.Transcripts.{Marked, begun_over, bare_lines, refuses}
+use Rattle.ls_shell.specs.Progress.{HasAnswered, StopsAt}
 
--- the line that is written where the words of the command line aren't understood
-abbrev pub usage_line : List ℕ
-usage_line = codes "usage: lspace [--script NAME | --drill N [--number S]]\n"
+-- the most bytes that a script has
+abbrev pub longest_script : ℕ
+longest_script = 67108864
 
--- at most so many bytes were taken
-abbrev pub TakesAtMost : ℕ → Option (List ℕ) → Option (List ℕ) → Type 0
-TakesAtMost most old new = (taken : List ℕ) × Consumes old new taken × (length taken ≤ most)
+-- bytes were appended, or none
+abbrev pub IsExtended : Option (List ℕ) → Option (List ℕ) → Type 0
+IsExtended before after = (bytes : List ℕ) × Appends before after bytes
 
--- more bytes were taken
-abbrev pub TakesMore : ℕ → Option (List ℕ) → Option (List ℕ) → Type 0
-TakesMore most old new = (taken : List ℕ) × Consumes old new taken × (most < length taken)
+-- the whole script was answered, with marks, and it is told whether some reply begins with `no `
+pub record AnswersWhole (folder : Folder) (script : List ℕ) (left : Option Folder)
+    (shelf_before shelf_now : ℕ) (before after : Option (List ℕ)) (refused : Bool) : Type 0 where
+  pub ended : List Marked
+  pub all_lines : bare_lines ended ≡ lines script
+  pub told : refused ≡ refuses (begun_over folder) ended
+  pub answered : HasAnswered folder ended left shelf_before shelf_now before after
 
--- of these bytes, as many as a script may have were taken, or fewer
-abbrev pub TakesFew : List ℕ → Option (List ℕ) → Type 0
-TakesFew script new = (left : List ℕ) → new ≡ Some left → length script ≤ length left + LONGEST_SCRIPT
+-- the lines that ended within the bytes were answered, and no others
+pub record AnswersEnded (folder : Folder) (bytes : List ℕ) (left : Option Folder)
+    (shelf_before shelf_now : ℕ) (before after : Option (List ℕ)) : Type 0 where
+  pub ended : List Marked
+  pub pending : List ℕ
+  pub all_lines : bare_lines ended ++ pending ∷ [] ≡ lines bytes
+  pub answered : HasAnswered folder ended left shelf_before shelf_now before after
 
--- A script was taken to its end. Where the files of a shelf are told and the count of its faults did not rise, the whole transcript was written, and it is told
--- whether some reply begins with `no `.
-pub record AnswersAll (left_before left_after : Option (List ℕ)) (files : Option Folder) (faults_before faults_now : ℕ) (before after : Option (List ℕ)) (refused : Bool) : Type 0 where
+-- a source was taken to its end, and its script was answered, where the files are told
+pub record TakesWhole (source source_left : Option (List ℕ)) (folder left : Option Folder)
+    (shelf_before shelf_now : ℕ) (before after : Option (List ℕ)) (refused : Bool) : Type 0 where
   pub script : List ℕ
-  pub taken : Consumes left_before left_after script
-  pub at_end : IsAtEnd left_after
-  pub few : length script ≤ LONGEST_SCRIPT
-  pub written : (folder : Folder) → files ≡ Some folder → (Rose faults_before faults_now → ⊥) → Appends before after (transcript folder script)
-  pub told : (folder : Folder) → files ≡ Some folder → (Rose faults_before faults_now → ⊥) → refused ≡ is_some_refused folder script
+  pub taken : Consumes source source_left script
+  pub at_end : IsAtEnd source_left
+  pub few : length script ≤ longest_script
+  pub answered : (m : Folder) → folder ≡ Some m
+      → AnswersWhole m script left shelf_before shelf_now before after refused
 
--- the whole transcript was written, and no reply to the script begins with `no `; the same where one does
-abbrev pub WritesTranscript : Folder → List ℕ → Option (List ℕ) → Option (List ℕ) → Type 0
-WritesTranscript folder script old new = Appends old new (transcript folder script)
+-- Bytes were taken of a source, of which those up to the limit count, and their lines that ended
+-- were answered, where the files are told. Bytes past the limit are taken only where it was
+-- reached.
+pub record TakesAndAnswers (more : ℕ) (source source_left : Option (List ℕ))
+    (folder left : Option Folder) (shelf_before shelf_now : ℕ)
+    (before after : Option (List ℕ)) : Type 0 where
+  pub counted : List ℕ
+  pub past : List ℕ
+  pub taken : Consumes source source_left (counted ++ past)
+  pub past_is : length past ≡ more
+  pub few : length counted ≤ longest_script
+  pub full : 0 < more → length counted ≡ longest_script
+  pub answered : (m : Folder) → folder ≡ Some m
+      → AnswersEnded m counted left shelf_before shelf_now before after
 
--- a run over the script answers by its transcript, unless memory ran out
-abbrev pub AnswersScript : Folder → List ℕ → Option (List ℕ) → Option (List ℕ) → Status → Type 0
-AnswersScript folder script old new Done = WritesTranscript folder script old new × (is_some_refused folder script ≡ false)
-AnswersScript folder script old new Refused = WritesTranscript folder script old new × (is_some_refused folder script ≡ true)
-AnswersScript folder script old new NoMemory = Unit {0}
-AnswersScript folder script old new status = ⊥
-
--- where there are words, the status says so, or that the usage line could not be written
-abbrev pub IsUsageStatus : Status → Type 0
-IsUsageStatus status = (status ≡ Usage) ⊎ (status ≡ WriteFault) ⊎ (status ≡ NoMemory)
-
--- where the script is too long
-abbrev pub IsLongStatus : Status → Type 0
-IsLongStatus status = (status ≡ InputLong) ⊎ (status ≡ NoMemory)
+-- Bytes were taken of a source, and the run stopped within them, or within what follows: what is
+-- left of the source, where that is told.
+pub record TakesAndStops (write_failed : Type 0) (source source_left : Option (List ℕ))
+    (folder left : Option Folder) (shelf_before shelf_now : ℕ)
+    (before after : Option (List ℕ)) : Type 0 where
+  pub counted : List ℕ
+  pub follows : List ℕ
+  pub taken : Consumes source source_left counted
+  pub few : length counted ≤ longest_script
+  pub follows_is : IfSome source_left (λ rest. rest ≡ follows)
+  pub stops : (m : Folder) → folder ≡ Some m
+      → StopsAt write_failed m (lines (counted ++ follows)) left shelf_before shelf_now before after

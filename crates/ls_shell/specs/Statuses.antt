@@ -1,7 +1,9 @@
 -- The statuses with which the program ends.
 use Rattle.std.specs.Prelude.{ℕ}
 use Rattle.ls_shell.specs.declared.status.Status.{Status}
-use Rattle.ls_shell.specs.declared.status.Status.TheVariants.{Done, Refused, Usage, ReadFault, WriteFault, InputLong, NoMemory, NoScript}
+use Rattle.ls_shell.specs.declared.status.Status.TheVariants.{Done, Refused, Usage, ReadFault}
+use Rattle.ls_shell.specs.declared.status.Status.TheVariants.{WriteFault, InputLong}
+use Rattle.ls_shell.specs.declared.status.Status.TheVariants.{NoMemory, NoScript}
 
 abbrev pub code_of : Status → ℕ
 code_of Done = 0

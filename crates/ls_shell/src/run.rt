@@ -1,25 +1,21 @@
 // A run over a script as it comes.
-ghost use Rattle.std.specs.Prelude.{◌≡◌, ◌<◌, ◌^◌, ◌++◌, false, List, ℕ, [], length, Some, IfOk, OnOk};
+ghost use Rattle.std.specs.Prelude.{◌≡◌, ◌<◌, ◌≤◌, ◌^◌, ◌++◌, List, ℕ, [], length, Some};
+ghost use Rattle.std.specs.Prelude.{IfOk, OnOk, OnErr, IsErrOf};
 ghost use Rattle.std.specs.declared.option.Option.{Option};
-ghost use Rattle.std.specs.Io.KnownBytes.{Appends};
-ghost use Rattle.ls_edge.specs.Causes.{Rose};
 ghost use Rattle.ls_edge.specs.Files.{Folder};
 ghost use Rattle.ls_lines.specs.Lines.{lines};
-ghost use Rattle.ls_lines.specs.Cutting.{Holds, kept, ended_of};
-ghost use Rattle.ls_reply.specs.Sessions.{started};
-ghost use Rattle.ls_reply.specs.Scenes.{files_of};
-ghost use Rattle.ls_reply.specs.Replies.{line_answer};
-ghost use Rattle.ls_reply.specs.Transcripts.{transcript, is_some_refused};
-ghost use Rattle.ls_shell.specs.Sayings.{Gives, LeavesShelf, MovesSink};
+ghost use Rattle.ls_lines.specs.Cutting.{kept, ended_of};
+ghost use Rattle.ls_reply.specs.Replies.{line_effect};
+ghost use Rattle.ls_session.specs.Follows.{Follows, MovesSink};
 
-use crate::StepFault;
-use crate::session::Session;
 use ls_edge::{Shelf, Sink};
 use ls_lines::{Cutter, Ended};
+use ls_session::{Session, StepFault};
 use std::alloc::{AllocError, Global};
+use std::thread::Threads;
 
-/// A run over a script as it comes: the session, the line that has not ended yet, and whether some reply so far begins
-/// with `no `.
+/// A run over a script as it comes: the session, the line that has not ended yet, and whether some
+/// reply so far begins with `no `.
 #[derive(Drop)]
 pub struct Run {
     session: Session,
@@ -28,11 +24,13 @@ pub struct Run {
 }
 
 impl Run {
-    ghost use Rattle.ls_shell.specs.Progress.{Answers, AnswersEnded};
+    ghost use Rattle.ls_shell.specs.Progress.{Answers, StopsAt, AnswersLine};
+    ghost use Rattle.ls_shell.specs.Runs.{AnswersWhole};
 
     /// Nothing was read yet.
     pub fn new(alloc: Global) -> Result<Run, AllocError>
-        ensures { IfOk result (λ r. (m : Folder) (now : Option (List ℕ)) → Answers m (lines []) [] r now now) }
+        ensures { IfOk result (λ r. (m : Folder) (faults : ℕ) (now : Option (List ℕ))
+            → Answers m (lines []) [] r (Some m) faults faults now now) }
     {
         Ok(Run {
             session: Session::new(alloc),
@@ -41,82 +39,123 @@ impl Run {
         })
     }
 
-    /// Answers the lines that end within the bytes that follow.
-    pub fn take<K: Sink, H: Shelf>(
+    /// Answers the lines that end within the bytes that follow. After an `Err` the run stopped
+    /// before one of them, whatever bytes would still have come, and isn't used again.
+    pub fn take<R: Threads + Sync, K: Sink, H: Shelf>(
         &mut self,
+        rt: &R,
         piece: &[u8],
         out: &mut K,
         shelf: &mut H,
     ) -> Result<(), StepFault>
-        ensures answered { OnOk result ((m : Folder) (taken : List ℕ) (start : Option (List ℕ)) → length (taken ++ piece.now) < 2 ^ 64
-            → H.files shelf.old ≡ Some m → (Rose (H.faults shelf.old) (H.faults shelf.new) → ⊥)
-            → Answers m (lines taken) [] self.old start (K.written out.old) → Answers m (lines (taken ++ piece.now)) [] self.new start (K.written out.new)) }
-        ensures shelf { LeavesShelf (H.files shelf.old) (H.files shelf.new) (H.faults shelf.old) (H.faults shelf.new) }
-        ensures sink { MovesSink (K.written out.old) (K.written out.new) (K.faults out.old) (K.faults out.new) result }
+        ensures answered { OnOk result (
+            (m : Folder) (taken : List ℕ) (faults : ℕ) (start : Option (List ℕ))
+            → length (taken ++ piece.now) < 2 ^ 64
+            → Answers m (lines taken) [] self.old
+            (H.files shelf.old) faults (H.faults shelf.old) start (K.written out.old)
+            → Answers m (lines (taken ++ piece.now)) [] self.new
+            (H.files shelf.new) faults (H.faults shelf.new) start (K.written out.new)) }
+        ensures stopped { OnErr result (
+            (m : Folder) (taken more : List ℕ) (faults : ℕ) (start : Option (List ℕ))
+            → length (taken ++ piece.now) < 2 ^ 64
+            → Answers m (lines taken) [] self.old
+            (H.files shelf.old) faults (H.faults shelf.old) start (K.written out.old)
+            → StopsAt (IsErrOf result StepFault.Write) m (lines ((taken ++ piece.now) ++ more))
+            (H.files shelf.new) faults (H.faults shelf.new) start (K.written out.new)) }
+        ensures sink { MovesSink StepFault.Write
+            (K.written out.old) (K.written out.new) (K.faults out.old) (K.faults out.new) result }
+        ensures later { H.faults shelf.old ≤ H.faults shelf.new }
     {
         let mut rest = piece;
         while !rest.is_empty() {
             let (count, ended) = self.cutter.take(rest);
+            let Some(ended) = ended else {
+                return Ok(());
+            };
             (_, rest) = rest.split_at(count);
-            self.answer(ended, out, shelf)?;
+            self.answer(rt, ended, out, shelf)?;
         }
         Ok(())
     }
 
-    /// Answers the last line, where it has no line end, and says whether some reply begins with `no `.
-    pub fn finish<K: Sink, H: Shelf>(
-        &mut self,
+    /// Answers the last line, where it has no line end, and says whether some reply begins with
+    /// `no `. After an `Err` the run stopped before that line.
+    pub fn finish<R: Threads + Sync, K: Sink, H: Shelf>(
+        mut self,
+        rt: &R,
         out: &mut K,
         shelf: &mut H,
     ) -> Result<bool, StepFault>
-        ensures answered { IfOk result (λ b. (m : Folder) (script : List ℕ) (start : Option (List ℕ)) → length script < 2 ^ 64
-            → H.files shelf.old ≡ Some m → (Rose (H.faults shelf.old) (H.faults shelf.new) → ⊥)
-            → Answers m (lines script) [] self.old start (K.written out.old)
-            → Appends start (K.written out.new) (transcript m script) × (b ≡ is_some_refused m script)) }
-        ensures shelf { LeavesShelf (H.files shelf.old) (H.files shelf.new) (H.faults shelf.old) (H.faults shelf.new) }
-        ensures sink { MovesSink (K.written out.old) (K.written out.new) (K.faults out.old) (K.faults out.new) result }
+        ensures answered { IfOk result (λ b.
+            (m : Folder) (script : List ℕ) (faults : ℕ) (start : Option (List ℕ))
+            → length script < 2 ^ 64
+            → Answers m (lines script) [] self
+            (H.files shelf.old) faults (H.faults shelf.old) start (K.written out.old)
+            → AnswersWhole m script
+            (H.files shelf.new) faults (H.faults shelf.new) start (K.written out.new) b) }
+        ensures stopped { OnErr result (
+            (m : Folder) (script : List ℕ) (faults : ℕ) (start : Option (List ℕ))
+            → length script < 2 ^ 64
+            → Answers m (lines script) [] self
+            (H.files shelf.old) faults (H.faults shelf.old) start (K.written out.old)
+            → StopsAt (IsErrOf result StepFault.Write) m (lines script)
+            (H.files shelf.new) faults (H.faults shelf.new) start (K.written out.new)) }
+        ensures sink { MovesSink StepFault.Write
+            (K.written out.old) (K.written out.new) (K.faults out.old) (K.faults out.new) result }
+        ensures later { H.faults shelf.old ≤ H.faults shelf.new }
     {
-        let ended = self.cutter.finish();
-        self.answer(ended, out, shelf)?;
+        let Some(ended) = self.cutter.finish() else {
+            return Ok(self.is_refused);
+        };
+        self.answer(rt, ended, out, shelf)?;
         Ok(self.is_refused)
     }
 
-    // Answers the line that ended, if one did.
-    fn answer<K: Sink, H: Shelf>(
+    // Answers the line that ended.
+    fn answer<R: Threads + Sync, K: Sink, H: Shelf>(
         &mut self,
-        ended: Option<Ended>,
+        rt: &R,
+        ended: Ended,
         out: &mut K,
         shelf: &mut H,
     ) -> Result<(), StepFault>
-        ensures answered { OnOk result (AnswersEnded self.old self.new ended (H.files shelf.old) (H.faults shelf.old) (H.faults shelf.new) (K.written out.old) (K.written out.new)) }
-        ensures shelf { LeavesShelf (H.files shelf.old) (H.files shelf.new) (H.faults shelf.old) (H.faults shelf.new) }
-        ensures sink { MovesSink (K.written out.old) (K.written out.new) (K.faults out.old) (K.faults out.new) result }
+        ensures answered { (line : List ℕ)
+            → ended ≡ ended_of line → self.old.cutter.line ≡ kept line
+            → (m : Folder) → H.files shelf.old ≡ Some m
+            → AnswersLine StepFault.Write m line self.old self.new
+            (H.files shelf.new) (H.faults shelf.old) (H.faults shelf.new)
+            (K.written out.old) (K.written out.new) result }
+        ensures sink { MovesSink StepFault.Write
+            (K.written out.old) (K.written out.new) (K.faults out.old) (K.faults out.new) result }
+        ensures later { H.faults shelf.old ≤ H.faults shelf.new }
     {
-        let Some(ended) = ended else {
-            return Ok(());
-        };
-        let is_refusal = self.step(ended, out, shelf)?;
+        let is_refusal = self.step(rt, ended, out, shelf)?;
         self.is_refused |= is_refusal;
         Ok(())
     }
 
     // Answers the line that ended, and says whether the reply begins with `no `.
-    fn step<K: Sink, H: Shelf>(
+    fn step<R: Threads + Sync, K: Sink, H: Shelf>(
         &mut self,
+        rt: &R,
         ended: Ended,
         out: &mut K,
         shelf: &mut H,
     ) -> Result<bool, StepFault>
-        ensures answered { IfOk result (λ b. (line : List ℕ) → ended ≡ ended_of line → self.old.cutter.line ≡ kept line
-            → (folder : Folder) → H.files shelf.old ≡ Some folder → (Rose (H.faults shelf.old) (H.faults shelf.new) → ⊥)
-            → Gives (line_answer self.old.session (files_of folder false) line) self.new.session (K.written out.old) (K.written out.new) b) }
+        ensures answered { (line : List ℕ)
+            → ended ≡ ended_of line → self.old.cutter.line ≡ kept line
+            → Follows StepFault.Write (λ calls. line_effect self.old.session calls line)
+            self.old.session self.new.session
+            (H.files shelf.old) (H.files shelf.new) (H.faults shelf.old) (H.faults shelf.new)
+            (K.written out.old) (K.written out.new) (K.faults out.old) (K.faults out.new) result }
         ensures cutter { self.new.cutter ≡ self.old.cutter }
         ensures before { self.new.is_refused ≡ self.old.is_refused }
-        ensures shelf { LeavesShelf (H.files shelf.old) (H.files shelf.new) (H.faults shelf.old) (H.faults shelf.new) }
-        ensures sink { MovesSink (K.written out.old) (K.written out.new) (K.faults out.old) (K.faults out.new) result }
+        ensures sink { MovesSink StepFault.Write
+            (K.written out.old) (K.written out.new) (K.faults out.old) (K.faults out.new) result }
+        ensures later { H.faults shelf.old ≤ H.faults shelf.new }
     {
         match ended {
-            Ended::Whole => self.session.step(self.cutter.line(), out, shelf),
+            Ended::Whole => self.session.step(rt, self.cutter.line(), out, shelf),
             Ended::Long { bytes } => self.session.refuse_long(bytes, out),
         }
     }

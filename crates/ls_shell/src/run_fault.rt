@@ -1,6 +1,6 @@
 // Why a run ended before the end of its script.
 
-use crate::StepFault;
+use ls_session::StepFault;
 use std::alloc::AllocError;
 use thiserror::Error;
 

@@ -1,18 +1,19 @@
-use Rattle.std.proofs.Common.{◌∙◌, List, ℕ, subst, false}
-use Rattle.ls_reply.specs.Replies.{line_answer}
-use Rattle.ls_reply.specs.Scenes.{files_of}
-use Rattle.ls_shell.specs.Sayings.{Gives}
-use Rattle.ls_shell.proofs.Answered.{gives_told, whole_line}
-use Rattle.ls_views.proofs.Fronts.{IfOk_map}
+use Rattle.std.proofs.Common.{◌∙◌, List, ℕ, subst}
+use Rattle.ls_reply.specs.Replies.{line_effect}
+use Rattle.ls_session.specs.Follows.{Follows}
+use Rattle.ls_session.specs.declared.step_fault.StepFault.TheVariants as fault
+use Rattle.ls_shell.proofs.Followed.{whole_line, long_line}
 use Rattle.ls_shell.proofs.run.Run.step.Goals as goal
 
 pub returns-in-Whole-clause-answered : goal.returns-in-Whole-clause-answered
-returns-in-Whole-clause-answered g c =
-    let s = c.args.self.now.session in
-    let before = g.K.Sink.written c.args.out.now in
-    let after = g.K.Sink.written c.step.new.out in
-    IfOk_map c.step.result
-    (λ b h line ended bytes folder told quiet.
-    subst (λ (l : List ℕ). Gives (line_answer s (files_of folder false) l) c.step.new.self before after b) (whole_line c.args.ended line c.line.result.now c.in-Whole.is ended (c.line.ensures ∙ bytes))
-    (gives_told (λ files. line_answer s files c.line.result.now) c.step.new.self (g.H.Shelf.files c.args.shelf.now) (g.H.Shelf.faults c.args.shelf.now) (g.H.Shelf.faults c.step.new.shelf) before after b folder h told quiet))
-    c.step.ensures.answered
+returns-in-Whole-clause-answered g c = λ line ended bytes.
+    let session = c.args.self.now.session in
+    subst
+    (λ (l : List ℕ). Follows fault.Write (λ calls. line_effect session calls l) session c.step.new.self (g.H.Shelf.files c.args.shelf.now) (g.H.Shelf.files c.step.new.shelf) (g.H.Shelf.faults c.args.shelf.now) (g.H.Shelf.faults c.step.new.shelf)
+    (g.K.Sink.written c.args.out.now) (g.K.Sink.written c.step.new.out) (g.K.Sink.faults c.args.out.now) (g.K.Sink.faults c.step.new.out) c.step.result)
+    (whole_line c.args.ended line c.line.result.now c.in-Whole.is ended (c.line.ensures ∙ bytes)) c.step.ensures.follows
+
+pub returns-in-Long-clause-answered : goal.returns-in-Long-clause-answered
+returns-in-Long-clause-answered g c = λ line ended bytes.
+    let long = long_line c.args.ended line c.in-Long.bytes c.in-Long.is ended in
+    c.refuse_long.ensures.follows line long.0 long.1 (g.H.Shelf.files c.args.shelf.now) (g.H.Shelf.faults c.args.shelf.now)
