@@ -1,2 +1,3 @@
 mod Examples
 pub mod Refusing
+pub mod Effects
