@@ -13,7 +13,7 @@ use Rattle.ls_reply.specs.Scenes.{Calls}
 use Rattle.ls_reply.specs.Sessions.{Session}
 use Rattle.ls_reply.specs.Lines.{lines_of}
 use Rattle.ls_reply.specs.Effects.{Effect}
-use Rattle.ls_reply.specs.Replies.{reply_of, is_refusal, is_refused}
+use Rattle.ls_reply.specs.Replies.{line_effect, reply_of, is_refusal, is_refused}
 use Rattle.ls_reply.specs.declared.response.Response.{Response}
 use Rattle.ls_reply.proofs.Refusing.{is_refusal-lines_of}
 use Rattle.ls_writing.specs.Rooms.{Wrote}
@@ -28,8 +28,9 @@ sink_failed : (e : SinkFault) → step_fault e ≡ Write → e ≡ sink.Failed
 sink_failed sink.Failed h = refl
 sink_failed (sink.Memory x) h = absurd (cc h)
 
-told_failed : {T : Type 0} {e : SinkFault} {f : StepFault} → f ≡ step_fault e → IsErrOf {T = T} (Err f) Write → e ≡ sink.Failed
-told_failed {T} {e} {f} is h = sink_failed e (sym is ∙ (let same : f ≡ Write = cc h in same))
+pub told_failed : {T : Type 0} {written : Result (Unit {0}) SinkFault} {e : SinkFault} (result : Result T StepFault) → written ≡ Err e → IsErrAnd result (λ f. f ≡ step_fault e) → IsErrOf result Write → IsErrOf written sink.Failed
+told_failed {T} {written} {e} (Ok x) err is h = absurd is
+told_failed {T} {written} {e} (Err f) err is h = err ∙ ap Err (sink_failed e (sym is ∙ (let same : f ≡ Write = cc h in same)))
 
 module _ {effect : Calls → Effect} {old new : Session} {folder left : Option Folder} {i j : ℕ} where
   -- deciding failed
@@ -82,9 +83,16 @@ module _ {effect : Calls → Effect} {old new : Session} {folder left : Option F
         gives = inr (d.decided, subst (AppendsFront a b) (reply_is d) w.front);
         alone = d.alone;
         shelf_later = d.later;
-        cause = λ q. w.cause.failed (err ∙ ap Err (told_failed is q));
+        cause = λ q. w.cause.failed (told_failed {T = Bool} (Err f) err is q);
         later = w.cause.later;
       }
+
+-- the sessions by other names
+pub follows_of : (line : List ℕ) {s t n m : Session} {folder left : Option Folder} {i j : ℕ} {a b : Option (List ℕ)} {k l : ℕ} {r : Result Bool StepFault} → s ≡ t → m ≡ n
+    → Follows Write (λ calls. line_effect s calls line) s n folder left i j a b k l r → Follows Write (λ calls. line_effect t calls line) t m folder left i j a b k l r
+follows_of line {s} {t} {n} {m} {folder} {left} {i} {j} {a} {b} {k} {l} {r} old new h =
+    subst (λ (x : Session). Follows Write (λ calls. line_effect x calls line) x m folder left i j a b k l r) old
+    (subst (λ (x : Session). Follows Write (λ calls. line_effect s calls line) s x folder left i j a b k l r) (sym new) h)
 
 -- whatever was written, the sink was moved
 pub moves_wrote : {T : Type 0} {a b : Option (List ℕ)} {k l : ℕ} {bytes : List ℕ} {written : Result (Unit {0}) SinkFault} {result : Result T StepFault} → (IsErrOf result Write → IsErrOf written sink.Failed) → Wrote a k b l bytes written → MovesSink Write a b k l result
