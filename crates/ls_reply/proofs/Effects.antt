@@ -1,5 +1,5 @@
 -- What commands do, by whether a domain stands.
-use Rattle.std.proofs.Common.{◌≡◌, ◌<◌, ◌≤◌, Bool, true, false, not, ne_eqb, cond, List, [], ◌∷◌, ◌++◌, length, Option, Some, None, is_some, ℕ, refl, sym, ap, ◌∙◌, arith, le-ltb, lt-ltb}
+use Rattle.std.proofs.Common.{◌≡◌, ◌<◌, ◌≤◌, true, false, not, ne_eqb, cond, List, [], ◌∷◌, ◌++◌, length, Option, Some, None, is_some, ℕ, refl, sym, ap, ◌∙◌, arith, le-ltb, lt-ltb}
 use Rattle.ls_lines.specs.Lines.{Text, longest_line, words}
 use Rattle.ls_lines.specs.Commands.{command_of, fault_place}
 use Rattle.ls_lines.specs.declared.command.Command.{Command}

@@ -28,7 +28,7 @@ use std::sync::ledger::Ledger;
 /// The domain with its interview, if one stands. It decides what lines do, and says their replies.
 #[derive(Drop)]
 pub struct Decider {
-    pub alloc: Global,
+    alloc: Global,
     pub course: Option<Course>,
     ghost named: { HasNames course },
 }

@@ -20,5 +20,5 @@ pub returns-clause-decides : goal.returns-clause-decides
 returns-clause-decides g c =
     let none : has_domain (session_of c.args.self.now.course) ≡ false = has_domain-is c.args.self.now.course c.args.self.now.named ∙ sym c.is_some.ensures ∙ c.if-is_some.false in
     let fetches : Fetches (g.H.Shelf.files c.args.shelf.now) (g.H.Shelf.files c.fetch.new.self) c.args.file.now c.fetch.result =
-        subst (λ (n : Text). Fetches (g.H.Shelf.files c.args.shelf.now) (g.H.Shelf.files c.fetch.new.self) n c.fetch.result) c.as_str.ensures c.fetch.ensures.files in
+    subst (λ (n : Text). Fetches (g.H.Shelf.files c.args.shelf.now) (g.H.Shelf.files c.fetch.new.self) n c.fetch.result) c.as_str.ensures c.fetch.ensures.files in
     decides_fetched c.args.file.now c.read_table.result none fetches c.fetch.ensures.cause c.read_table.ensures.makes

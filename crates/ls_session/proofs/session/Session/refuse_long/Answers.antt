@@ -1,4 +1,4 @@
-use Rattle.std.proofs.Common.{◌≡◌, ◌∙◌, ◌∷◌, ℕ, ◌<◌, List, Ok, true, length, codes, refl, sym, ap, ltb-true}
+use Rattle.std.proofs.Common.{◌≡◌, ◌∙◌, ◌∷◌, ℕ, List, Ok, true, length, codes, refl, sym, ap, ltb-true}
 use Rattle.std.specs.declared.option.Option.{Option}
 use Rattle.ls_edge.specs.Files.{Folder}
 use Rattle.ls_lines.specs.Lines.{is_long, longest_line}
