@@ -1,3 +1,4 @@
 pub mod Marks
 mod Examples
 pub mod Refusing
+pub mod Effects

@@ -1,12 +1,9 @@
 -- A reply begins with `no ` exactly where the response is a refusal.
-use Rattle.std.specs.Fmt.{digits}
-use Rattle.std.proofs.Common.{◌≡◌, Bool, true, false, List, [], ◌∷◌, map, Some, None, codes, refl, ◌∙◌, ap}
+use Rattle.std.proofs.Common.{◌≡◌, Bool, true, false, List, [], ◌∷◌, Some, None, codes, refl}
 use Rattle.ls_set.specs.ItemSet.{Items, comes_before}
 use Rattle.ls_set.specs.declared.cursor.CursorFault.TheVariants as cursor
-use Rattle.ls_set.specs.declared.query.Query.{Query}
-use Rattle.ls_theory.specs.Pages.{Page, page}
+use Rattle.ls_theory.specs.Pages.{page}
 use Rattle.ls_theory.specs.Bases.{base}
-use Rattle.ls_theory.specs.declared.known.Known.{Known}
 use Rattle.ls_theory.specs.declared.known.Known.TheVariants as known
 use Rattle.ls_theory.specs.declared.answer_fault.AnswerFault.TheVariants as answer
 use Rattle.ls_theory.specs.declared.block_fault.BlockFault.TheVariants as block

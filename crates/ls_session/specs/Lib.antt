@@ -1,2 +1,4 @@
 pub mod Follows
 pub mod Faults
+pub mod Courses
+pub mod Decides

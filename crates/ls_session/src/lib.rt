@@ -1,6 +1,7 @@
 //! A session: what a line does, decided and then written.
 #![tactic(auto)]
 
+mod decider;
 mod session;
 mod step_fault;
 

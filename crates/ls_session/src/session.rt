@@ -1,31 +1,49 @@
 // A session.
-ghost use Rattle.std.specs.Prelude.{◌≡◌, true, List, ℕ, [], length};
+ghost use Rattle.std.specs.Prelude.{◌≡◌, true, List, ℕ, [], length, IfOk};
 ghost use Rattle.std.specs.declared.option.Option.{Option};
 ghost use Rattle.ls_edge.specs.Files.{Folder};
 ghost use Rattle.ls_lines.specs.Lines.{is_long};
 ghost use Rattle.ls_reply.specs.Sessions.{started};
-ghost use Rattle.ls_reply.specs.Replies.{line_effect};
+ghost use Rattle.ls_reply.specs.Replies.{line_effect, is_refused};
+ghost use Rattle.ls_writing.specs.Rooms.{Ends, no_reply};
 ghost use Rattle.ls_session.specs.Follows.{Follows, MovesSink};
 
 use crate::StepFault;
-use ls_edge::{Shelf, Sink};
+use crate::decider::Decider;
+use ls_edge::{Shelf, Sink, SinkFault};
+use ls_interior::Steps;
+use ls_reply::{Refusal, Response};
+use ls_writing::{Room, put_refusal};
 use std::alloc::{AllocError, Global};
-use std::marker::Model;
+use std::marker::{Brand, Model};
+use std::sync::ledger::{Blank, Ledger};
 use std::thread::Threads;
 
-/// A session: the domain with its interview, if one stands.
+/// A session: the domain with its interview, if one stands. It has one room for its replies, which it takes at the
+/// first line.
 #[derive(Drop)]
 pub struct Session {
     alloc: Global,
+    decider: Decider,
+    room: Option<Room>,
 }
 
 impl Model for Session {
-    ghost use Rattle.ls_reply.specs.Sessions.{Session as State, started};
-    ghost use Rattle.std.specs.Prelude.{[]};
+    ghost use Rattle.ls_reply.specs.Sessions.{Session as State};
+    ghost use Rattle.ls_session.specs.Courses.{session_of, IsIdle};
 
     ghost Value = { State };
 
-    ghost view = { λ s. started [] };
+    ghost view = { λ s. session_of s.decider.course };
+
+    ghost invariant = { λ s. IsIdle s.room };
+}
+
+// Whether the response is a refusal.
+fn is_refused(response: &Response) -> bool
+    ensures { result ≡ is_refused response.now }
+{
+    matches!(response, Response::Refused(_))
 }
 
 impl Session {
@@ -33,7 +51,11 @@ impl Session {
     pub fn new(alloc: Global) -> Session
         ensures { result ≡ started [] }
     {
-        Session { alloc }
+        Session {
+            alloc,
+            decider: Decider::new(alloc),
+            room: None,
+        }
     }
 
     /// Answers one line: decides what it does, and then writes its reply. Says whether that begins with `no `. After
@@ -51,10 +73,7 @@ impl Session {
             (K.written out.old) (K.written out.new) (K.faults out.old) (K.faults out.new) result }
     {
         let _ = rt;
-        let _ = line.len();
-        let _ = out;
-        let _ = shelf;
-        Err(StepFault::Memory(AllocError))
+        self.answer::<K, H, Brand>(line, out, shelf, Blank::new(1))
     }
 
     /// Answers a line that is too long to be read, of which the number of bytes is known alone.
@@ -65,8 +84,53 @@ impl Session {
             (K.written out.old) (K.written out.new) (K.faults out.old) (K.faults out.new) result }
         ensures sink { MovesSink StepFault.Write (K.written out.old) (K.written out.new) (K.faults out.old) (K.faults out.new) result }
     {
-        let _ = out;
-        let _ = bytes;
-        Err(StepFault::Memory(AllocError))
+        let mut room = self.take_room()?;
+        put_refusal(&Refusal::LongLine { bytes }, &mut room, out);
+        self.finish(room, out)?;
+        Ok(true)
+    }
+
+    // Answers one line. Its interiors are counted from the blank on.
+    fn answer<K: Sink, H: Shelf, L: Ledger>(
+        &mut self,
+        line: &[u8],
+        out: &mut K,
+        shelf: &mut H,
+        blank: Blank,
+    ) -> Result<bool, StepFault>
+        requires name { blank.name ≡ L.name }
+        requires parts { blank.parts ≡ L.parts }
+        requires one { blank.parts ≡ 1 }
+        ensures follows { Follows StepFault.Write (λ calls. line_effect self.old calls line.now) self.old self.new
+            (H.files shelf.old) (H.files shelf.new) (H.faults shelf.old) (H.faults shelf.new)
+            (K.written out.old) (K.written out.new) (K.faults out.old) (K.faults out.new) result }
+    {
+        let mut steps = Steps::<L>::new(blank);
+        let mut room = self.take_room()?;
+        let response = self.decider.decide_line(line, shelf, &mut steps)?;
+        self.decider.put(&response, &mut room, out, &mut steps);
+        self.finish(room, out)?;
+        Ok(is_refused(&response))
+    }
+
+    // The room, which is as before a reply. The session has none then.
+    fn take_room(&mut self) -> Result<Room, AllocError>
+        ensures room { IfOk result (λ r. r ≡ no_reply) }
+        ensures kept { self.new ≡ self.old }
+    {
+        match self.room.take() {
+            Some(room) => Ok(room),
+            None => Room::new(self.alloc),
+        }
+    }
+
+    // Sends what is said of the reply, and keeps the room for the next one.
+    fn finish<K: Sink>(&mut self, mut room: Room, out: &mut K) -> Result<(), SinkFault>
+        ensures ends { Ends (K.written out.old) (K.faults out.old) room (K.written out.new) (K.faults out.new) result }
+        ensures kept { self.new ≡ self.old }
+    {
+        let written = room.finish(out);
+        self.room = Some(room);
+        written
     }
 }

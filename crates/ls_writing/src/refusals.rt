@@ -37,7 +37,8 @@ pub fn put_refusal<K: Sink>(refusal: &Refusal, room: &mut Room, out: &mut K)
         Refusal::NotStanding => put_line(&[b"no", b"23"], room, out),
         Refusal::Cursor(fault) => put_cursor_fault(*fault, room, out),
         Refusal::Past { position, count } => {
-            put_numbered(&[b"no", b"25"], &[*position as u64, *count as u64], room, out);
+            let numbers = [*position as u64, *count as u64];
+            put_numbered(&[b"no", b"25"], &numbers, room, out);
         }
         Refusal::NoFile => put_line(&[b"no", b"26"], room, out),
         Refusal::FileFailed => put_line(&[b"no", b"27"], room, out),

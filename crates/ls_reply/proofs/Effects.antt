@@ -1,0 +1,90 @@
+-- What commands do, by whether a domain stands.
+use Rattle.std.proofs.Common.{◌≡◌, ◌<◌, ◌≤◌, true, false, not, ne_eqb, cond, List, [], ◌∷◌, ◌++◌, length, Option, Some, None, is_some, ℕ, refl, sym, ap, ◌∙◌, arith, le-ltb, lt-ltb}
+use Rattle.ls_lines.specs.Lines.{Text, longest_line, words}
+use Rattle.ls_lines.specs.Commands.{command_of, fault_place}
+use Rattle.ls_lines.specs.declared.command.Command.{Command}
+use Rattle.ls_lines.specs.declared.command.Command.TheVariants as command
+use Rattle.ls_domain.specs.Domains.{names_of_words, names_of_table}
+use Rattle.ls_reply.specs.Sessions.{Session, started, has_domain}
+use Rattle.ls_reply.specs.Scenes.{Calls, Fetched}
+use Rattle.ls_reply.specs.Meanings.{request_of}
+use Rattle.ls_reply.specs.Effects.{Effect, Change, answers, refuse}
+use Rattle.ls_reply.specs.Rows.{items_row, load_items_row, started_by, file_refusals, bytes_fetched}
+use Rattle.ls_reply.specs.Replies.{asked_effect, unnamed_at, command_effect, words_effect, line_effect}
+use Rattle.ls_reply.specs.declared.request.Request.{Request}
+use Rattle.ls_reply.specs.declared.request.Request.TheVariants.{View, Edit}
+use Rattle.ls_reply.specs.declared.refusal.Refusal.TheVariants.{NoCommand, LongLine, DomainStands, Unnamed, NotBuilt}
+use Rattle.ls_reply.specs.declared.response.Response.TheVariants.{Refused}
+
+-- a domain stands where there are names
+pub has_domain-some : (s : Session) → 0 < length s.names → has_domain s ≡ true
+has_domain-some s some = ap not (ne_eqb (length s.names) 0 (λ e. omega arith))
+
+-- ---- where a domain stands none begins, and where none stands one may
+
+abbrev pub stands : Session → Change Session
+stands s = record { response = Refused DomainStands; next = s }
+
+pub items_row-stands : (s : Session) (names : List Text) → has_domain s ≡ true → items_row s names ≡ stands s
+items_row-stands s names e = ap (λ b. started_by s (refuse DomainStands b) (names_of_words names)) e
+
+pub items_row-begins : (s : Session) (names : List Text) → has_domain s ≡ false → items_row s names ≡ started_by s [] (names_of_words names)
+items_row-begins s names e = ap (λ b. started_by s (refuse DomainStands b) (names_of_words names)) e
+
+pub load_items_row-stands : (s : Session) (given : Fetched) → has_domain s ≡ true → load_items_row s given ≡ stands s
+load_items_row-stands s given e = ap (λ b. started_by s (refuse DomainStands b ++ file_refusals given) (names_of_table (bytes_fetched given))) e
+
+pub load_items_row-begins : (s : Session) (given : Fetched) → has_domain s ≡ false → load_items_row s given ≡ started_by s (file_refusals given) (names_of_table (bytes_fetched given))
+load_items_row-begins s given e = ap (λ b. started_by s (refuse DomainStands b ++ file_refusals given) (names_of_table (bytes_fetched given))) e
+
+-- ---- what is asked of an interview
+
+-- the names stay
+pub asked_effect-names : (s : Session) (places : List ℕ) (r : Option Request) → (asked_effect s places r).session.names ≡ s.names
+asked_effect-names s places None = refl
+asked_effect-names s (place ∷ places) (Some request) = refl
+asked_effect-names s [] (Some (View view)) = refl
+asked_effect-names s [] (Some (Edit edit)) = refl
+
+-- no file is stored
+pub asked_effect-stored : (s : Session) (places : List ℕ) (r : Option Request) → (asked_effect s places r).stored ≡ None
+asked_effect-stored s places None = refl
+asked_effect-stored s (place ∷ places) (Some request) = refl
+asked_effect-stored s [] (Some (View view)) = refl
+asked_effect-stored s [] (Some (Edit edit)) = refl
+
+-- where no domain stands, nothing is asked
+pub asked_effect-without : (r : Option Request) → asked_effect (started []) (0 ∷ []) r ≡ answers (started []) (Refused (cond (is_some r) (Unnamed 0) NotBuilt))
+asked_effect-without None = refl
+asked_effect-without (Some request) = refl
+
+-- ---- commands and lines
+
+pub command_effect-asked : (s : Session) (calls : Calls) (c : Command) → (c ≡ command.Nothing → ⊥) → ((names : List Text) → c ≡ command.Items names → ⊥) → ((file : Text) → c ≡ command.LoadItems file → ⊥)
+    → command_effect s calls c ≡ asked_effect s (unnamed_at s c) (request_of s.names c)
+unfolding command_effect
+command_effect-asked s calls command.Nothing a b d = absurd (a refl)
+command_effect-asked s calls (command.Items names) a b d = absurd (b names refl)
+command_effect-asked s calls (command.LoadItems file) a b d = absurd (d file refl)
+command_effect-asked s calls c a b d = refl
+
+module _ (s : Session) (calls : Calls) (line : List ℕ) where
+  abbrev pub long : Effect
+  long = answers s (Refused (LongLine (length line)))
+
+  abbrev short : Effect
+  short = words_effect s calls (words line) (command_of (words line))
+
+  pub line_effect-long : longest_line < length line → line_effect s calls line ≡ long
+  unfolding line_effect
+  line_effect-long h = ap (λ b. cond b long short) (lt-ltb longest_line (length line) h)
+
+  pub line_effect-command : (c : Command) → length line ≤ longest_line → command_of (words line) ≡ Some c → line_effect s calls line ≡ command_effect s calls c
+  unfolding line_effect
+  line_effect-command c h e = ap (λ b. cond b long short) (le-ltb longest_line (length line) h) ∙ ap (words_effect s calls (words line)) e
+
+  pub line_effect-fault : (place : ℕ) → length line ≤ longest_line → command_of (words line) ≡ None → place ≡ fault_place (words line) → line_effect s calls line ≡ answers s (Refused (NoCommand place))
+  unfolding line_effect
+  line_effect-fault place h e f =
+      ap (λ b. cond b long short) (le-ltb longest_line (length line) h) ∙ ap (words_effect s calls (words line)) e
+      ∙ ap (λ (n : ℕ). answers s (Refused (NoCommand n))) (sym f)

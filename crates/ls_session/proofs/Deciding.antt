@@ -1,0 +1,94 @@
+-- Lines that are decided without the folder.
+use Rattle.std.proofs.Common.{◌≡◌, ℕ, true, false, cond, ltb, List, length, Option, Some, None, is_some, Result, Ok, Err, IfOk, OnOk, refl, sym, ap, ◌∙◌, subst, arith}
+use Rattle.std.specs.declared.alloc.AllocError.{AllocError}
+use Rattle.std.specs.FinMap as map
+use Rattle.ls_edge.specs.Files.{Folder}
+use Rattle.ls_edge.specs.declared.traits.TheConstants.{LONGEST_FILE}
+use Rattle.ls_reply.specs.Scenes.{Calls, Bytes, Missing, TooLarge, Failed, fetched_from, calls_of}
+use Rattle.ls_reply.specs.Sessions.{Session, has_domain}
+use Rattle.ls_reply.specs.Effects.{Effect}
+use Rattle.ls_reply.specs.declared.response.Response.{Response}
+use Rattle.ls_reply.proofs.Effects.{has_domain-some}
+use Rattle.ls_course.specs.States.{CourseState}
+use Rattle.ls_session.specs.Courses.{session_of, HasNames}
+use Rattle.ls_session.specs.Follows.{Sees, IsDecided}
+use Rattle.ls_session.specs.Decides.{Makes, Decides}
+
+-- a domain stands exactly where there is a course
+pub has_domain-is : (c : Option CourseState) → HasNames c → has_domain (session_of c) ≡ is_some c
+has_domain-is None h = refl
+has_domain-is (Some c) h = has_domain-some c.session (h c refl)
+
+-- ---- what is seen of the folder where no call is made there
+
+never_failed : (o : Option (List ℕ)) → fetched_from false o ≡ Failed → ⊥
+never_failed None e = cc
+never_failed (Some bytes) e =
+    elim (ltb LONGEST_FILE (length bytes)) as (λ b. cond b (TooLarge (length bytes)) (cond false Failed (Bytes bytes)) ≡ Failed → ⊥) [ true ↦ λ e. cc | false ↦ λ e. cc ] e
+
+-- what told files give, or no file
+abbrev pub calls_told : Option Folder → Calls
+calls_told None = record { file = λ name. Missing; failed = false }
+calls_told (Some m) = calls_of m false
+
+sees_told : (folder : Option Folder) (faults : ℕ) → Sees (calls_told folder) folder faults faults
+sees_told None faults = record { told = λ m e. absurd (cc e); failed = λ name e. absurd (cc e); cause = λ e. absurd (cc e) }
+sees_told (Some m) faults = record {
+  told = λ k e name. ap (λ (x : Folder). (calls_of x false).file name) (let same : m ≡ k = cc e in same);
+  failed = λ name e. absurd (never_failed (map.get m name) e);
+  cause = λ e. absurd (cc e);
+}
+
+-- ---- effects that do not depend on the folder
+
+pub makes_as : {e f : Effect} {old new : Session} {r : Result Response AllocError} → e ≡ f → Makes f old new r → Makes e old new r
+makes_as {e} {f} {old} {new} {r} same h = subst (λ x. Makes x old new r) (sym same) h
+
+pub decides_made : {effect : Calls → Effect} {e : Effect} {old new : Session} (folder : Option Folder) (faults : ℕ) (r : Result Response AllocError) → ((calls : Calls) → effect calls ≡ e) → e.stored ≡ None → Makes e old new r → Decides effect old new folder folder faults faults r
+decides_made {effect} {e} {old} {new} folder faults (Ok x) same none h =
+    let is = same (calls_told folder) in
+    record {
+      calls = calls_told folder;
+      sees = sees_told folder faults;
+      response = h.response ∙ sym (ap (λ (y : Effect). y.response) is);
+      decided = record {
+        session = h.session ∙ sym (ap (λ (y : Effect). y.session) is);
+        files = λ m told. rw (ap (λ (y : Effect). y.stored) is ∙ none) told;
+      };
+      undone = tt;
+      alone = λ _. (refl, refl);
+      later = omega arith;
+    }
+decides_made {effect} {e} {old} {new} folder faults (Err x) same none h = record {
+  calls = calls_told folder;
+  sees = sees_told folder faults;
+  response = tt;
+  decided = tt;
+  undone = (h.undone, λ m told. told);
+  alone = λ _. (refl, refl);
+  later = omega arith;
+}
+
+-- an effect that is another one
+pub decides_as : {effect other : Calls → Effect} {old new : Session} {folder left : Option Folder} {before now : ℕ} (r : Result Response AllocError) → ((calls : Calls) → effect calls ≡ other calls) → Decides other old new folder left before now r → Decides effect old new folder left before now r
+decides_as {effect} {other} {old} {new} {folder} {left} {before} {now} r same h = record {
+  calls = h.calls;
+  sees = h.sees;
+  response = subst (λ (x : Effect). IfOk r (λ y. y ≡ x.response)) (sym (same h.calls)) h.response;
+  decided = subst (λ (x : Effect). OnOk r (IsDecided x new folder left)) (sym (same h.calls)) h.decided;
+  undone = h.undone;
+  alone = λ one. h.alone (λ a b. sym (same a) ∙ one a b ∙ same b);
+  later = h.later;
+}
+
+-- memory ran out before anything was decided
+pub decides_nothing : {effect : Calls → Effect} (s : Session) (folder : Option Folder) (faults : ℕ) (e : AllocError) → Decides effect s s folder folder faults faults (Err e)
+decides_nothing s folder faults e = record {
+  calls = calls_told folder;
+  sees = sees_told folder faults;
+  response = tt;
+  decided = tt;
+  undone = (refl, λ m told. told);
+  alone = λ _. (refl, refl);
+  later = omega arith;
+}

@@ -1,0 +1,99 @@
+-- A line that was decided, and then written.
+use Rattle.std.proofs.Common.{◌≡◌, ℕ, inl, inr, Bool, List, Result, Ok, Err, IsErrAnd, IsErrOf, refl, sym, ap, ap₂, ◌∙◌, subst, arith}
+use Rattle.std.specs.declared.option.Option.{Option}
+use Rattle.std.specs.declared.alloc.AllocError.{AllocError}
+use Rattle.std.specs.Io.KnownBytes.{Appends}
+use Rattle.std.proofs.KnownBytes.{Keeps-refl}
+use Rattle.ls_edge.specs.Causes.{AppendsFront}
+use Rattle.ls_edge.specs.Files.{Folder}
+use Rattle.ls_edge.specs.declared.traits.SinkFault.{SinkFault}
+use Rattle.ls_edge.specs.declared.traits.SinkFault.TheVariants as sink
+use Rattle.ls_reply.specs.Texts.{bytes_of}
+use Rattle.ls_reply.specs.Scenes.{Calls}
+use Rattle.ls_reply.specs.Sessions.{Session}
+use Rattle.ls_reply.specs.Lines.{lines_of}
+use Rattle.ls_reply.specs.Effects.{Effect}
+use Rattle.ls_reply.specs.Replies.{line_effect, reply_of, is_refusal, is_refused}
+use Rattle.ls_reply.specs.declared.response.Response.{Response}
+use Rattle.ls_reply.proofs.Refusing.{is_refusal-lines_of}
+use Rattle.ls_writing.specs.Rooms.{Wrote}
+use Rattle.ls_session.specs.Faults.{step_fault}
+use Rattle.ls_session.specs.Follows.{Follows, MovesSink}
+use Rattle.ls_session.specs.Decides.{Decides}
+use Rattle.ls_session.specs.declared.step_fault.StepFault.{StepFault}
+use Rattle.ls_session.specs.declared.step_fault.StepFault.TheVariants.{Write, Memory}
+
+-- a step tells that the sink failed where it did
+sink_failed : (e : SinkFault) → step_fault e ≡ Write → e ≡ sink.Failed
+sink_failed sink.Failed h = refl
+sink_failed (sink.Memory x) h = absurd (cc h)
+
+pub told_failed : {T : Type 0} {written : Result (Unit {0}) SinkFault} {e : SinkFault} (result : Result T StepFault) → written ≡ Err e → IsErrAnd result (λ f. f ≡ step_fault e) → IsErrOf result Write → IsErrOf written sink.Failed
+told_failed {T} {written} {e} (Ok x) err is h = absurd is
+told_failed {T} {written} {e} (Err f) err is h = err ∙ ap Err (sink_failed e (sym is ∙ (let same : f ≡ Write = cc h in same)))
+
+module _ {effect : Calls → Effect} {old new : Session} {folder left : Option Folder} {i j : ℕ} where
+  -- deciding failed
+  pub follows_undone : {a : Option (List ℕ)} {k : ℕ} {decided : Result Response AllocError} {e : AllocError} (result : Result Bool StepFault) → decided ≡ Err e → IsErrAnd result (λ f. f ≡ Memory e) → Decides effect old new folder left i j decided → Follows Write effect old new folder left i j a a k k result
+  follows_undone {a} {k} {decided} {e} (Ok x) was is h = absurd is
+  follows_undone {a} {k} {decided} {e} (Err f) was is h =
+      let d = subst (Decides effect old new folder left i j) was h in
+      record {
+        calls = d.calls;
+        sees = d.sees;
+        gives = inl (record { session = d.undone.0; files = d.undone.1; written = Keeps-refl a }, λ w. absurd (cc (is, w)));
+        alone = d.alone;
+        shelf_later = d.later;
+        cause = λ w. absurd (cc (is, w));
+        later = omega arith;
+      }
+
+  reply_is : {response : Response} (d : Decides effect old new folder left i j (Ok response)) → bytes_of (lines_of new response) ≡ reply_of (effect d.calls)
+  reply_is d = ap₂ (λ (s : Session) (r : Response). bytes_of (lines_of s r)) d.decided.session d.response
+
+module _ {effect : Calls → Effect} {old new : Session} {folder left : Option Folder} {i j : ℕ} {a b : Option (List ℕ)} {k l : ℕ} where
+  -- the reply was written whole
+  pub follows_whole : {decided : Result Response AllocError} {written : Result (Unit {0}) SinkFault} {response : Response} {u : Unit {0}} {refused : Bool} → decided ≡ Ok response → Decides effect old new folder left i j decided
+      → written ≡ Ok u → Wrote a k b l (bytes_of (lines_of new response)) written → refused ≡ is_refused response → Follows Write effect old new folder left i j a b k l (Ok refused)
+  follows_whole {decided} {written} {response} {u} {refused} was h all w told =
+      let d = subst (Decides effect old new folder left i j) was h in
+      let whole = subst (Wrote a k b l (bytes_of (lines_of new response))) all w in
+      record {
+        calls = d.calls;
+        sees = d.sees;
+        gives = (
+          d.decided,
+          record { written = subst (Appends a b) (reply_is d) whole.whole; told = told ∙ sym (is_refusal-lines_of new response) ∙ ap is_refusal (reply_is d) },
+        );
+        alone = d.alone;
+        shelf_later = d.later;
+        cause = λ e. absurd (cc e);
+        later = w.cause.later;
+      }
+
+  -- a front of the reply was written
+  pub follows_front : {decided : Result Response AllocError} {written : Result (Unit {0}) SinkFault} {response : Response} {e : SinkFault} (result : Result Bool StepFault) → decided ≡ Ok response → Decides effect old new folder left i j decided
+      → written ≡ Err e → Wrote a k b l (bytes_of (lines_of new response)) written → IsErrAnd result (λ f. f ≡ step_fault e) → Follows Write effect old new folder left i j a b k l result
+  follows_front {decided} {written} {response} {e} (Ok x) was h err w is = absurd is
+  follows_front {decided} {written} {response} {e} (Err f) was h err w is =
+      let d = subst (Decides effect old new folder left i j) was h in
+      record {
+        calls = d.calls;
+        sees = d.sees;
+        gives = inr (d.decided, subst (AppendsFront a b) (reply_is d) w.front);
+        alone = d.alone;
+        shelf_later = d.later;
+        cause = λ q. w.cause.failed (told_failed {T = Bool} (Err f) err is q);
+        later = w.cause.later;
+      }
+
+-- the sessions by other names
+pub follows_of : (line : List ℕ) {s t n m : Session} {folder left : Option Folder} {i j : ℕ} {a b : Option (List ℕ)} {k l : ℕ} {r : Result Bool StepFault} → s ≡ t → m ≡ n
+    → Follows Write (λ calls. line_effect s calls line) s n folder left i j a b k l r → Follows Write (λ calls. line_effect t calls line) t m folder left i j a b k l r
+follows_of line {s} {t} {n} {m} {folder} {left} {i} {j} {a} {b} {k} {l} {r} old new h =
+    subst (λ (x : Session). Follows Write (λ calls. line_effect x calls line) x m folder left i j a b k l r) old
+    (subst (λ (x : Session). Follows Write (λ calls. line_effect s calls line) s x folder left i j a b k l r) (sym new) h)
+
+-- whatever was written, the sink was moved
+pub moves_wrote : {T : Type 0} {a b : Option (List ℕ)} {k l : ℕ} {bytes : List ℕ} {written : Result (Unit {0}) SinkFault} {result : Result T StepFault} → (IsErrOf result Write → IsErrOf written sink.Failed) → Wrote a k b l bytes written → MovesSink Write a b k l result
+moves_wrote same w = record { kept = (_, w.front.2); later = w.cause.later; cause = λ e. w.cause.failed (same e) }

@@ -1,0 +1,24 @@
+use Rattle.std.proofs.Common.{◌∷◌, [], ◌∙◌, sym, ap, codes, decimal}
+use Rattle.ls_reply.specs.Texts.{bytes_of}
+use Rattle.ls_reply.specs.Refusals.{refusal_words}
+use Rattle.ls_reply.specs.Lines.{lines_of}
+use Rattle.ls_reply.specs.declared.response.Response.{Response}
+use Rattle.ls_writing.proofs.Saying.{says_nothing, says_as}
+use Rattle.ls_writing.proofs.Joins.{bytes_of-none, bytes_of-one}
+use Rattle.ls_session.specs.Courses.{session_of}
+use Rattle.ls_session.proofs.decider.Decider.put.Goals as goal
+
+pub returns-in-Silence : goal.returns-in-Silence
+returns-in-Silence g c =
+    let s = session_of c.args.self.now.course in
+    says_as (bytes_of-none ∙ ap (λ (r : Response). bytes_of (lines_of s r)) (sym c.in-Silence.is)) (says_nothing _ _ _)
+
+pub returns-in-Refused : goal.returns-in-Refused
+returns-in-Refused g c =
+    let s = session_of c.args.self.now.course in
+    says_as (sym (bytes_of-one (codes "no" ∷ refusal_words c.in-Refused.refusal)) ∙ ap (λ (r : Response). bytes_of (lines_of s r)) (sym c.in-Refused.is)) c.put_refusal.ensures
+
+pub returns-in-Done : goal.returns-in-Done
+returns-in-Done g c =
+    let s = session_of c.args.self.now.course in
+    says_as (sym (bytes_of-one (codes "ok" ∷ decimal c.in-Done.number ∷ [])) ∙ ap (λ (r : Response). bytes_of (lines_of s r)) (sym c.in-Done.is)) c.put_done.ensures

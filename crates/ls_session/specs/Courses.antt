@@ -1,0 +1,27 @@
+-- A session by its course, where a domain stands.
+use Rattle.std.specs.Prelude.{◌≡◌, ◌<◌, [], length, Option, Some, None, ⊤}
+use Rattle.std.specs.Option.{ForSome}
+use Rattle.ls_reply.specs.Sessions.{Session, started}
+use Rattle.ls_reply.specs.declared.response.Response.{Response}
+use Rattle.ls_reply.specs.declared.response.Response.TheVariants.{Shown}
+use Rattle.ls_writing.specs.Rooms.{RoomState, no_reply}
+use Rattle.ls_course.specs.States.{CourseState, CanSay}
+
+-- where there is none, no domain stands
+abbrev pub session_of : Option CourseState → Session
+session_of None = started []
+session_of (Some c) = c.session
+
+-- a domain has names
+abbrev pub HasNames : Option CourseState → Type 0
+HasNames course = ForSome course (λ c. 0 < length c.session.names)
+
+-- the response can be said: where no domain stands, nothing is shown
+abbrev pub IsSayable : Option CourseState → Response → Type 0
+IsSayable None (Shown what) = ⊥
+IsSayable None response = ⊤
+IsSayable (Some c) response = CanSay c response
+
+-- a room, if there is one, is as before a reply
+abbrev pub IsIdle : Option RoomState → Type 0
+IsIdle room = ForSome room (λ r. r ≡ no_reply)

@@ -1,0 +1,238 @@
+// What a line does, decided and not yet written.
+ghost use Rattle.std.specs.Prelude.{◌≡◌, [], None, is_some, List, Result, IfOk, if◌then◌else◌};
+ghost use Rattle.ls_domain.specs.Domains.{names_of_table};
+ghost use Rattle.ls_domain.specs.declared.domain_fault.DomainFault.{DomainFault as Fault};
+ghost use Rattle.ls_lines.specs.Lines.{Text};
+ghost use Rattle.ls_reply.specs.Texts.{bytes_of};
+ghost use Rattle.ls_reply.specs.Scenes.{Fetched};
+ghost use Rattle.ls_reply.specs.Meanings.{request_of};
+ghost use Rattle.ls_reply.specs.Lines.{lines_of};
+ghost use Rattle.ls_reply.specs.Effects.{changes};
+ghost use Rattle.ls_reply.specs.Rows.{items_row, load_items_row, started_by, file_refusals, bytes_fetched};
+ghost use Rattle.ls_reply.specs.Replies.{line_effect, command_effect, asked_effect, unnamed_at};
+ghost use Rattle.ls_reply.specs.declared.refusal.Refusal.TheVariants.{Unnamed, NotBuilt};
+ghost use Rattle.ls_writing.specs.Rooms.{Says};
+ghost use Rattle.ls_session.specs.Courses.{session_of, HasNames, IsSayable};
+ghost use Rattle.ls_session.specs.Decides.{Decides, Makes, IsRead, IsFetched};
+
+use ls_course::Course;
+use ls_domain::{Domain, DomainFault};
+use ls_edge::{FetchFault, Shelf, Sink};
+use ls_interior::Steps;
+use ls_lines::{Command, LONGEST_LINE, LineFault, Word, WordList, read_command};
+use ls_reply::{Refusal, Response};
+use ls_writing::{Room, put_done, put_refusal};
+use std::alloc::{AllocError, Global};
+use std::sync::ledger::Ledger;
+
+/// The domain with its interview, if one stands. It decides what lines do, and says their replies.
+#[derive(Drop)]
+pub struct Decider {
+    alloc: Global,
+    pub course: Option<Course>,
+    ghost named: { HasNames course },
+}
+
+// Whether the command is built and needs a domain.
+fn is_built(command: &Command) -> bool
+    ensures { result ≡ is_some (request_of [] command.now) }
+{
+    matches!(
+        command,
+        Command::Blocks { .. }
+            | Command::Yes { .. }
+            | Command::No { .. }
+            | Command::Retract { .. }
+            | Command::Known { .. }
+            | Command::Ask
+            | Command::States { .. }
+            | Command::Base
+    )
+}
+
+// The refusal of such a command where no domain stands.
+fn refusal_without(command: &Command) -> Refusal
+    ensures { result ≡ (if is_some (request_of [] command.now) then Unnamed 0 else NotBuilt) }
+{
+    if is_built(command) {
+        Refusal::Unnamed { place: 0 }
+    } else {
+        Refusal::NotBuilt
+    }
+}
+
+impl Decider {
+    /// No domain.
+    pub fn new(alloc: Global) -> Decider
+        ensures { result.course ≡ None }
+    {
+        Decider {
+            alloc,
+            course: None,
+        }
+    }
+
+    /// Decides what a line does.
+    pub fn decide_line<H: Shelf, L: Ledger>(
+        &mut self,
+        line: &[u8],
+        shelf: &mut H,
+        steps: &mut Steps<L>,
+    ) -> Result<Response, AllocError>
+        ensures decides { let s = session_of self.old.course in
+            Decides (λ calls. line_effect s calls line.now) s (session_of self.new.course)
+            (H.files shelf.old) (H.files shelf.new) (H.faults shelf.old) (H.faults shelf.new) result }
+        ensures said { IfOk result (IsSayable self.new.course) }
+    {
+        if line.len() > LONGEST_LINE {
+            let bytes = line.len() as u64;
+            return Ok(Response::Refused(Refusal::LongLine { bytes }));
+        }
+        match read_command(self.alloc, line) {
+            Ok(command) => self.decide(&command, shelf, steps),
+            Err(LineFault::Shape { place }) => Ok(Response::Refused(Refusal::NoCommand { place })),
+            Err(LineFault::Memory(e)) => Err(e),
+        }
+    }
+
+    // Decides what a command does.
+    fn decide<H: Shelf, L: Ledger>(
+        &mut self,
+        command: &Command,
+        shelf: &mut H,
+        steps: &mut Steps<L>,
+    ) -> Result<Response, AllocError>
+        ensures decides { let s = session_of self.old.course in
+            Decides (λ calls. command_effect s calls command.now) s (session_of self.new.course)
+            (H.files shelf.old) (H.files shelf.new) (H.faults shelf.old) (H.faults shelf.new) result }
+        ensures said { IfOk result (IsSayable self.new.course) }
+    {
+        match command {
+            Command::Nothing => Ok(Response::Silence),
+            Command::Items { names } => self.begin(names, steps),
+            Command::LoadItems { file } => self.load(file, shelf, steps),
+            _ => self.ask(command, steps),
+        }
+    }
+
+    // Decides what a command does that is none of the first three: it needs a domain, or isn't built yet.
+    fn ask<L: Ledger>(
+        &mut self,
+        command: &Command,
+        steps: &mut Steps<L>,
+    ) -> Result<Response, AllocError>
+        ensures makes { let s = session_of self.old.course in
+            Makes (asked_effect s (unnamed_at s command.now) (request_of s.names command.now))
+            s (session_of self.new.course) result }
+        ensures said { IfOk result (IsSayable self.new.course) }
+    {
+        let Some(course) = &mut self.course else {
+            return Ok(Response::Refused(refusal_without(command)));
+        };
+        course.ask(command, steps)
+    }
+
+    // `items NAMES`
+    fn begin<L: Ledger>(
+        &mut self,
+        names: &WordList,
+        steps: &mut Steps<L>,
+    ) -> Result<Response, AllocError>
+        ensures makes { let s = session_of self.old.course in
+            Makes (changes (items_row s names.now)) s (session_of self.new.course) result }
+        ensures said { IfOk result (IsSayable self.new.course) }
+    {
+        if self.course.is_some() {
+            return Ok(Response::Refused(Refusal::DomainStands));
+        }
+        self.start(Domain::from_names(self.alloc, names), steps)
+    }
+
+    // `load-items FILE`
+    fn load<H: Shelf, L: Ledger>(
+        &mut self,
+        file: &Word,
+        shelf: &mut H,
+        steps: &mut Steps<L>,
+    ) -> Result<Response, AllocError>
+        ensures decides { let s = session_of self.old.course in
+            Decides (λ calls. changes (load_items_row s (calls.file file.now)))
+            s (session_of self.new.course)
+            (H.files shelf.old) (H.files shelf.new) (H.faults shelf.old) (H.faults shelf.new) result }
+        ensures said { IfOk result (IsSayable self.new.course) }
+    {
+        if self.course.is_some() {
+            return Ok(Response::Refused(Refusal::DomainStands));
+        }
+        self.read_table(shelf.fetch(file.as_str()), steps)
+    }
+
+    // Begins with the names of the table that was fetched.
+    fn read_table<L: Ledger>(
+        &mut self,
+        fetched: Result<Vec<u8>, FetchFault>,
+        steps: &mut Steps<L>,
+    ) -> Result<Response, AllocError>
+        ensures makes { let s = session_of self.old.course in
+            (given : Fetched) → IsFetched given fetched →
+            Makes (changes (started_by s (file_refusals given) (names_of_table (bytes_fetched given))))
+            s (session_of self.new.course) result }
+        ensures said { IfOk result (IsSayable self.new.course) }
+    {
+        let refusal = match fetched {
+            Ok(bytes) => return self.start(Domain::from_csv(self.alloc, &bytes), steps),
+            Err(FetchFault::Missing) => Refusal::NoFile,
+            Err(FetchFault::TooLarge { bytes }) => Refusal::LargeFile { bytes },
+            Err(FetchFault::Failed) => Refusal::FileFailed,
+            Err(FetchFault::Memory(e)) => return Err(e),
+        };
+        Ok(Response::Refused(refusal))
+    }
+
+    // Begins with the domain that was read.
+    fn start<L: Ledger>(
+        &mut self,
+        read: Result<Domain, DomainFault>,
+        steps: &mut Steps<L>,
+    ) -> Result<Response, AllocError>
+        ensures makes { let s = session_of self.old.course in
+            (reading : Result (List Text) Fault) → IsRead reading read →
+            Makes (changes (started_by s [] reading)) s (session_of self.new.course) result }
+        ensures said { IfOk result (IsSayable self.new.course) }
+    {
+        match read {
+            Ok(domain) => {
+                let number = u64::from(domain.count());
+                self.course = Some(Course::begin(self.alloc, domain, steps)?);
+                Ok(Response::Done { number })
+            }
+            Err(DomainFault::Memory(e)) => Err(e),
+            Err(fault) => Ok(Response::Refused(Refusal::Domain(fault))),
+        }
+    }
+
+    /// Says the lines of a response.
+    pub fn put<K: Sink, L: Ledger>(
+        &self,
+        response: &Response,
+        room: &mut Room,
+        out: &mut K,
+        steps: &mut Steps<L>,
+    )
+        requires { IsSayable self.now.course response.now }
+        ensures { Says (K.written out.old) (K.faults out.old) room.old
+            (K.written out.new) (K.faults out.new) room.new
+            (bytes_of (lines_of (session_of self.now.course) response.now)) }
+    {
+        match response {
+            Response::Silence => {}
+            Response::Refused(refusal) => put_refusal(refusal, room, out),
+            Response::Done { number } => put_done(*number, room, out),
+            Response::Shown(shown) => {
+                if let Some(course) = &self.course {
+                    course.put(shown, room, out, steps);
+                }
+            }
+        }
+    }
+}
