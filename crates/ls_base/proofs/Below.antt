@@ -1,12 +1,11 @@
 -- The union of the sets of a list below a set, and the sets that are not such a union.
-use Rattle.std.proofs.Common.{◌≡◌, true, false, not, ◌&&◌, List, [], ◌∷◌, ◌++◌, map, filter, refl, sym, ap, ◌∙◌, true≢false}
-use Rattle.std.proofs.lemmas.Bool.{and_parts, false_from_ne_true}
-use Rattle.std.proofs.lemmas.List.Elements.{filter-append}
+use Rattle.std.proofs.Common.{◌≡◌, true, false, not, ◌&&◌, List, [], ◌∷◌, filter, refl, sym, ap, ◌∙◌}
+use Rattle.std.proofs.lemmas.Bool.{and_parts}
 use Rattle.ls_set.specs.ItemSet.{Items, has, empty, union, is_among, is_same, is_within, IsWithin}
-use Rattle.ls_set.proofs.Sets.{union_assoc, union-empty_left, union-left, same_within, IsWithin-from, is_within-from}
+use Rattle.ls_set.proofs.Sets.{same_within}
 use Rattle.ls_set.proofs.Members.{among-filter}
-use Rattle.ls_theory.specs.Families.{unions, interior}
-use Rattle.ls_laws.specs.Spans.{is_proper, joins, needed}
+use Rattle.ls_theory.specs.Families.{interior}
+use Rattle.ls_laws.specs.Spans.{is_proper, needed}
 use Rattle.ls_laws.proofs.Lists.{filter-same}
 use Rattle.ls_laws.proofs.Interiors.{from-interior, to-interior, interior-whole, interior-within}
 use Rattle.ls_base.specs.Unions.{union_below, is_union_in}

@@ -1,5 +1,5 @@
 -- Trails: what their entries stand for, and which is the last.
-use Rattle.std.proofs.Common.{ℕ, zero, suc, ◌+◌, ◌-◌, ◌<◌, ◌≤◌, ◌≡◌, inl, inr, true, false, cond, eqb, ltb, List, [], ◌∷◌, ◌++◌, length, take, drop, map, filter, get_or, slice_get, Option, Some, None, IfSome, option_map, refl, sym, ap, ◌∙◌, arith, subst, length-append, ltb-true, eqb-true}
+use Rattle.std.proofs.Common.{ℕ, suc, ◌+◌, ◌-◌, ◌<◌, ◌≤◌, ◌≡◌, inl, inr, true, false, cond, eqb, ltb, List, [], ◌∷◌, ◌++◌, length, take, drop, filter, get_or, slice_get, Some, IfSome, option_map, refl, sym, ap, ◌∙◌, arith, subst, length-append, ltb-true, eqb-true}
 use Rattle.std.proofs.Math.Dec.{leb}
 use Rattle.std.proofs.Math.ListN.{set}
 use Rattle.std.specs.List.{All, list_all}

@@ -14,7 +14,7 @@ mod unions;
 pub use base::{Base, MOST_BASE_SETS};
 pub use fault::{BaseFault, PastFault};
 pub use followed::Followed;
-pub use trail::Trail;
+pub use trail::{MOST_KEPT_SETS, Trail};
 
 #[cfg(test)]
 mod tests;

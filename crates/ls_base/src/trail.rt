@@ -14,7 +14,7 @@ use ls_set::{ItemSet, Query};
 use std::alloc::{AllocError, Global};
 use std::marker::Model;
 
-/// The most sets that the entries of a trail keep in all, beside those of its first and its last.
+/// The most sets that the entries of a trail keep in all.
 pub const MOST_KEPT_SETS: usize = 65536;
 
 /// What is followed over each number of first Yes answers from `first` to `last`.
@@ -30,7 +30,7 @@ pub struct Entry {
 /// for no answer; a Yes that changes nothing makes no new one.
 ///
 /// Where the entries keep more than [`MOST_KEPT_SETS`] sets in all, the oldest but the first are let
-/// go, until they don't or only the first and the last are left.
+/// go, until they don't. The first and the last are kept: they have no more than 8,192.
 #[derive(Debug, Drop)]
 pub struct Trail {
     entries: Vec<Entry>,

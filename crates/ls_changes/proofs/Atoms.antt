@@ -1,6 +1,5 @@
 -- The atoms of what a Yes leaves: those that do not break the query stay, and the others are unions of one that does with a set that has an item of A.
-use Rattle.std.proofs.Common.{ℕ, ◌≡◌, ◌⊎◌, inl, inr, Bool, true, false, cond, not, ◌&&◌, ◌||◌, List, [], ◌∷◌, ◌++◌, filter, refl, sym, ap, ◌∙◌, subst, true≢false}
-use Rattle.std.specs.List.{list_any}
+use Rattle.std.proofs.Common.{ℕ, ◌≡◌, ◌⊎◌, inl, inr, true, false, cond, not, ◌||◌, List, [], ◌∷◌, ◌++◌, filter, refl, sym, ap, ◌∙◌, subst, true≢false}
 use Rattle.std.proofs.lemmas.Bool.{cases_Bool, and_parts, and_from, not-true, not_from_false, false_from_ne_true}
 use Rattle.ls_set.specs.ItemSet.{Items, has, empty, union, meet, is_same, is_among, IsWithin, IsInOrder}
 use Rattle.ls_set.specs.declared.query.Query.{Query}

@@ -1,10 +1,10 @@
 -- Least sets: a list of sets of g that has one within each set of g has the same least sets, and the atoms at an item are the least sets with it.
 use Rattle.std.proofs.Common.{ℕ, ◌≡◌, ◌⊎◌, inl, inr, Bool, true, false, cond, not, ◌&&◌, ◌||◌, List, [], ◌∷◌, ◌++◌, filter, refl, sym, ap, ap₂, ◌∙◌, subst, true≢false}
 use Rattle.std.specs.List.{list_any}
-use Rattle.std.proofs.lemmas.Bool.{cases_Bool, and_parts, and_from, or_cases, or_left, or_right, true_from_ne_false, not-true, not_from_false, false_from_ne_true}
+use Rattle.std.proofs.lemmas.Bool.{cases_Bool, and_parts, and_from, or_cases, or_left, or_right, not-true, not_from_false, false_from_ne_true}
 use Rattle.ls_set.specs.ItemSet.{Items, has, is_same, is_within, is_among, IsWithin}
 use Rattle.ls_set.proofs.Sets.{same_within, both_ways, Decides-is_same, IsWithin-from, is_within-from}
-use Rattle.ls_set.proofs.Members.{among-here, among-there, among-cases, among-append, among-filter}
+use Rattle.ls_set.proofs.Members.{among-append, among-filter}
 use Rattle.ls_theory.specs.Bases.{is_atom_at, atoms_at}
 use Rattle.ls_laws.specs.Spans.{IsPart, is_proper}
 use Rattle.ls_laws.proofs.Lists.{some-among, some-from, filter-both, filter-same}

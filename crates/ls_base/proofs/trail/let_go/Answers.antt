@@ -1,6 +1,5 @@
-use Rattle.std.proofs.Common.{◌≡◌, ◌<◌, ◌++◌, List, length, take, drop, sym, ap, ◌∙◌, subst, arith}
+use Rattle.std.proofs.Common.{sym, ap, ◌∙◌, subst, arith}
 use Rattle.ls_base.specs.Trail.{IsTrail, last_entry, begins_at_none}
-use Rattle.ls_base.specs.declared.trail.Entry.{Entry}
 use Rattle.ls_base.proofs.Trails.{last-remove, trail-remove, begins-remove}
 use Rattle.ls_base.proofs.trail.let_go.Goals as goal
 
