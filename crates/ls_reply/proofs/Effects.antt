@@ -39,13 +39,6 @@ load_items_row-begins s given e = ap (λ b. started_by s (refuse DomainStands b 
 
 -- ---- what is asked of an interview
 
--- the names stay
-pub asked_effect-names : (s : Session) (places : List ℕ) (r : Option Request) → (asked_effect s places r).session.names ≡ s.names
-asked_effect-names s places None = refl
-asked_effect-names s (place ∷ places) (Some request) = refl
-asked_effect-names s [] (Some (View view)) = refl
-asked_effect-names s [] (Some (Edit edit)) = refl
-
 -- no file is stored
 pub asked_effect-stored : (s : Session) (places : List ℕ) (r : Option Request) → (asked_effect s places r).stored ≡ None
 asked_effect-stored s places None = refl

@@ -8,7 +8,8 @@ ghost use Rattle.ls_reply.specs.Scenes.{Fetched};
 ghost use Rattle.ls_reply.specs.Meanings.{request_of};
 ghost use Rattle.ls_reply.specs.Lines.{lines_of};
 ghost use Rattle.ls_reply.specs.Effects.{changes};
-ghost use Rattle.ls_reply.specs.Rows.{items_row, load_items_row, started_by, file_refusals, bytes_fetched};
+ghost use Rattle.ls_reply.specs.Rows.{items_row, load_items_row, started_by};
+ghost use Rattle.ls_reply.specs.Rows.{file_refusals, bytes_fetched};
 ghost use Rattle.ls_reply.specs.Replies.{line_effect, command_effect, asked_effect, unnamed_at};
 ghost use Rattle.ls_reply.specs.declared.refusal.Refusal.TheVariants.{Unnamed, NotBuilt};
 ghost use Rattle.ls_writing.specs.Rooms.{Says};
@@ -81,7 +82,8 @@ impl Decider {
     ) -> Result<Response, AllocError>
         ensures decides { let s = session_of self.old.course in
             Decides (λ calls. line_effect s calls line.now) s (session_of self.new.course)
-            (H.files shelf.old) (H.files shelf.new) (H.faults shelf.old) (H.faults shelf.new) result }
+            (H.files shelf.old) (H.files shelf.new)
+            (H.faults shelf.old) (H.faults shelf.new) result }
         ensures said { IfOk result (IsSayable self.new.course) }
     {
         if line.len() > LONGEST_LINE {
@@ -104,7 +106,8 @@ impl Decider {
     ) -> Result<Response, AllocError>
         ensures decides { let s = session_of self.old.course in
             Decides (λ calls. command_effect s calls command.now) s (session_of self.new.course)
-            (H.files shelf.old) (H.files shelf.new) (H.faults shelf.old) (H.faults shelf.new) result }
+            (H.files shelf.old) (H.files shelf.new)
+            (H.faults shelf.old) (H.faults shelf.new) result }
         ensures said { IfOk result (IsSayable self.new.course) }
     {
         match command {
@@ -115,7 +118,7 @@ impl Decider {
         }
     }
 
-    // Decides what a command does that is none of the first three: it needs a domain, or isn't built yet.
+    // Decides what a command does that needs a domain, or isn't built yet.
     fn ask<L: Ledger>(
         &mut self,
         command: &Command,
@@ -158,7 +161,8 @@ impl Decider {
         ensures decides { let s = session_of self.old.course in
             Decides (λ calls. changes (load_items_row s (calls.file file.now)))
             s (session_of self.new.course)
-            (H.files shelf.old) (H.files shelf.new) (H.faults shelf.old) (H.faults shelf.new) result }
+            (H.files shelf.old) (H.files shelf.new)
+            (H.faults shelf.old) (H.faults shelf.new) result }
         ensures said { IfOk result (IsSayable self.new.course) }
     {
         if self.course.is_some() {
@@ -175,7 +179,8 @@ impl Decider {
     ) -> Result<Response, AllocError>
         ensures makes { let s = session_of self.old.course in
             (given : Fetched) → IsFetched given fetched →
-            Makes (changes (started_by s (file_refusals given) (names_of_table (bytes_fetched given))))
+            Makes (changes (started_by s (file_refusals given)
+                (names_of_table (bytes_fetched given))))
             s (session_of self.new.course) result }
         ensures said { IfOk result (IsSayable self.new.course) }
     {

@@ -126,7 +126,8 @@ impl Session {
 
     // Sends what is said of the reply, and keeps the room for the next one.
     fn finish<K: Sink>(&mut self, mut room: Room, out: &mut K) -> Result<(), SinkFault>
-        ensures ends { Ends (K.written out.old) (K.faults out.old) room (K.written out.new) (K.faults out.new) result }
+        ensures ends { Ends (K.written out.old) (K.faults out.old) room
+            (K.written out.new) (K.faults out.new) result }
         ensures kept { self.new ≡ self.old }
     {
         let written = room.finish(out);

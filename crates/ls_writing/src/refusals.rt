@@ -1,7 +1,8 @@
 // The lines of refusals, and of commands that were carried out.
 ghost use Rattle.std.specs.Prelude.{[], ◌∷◌, codes, decimal};
 ghost use Rattle.ls_reply.specs.Texts.{line_of};
-ghost use Rattle.ls_reply.specs.Refusals.{domain_words, block_words, answer_words, cursor_words, refusal_words};
+ghost use Rattle.ls_reply.specs.Refusals.{domain_words, block_words, answer_words, cursor_words};
+ghost use Rattle.ls_reply.specs.Refusals.{refusal_words};
 ghost use Rattle.ls_writing.specs.Rooms.{Says};
 
 use crate::{Room, put_line, put_numbered};
@@ -13,7 +14,8 @@ use ls_theory::{AnswerFault, BlockFault};
 
 /// Says the line of a command that was carried out, with the number that it tells.
 pub fn put_done<K: Sink>(number: u64, room: &mut Room, out: &mut K)
-    ensures { Says (K.written out.old) (K.faults out.old) room.old (K.written out.new) (K.faults out.new) room.new
+    ensures { Says (K.written out.old) (K.faults out.old) room.old
+        (K.written out.new) (K.faults out.new) room.new
         (line_of (codes "ok" ∷ decimal number ∷ [])) }
 {
     put_numbered(&[b"ok"], &[number], room, out);
@@ -21,7 +23,8 @@ pub fn put_done<K: Sink>(number: u64, room: &mut Room, out: &mut K)
 
 /// Says the line of a refusal: its code and its details.
 pub fn put_refusal<K: Sink>(refusal: &Refusal, room: &mut Room, out: &mut K)
-    ensures { Says (K.written out.old) (K.faults out.old) room.old (K.written out.new) (K.faults out.new) room.new
+    ensures { Says (K.written out.old) (K.faults out.old) room.old
+        (K.written out.new) (K.faults out.new) room.new
         (line_of (codes "no" ∷ refusal_words refusal.now)) }
 {
     match refusal {
@@ -49,7 +52,8 @@ pub fn put_refusal<K: Sink>(refusal: &Refusal, room: &mut Room, out: &mut K)
 
 // Says the refusal of names that are no domain.
 fn put_domain_fault<K: Sink>(fault: DomainFault, room: &mut Room, out: &mut K)
-    ensures { Says (K.written out.old) (K.faults out.old) room.old (K.written out.new) (K.faults out.new) room.new
+    ensures { Says (K.written out.old) (K.faults out.old) room.old
+        (K.written out.new) (K.faults out.new) room.new
         (line_of (codes "no" ∷ domain_words fault)) }
 {
     match fault {
@@ -67,7 +71,8 @@ fn put_domain_fault<K: Sink>(fault: DomainFault, room: &mut Room, out: &mut K)
 
 // Says the refusal of a row.
 fn put_row<K: Sink>(fault: &[u8], row: u32, room: &mut Room, out: &mut K)
-    ensures { Says (K.written out.old) (K.faults out.old) room.old (K.written out.new) (K.faults out.new) room.new
+    ensures { Says (K.written out.old) (K.faults out.old) room.old
+        (K.written out.new) (K.faults out.new) room.new
         (line_of (codes "no" ∷ codes "12" ∷ fault.now ∷ decimal row ∷ [])) }
 {
     put_numbered(&[b"no", b"12", fault], &[u64::from(row)], room, out);
@@ -75,7 +80,8 @@ fn put_row<K: Sink>(fault: &[u8], row: u32, room: &mut Room, out: &mut K)
 
 // Says the refusal of blocks.
 fn put_block_fault<K: Sink>(fault: BlockFault, room: &mut Room, out: &mut K)
-    ensures { Says (K.written out.old) (K.faults out.old) room.old (K.written out.new) (K.faults out.new) room.new
+    ensures { Says (K.written out.old) (K.faults out.old) room.old
+        (K.written out.new) (K.faults out.new) room.new
         (line_of (codes "no" ∷ block_words fault)) }
 {
     match fault {
@@ -89,7 +95,8 @@ fn put_block_fault<K: Sink>(fault: BlockFault, room: &mut Room, out: &mut K)
 
 // Says the refusal of an answer.
 fn put_answer_fault<K: Sink>(fault: AnswerFault, room: &mut Room, out: &mut K)
-    ensures { Says (K.written out.old) (K.faults out.old) room.old (K.written out.new) (K.faults out.new) room.new
+    ensures { Says (K.written out.old) (K.faults out.old) room.old
+        (K.written out.new) (K.faults out.new) room.new
         (line_of (codes "no" ∷ answer_words fault)) }
 {
     match fault {
@@ -104,7 +111,8 @@ fn put_answer_fault<K: Sink>(fault: AnswerFault, room: &mut Room, out: &mut K)
 
 // Says the refusal of a cursor's text.
 fn put_cursor_fault<K: Sink>(fault: CursorFault, room: &mut Room, out: &mut K)
-    ensures { Says (K.written out.old) (K.faults out.old) room.old (K.written out.new) (K.faults out.new) room.new
+    ensures { Says (K.written out.old) (K.faults out.old) room.old
+        (K.written out.new) (K.faults out.new) room.new
         (line_of (codes "no" ∷ cursor_words fault)) }
 {
     match fault {
