@@ -12,7 +12,9 @@ pub enum Request {
 #[derive(Clone, Copy, Debug)]
 pub enum View {
     /// What the answers tell of a query.
-    Known { query: Query },
+    Known {
+        query: Query,
+    },
     /// The next question.
     Ask,
     /// At most `count` states: those after a set, or the first ones; or why the cursor's text is none.

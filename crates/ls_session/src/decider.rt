@@ -180,7 +180,7 @@ impl Decider {
         ensures makes { let s = session_of self.old.course in
             (given : Fetched) → IsFetched given fetched →
             Makes (changes (started_by s (file_refusals given)
-                (names_of_table (bytes_fetched given))))
+            (names_of_table (bytes_fetched given))))
             s (session_of self.new.course) result }
         ensures said { IfOk result (IsSayable self.new.course) }
     {

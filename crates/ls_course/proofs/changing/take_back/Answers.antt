@@ -18,8 +18,8 @@ returns-in-Ok-clause-trail g c =
     let numbered = c.answer_with.ensures.standing.numbered in
     let kept : IsTrailOf after c.if-answer.trail = elim c.if-answer.branch [
       | then-answer w ↦ subst (IsTrailOf after) (sym w.trail-is)
-        (w.give_up.ensures.trail i.count i.start (yes_queries i.answers) (yes_queries after.answers) c.requires
-        (first-kept i a numbered stands w.rules_before.result w.if-answer.true (w.rules_before.ensures.value ∙ ap (rules_before i.answers) (sym same))))
+          (w.give_up.ensures.trail i.count i.start (yes_queries i.answers) (yes_queries after.answers) c.requires
+          (first-kept i a numbered stands w.rules_before.result w.if-answer.true (w.rules_before.ensures.value ∙ ap (rules_before i.answers) (sym same))))
       | else-answer w ↦ subst (IsTrailOf after) (sym w.trail-is) (trail-without_no i a numbered stands c.args.trail.now w.if-answer.false c.requires)
     ] in
     subst (λ (j : Interview). IsTrailOf j c.if-answer.trail) next kept
