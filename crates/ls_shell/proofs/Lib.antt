@@ -8,3 +8,4 @@ pub mod Taken
 pub mod Pieces
 pub mod Scripts
 mod Numbers
+mod Faulting

@@ -9,6 +9,7 @@ use Rattle.ls_shell.specs.declared.run_fault.RunFault.TheVariants as run
 use Rattle.ls_shell.specs.Runs.{longest_script}
 use Rattle.ls_shell.proofs.Answered.{takes_if}
 use Rattle.ls_shell.proofs.Pieces.{stops_none, read_fails, read_end, stops_end, read_long, read_more, stops_more}
+use Rattle.ls_shell.proofs.Faulting.{by_write, by_read}
 use Rattle.ls_shell.proofs.Moves.{rose_since}
 use Rattle.ls_shell.proofs.reading.answer_source.Goals as goal
 
@@ -24,6 +25,9 @@ returns-in-Err-clause-read g c = λ e.
           (g.H.Shelf.faults c.pieces.shelf) (g.H.Shelf.faults c.pieces.shelf) (g.K.Sink.written c.pieces.out) (g.K.Sink.written c.pieces.out) before.read before.few c.in-Err.ensures.bytes,
     )
 
+pub returns-in_err-finish-clause-read : goal.returns-in_err-finish-clause-read
+returns-in_err-finish-clause-read g c = λ e. absurd (by_read c.from_residual-in_err-finish.result c.in_err-finish.field-0.0 c.from_residual-in_err-finish.ensures.1 e)
+
 pub returns-in_err-finish-clause-stopped : goal.returns-in_err-finish-clause-stopped
 returns-in_err-finish-clause-stopped g c = λ e err.
     let before = c.pieces.invariant in
@@ -31,7 +35,7 @@ returns-in_err-finish-clause-stopped g c = λ e err.
     takes_if _ _ _ _ _ _ _ _ _ _
     (λ w.
     let failed : IsErrOf c.from_residual-in_err-finish.result run.Write = subst (λ k. IsErrOf c.from_residual-in_err-finish.result (run_fault k)) w err in
-    let wrote : IsErrOf c.finish.result fault.Write = grind (arith, common_steps) in
+    let wrote : IsErrOf c.finish.result fault.Write = by_write c.from_residual-in_err-finish.result c.finish.result c.in_err-finish.field-0.0 c.in_err-finish.was c.from_residual-in_err-finish.ensures.1 failed in
     sym c.in_err-finish.was ∙ wrote)
     (stops_end (g.S.Source.left c.args.src.now) (g.H.Shelf.files c.args.shelf.now) (g.H.Shelf.faults c.args.shelf.now) (g.K.Sink.written c.args.out.now) (g.S.Source.left c.pieces.src) (g.S.Source.left c.read.new.self) c.pieces.count c.pieces.run (g.H.Shelf.files c.pieces.shelf) (g.H.Shelf.files c.finish.new.shelf)
     (g.H.Shelf.faults c.pieces.shelf) (g.H.Shelf.faults c.finish.new.shelf) (g.K.Sink.written c.pieces.out) (g.K.Sink.written c.finish.new.out) before.read before.few
@@ -86,6 +90,9 @@ pieces-preserved g c =
       sink_later = omega (arith, before.sink_later, c.take.ensures.sink.later);
     }
 
+pub returns-in_err-take-clause-read : goal.returns-in_err-take-clause-read
+returns-in_err-take-clause-read g c = λ e. absurd (by_read c.from_residual-in_err-take.result c.in_err-take.field-0.0 c.from_residual-in_err-take.ensures.1 e)
+
 pub returns-in_err-take-clause-stopped : goal.returns-in_err-take-clause-stopped
 returns-in_err-take-clause-stopped g c = λ e err.
     let n = c.in-Ok.taken in
@@ -97,7 +104,7 @@ returns-in_err-take-clause-stopped g c = λ e err.
     takes_if _ _ _ _ _ _ _ _ _ _
     (λ w.
     let failed : IsErrOf c.from_residual-in_err-take.result run.Write = subst (λ k. IsErrOf c.from_residual-in_err-take.result (run_fault k)) w err in
-    let wrote : IsErrOf c.take.result fault.Write = grind (arith, common_steps) in
+    let wrote : IsErrOf c.take.result fault.Write = by_write c.from_residual-in_err-take.result c.take.result c.in_err-take.field-0.0 c.in_err-take.was c.from_residual-in_err-take.ensures.1 failed in
     sym c.in_err-take.was ∙ wrote)
     (stops_more (g.S.Source.left c.args.src.now) (g.H.Shelf.files c.args.shelf.now) (g.H.Shelf.faults c.args.shelf.now) (g.K.Sink.written c.args.out.now) (g.S.Source.left c.pieces.src) (g.S.Source.left c.read.new.self) c.pieces.count c.pieces.run (g.H.Shelf.files c.pieces.shelf) (g.H.Shelf.files c.take.new.shelf)
     (g.H.Shelf.faults c.pieces.shelf) (g.H.Shelf.faults c.take.new.shelf) (g.K.Sink.written c.pieces.out) (g.K.Sink.written c.take.new.out) before.read before.few n piece
