@@ -15,3 +15,4 @@ pub mod Recut
 pub mod ReadBack
 pub mod Examples
 pub mod Cuts
+mod LineEnds

@@ -4,6 +4,7 @@ ghost use Rattle.ls_lines.specs.Lines.{lines};
 ghost use Rattle.ls_lines.specs.Cutting.{Holds, IsTaken, Ends, ahead};
 
 use crate::Ended;
+use memchr::memchr;
 use std::alloc::{AllocError, Global};
 use std::marker::Model;
 
@@ -48,7 +49,7 @@ fn line_end(piece: &[u8]) -> Option<usize>
     ensures place { result ≡ position (λ b. b == 10) piece.now }
     ensures within { IfSome result (λ i. i < length piece.now) }
 {
-    piece.iter().position(|b| *b == b'\n')
+    memchr(b'\n', piece)
 }
 
 impl Cutter {
