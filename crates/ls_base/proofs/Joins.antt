@@ -1,10 +1,12 @@
 -- Joins below a set.
-use Rattle.std.proofs.Common.{◌≡◌, Bool, true, false, not, ◌&&◌, ◌||◌, List, [], ◌∷◌, ◌++◌, map, refl, sym, ap, ap₂, ◌∙◌, true≢false}
+use Rattle.std.proofs.Common.{ℕ, ◌<◌, ◌≤◌, ◌≡◌, inl, inr, Bool, true, false, not, ◌&&◌, ◌||◌, List, [], ◌∷◌, ◌++◌, map, min, refl, sym, ap, ap₂, ◌∙◌, arith, true≢false}
 use Rattle.std.specs.List.{list_any}
-use Rattle.std.proofs.lemmas.Bool.{and_parts, false_from_ne_true}
-use Rattle.ls_set.specs.ItemSet.{Items, union, is_same, is_within}
-use Rattle.ls_set.proofs.Sets.{union-left, IsWithin-from, is_within-from}
+use Rattle.std.proofs.lemmas.Bool.{and_parts, cases_lt, false_from_ne_true, not-true}
+use Rattle.ls_set.specs.ItemSet.{Items, len, union, is_same, is_within}
+use Rattle.ls_set.proofs.Sets.{union-left, Decides-is_same, IsWithin-from, is_within-from}
 use Rattle.ls_laws.specs.Spans.{is_proper, joins}
+use Rattle.ls_laws.proofs.Counts.{as_many}
+use Rattle.ls_base.specs.Gains.{least_size}
 
 any-append : (p : Items → Bool) (xs ys : List Items) → list_any p (xs ++ ys) ≡ (list_any p xs || list_any p ys)
 any-append p [] ys = refl
@@ -36,3 +38,30 @@ any-joins k [] gs = refl
 any-joins k (s ∷ ss) gs =
     ap₂ (λ a b. a || b) (any-union s k gs ∙ sym (any-map (λ l. is_proper l k) (union s) gs)) (any-joins k ss gs)
     ∙ sym (any-append (λ l. is_proper l k) (map (union s) gs) (joins ss gs))
+
+-- ---- joins of the least size
+
+less-proper : (l k : Items) → is_proper l k ≡ true → len l < len k
+less-proper l k p =
+    let both = and_parts (is_within l k) (not (is_same l k)) p in
+    elim (cases_lt (len l) (len k)) [
+      | inl less ↦ less
+      | inr more ↦ let same = (Decides-is_same l k).1 (as_many l k (IsWithin-from l k both.0) more) in
+          absurd (true≢false (sym same ∙ not-true (is_same l k) both.1))
+    ]
+
+least_size-most : (m : ℕ) (ks : List Items) → least_size m ks ≤ m
+least_size-most m [] = omega arith
+least_size-most m (k ∷ ks) = let h = least_size-most (min m (len k)) ks in omega arith
+
+-- no other set of the list lies within one that has no more items than the least of them
+pub none-below : (k : Items) (m : ℕ) (ks : List Items) → len k ≤ least_size m ks → list_any (λ l. is_proper l k) ks ≡ false
+none-below k m [] h = refl
+none-below k m (l ∷ ls) h = ap₂ (λ a b. a || b) (false_from_ne_true (is_proper l k) (λ p.
+    let less = less-proper l k p in
+    let most = least_size-most (min m (len l)) ls in
+    absurd (omega arith))) (none-below k (min m (len l)) ls h)
+
+pub least_size-append : (m : ℕ) (xs ys : List Items) → least_size m (xs ++ ys) ≡ least_size (least_size m xs) ys
+least_size-append m [] ys = refl
+least_size-append m (x ∷ xs) ys = least_size-append (min m (len x)) xs ys

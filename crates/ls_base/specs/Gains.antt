@@ -1,7 +1,7 @@
 -- What the base after a Yes gains, of the base sets that break the query and those that stay.
-use Rattle.std.specs.Prelude.{ℕ, zero, suc, Bool, not, ◌&&◌, List, [], ◌++◌, map, filter}
+use Rattle.std.specs.Prelude.{ℕ, zero, suc, Bool, not, ◌&&◌, List, [], ◌∷◌, ◌++◌, map, filter, min}
 use Rattle.std.specs.List.{list_any}
-use Rattle.ls_set.specs.ItemSet.{Items, has, minus}
+use Rattle.ls_set.specs.ItemSet.{Items, has, minus, len}
 use Rattle.ls_laws.specs.Spans.{is_proper, joins}
 use Rattle.ls_changes.specs.Least.{having, has_none_within}
 use Rattle.ls_base.specs.Unions.{union_below}
@@ -14,6 +14,11 @@ broken_in g k = record { set = k; items = minus k (union_below g k) }
 -- those that are atoms at the item
 abbrev pub broken_at : ℕ → List Broken → List Items
 broken_at i broken = map (λ b. b.set) (filter (λ b. has b.items i) broken)
+
+-- the least number of items of a set of the list, or `most` where that is less
+abbrev pub least_size : ℕ → List Items → ℕ
+least_size most [] = most
+least_size most (k ∷ ks) = least_size (min most (len k)) ks
 
 -- within k lies no set of `staying`, and no other join of a set of `sets` with one of `near`
 abbrev pub is_gained : List Items → List Items → List Items → Items → Bool

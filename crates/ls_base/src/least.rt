@@ -4,7 +4,7 @@ ghost use Rattle.std.specs.List.{list_any};
 ghost use Rattle.ls_set.specs.ItemSet.{union, is_within};
 ghost use Rattle.ls_laws.specs.Spans.{is_proper, joins};
 ghost use Rattle.ls_changes.specs.Least.{least_sets};
-ghost use Rattle.ls_base.specs.Gains.{is_gained};
+ghost use Rattle.ls_base.specs.Gains.{least_size, is_gained};
 
 use crate::unions::is_proper;
 use ls_set::ItemSet;
@@ -50,11 +50,41 @@ fn has_join_below(sets: &[ItemSet], near: &[ItemSet], k: ItemSet) -> bool
         .any(|set| set.is_within(k) && has_union_below(*set, near, k))
 }
 
-// Whether no set of `staying` and no other join lies within `k`.
-fn is_gained(staying: &[ItemSet], sets: &[ItemSet], near: &[ItemSet], k: ItemSet) -> bool
+// The least number of items of a union of the set with one of `near`, or `most` where that is less.
+fn least_union(most: u32, set: ItemSet, near: &[ItemSet]) -> u32
+    ensures { result ≡ least_size most (map (union set) near.now) }
+{
+    let mut least = most;
+    for other in near {
+        least = least.min(set.union(*other).len());
+    }
+    least
+}
+
+// The least number of items of a join, or the largest number where there is none.
+fn least_join(sets: &[ItemSet], near: &[ItemSet]) -> u32
+    ensures { result ≡ least_size u32.MAX (joins sets.now near.now) }
+{
+    let mut least = u32::MAX;
+    for set in sets {
+        least = least_union(least, *set, near);
+    }
+    least
+}
+
+// Whether no set of `staying` and no other join lies within `k`. Where `k` has no more items than
+// each of the joins, no other join does.
+fn is_gained(
+    staying: &[ItemSet],
+    sets: &[ItemSet],
+    near: &[ItemSet],
+    least: u32,
+    k: ItemSet,
+) -> bool
+    requires { least ≡ least_size u32.MAX (joins sets.now near.now) }
     ensures { result ≡ is_gained staying.now sets.now near.now k }
 {
-    !has_within(staying, k) && !has_join_below(sets, near, k)
+    !has_within(staying, k) && (k.len() <= least || !has_join_below(sets, near, k))
 }
 
 // Appends those unions of the set with one of `near` that are gained.
@@ -63,14 +93,16 @@ fn push_unions(
     staying: &[ItemSet],
     sets: &[ItemSet],
     near: &[ItemSet],
+    least: u32,
     set: ItemSet,
 ) -> Result<(), AllocError>
+    requires { least ≡ least_size u32.MAX (joins sets.now near.now) }
     ensures { OnOk result (gained.new.items ≡ gained.old.items
         ++ filter (is_gained staying.now sets.now near.now) (map (union set) near.now)) }
 {
     for other in near {
         let joined = set.union(*other);
-        if is_gained(staying, sets, near, joined) {
+        if is_gained(staying, sets, near, least, joined) {
             gained.push(joined)?;
         }
     }
@@ -88,8 +120,9 @@ pub fn push_joins(
     ensures { OnOk result (gained.new.items ≡ gained.old.items
         ++ filter (is_gained staying.now sets.now near.now) (joins sets.now near.now)) }
 {
+    let least = least_join(sets, near);
     for set in sets {
-        push_unions(gained, staying, sets, near, *set)?;
+        push_unions(gained, staying, sets, near, least, *set)?;
     }
     Ok(())
 }

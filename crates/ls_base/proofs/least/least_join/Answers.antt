@@ -1,0 +1,19 @@
+use Rattle.std.proofs.Common.{◌+◌, map, drop, sym, ap, ◌∙◌}
+use Rattle.ls_set.specs.ItemSet.{union}
+use Rattle.ls_laws.specs.Spans.{joins}
+use Rattle.ls_base.specs.Gains.{least_size}
+use Rattle.ls_base.proofs.Turns.{drop-next}
+use Rattle.ls_base.proofs.Joins.{least_size-append}
+use Rattle.ls_base.proofs.least.least_join.Goals as goal
+
+pub loop-set-preserved : goal.loop-set-preserved
+loop-set-preserved c =
+    let sets = c.args.sets.now in
+    let near = c.args.near.now in
+    let i = c.loop-set.set-index in
+    let k = c.set-item.result in
+    let least = c.loop-set.least in
+    let left = joins (drop (i + 1) sets) near in
+    ap (λ m. least_size m left) c.least_union-least.ensures
+    ∙ sym (least_size-append least (map (union k) near) left)
+    ∙ ap (λ l. least_size least (joins l near)) (sym (drop-next sets i k c.loop-set-test.true c.set-item.is)) ∙ c.loop-set.invariant
