@@ -1,5 +1,5 @@
 -- The bytes of a page, line by line.
-use Rattle.std.proofs.Common.{◌≡◌, ℕ, ◌+◌, ◌-◌, ◌<◌, ◌≤◌, Bool, true, false, cond, ltb, lt-ltb, List, [], ◌∷◌, ◌++◌, length, map, take, find, is_some, codes, Some, None, sym, ap, ap₂, ◌∙◌, arith}
+use Rattle.std.proofs.Common.{◌≡◌, ℕ, ◌+◌, ◌-◌, ◌<◌, ◌≤◌, Bool, false, cond, ltb, lt-ltb, List, [], ◌∷◌, ◌++◌, length, map, take, find, is_some, codes, Some, None, sym, ap, ap₂, ◌∙◌, arith}
 use Rattle.std.specs.declared.option.Option.{Option}
 use Rattle.ls_set.specs.ItemSet.{Items, comes_before, IsInOrder}
 use Rattle.ls_theory.specs.Pages.{Page, comes_after, page}

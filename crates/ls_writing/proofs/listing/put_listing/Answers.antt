@@ -1,4 +1,4 @@
-use Rattle.std.proofs.Common.{◌≡◌, Bool, false, Some, [], ◌+◌, ◌-◌, ◌*◌, ◌++◌, sym, ap, ◌∙◌, subst, arith, append_assoc}
+use Rattle.std.proofs.Common.{◌≡◌, Bool, Some, [], ◌+◌, ◌-◌, ◌++◌, sym, ap, ◌∙◌, subst, arith, append_assoc}
 use Rattle.ls_set.specs.ItemSet.{full, IsWithin}
 use Rattle.ls_enum.proofs.Left.{more_steps}
 use Rattle.ls_reply.specs.Texts.{line_of}

@@ -1,4 +1,4 @@
-use Rattle.std.proofs.Common.{◌≡◌, ℕ, Vec, Global, ◌/◌, ◌^◌, ◌*◌, ◌-◌, ◌%◌, ◌++◌, ◌∷◌, true, false, eqb, eq-eqb, ne_eqb, ap, ap₂, sym, ◌∙◌, append_assoc, arith}
+use Rattle.std.proofs.Common.{◌≡◌, ℕ, Vec, Global, ◌/◌, ◌^◌, ◌*◌, ◌-◌, ◌%◌, ◌++◌, ◌∷◌, true, false, eqb, eq-eqb, ne_eqb, ap, ap₂, sym, ◌∙◌, append_assoc}
 use Rattle.std.specs.Int.{bit_at}
 use Rattle.std.proofs.lemmas.Nat.{and_mask}
 use Rattle.ls_set.specs.ItemSet.{numbers_from}

@@ -1,7 +1,6 @@
-use Rattle.std.proofs.Common.{◌-◌, [], length, take, drop, ap, sym, ◌∙◌, arith, length-drop}
+use Rattle.std.proofs.Common.{[], length, take, drop, ap, sym, ◌∙◌, arith, length-drop}
 use Rattle.std.proofs.Math.ListN.{drop_of_length-le}
 use Rattle.std.proofs.Math.Seq.{take-length}
-use Rattle.ls_writing.specs.SetTexts.{group_items, spaced_names}
 use Rattle.ls_writing.proofs.Saying.{says_as, says_nothing}
 use Rattle.ls_writing.proofs.Groups.{group_text-of_set, group_text-none, drop-min}
 use Rattle.ls_writing.proofs.set_texts.SetTexts.put_group.Goals as goal

@@ -1,4 +1,4 @@
-use Rattle.std.proofs.Common.{◌≡◌, ◌+◌, ◌-◌, ◌*◌, ◌++◌, length, drop, min, ap, ap₂, sym, ◌∙◌, arith, length-append}
+use Rattle.std.proofs.Common.{◌≡◌, ◌+◌, ◌*◌, ◌++◌, length, drop, min, ap, ◌∙◌, arith, length-append}
 use Rattle.ls_set.specs.ItemSet.{has, numbers_from}
 use Rattle.ls_writing.specs.SetTexts.{group_items, spaced_names}
 use Rattle.ls_writing.proofs.Saying.{says_then, says_as}
