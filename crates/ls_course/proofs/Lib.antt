@@ -1,2 +1,1 @@
 mod Trailed
-mod Saying

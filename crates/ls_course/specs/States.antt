@@ -1,5 +1,5 @@
 -- What contracts see of a course, and which responses it can say.
-use Rattle.std.specs.Prelude.{◌≡◌, ◌<◌, ℕ, List, length, ⊤}
+use Rattle.std.specs.Prelude.{◌≡◌, ◌<◌, List, length}
 use Rattle.ls_set.specs.ItemSet.{Items}
 use Rattle.ls_theory.specs.Interviews.{Interview, yes_queries}
 use Rattle.ls_base.specs.Trail.{IsTrail}
@@ -7,8 +7,7 @@ use Rattle.ls_base.specs.declared.trail.Entry.{Entry}
 use Rattle.ls_lines.specs.Lines.{Text}
 use Rattle.ls_reply.specs.Sessions.{Session}
 use Rattle.ls_reply.specs.declared.response.Response.{Response}
-use Rattle.ls_reply.specs.declared.response.Response.TheVariants.{Shown}
-use Rattle.ls_views.specs.Views.{CanShow}
+use Rattle.ls_views.specs.Views as views
 
 -- the session that it is; and the sets of the base as far as it was followed, none where it had too many or was not asked for
 pub record CourseState : Type 0 where
@@ -17,8 +16,7 @@ pub record CourseState : Type 0 where
 
 -- what is said of the interview speaks of the items alone, and of a base that was found
 abbrev pub CanSay : CourseState → Response → Type 0
-CanSay c (Shown what) = CanShow c.session c.followed what
-CanSay c response = ⊤
+CanSay c response = views.CanSay c.session c.followed response
 
 -- what is followed over the first Yes answers of the interview
 abbrev pub IsTrailOf : Interview → List Entry → Type 0

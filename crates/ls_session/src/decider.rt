@@ -21,6 +21,7 @@ use ls_domain::{Domain, DomainFault};
 use ls_edge::{FetchFault, Shelf, Sink};
 use ls_interior::Steps;
 use ls_lines::{Command, LONGEST_LINE, LineFault, Word, WordList, read_command};
+use ls_meanings::asks;
 use ls_reply::{Refusal, Response};
 use ls_writing::{Room, put_done, put_refusal};
 use std::alloc::{AllocError, Global};
@@ -34,28 +35,11 @@ pub struct Decider {
     ghost named: { HasNames course },
 }
 
-// Whether the command is built and needs a domain.
-fn is_built(command: &Command) -> bool
-    ensures { result ≡ is_some (request_of [] command.now) }
-{
-    matches!(
-        command,
-        Command::Blocks { .. }
-            | Command::Yes { .. }
-            | Command::No { .. }
-            | Command::Retract { .. }
-            | Command::Known { .. }
-            | Command::Ask
-            | Command::States { .. }
-            | Command::Base
-    )
-}
-
-// The refusal of such a command where no domain stands.
+// The refusal of a command that isn't of these three where no domain stands.
 fn refusal_without(command: &Command) -> Refusal
     ensures { result ≡ (if is_some (request_of [] command.now) then Unnamed 0 else NotBuilt) }
 {
-    if is_built(command) {
+    if asks(command) {
         Refusal::Unnamed { place: 0 }
     } else {
         Refusal::NotBuilt

@@ -1,1 +1,3 @@
 mod Shown
+mod Replying
+pub mod Saying

@@ -1,5 +1,5 @@
 -- The bytes of what is shown, and the sets of a base.
-use Rattle.std.proofs.Common.{◌≡◌, ◌<◌, ℕ, zero, suc, List, [], ◌∷◌, ◌++◌, codes, true, refl, ap, sym, ◌∙◌, subst, length, append_assoc, arith}
+use Rattle.std.proofs.Common.{◌≡◌, ◌<◌, ℕ, zero, suc, List, [], ◌∷◌, ◌++◌, codes, true, refl, ap, sym, subst, length, append_assoc, arith}
 use Rattle.std.specs.Prelude.{slice_index_or}
 use Rattle.std.specs.List.{All}
 use Rattle.ls_set.specs.ItemSet.{Items, full, IsWithin, is_among}

@@ -1,5 +1,5 @@
 -- The commands that look at an interview, and how many interiors their replies take.
-use Rattle.std.specs.Prelude.{ℕ, ◌≡◌, ◌+◌, ◌*◌, Bool, true, false, List, length, Option, ⊤}
+use Rattle.std.specs.Prelude.{ℕ, ◌≡◌, ◌+◌, ◌*◌, Bool, true, false, List, length, ⊤}
 use Rattle.std.specs.Option.{ForSome}
 use Rattle.ls_set.specs.ItemSet.{Items, full, IsWithin}
 use Rattle.ls_set.specs.Query.{is_good}
@@ -11,6 +11,8 @@ use Rattle.ls_lines.specs.declared.command.Command.TheVariants as command
 use Rattle.ls_reply.specs.Sessions.{Session, states}
 use Rattle.ls_reply.specs.declared.request.View.{View}
 use Rattle.ls_reply.specs.declared.request.View.TheVariants as view
+use Rattle.ls_reply.specs.declared.response.Response.{Response}
+use Rattle.ls_reply.specs.declared.response.Response.TheVariants as response
 use Rattle.ls_reply.specs.declared.response.Shown.{Shown}
 use Rattle.ls_reply.specs.declared.response.Shown.TheVariants as shown
 
@@ -37,10 +39,23 @@ CanShow s sets (shown.Question next) = ForSome next (λ r. is_good (length s.nam
 CanShow s sets (shown.States count after) = ForSome after (λ k. IsWithin k (full (length s.names)))
 CanShow s sets shown.Base = sets ≡ base (states s)
 
+abbrev pub CanSay : Session → List Items → Response → Type 0
+CanSay s sets (response.Shown what) = CanShow s sets what
+CanSay s sets r = ⊤
+
+-- how many interiors it takes at most to decide what is shown
+abbrev pub view_steps : View → ℕ
+view_steps (view.Known r) = 1
+view_steps v = 0
+
 -- how many interiors what is shown takes at most, on n items
 abbrev pub shown_steps : Shown → ℕ → ℕ
 shown_steps (shown.States count after) n = (count + 1) * (n + 1)
 shown_steps s n = 0
+
+abbrev pub response_steps : Response → ℕ → ℕ
+response_steps (response.Shown what) n = shown_steps what n
+response_steps r n = 0
 
 -- and the reply to a command
 abbrev pub most_steps : Command → ℕ → ℕ

@@ -3,7 +3,7 @@ ghost use Rattle.std.specs.Prelude.{◌≡◌, ◌≤◌, ◌+◌, false, length
 ghost use Rattle.ls_theory.specs.Interviews.{Interview, yes_queries};
 ghost use Rattle.ls_base.specs.Followed.{IsFollowed};
 ghost use Rattle.ls_reply.specs.Rows.{known_row, base_row, view_row};
-ghost use Rattle.ls_views.specs.Views.{is_based};
+ghost use Rattle.ls_views.specs.Views.{is_based, view_steps};
 
 use ls_base::Followed;
 use ls_expert::{AnswerFault, BadQuery, Inquiry};
@@ -12,11 +12,12 @@ use ls_reply::{Refusal, Response, Shown, View};
 use ls_set::Query;
 use std::sync::ledger::Ledger;
 
-/// What is shown where something other than the base is asked of the interview. It takes at most one interior.
+/// What is shown where something other than the base is asked of the interview. It takes at most one interior for a
+/// query, and none for the others.
 pub fn decide<L: Ledger>(inquiry: &Inquiry, view: &View, steps: &mut Steps<L>) -> Response
     requires { is_based view.now ≡ false }
     ensures response { result ≡ view_row inquiry.now view.now }
-    ensures cost { steps.new ≤ steps.old + 1 }
+    ensures cost { steps.new ≤ steps.old + view_steps view.now }
 {
     match view {
         View::Known { query } => known(inquiry, query, steps),

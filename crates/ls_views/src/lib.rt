@@ -2,7 +2,9 @@
 #![tactic(auto)]
 
 mod deciding;
+mod reading;
 mod showing;
 
 pub use deciding::{based, decide};
+pub use reading::{put_response, view};
 pub use showing::put_shown;

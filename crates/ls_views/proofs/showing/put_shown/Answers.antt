@@ -1,8 +1,7 @@
-use Rattle.std.proofs.Common.{◌≡◌, [], ◌∷◌, codes, Some, None, ap, sym, ◌∙◌, subst, length}
+use Rattle.std.proofs.Common.{◌≡◌, sym, ◌∙◌, subst, length}
 use Rattle.ls_theory.specs.Compatible.{compatible_sets}
 use Rattle.ls_theory.specs.Bases.{base}
 use Rattle.ls_reply.specs.Lines.{known_words, question_words}
-use Rattle.ls_reply.specs.declared.response.Shown.{Shown}
 use Rattle.ls_reply.specs.declared.response.Shown.TheVariants as shown
 use Rattle.ls_writing.proofs.Saying.{says_as}
 use Rattle.ls_writing.proofs.Joins.{bytes_of-one}

@@ -1,0 +1,30 @@
+-- The effect of a command that looks at an interview, and the bytes of responses.
+use Rattle.std.proofs.Common.{◌≡◌, ◌<◌, Bool, true, cond, [], ◌∷◌, length, Some, ap, sym, ◌∙◌}
+use Rattle.std.proofs.lemmas.Bool.{true≢false}
+use Rattle.ls_lines.specs.declared.command.Command.{Command}
+use Rattle.ls_reply.specs.Scenes.{Calls}
+use Rattle.ls_reply.specs.Texts.{bytes_of}
+use Rattle.ls_reply.specs.Sessions.{Session}
+use Rattle.ls_reply.specs.Meanings.{unnamed_places, request_of}
+use Rattle.ls_reply.specs.Lines.{lines_of}
+use Rattle.ls_reply.specs.Effects.{answers}
+use Rattle.ls_reply.specs.Rows.{view_row}
+use Rattle.ls_reply.specs.Replies.{asked_effect, command_effect, reply_of}
+use Rattle.ls_reply.specs.declared.request.View.{View}
+use Rattle.ls_reply.specs.declared.request.Request.TheVariants as request
+use Rattle.ls_reply.specs.declared.response.Response.{Response}
+use Rattle.ls_reply.proofs.Effects.{has_domain-some, command_effect-asked}
+use Rattle.ls_views.specs.Views.{is_reading}
+
+pub said_bytes : (s : Session) (a b : Response) → a ≡ b → bytes_of (lines_of s b) ≡ bytes_of (lines_of s a)
+said_bytes s a b e = ap (λ (x : Response). bytes_of (lines_of s x)) (sym e)
+
+pub replied : (s t u : Session) (calls : Calls) (c : Command) (r : Response) → t ≡ s → u ≡ s → command_effect u calls c ≡ answers u r → bytes_of (lines_of t r) ≡ reply_of (command_effect s calls c)
+replied s t u calls c r a b e = ap (λ (x : Session). bytes_of (lines_of x r)) (a ∙ sym b) ∙ ap reply_of (sym e) ∙ ap (λ (x : Session). reply_of (command_effect x calls c)) b
+
+pub reading-effect : (s : Session) (calls : Calls) (c : Command) (v : View) → is_reading c ≡ true → 0 < length s.names → unnamed_places s.names c ≡ [] → request_of s.names c ≡ Some (request.View v)
+    → command_effect s calls c ≡ answers s (view_row s.interview v)
+reading-effect s calls c v reading some named asked =
+    command_effect-asked s calls c (λ e. true≢false (sym reading ∙ ap is_reading e)) (λ names e. true≢false (sym reading ∙ ap is_reading e)) (λ file e. true≢false (sym reading ∙ ap is_reading e))
+    ∙ ap (λ ps. asked_effect s ps (request_of s.names c)) (ap (λ (b : Bool). cond b (unnamed_places s.names c) (0 ∷ [])) (has_domain-some s some) ∙ named)
+    ∙ ap (asked_effect s []) asked

@@ -1,0 +1,191 @@
+// The commands that look at an interview and change nothing.
+ghost use Rattle.std.specs.Prelude.{◌≡◌, ◌≤◌, ◌+◌, ℕ, List, true, [], length, IfOk, OnOk};
+ghost use Rattle.std.specs.Io.KnownBytes.{Appends};
+ghost use Rattle.ls_edge.specs.Causes.{AppendsFront, HasSinkCause};
+ghost use Rattle.ls_reply.specs.Scenes.{Calls};
+ghost use Rattle.ls_reply.specs.Texts.{bytes_of};
+ghost use Rattle.ls_reply.specs.Lines.{lines_of};
+ghost use Rattle.ls_reply.specs.Meanings.{unnamed_places};
+ghost use Rattle.ls_reply.specs.Effects.{answers};
+ghost use Rattle.ls_reply.specs.Replies.{command_effect, reply_of, is_refusal, is_refused};
+ghost use Rattle.ls_theory.specs.Interviews.{yes_queries};
+ghost use Rattle.ls_base.specs.Followed.{IsFollowed, followed_sets};
+ghost use Rattle.ls_reply.specs.Rows.{view_row};
+ghost use Rattle.ls_meanings.specs.Asked.{IsOn};
+ghost use Rattle.ls_writing.specs.Rooms.{Says, Wrote, no_reply};
+ghost use Rattle.ls_views.specs.Views.{CanSay, is_reading, most_steps, response_steps, view_steps, session_on};
+
+use crate::deciding::{based, decide};
+use crate::showing::put_shown;
+use ls_base::Followed;
+use ls_domain::Domain;
+use ls_edge::{Sink, SinkFault};
+use ls_expert::{Inquiry, Interview};
+use ls_interior::Steps;
+use ls_lines::Command;
+use ls_meanings::resolve;
+use ls_reply::{Request, Response, View};
+use ls_set::ItemSet;
+use ls_writing::{Room, SetTexts, put_done, put_refusal};
+use std::alloc::{AllocError, Global};
+use std::sync::ledger::Ledger;
+
+// Whether the response is a refusal.
+fn is_refused(response: &Response) -> bool
+    ensures { result ≡ is_refused response.now }
+{
+    matches!(response, Response::Refused(_))
+}
+
+/// Says a response. `sets` are those of the base, where that is shown.
+pub fn put_response<K: Sink, L: Ledger>(
+    texts: &SetTexts,
+    inquiry: &Inquiry,
+    sets: &[ItemSet],
+    response: &Response,
+    room: &mut Room,
+    out: &mut K,
+    steps: &mut Steps<L>,
+)
+    requires items { length texts.now ≡ inquiry.now.count }
+    requires can { CanSay (session_on texts.now inquiry.now) sets.now response.now }
+    ensures says { Says (K.written out.old) (K.faults out.old) room.old (K.written out.new) (K.faults out.new) room.new
+        (bytes_of (lines_of (session_on texts.now inquiry.now) response.now)) }
+    ensures cost { steps.new ≤ steps.old + response_steps response.now inquiry.now.count }
+{
+    match response {
+        Response::Silence => (),
+        Response::Refused(refusal) => put_refusal(refusal, room, out),
+        Response::Done { number } => put_done(*number, room, out),
+        Response::Shown(shown) => put_shown(texts, inquiry, sets, shown, room, out, steps),
+    }
+}
+
+// What the command shows.
+fn respond<L: Ledger>(
+    domain: &Domain,
+    inquiry: &Inquiry,
+    followed: &Followed,
+    command: &Command,
+    steps: &mut Steps<L>,
+) -> Response
+    requires items { length domain.now ≡ inquiry.now.count }
+    requires reading { is_reading command.now ≡ true }
+    requires named { unnamed_places domain.now command.now ≡ [] }
+    requires followed { let i = inquiry.now in IsFollowed i.count i.start (yes_queries i.answers) followed.now }
+    ensures response { (calls : Calls) → let s = session_on domain.now inquiry.now in
+        command_effect s calls command.now ≡ answers s result }
+    ensures said { CanSay (session_on domain.now inquiry.now) (followed_sets followed.now) result }
+    ensures cost { let n = inquiry.now.count in
+        steps.new + response_steps result n ≤ steps.old + most_steps command.now n }
+{
+    prove!(domain.count() > 0);
+    match resolve(domain, command) {
+        Ok(Some(Request::View(view))) => show(inquiry, followed, &view, steps),
+        _ => unreachable!(),
+    }
+}
+
+// What is shown.
+fn show<L: Ledger>(
+    inquiry: &Inquiry,
+    followed: &Followed,
+    view: &View,
+    steps: &mut Steps<L>,
+) -> Response
+    requires { let i = inquiry.now in IsFollowed i.count i.start (yes_queries i.answers) followed.now }
+    ensures response { result ≡ view_row inquiry.now view.now }
+    ensures said { (names : List (List ℕ)) → length names ≡ inquiry.now.count → IsOn (length names) view.now →
+        CanSay (session_on names inquiry.now) (followed_sets followed.now) result }
+    ensures cost { steps.new ≤ steps.old + view_steps view.now }
+{
+    match view {
+        View::Base => based(followed),
+        _ => decide(inquiry, view, steps),
+    }
+}
+
+// Writes a response as the whole reply.
+fn write<K: Sink, L: Ledger>(
+    texts: &SetTexts,
+    inquiry: &Inquiry,
+    sets: &[ItemSet],
+    response: &Response,
+    room: &mut Room,
+    out: &mut K,
+    steps: &mut Steps<L>,
+) -> Result<(), SinkFault>
+    requires items { length texts.now ≡ inquiry.now.count }
+    requires can { CanSay (session_on texts.now inquiry.now) sets.now response.now }
+    requires empty { room.old ≡ no_reply }
+    ensures wrote { Wrote (K.written out.old) (K.faults out.old) (K.written out.new) (K.faults out.new)
+        (bytes_of (lines_of (session_on texts.now inquiry.now) response.now)) result }
+    ensures cost { steps.new ≤ steps.old + response_steps response.now inquiry.now.count }
+{
+    put_response(texts, inquiry, sets, response, room, out, steps);
+    room.finish(out)
+}
+
+// The items of a domain, and room for the texts of their sets.
+fn set_texts(alloc: Global, domain: &Domain) -> Result<SetTexts, AllocError>
+    ensures { IfOk result (λ t. t ≡ domain.now) }
+{
+    SetTexts::new(alloc, domain.copy()?)
+}
+
+// The reply to a command, on a room as before a reply.
+fn reply<K: Sink, L: Ledger>(
+    texts: &SetTexts,
+    interview: &Interview,
+    command: &Command,
+    room: &mut Room,
+    out: &mut K,
+    steps: &mut Steps<L>,
+) -> Result<bool, SinkFault>
+    requires items { length texts.now ≡ interview.now.count }
+    requires reading { is_reading command.now ≡ true }
+    requires named { unnamed_places texts.now command.now ≡ [] }
+    requires empty { room.old ≡ no_reply }
+    ensures told { (calls : Calls) → IfOk result (λ b.
+        b ≡ is_refusal (reply_of (command_effect (session_on texts.now interview.now) calls command.now))) }
+    ensures whole { (calls : Calls) → OnOk result (Appends (K.written out.old) (K.written out.new)
+        (reply_of (command_effect (session_on texts.now interview.now) calls command.now))) }
+    ensures front { (calls : Calls) → AppendsFront (K.written out.old) (K.written out.new)
+        (reply_of (command_effect (session_on texts.now interview.now) calls command.now)) }
+    ensures cause { HasSinkCause (K.faults out.old) (K.faults out.new) result }
+    ensures cost { steps.new ≤ steps.old + most_steps command.now interview.now.count }
+{
+    let inquiry = interview.inquiry();
+    let followed = interview.base();
+    let response = respond(texts.domain(), inquiry, followed, command, steps);
+    write(texts, inquiry, followed.sets(), &response, room, out, steps)?;
+    Ok(is_refused(&response))
+}
+
+/// Writes the reply to a command that looks at the interview on a domain's items, and says whether it begins with `no `.
+/// After a fault a front of the reply is written. It takes at most one interior for `known`, and for a page of `COUNT`
+/// states of n items at most `(COUNT + 1) * (n + 1)`.
+pub fn view<K: Sink, L: Ledger>(
+    alloc: Global,
+    domain: &Domain,
+    interview: &Interview,
+    command: &Command,
+    out: &mut K,
+    steps: &mut Steps<L>,
+) -> Result<bool, SinkFault>
+    requires items { length domain.now ≡ interview.now.count }
+    requires reading { is_reading command.now ≡ true }
+    requires named { unnamed_places domain.now command.now ≡ [] }
+    ensures told { (calls : Calls) → IfOk result (λ b.
+        b ≡ is_refusal (reply_of (command_effect (session_on domain.now interview.now) calls command.now))) }
+    ensures whole { (calls : Calls) → OnOk result (Appends (K.written out.old) (K.written out.new)
+        (reply_of (command_effect (session_on domain.now interview.now) calls command.now))) }
+    ensures front { (calls : Calls) → AppendsFront (K.written out.old) (K.written out.new)
+        (reply_of (command_effect (session_on domain.now interview.now) calls command.now)) }
+    ensures cause { HasSinkCause (K.faults out.old) (K.faults out.new) result }
+    ensures cost { steps.new ≤ steps.old + most_steps command.now interview.now.count }
+{
+    let mut room = Room::new(alloc).map_err(SinkFault::Memory)?;
+    let texts = set_texts(alloc, domain).map_err(SinkFault::Memory)?;
+    reply(&texts, interview, command, &mut room, out, steps)
+}
