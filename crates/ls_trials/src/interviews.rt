@@ -5,7 +5,7 @@ use std::alloc::{AllocError, Global};
 use std::test::Fail;
 
 // A script, its replies, and whether one of them is a refusal.
-const INTERVIEWS: [(&str, &str, Status); 14] = [
+const INTERVIEWS: [(&str, &str, Status); 16] = [
     // One item: nothing is asked.
     (
         "items a\nask\nstates\n",
@@ -89,6 +89,18 @@ const INTERVIEWS: [(&str, &str, Status); 14] = [
         "ok 3\nok 1\nok 2\nknown no 1\nok 2\nknown open\nok 3\nno 23\nknown no 1\n",
         Status::Refused,
     ),
+    // The base without an answer in the middle, with it as the last, and without the first.
+    (
+        "items a b c d e\nyes a b : c\nyes d : a\nyes b e : d\nyes c e : b\nbase\nretract 2\nbase\nyes d : a\nbase\nretract 1\nbase\n",
+        "ok 5\nok 1\nok 2\nok 3\nok 4\nset f0 {a b c d}\nset b8 {a c d e}\nset 98 {a d e}\nset 70 {b c d}\nset 60 {b c}\nset 48 {b e}\nset 18 {d e}\nset 08 {e}\nbase 8\nok 2\nset a0 {a c}\nset 80 {a}\nset 70 {b c d}\nset 60 {b c}\nset 48 {b e}\nset 18 {d e}\nset 08 {e}\nbase 7\nok 5\nset f0 {a b c d}\nset b8 {a c d e}\nset 98 {a d e}\nset 70 {b c d}\nset 60 {b c}\nset 48 {b e}\nset 18 {d e}\nset 08 {e}\nbase 8\nok 1\nset f0 {a b c d}\nset 98 {a d e}\nset 70 {b c d}\nset 60 {b c}\nset 48 {b e}\nset 20 {c}\nset 18 {d e}\nset 08 {e}\nbase 8\n",
+        Status::Done,
+    ),
+    // The base of what stood without that answer in the middle.
+    (
+        "items a b c d e\nyes a b : c\nyes b e : d\nyes c e : b\nbase\n",
+        "ok 5\nok 1\nok 2\nok 3\nset a0 {a c}\nset 80 {a}\nset 70 {b c d}\nset 60 {b c}\nset 48 {b e}\nset 18 {d e}\nset 08 {e}\nbase 7\n",
+        Status::Done,
+    ),
 ];
 
 #[test]
@@ -139,5 +151,41 @@ fn bases_have_a_limit(rt: HostRuntime) -> Result<(), Fail> {
         rest = &rest[place.unwrap_or(0)..];
     }
     assert!(rt; written.ends_with(b"\nbase 480\n"));
+    Ok(())
+}
+
+// So many of the names x0 to x36 from a number on, each behind a space; after x36 comes x0.
+fn in_turn(alloc: Global, from: usize, count: usize) -> Result<String, AllocError> {
+    let mut names = String::new(alloc);
+    for number in (0..37u32).cycle().skip(from).take(count) {
+        let name = format!(in alloc; " x{number}")?;
+        names.push_str(&name)?;
+    }
+    Ok(names)
+}
+
+// Answer 6 takes the base past the limit, and answer 7 is answered. Without answer 6 there is a base.
+#[test]
+fn answers_stand_where_no_base_is_kept(rt: HostRuntime) -> Result<(), Fail> {
+    let alloc = rt.alloc();
+    let all = in_turn(alloc, 0, 37)?;
+    let mut script = format!(in alloc; "items q{all}\n")?;
+    for from in [0, 6, 12, 18, 24, 30, 36] {
+        let names = in_turn(alloc, from, 12)?;
+        let answer = format!(in alloc; "yes{names} : q\n")?;
+        script.push_str(&answer)?;
+    }
+    script.push_str("base\nstates 1\nretract 6\nbase\n")?;
+    let replies = format!(in alloc;
+        "ok 38\nok 1\nok 2\nok 3\nok 4\nok 5\nok 6\nok 7\nno 25 6 4789\nset fffffffffc {{q{all}}}\nmore yes\nok 6\nset "
+    )?;
+    let trial = Trial {
+        script: script.as_bytes(),
+        ..PLAIN
+    };
+    let outcome = run(&rt, trial)?;
+    assert!(rt; outcome.written.starts_with(replies.as_bytes()));
+    assert!(rt; outcome.written.ends_with(b"\nbase 2629\n"));
+    assert_eq!(rt; outcome.status, Status::Refused);
     Ok(())
 }

@@ -18,18 +18,19 @@ fn names_from(alloc: Global, from: u32) -> Result<String, AllocError> {
     Ok(names)
 }
 
+// Cursors have a digit for each four items, and items a question for each other item.
 #[test]
 fn listings_begin_after_any_cursor(rt: HostRuntime) -> Result<(), Fail> {
     let alloc = rt.alloc();
     let all = names_from(alloc, 0)?;
     let without_first = names_from(alloc, 1)?;
-    let fs = "f".repeat(alloc, 127)?;
-    let zeros = "0".repeat(alloc, 127)?;
+    let fs = "f".repeat(alloc, PLACES as usize / 4 - 1)?;
+    let zeros = "0".repeat(alloc, PLACES as usize / 4 - 1)?;
     let script = format!(in alloc;
-        "items {all}\nstates 1\nyes i1 : i0\nstates 1 after c{zeros}\n"
+        "items {all}\nstates 1\nstates 1 after 0{zeros}\nstates 1 after 0\nask\nyes i1 : i0\nstates 1 after c{zeros}\n"
     )?;
     let replies = format!(in alloc;
-        "ok 512\nset f{fs} {{{all}}}\nmore yes\nok 1\nset 7{fs} {{{without_first}}}\nmore yes\n"
+        "ok {PLACES}\nset f{fs} {{{all}}}\nmore yes\nmore no\nno 24 length 1\nask i0 : i1\nok 1\nset 7{fs} {{{without_first}}}\nmore yes\n"
     )?;
     let outcome = run(
         &rt,
@@ -39,21 +40,26 @@ fn listings_begin_after_any_cursor(rt: HostRuntime) -> Result<(), Fail> {
         },
     )?;
     assert_eq!(rt; outcome.written.as_slice(), replies.as_bytes());
-    assert_eq!(rt; outcome.status, Status::Done);
+    assert_eq!(rt; outcome.status, Status::Refused);
     Ok(())
 }
 
-// Name 513 is one too many, unless it is a name that came before.
+// One name more is too many, unless it is a name that came before.
 #[test]
 fn one_item_too_many_is_refused(rt: HostRuntime) -> Result<(), Fail> {
     let alloc = rt.alloc();
     let all = names_from(alloc, 0)?;
-    for (name, replies) in [
-        ("more", "no 12 many\n"),
-        ("i0", "no 12 repeat 513 1\n"),
-        ("i511", "no 12 repeat 513 512\n"),
+    let number = PLACES + 1;
+    let last = format!(in alloc; "i{}", PLACES - 1)?;
+    let repeats_first = format!(in alloc; "repeat {number} 1")?;
+    let repeats_last = format!(in alloc; "repeat {number} {PLACES}")?;
+    for (name, fault) in [
+        ("more", "many"),
+        ("i0", repeats_first.as_str()),
+        (last.as_str(), repeats_last.as_str()),
     ] {
         let script = format!(in alloc; "items {all} {name}\n")?;
+        let replies = format!(in alloc; "no 12 {fault}\n")?;
         let outcome = run(
             &rt,
             Trial {
@@ -71,7 +77,11 @@ fn one_item_too_many_is_refused(rt: HostRuntime) -> Result<(), Fail> {
 fn blocks_have_a_limit(rt: HostRuntime) -> Result<(), Fail> {
     let alloc = rt.alloc();
     let all = names_from(alloc, 0)?;
-    let script = format!(in alloc; "items {all}\nblocks 2\nblocks 3\nblocks 511\nblocks 512\n")?;
+    let most = PLACES - 1;
+    let script = format!(in alloc;
+        "items {all}\nblocks 2\nblocks 3\nblocks {most}\nblocks {PLACES}\n"
+    )?;
+    let replies = format!(in alloc; "ok {PLACES}\nok 131328\nno 16 3\nno 16 3\nno 17\n")?;
     let outcome = run(
         &rt,
         Trial {
@@ -79,10 +89,7 @@ fn blocks_have_a_limit(rt: HostRuntime) -> Result<(), Fail> {
             ..PLAIN
         },
     )?;
-    assert_eq!(rt;
-        outcome.written.as_slice(),
-        b"ok 512\nok 131328\nno 16 3\nno 16 3\nno 17\n".as_slice()
-    );
+    assert_eq!(rt; outcome.written.as_slice(), replies.as_bytes());
     assert_eq!(rt; outcome.status, Status::Refused);
     Ok(())
 }

@@ -1,0 +1,124 @@
+// Runs in which each call of the source, or of the sink, fails in turn.
+use crate::trial::{PLAIN, Trial, run};
+use ls_edge::{MemShelf, MemSink, MemSource, Source};
+use ls_shell::{Status, lspace};
+use std::test::Fail;
+
+const USAGE: &str = "usage: lspace [--script NAME | --drill N [--number S]]\n";
+
+const THREE_ITEMS: &str = "items a b c\nyes a : b\nstates\n";
+
+// The reply to each of its lines.
+const REPLIES: [&str; 3] = [
+    "ok 3\n",
+    "ok 1\n",
+    "set e {a b c}\nset c {a b}\nset a {a c}\nset 8 {a}\nset 2 {c}\nset 0 {}\nmore no\n",
+];
+
+// A script, how many bytes a call of the sink takes at most, and how many calls a run makes.
+const WRITES: [(&str, usize, u64); 7] = [
+    (THREE_ITEMS, 1, 85),
+    (THREE_ITEMS, 2, 44),
+    (THREE_ITEMS, 12, 9),
+    // A reply that fits the room is one call.
+    (THREE_ITEMS, 4096, 3),
+    ("items a b c\nstates\n", 4096, 2),
+    // A listing of 90,121 bytes is sent by rooms of 32,768 bytes.
+    ("items a b c d e f g h i j k l\nstates\n", 65_536, 4),
+    ("items a b c d e f g h i j k l\nstates\n", 16_384, 7),
+];
+
+// The last call of the source finds the script's end.
+#[test]
+fn each_read_fails_in_turn(rt: HostRuntime) -> Result<(), Fail> {
+    for (piece, calls) in [(1, 30), (2, 16), (12, 4)] {
+        for call in 1..=calls + 1 {
+            let trial = Trial {
+                script: THREE_ITEMS.as_bytes(),
+                piece,
+                failing_reads: &[call as u64],
+                ..PLAIN
+            };
+            let outcome = run(&rt, trial)?;
+            // The lines that ended within the bytes that were taken are answered.
+            let taken = THREE_ITEMS.bytes().take((call - 1) * piece);
+            let ended = taken.filter(|b| *b == b'\n').count();
+            let replies = REPLIES.iter().take(ended).flat_map(|reply| reply.bytes());
+            assert!(rt;
+                outcome.written.iter().copied().eq(replies),
+                "for call {call} in pieces of {piece}"
+            );
+            let status = if call <= calls {
+                Status::ReadFault
+            } else {
+                Status::Done
+            };
+            assert_eq!(rt;
+                outcome.status,
+                status,
+                "for call {call} in pieces of {piece}"
+            );
+        }
+    }
+    Ok(())
+}
+
+#[test]
+fn each_write_fails_in_turn(rt: HostRuntime) -> Result<(), Fail> {
+    for (script, piece, calls) in WRITES {
+        let plain = Trial {
+            script: script.as_bytes(),
+            piece,
+            ..PLAIN
+        };
+        let whole = run(&rt, plain)?;
+        assert_eq!(rt; whole.status, Status::Done);
+        for call in 1..=calls {
+            let outcome = run(
+                &rt,
+                Trial {
+                    failing_writes: &[call],
+                    ..plain
+                },
+            )?;
+            assert!(rt;
+                whole.written.starts_with(&outcome.written),
+                "for call {call}"
+            );
+            assert_eq!(rt; outcome.status, Status::WriteFault, "for call {call}");
+        }
+        let outcome = run(
+            &rt,
+            Trial {
+                failing_writes: &[calls + 1],
+                ..plain
+            },
+        )?;
+        assert_eq!(rt; outcome.written.as_slice(), whole.written.as_slice());
+        assert_eq!(rt; outcome.status, Status::Done);
+    }
+    Ok(())
+}
+
+#[test]
+fn the_usage_line_is_cut_where_the_sink_fails(rt: HostRuntime) -> Result<(), Fail> {
+    let alloc = rt.alloc();
+    for (piece, failing_writes, written, status) in [
+        (1, [1].as_slice(), "", Status::WriteFault),
+        (1, [2].as_slice(), "u", Status::WriteFault),
+        (1, [].as_slice(), USAGE, Status::Usage),
+        (12, [1].as_slice(), "", Status::WriteFault),
+        (12, [2].as_slice(), "usage: lspac", Status::WriteFault),
+        (12, [].as_slice(), USAGE, Status::Usage),
+    ] {
+        let mut src = MemSource::new(THREE_ITEMS.as_bytes().to_vec(alloc)?, 1, [1].to_vec(alloc)?);
+        let mut out = MemSink::new(alloc, piece, failing_writes.to_vec(alloc)?);
+        let mut shelf = MemShelf::new(alloc, Vec::new(alloc));
+        let found = lspace(&rt, alloc, &["--help"], &mut src, &mut out, &mut shelf);
+        assert_eq!(rt; out.written(), written.as_bytes());
+        assert_eq!(rt; found, status, "for {written:?}");
+        // The source's first call is still to come.
+        assert!(rt; src.read(&mut [0u8; 1]).is_err(), "for {written:?}");
+    }
+    Ok(())
+}
