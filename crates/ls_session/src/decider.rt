@@ -135,7 +135,8 @@ impl Decider {
         self.start(Domain::from_names(self.alloc, names), steps)
     }
 
-    // `load-items FILE`
+    // `load-items FILE`. It is not made part of its callers, since its frame is large.
+    #[inline(never)]
     fn load<H: Shelf, L: Ledger>(
         &mut self,
         file: &Word,
