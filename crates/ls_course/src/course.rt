@@ -72,16 +72,19 @@ impl Course {
         self.texts.domain()
     }
 
-    /// Carries out what a command asks, and answers the response. Where memory runs out nothing changes.
+    /// Carries out what a command asks, and answers the response. Where memory runs out nothing
+    /// changes.
     pub fn ask<L: Ledger>(
         &mut self,
         command: &Command,
         steps: &mut Steps<L>,
     ) -> Result<Response, AllocError>
         ensures response { let s = self.old.session in
-            IfOk result (λ r. r ≡ (asked_effect s (unnamed_at s command.now) (request_of s.names command.now)).response) }
+            IfOk result (λ r. r ≡ (asked_effect s (unnamed_at s command.now)
+            (request_of s.names command.now)).response) }
         ensures session { let s = self.old.session in
-            OnOk result (self.new.session ≡ (asked_effect s (unnamed_at s command.now) (request_of s.names command.now)).session) }
+            OnOk result (self.new.session ≡ (asked_effect s (unnamed_at s command.now)
+            (request_of s.names command.now)).session) }
         ensures said { IfOk result (CanSay self.new) }
         ensures err { OnErr result (self.new.session ≡ self.old.session) }
     {
@@ -102,7 +105,8 @@ impl Course {
         steps: &mut Steps<L>,
     )
         requires { CanShow self.now.session self.now.followed shown.now }
-        ensures { Says (K.written out.old) (K.faults out.old) room.old (K.written out.new) (K.faults out.new) room.new
+        ensures { Says (K.written out.old) (K.faults out.old) room.old (K.written out.new)
+            (K.faults out.new) room.new
             (bytes_of (shown_lines self.now.session shown.now)) }
     {
         put_shown(
@@ -144,8 +148,10 @@ impl Course {
 
     // How the interview changes.
     fn edit<L: Ledger>(&mut self, edit: &Edit, steps: &mut Steps<L>) -> Result<Response, AllocError>
-        ensures response { IfOk result (λ r. r ≡ (edit_row self.old.session.interview edit.now).response) }
-        ensures interview { OnOk result (self.new.session.interview ≡ (edit_row self.old.session.interview edit.now).next) }
+        ensures response { IfOk result (λ r. r ≡ (edit_row self.old.session.interview
+            edit.now).response) }
+        ensures interview { OnOk result (self.new.session.interview ≡
+            (edit_row self.old.session.interview edit.now).next) }
         ensures names { self.new.session.names ≡ self.old.session.names }
         ensures said { IfOk result (CanSay self.new) }
         ensures err { OnErr result (self.new.session ≡ self.old.session) }

@@ -8,7 +8,8 @@ use ls_base::Trail;
 use ls_expert::Inquiry;
 use std::alloc::AllocError;
 
-/// Follows the base of the compatible sets over the Yes answers. Where memory runs out, the trail may be longer.
+/// Follows the base of the compatible sets over the Yes answers. Where memory runs out, the trail
+/// may be longer.
 pub fn follow(trail: &mut Trail, inquiry: &Inquiry) -> Result<(), AllocError>
     requires { IsTrailOf inquiry.now trail.old }
     ensures trail { IsTrailOf inquiry.now trail.new }

@@ -19,8 +19,8 @@ use std::marker::{Brand, Model};
 use std::sync::ledger::{Blank, Ledger};
 use std::thread::Threads;
 
-/// A session: the domain with its interview, if one stands. It has one room for its replies, which it takes at the
-/// first line.
+/// A session: the domain with its interview, if one stands. It has one room for its replies, which
+/// it takes at the first line.
 #[derive(Drop)]
 pub struct Session {
     alloc: Global,
@@ -58,9 +58,9 @@ impl Session {
         }
     }
 
-    /// Answers one line: decides what it does, and then writes its reply. Says whether that begins with `no `. After
-    /// an `Err` the session is as before the line, where deciding failed, and as after it, where writing did; it isn't
-    /// used again.
+    /// Answers one line: decides what it does, and then writes its reply. Says whether that begins
+    /// with `no `. After an `Err` the session is as before the line, where deciding failed, and as
+    /// after it, where writing did; it isn't used again.
     pub fn step<R: Threads + Sync, K: Sink, H: Shelf>(
         &mut self,
         rt: &R,
@@ -68,7 +68,8 @@ impl Session {
         out: &mut K,
         shelf: &mut H,
     ) -> Result<bool, StepFault>
-        ensures follows { Follows StepFault.Write (λ calls. line_effect self.old calls line.now) self.old self.new
+        ensures follows { Follows StepFault.Write (λ calls. line_effect self.old calls line.now)
+            self.old self.new
             (H.files shelf.old) (H.files shelf.new) (H.faults shelf.old) (H.faults shelf.new)
             (K.written out.old) (K.written out.new) (K.faults out.old) (K.faults out.new) result }
     {
@@ -80,9 +81,11 @@ impl Session {
     pub fn refuse_long<K: Sink>(&mut self, bytes: u64, out: &mut K) -> Result<bool, StepFault>
         ensures follows { (line : List ℕ) → length line ≡ bytes → is_long line ≡ true →
             (folder : Option Folder) (faults : ℕ) →
-            Follows StepFault.Write (λ calls. line_effect self.old calls line) self.old self.new folder folder faults faults
+            Follows StepFault.Write (λ calls. line_effect self.old calls line) self.old self.new
+            folder folder faults faults
             (K.written out.old) (K.written out.new) (K.faults out.old) (K.faults out.new) result }
-        ensures sink { MovesSink StepFault.Write (K.written out.old) (K.written out.new) (K.faults out.old) (K.faults out.new) result }
+        ensures sink { MovesSink StepFault.Write (K.written out.old) (K.written out.new)
+            (K.faults out.old) (K.faults out.new) result }
     {
         let mut room = self.take_room()?;
         put_refusal(&Refusal::LongLine { bytes }, &mut room, out);
@@ -101,7 +104,8 @@ impl Session {
         requires name { blank.name ≡ L.name }
         requires parts { blank.parts ≡ L.parts }
         requires one { blank.parts ≡ 1 }
-        ensures follows { Follows StepFault.Write (λ calls. line_effect self.old calls line.now) self.old self.new
+        ensures follows { Follows StepFault.Write (λ calls. line_effect self.old calls line.now)
+            self.old self.new
             (H.files shelf.old) (H.files shelf.new) (H.faults shelf.old) (H.faults shelf.new)
             (K.written out.old) (K.written out.new) (K.faults out.old) (K.faults out.new) result }
     {

@@ -196,7 +196,8 @@ fn files_are_refused_and_the_next_line_is_answered(rt: HostRuntime) -> Result<()
     Ok(())
 }
 
-// A file of the greatest length is read; one that is longer is told as such, also where the call is to fail.
+// A file of the greatest length is read; one that is longer is told as such, also where the call is
+// to fail.
 #[test]
 fn a_file_has_a_limit(rt: HostRuntime) -> Result<(), Fail> {
     let bytes = vec![in rt.alloc(); b'a'; LONGEST_FILE + 1]?;

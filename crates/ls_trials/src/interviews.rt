@@ -83,7 +83,8 @@ const INTERVIEWS: [(&str, &str, Status); 16] = [
         "no 15 0\nno 15 0\nno 15 0\nno 15 0\nno 15 0\n",
         Status::Refused,
     ),
-    // A No that was forced is open again without the Yes that forced it, and a number is not given again.
+    // A No that was forced is open again without the Yes that forced it, and a number is not given
+    // again.
     (
         "items a b c\nno a : c\nyes a : b\nknown b : c\nretract 2\nknown b : c\nyes b : c\nretract 9\nknown a : b\n",
         "ok 3\nok 1\nok 2\nknown no 1\nok 2\nknown open\nok 3\nno 23\nknown no 1\n",
@@ -118,7 +119,8 @@ fn group(alloc: Global, letter: &str) -> Result<String, AllocError> {
     Ok(names)
 }
 
-// Bases grow with the answers, past the most sets that are kept; what is past stays so until an answer is taken back.
+// Bases grow with the answers, past the most sets that are kept; what is past stays so until an
+// answer is taken back.
 #[test]
 fn bases_have_a_limit(rt: HostRuntime) -> Result<(), Fail> {
     let alloc = rt.alloc();
@@ -164,7 +166,8 @@ fn in_turn(alloc: Global, from: usize, count: usize) -> Result<String, AllocErro
     Ok(names)
 }
 
-// Answer 6 takes the base past the limit, and answer 7 is answered. Without answer 6 there is a base.
+// Answer 6 takes the base past the limit, and answer 7 is answered. Without answer 6 there is a
+// base.
 #[test]
 fn answers_stand_where_no_base_is_kept(rt: HostRuntime) -> Result<(), Fail> {
     let alloc = rt.alloc();

@@ -1,4 +1,5 @@
-//! Trials of the whole program over objects in memory, and of the plain programs. It has tests alone.
+//! Trials of the whole program over objects in memory, and of the plain programs. It has tests
+//! alone.
 #![tactic(auto)]
 
 #[cfg(test)]

@@ -6,8 +6,9 @@ use std::process::Abort;
 use std::test::Fail;
 use std::thread::Threads;
 
-/// What a run is given: the words after the program's name, the script, how many bytes one read and one write move
-/// at most, the files of the folder, and which reads, writes and calls on the folder fail, counted from 1.
+/// What a run is given: the words after the program's name, the script, how many bytes one read and
+/// one write move at most, the files of the folder, and which reads, writes and calls on the folder
+/// fail, counted from 1.
 #[derive(Clone, Copy)]
 pub struct Trial<'a> {
     pub words: &'a [&'a str],

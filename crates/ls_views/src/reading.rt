@@ -49,7 +49,8 @@ pub fn put_response<K: Sink, L: Ledger>(
 )
     requires items { length texts.now ≡ inquiry.now.count }
     requires can { CanSay (session_on texts.now inquiry.now) sets.now response.now }
-    ensures says { Says (K.written out.old) (K.faults out.old) room.old (K.written out.new) (K.faults out.new) room.new
+    ensures says { Says (K.written out.old) (K.faults out.old) room.old (K.written out.new)
+        (K.faults out.new) room.new
         (bytes_of (lines_of (session_on texts.now inquiry.now) response.now)) }
     ensures cost { steps.new ≤ steps.old + response_steps response.now inquiry.now.count }
 {
@@ -72,7 +73,8 @@ fn respond<L: Ledger>(
     requires items { length domain.now ≡ inquiry.now.count }
     requires reading { is_reading command.now ≡ true }
     requires named { unnamed_places domain.now command.now ≡ [] }
-    requires followed { let i = inquiry.now in IsFollowed i.count i.start (yes_queries i.answers) followed.now }
+    requires followed { let i = inquiry.now in IsFollowed i.count i.start (yes_queries i.answers)
+        followed.now }
     ensures response { (calls : Calls) → let s = session_on domain.now inquiry.now in
         command_effect s calls command.now ≡ answers s result }
     ensures said { CanSay (session_on domain.now inquiry.now) (followed_sets followed.now) result }
@@ -93,9 +95,11 @@ fn show<L: Ledger>(
     view: &View,
     steps: &mut Steps<L>,
 ) -> Response
-    requires { let i = inquiry.now in IsFollowed i.count i.start (yes_queries i.answers) followed.now }
+    requires { let i = inquiry.now in IsFollowed i.count i.start (yes_queries i.answers)
+        followed.now }
     ensures response { result ≡ view_row inquiry.now view.now }
-    ensures said { (names : List (List ℕ)) → length names ≡ inquiry.now.count → IsOn (length names) view.now →
+    ensures said { (names : List (List ℕ)) → length names ≡ inquiry.now.count → IsOn (length names)
+        view.now →
         CanSay (session_on names inquiry.now) (followed_sets followed.now) result }
     ensures cost { steps.new ≤ steps.old + view_steps view.now }
 {
@@ -118,7 +122,8 @@ fn write<K: Sink, L: Ledger>(
     requires items { length texts.now ≡ inquiry.now.count }
     requires can { CanSay (session_on texts.now inquiry.now) sets.now response.now }
     requires empty { room.old ≡ no_reply }
-    ensures wrote { Wrote (K.written out.old) (K.faults out.old) (K.written out.new) (K.faults out.new)
+    ensures wrote { Wrote (K.written out.old) (K.faults out.old) (K.written out.new)
+        (K.faults out.new)
         (bytes_of (lines_of (session_on texts.now inquiry.now) response.now)) result }
     ensures cost { steps.new ≤ steps.old + response_steps response.now inquiry.now.count }
 {
@@ -147,7 +152,8 @@ fn reply<K: Sink, L: Ledger>(
     requires named { unnamed_places texts.now command.now ≡ [] }
     requires empty { room.old ≡ no_reply }
     ensures told { (calls : Calls) → IfOk result (λ b.
-        b ≡ is_refusal (reply_of (command_effect (session_on texts.now interview.now) calls command.now))) }
+        b ≡ is_refusal (reply_of (command_effect (session_on texts.now interview.now) calls
+        command.now))) }
     ensures whole { (calls : Calls) → OnOk result (Appends (K.written out.old) (K.written out.new)
         (reply_of (command_effect (session_on texts.now interview.now) calls command.now))) }
     ensures front { (calls : Calls) → AppendsFront (K.written out.old) (K.written out.new)
@@ -162,9 +168,10 @@ fn reply<K: Sink, L: Ledger>(
     Ok(is_refused(&response))
 }
 
-/// Writes the reply to a command that looks at the interview on a domain's items, and says whether it begins with `no `.
-/// After a fault a front of the reply is written. It takes at most one interior for `known`, and for a page of `COUNT`
-/// states of n items at most `(COUNT + 1) * (n + 1)`.
+/// Writes the reply to a command that looks at the interview on a domain's items, and says whether
+/// it begins with `no `. After a fault a front of the reply is written. It takes at most one
+/// interior for `known`, and for a page of `COUNT` states of n items at most `(COUNT + 1) * (n +
+/// 1)`.
 pub fn view<K: Sink, L: Ledger>(
     alloc: Global,
     domain: &Domain,
@@ -177,7 +184,8 @@ pub fn view<K: Sink, L: Ledger>(
     requires reading { is_reading command.now ≡ true }
     requires named { unnamed_places domain.now command.now ≡ [] }
     ensures told { (calls : Calls) → IfOk result (λ b.
-        b ≡ is_refusal (reply_of (command_effect (session_on domain.now interview.now) calls command.now))) }
+        b ≡ is_refusal (reply_of (command_effect (session_on domain.now interview.now) calls
+        command.now))) }
     ensures whole { (calls : Calls) → OnOk result (Appends (K.written out.old) (K.written out.new)
         (reply_of (command_effect (session_on domain.now interview.now) calls command.now))) }
     ensures front { (calls : Calls) → AppendsFront (K.written out.old) (K.written out.new)

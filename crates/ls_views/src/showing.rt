@@ -15,7 +15,8 @@ use ls_set::{ItemSet, Query};
 use ls_writing::{Room, SetTexts, put_base, put_line, put_listing, put_numbered};
 use std::sync::ledger::Ledger;
 
-/// Says what is shown of the interview on named items. `sets` are those of its base, where that is shown.
+/// Says what is shown of the interview on named items. `sets` are those of its base, where that is
+/// shown.
 pub fn put_shown<K: Sink, L: Ledger>(
     texts: &SetTexts,
     inquiry: &Inquiry,
@@ -27,7 +28,8 @@ pub fn put_shown<K: Sink, L: Ledger>(
 )
     requires items { length texts.now ≡ inquiry.now.count }
     requires can { CanShow (session_on texts.now inquiry.now) sets.now shown.now }
-    ensures says { Says (K.written out.old) (K.faults out.old) room.old (K.written out.new) (K.faults out.new) room.new
+    ensures says { Says (K.written out.old) (K.faults out.old) room.old (K.written out.new)
+        (K.faults out.new) room.new
         (bytes_of (shown_lines (session_on texts.now inquiry.now) shown.now)) }
     ensures cost { steps.new ≤ steps.old + shown_steps shown.now inquiry.now.count }
 {
@@ -44,7 +46,8 @@ pub fn put_shown<K: Sink, L: Ledger>(
 
 // Says what is known of a query.
 fn put_known<K: Sink>(known: Known, room: &mut Room, out: &mut K)
-    ensures { Says (K.written out.old) (K.faults out.old) room.old (K.written out.new) (K.faults out.new) room.new
+    ensures { Says (K.written out.old) (K.faults out.old) room.old (K.written out.new)
+        (K.faults out.new) room.new
         (line_of (known_words known)) }
 {
     match known {
@@ -57,7 +60,8 @@ fn put_known<K: Sink>(known: Known, room: &mut Room, out: &mut K)
 // Says the next question, or that none is open.
 fn put_question<K: Sink>(texts: &SetTexts, next: &Option<Query>, room: &mut Room, out: &mut K)
     requires { ForSome next.now (λ r. is_good (length texts.now) r ≡ true) }
-    ensures { Says (K.written out.old) (K.faults out.old) room.old (K.written out.new) (K.faults out.new) room.new
+    ensures { Says (K.written out.old) (K.faults out.old) room.old (K.written out.new)
+        (K.faults out.new) room.new
         (line_of (question_words texts.now next.now)) }
 {
     match next {
@@ -69,7 +73,8 @@ fn put_question<K: Sink>(texts: &SetTexts, next: &Option<Query>, room: &mut Room
 // Says a question.
 fn put_query<K: Sink>(texts: &SetTexts, query: &Query, room: &mut Room, out: &mut K)
     requires { is_good (length texts.now) query.now ≡ true }
-    ensures { Says (K.written out.old) (K.faults out.old) room.old (K.written out.new) (K.faults out.new) room.new
+    ensures { Says (K.written out.old) (K.faults out.old) room.old (K.written out.new)
+        (K.faults out.new) room.new
         (line_of (question_words texts.now (Some query.now))) }
 {
     room.put(b"ask ", out);

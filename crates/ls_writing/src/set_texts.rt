@@ -19,8 +19,9 @@ use std::marker::Model;
 // How many digits a cursor has at most.
 const MOST_DIGITS: usize = (PLACES as usize + 3) / 4;
 
-/// The names of a domain's items, joined beforehand: for each eight items, a group, the texts of all its subsets, each
-/// name behind a space. So the names of a set are said by one text a group. Contracts see it as the list of names.
+/// The names of a domain's items, joined beforehand: for each eight items, a group, the texts of
+/// all its subsets, each name behind a space. So the names of a set are said by one text a group.
+/// Contracts see it as the list of names.
 // The text of pattern `p` of group `g` is at index `256 * g + p`.
 #[derive(Drop)]
 pub struct SetTexts {
@@ -40,7 +41,8 @@ impl Model for SetTexts {
 }
 
 impl SetTexts {
-    /// The texts of the domain's sets. They take up to 2.7 million bytes, where each of 512 names has 40.
+    /// The texts of the domain's sets. They take up to 2.7 million bytes, where each of 512 names
+    /// has 40.
     pub fn new(alloc: Global, domain: Domain) -> Result<SetTexts, AllocError>
         ensures { IfOk result (λ t. t ≡ domain) }
     {
@@ -58,7 +60,8 @@ impl SetTexts {
     /// Says the names of the set's items, in the order of items, joined by single spaces.
     pub fn put_names<K: Sink>(&self, s: ItemSet, room: &mut Room, out: &mut K)
         requires { IsWithin s (full (length self.now)) }
-        ensures { Says (K.written out.old) (K.faults out.old) room.old (K.written out.new) (K.faults out.new) room.new (joined_names self.now s) }
+        ensures { Says (K.written out.old) (K.faults out.old) room.old (K.written out.new)
+            (K.faults out.new) room.new (joined_names self.now s) }
     {
         let mut skipped = 1;
         for group in 0..self.domain.count().div_ceil(8) {
@@ -69,7 +72,8 @@ impl SetTexts {
     /// Says the line of a set: its cursor and its names.
     pub fn put_set_line<K: Sink>(&self, s: ItemSet, room: &mut Room, out: &mut K)
         requires { IsWithin s (full (length self.now)) }
-        ensures { Says (K.written out.old) (K.faults out.old) room.old (K.written out.new) (K.faults out.new) room.new (line_of (set_words self.now s)) }
+        ensures { Says (K.written out.old) (K.faults out.old) room.old (K.written out.new)
+            (K.faults out.new) room.new (line_of (set_words self.now s)) }
     {
         let n = self.domain.count();
         let mut digits = [0u8; MOST_DIGITS];
@@ -82,8 +86,9 @@ impl SetTexts {
         room.put(b"}\n", out);
     }
 
-    // Says the names of the set's items that are in a group, each behind a space, but for the bytes that are still to
-    // be skipped: the space before the first name. Answers how many are to be skipped then.
+    // Says the names of the set's items that are in a group, each behind a space, but for the bytes
+    // that are still to be skipped: the space before the first name. Answers how many are to be
+    // skipped then.
     fn put_group<K: Sink>(
         &self,
         s: ItemSet,
@@ -94,8 +99,11 @@ impl SetTexts {
     ) -> usize
         requires group { 8 * group < length self.now }
         requires few { length self.now ≤ PLACES }
-        ensures says { Says (K.written out.old) (K.faults out.old) room.old (K.written out.new) (K.faults out.new) room.new (drop skipped (spaced_names self.now (has s) (group_items (length self.now) group))) }
-        ensures skipped { result ≡ skipped - length (spaced_names self.now (has s) (group_items (length self.now) group)) }
+        ensures says { Says (K.written out.old) (K.faults out.old) room.old (K.written out.new)
+            (K.faults out.new) room.new (drop skipped (spaced_names self.now (has s)
+            (group_items (length self.now) group))) }
+        ensures skipped { result ≡ skipped - length (spaced_names self.now (has s)
+            (group_items (length self.now) group)) }
     {
         let pattern = s.group(group);
         if pattern == 0 {

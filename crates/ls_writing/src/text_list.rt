@@ -12,7 +12,8 @@ struct Place {
     ghost ordered: { start ≤ end },
 }
 
-/// A list of texts, whose bytes are in one vector. Contracts see it as the list of texts, each as its bytes.
+/// A list of texts, whose bytes are in one vector. Contracts see it as the list of texts, each as
+/// its bytes.
 #[derive(Drop)]
 pub(crate) struct TextList {
     bytes: Vec<u8>,
