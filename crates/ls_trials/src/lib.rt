@@ -1,5 +1,4 @@
-//! Trials of the whole program over objects in memory, and of the plain programs. It has tests
-//! alone.
+//! Trials of the whole program over objects in memory. It has tests alone.
 #![tactic(auto)]
 
 #[cfg(test)]
@@ -8,10 +7,6 @@ mod faults;
 mod files;
 #[cfg(test)]
 mod interviews;
-#[cfg(test)]
-mod plain_programs;
-#[cfg(test)]
-mod plain_pupils;
 #[cfg(test)]
 mod scripts;
 #[cfg(test)]

@@ -1,5 +1,5 @@
 // The plain programs of assessments, on the items a b c.
-use crate::plain_programs::{all_sets, six_states};
+use crate::programs::{all_sets, six_states};
 use ls_plain_pupils::{class_results, fits_for, fits_now, next_asked, outcome_of, replay_of};
 use ls_theory::{Asked, ListedRow, ListedSettings, Odds, Reason, Replay, Reply};
 use std::alloc::{AllocError, Global};
