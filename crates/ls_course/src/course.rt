@@ -96,7 +96,9 @@ impl Course {
         }
     }
 
-    /// Says what is shown of the interview.
+    /// Says what is shown of the interview. It is not made part of its callers, since the frame of a
+    /// listing is large, and most lines of a long script show nothing.
+    #[inline(never)]
     pub fn put<K: Sink, L: Ledger>(
         &self,
         shown: &Shown,
