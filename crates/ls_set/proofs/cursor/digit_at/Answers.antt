@@ -1,7 +1,7 @@
 use Rattle.std.proofs.Common.{◌≡◌, ◌<◌, ◌+◌, ◌*◌, ◌/◌, ◌%◌, arith, rules}
-use Rattle.ls_writing.proofs.Turned.{low-digit, high-digit}
-use Rattle.ls_writing.proofs.digits.digit_at.Goals as goal
-use Rattle.ls_writing.proofs.digits.digit_at.Goals.{then-place-eq0, else-place-eq0}
+use Rattle.ls_set.proofs.Turned.{low-digit, high-digit}
+use Rattle.ls_set.proofs.cursor.digit_at.Goals as goal
+use Rattle.ls_set.proofs.cursor.digit_at.Goals.{then-place-eq0, else-place-eq0}
 
 pub returns : goal.returns
 returns c =
@@ -11,8 +11,8 @@ returns c =
     elim c.if-place-eq0.branch [
       | then-place-eq0 w ↦
           let at : 4 * p ≡ 8 * (p / 2) = omega (arith, w.if-place-eq0) in
-          rw w.bits-is (low-digit c.args.s p (p / 2) v at few c.group-pattern.ensures)
+          rw w.bits-is (low-digit c.args.set p (p / 2) v at few c.group-pattern.ensures)
       | else-place-eq0 w ↦
           let at : 4 * p ≡ 8 * (p / 2) + 4 = omega (arith, w.if-place-eq0) in
-          rw w.bits-is (high-digit c.args.s p (p / 2) v at few c.group-pattern.ensures)
+          rw w.bits-is (high-digit c.args.set p (p / 2) v at few c.group-pattern.ensures)
     ]
