@@ -1,5 +1,5 @@
 -- The items of a set as they are listed: in ascending order, exactly those that it has.
-use Rattle.std.proofs.Common.{ℕ, zero, suc, ◌+◌, ◌<◌, ◌≤◌, ◌≡◌, ◌↔◌, Bool, true, false, ◌&&◌, eqb, ltb, List, [], length, filter, find, get_or, None, Some, refl, sym, ap, ◌∙◌, arith, true≢false, ltb-true, lt-ltb, eqb-true}
+use Rattle.std.proofs.Common.{ℕ, zero, suc, ◌+◌, ◌<◌, ◌≤◌, ◌≡◌, ◌↔◌, Bool, true, false, ◌&&◌, eqb, ltb, length, filter, get_or, None, Some, refl, sym, ap, ◌∙◌, arith, true≢false, ltb-true, lt-ltb, eqb-true}
 use Rattle.std.specs.List.{Contains, list_any}
 use Rattle.std.specs.List.Sorted.{IsStrictlyIncreasing}
 use Rattle.std.proofs.lemmas.Bool.{and_parts, and_from, false_from_ne_true}

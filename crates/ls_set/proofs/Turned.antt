@@ -1,5 +1,5 @@
 -- A digit of a cursor, by the bits of a group.
-use Rattle.std.proofs.Common.{ℕ, ◌+◌, ◌*◌, ◌/◌, ◌%◌, ◌<◌, ◌≡◌, Bool, true, cond, eqb, List, get_or, codes, refl, sym, ap, ◌∙◌, arith, eqb-true}
+use Rattle.std.proofs.Common.{ℕ, ◌+◌, ◌*◌, ◌/◌, ◌%◌, ◌<◌, ◌≡◌, Bool, true, cond, eqb, get_or, codes, refl, ap, ◌∙◌, arith, eqb-true}
 use Rattle.std.specs.Int.{bit_at}
 use Rattle.std.proofs.lemmas.Bool.{agree_below_at}
 use Rattle.ls_set.specs.ItemSet.{Items, has}

@@ -1,4 +1,4 @@
-use Rattle.std.proofs.Common.{◌≡◌, ◌<◌, ◌+◌, ◌*◌, ◌/◌, ◌%◌, arith, rules}
+use Rattle.std.proofs.Common.{◌≡◌, ◌<◌, ◌+◌, ◌*◌, ◌/◌, arith, rules}
 use Rattle.ls_set.proofs.Turned.{low-digit, high-digit}
 use Rattle.ls_set.proofs.cursor.digit_at.Goals as goal
 use Rattle.ls_set.proofs.cursor.digit_at.Goals.{then-place-eq0, else-place-eq0}
