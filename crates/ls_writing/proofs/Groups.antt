@@ -11,7 +11,7 @@ use Rattle.ls_set.proofs.Sizes.{numbers_from-add, filter-none, items-within}
 use Rattle.ls_lines.specs.Lines.{Text}
 use Rattle.ls_domain.specs.Texts.{name_of, names_of_set, joined_names}
 use Rattle.ls_writing.specs.SetTexts.{group_count, group_items, spaced_names, group_text, group_texts}
-use Rattle.ls_writing.proofs.Joins.{join-spaced-one}
+use Rattle.ls_lists.proofs.Joins.{join-spaced-one}
 
 -- ---- numbers in a row
 
@@ -113,15 +113,3 @@ module _ (names : List Text) where
       let at : (0 + k) / 256 ≡ g = omega arith in
       let rest : (0 + k) % 256 ≡ pattern = omega arith in
       get_or-map-numbers text_at [] 0 (256 * group_count (length names)) k (omega arith) ∙ ap₂ (group_text names) at rest
-
--- ---- what is skipped of two parts
-
-pub drop-parts : (k : ℕ) (xs ys : List ℕ) → drop k xs ++ drop (k - length xs) ys ≡ drop k (xs ++ ys)
-drop-parts zero xs ys = ap (λ n. xs ++ drop n ys) (let e : 0 - length xs ≡ 0 = omega arith in e)
-drop-parts (suc k) [] ys = ap (λ n. drop n ys) (let e : suc k - 0 ≡ suc k = omega arith in e)
-drop-parts (suc k) (x ∷ xs) ys = ap (λ n. drop k xs ++ drop n ys) (let e : suc k - suc (length xs) ≡ k - length xs = omega arith in e) ∙ drop-parts k xs ys
-
-pub drop-min : (k : ℕ) (xs : List ℕ) → drop (min k (length xs)) xs ≡ drop k xs
-drop-min zero xs = ap (λ n. drop n xs) (let e : min 0 (length xs) ≡ 0 = omega arith in e)
-drop-min (suc k) [] = ap (λ n. drop n []) (let e : min (suc k) 0 ≡ 0 = omega arith in e)
-drop-min (suc k) (x ∷ xs) = ap (λ n. drop n (x ∷ xs)) (let e : min (suc k) (suc (length xs)) ≡ suc (min k (length xs)) = omega arith in e) ∙ drop-min k xs

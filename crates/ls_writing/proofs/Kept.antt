@@ -3,16 +3,8 @@ use Rattle.std.proofs.Common.{◌≡◌, ℕ, suc, ◌-◌, ◌≤◌, List, [],
 use Rattle.std.specs.List.{slice_range, All}
 use Rattle.std.proofs.lemmas.List.{take-append-le, drop-append-le, map-append}
 use Rattle.std.proofs.lemmas.List.Elements.{All-push}
+use Rattle.ls_lists.proofs.Places.{part-kept, part-last}
 use Rattle.std.proofs.Math.Seq.{take-length, drop-append_seam}
-
-pub part-kept : (bs xs : List ℕ) (i j : ℕ) → i ≤ j → j ≤ length bs → slice_range (bs ++ xs) i j ≡ slice_range bs i j
-part-kept bs xs i j h l =
-    ap (take (j - i)) (drop-append-le i bs xs (omega arith)) ∙ take-append-le (j - i) (drop i bs) xs (omega (arith, length-drop i bs))
-
-pub part-last : (bs xs : List ℕ) → slice_range (bs ++ xs) (length bs) (length (bs ++ xs)) ≡ xs
-part-last bs xs =
-    let n : length (bs ++ xs) - length bs ≡ length xs = omega (arith, length-append bs xs) in
-    ap₂ take n (drop-append_seam bs xs) ∙ take-length xs
 
 -- parts by their bounds
 module _ {X : Type 0} (start end : X → ℕ) (ordered : (p : X) → start p ≤ end p) where

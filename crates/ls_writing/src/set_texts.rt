@@ -8,7 +8,6 @@ ghost use Rattle.ls_writing.specs.Rooms.{Says};
 ghost use Rattle.ls_writing.specs.SetTexts.{group_count, group_items, group_text, group_texts, spaced_names};
 
 use crate::Room;
-use crate::digits::write_cursor;
 use crate::text_list::TextList;
 use ls_domain::Domain;
 use ls_edge::Sink;
@@ -78,7 +77,7 @@ impl SetTexts {
         let n = self.domain.count();
         let mut digits = [0u8; MOST_DIGITS];
         let cursor = &mut digits[..cursor_length(n)];
-        write_cursor(s, n, cursor);
+        s.to_cursor(n, cursor);
         room.put(b"set ", out);
         room.put(cursor, out);
         room.put(b" {", out);

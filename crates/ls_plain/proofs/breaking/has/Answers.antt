@@ -9,5 +9,5 @@ use Rattle.ls_plain.proofs.breaking.has.Goals as goal
 pub returns : goal.returns
 returns c =
     any_from_yields_List (λ j. eqb j c.args.q) _ _ c.any.result c.any.ensures.ran
-    (YieldsList-from_first (λ x. x) (λ m. items m.left) (items c.args.k) (ap items c.items.ensures)) (λ x b q k. search (rules, tests))
+    (YieldsList-from_first (λ x. x) items (items c.args.k) (ap items c.items.ensures)) (λ x b q k. search (rules, tests))
     ∙ has_listed c.args.k c.args.q

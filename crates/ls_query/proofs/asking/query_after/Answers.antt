@@ -12,9 +12,9 @@ query_after_set-requires-clause-within c = (good-from c.args.n c.args.r c.requir
 pub returns-in-Some : goal.returns-in-Some
 returns-in-Some c =
     sym (find-with_same c.args.n c.args.k c.args.r c.in-Some.q (good-from c.args.n c.args.r c.requires.good) (omega (arith, c.if-len-k.false, c.len.ensures))
-    (rw (← c.full.ensures, ← c.minus.ensures) (sym c.next_member.ensures ∙ c.in-Some.is)))
+    (rw (← c.full.ensures, ← c.minus.ensures) (sym c.next_member.ensures.value ∙ c.in-Some.is)))
 
 pub returns-in-None : goal.returns-in-None
 returns-in-None c =
     c.query_after_set.ensures
-    ∙ find-no_more c.args.n c.args.k c.args.r (rw (← c.full.ensures, ← c.minus.ensures) (sym c.next_member.ensures ∙ c.in-None.is))
+    ∙ find-no_more c.args.n c.args.k c.args.r (rw (← c.full.ensures, ← c.minus.ensures) (sym c.next_member.ensures.value ∙ c.in-None.is))

@@ -1,6 +1,6 @@
-use Rattle.std.proofs.Common.{◌/◌, ◌^◌, ◌+◌, ◌≤◌, bit_and, ap, ◌∙◌, arith}
+use Rattle.std.proofs.Common.{◌/◌, ◌^◌, ap, ◌∙◌}
 use Rattle.std.specs.Int.{bit_at}
-use Rattle.std.proofs.lemmas.Nat.{and_mask, and_le_r}
+use Rattle.std.proofs.lemmas.Nat.{and_mask}
 use Rattle.ls_set.proofs.Words.{digit_of_byte}
 use Rattle.ls_set.proofs.word.byte.Goals as goal
 

@@ -2,7 +2,7 @@ use Rattle.std.proofs.Common.{◌∷◌, [], ◌++◌, map, decimal, ap}
 use Rattle.std.proofs.lemmas.List.{length-map}
 use Rattle.ls_reply.specs.Texts.{line_of}
 use Rattle.ls_writing.proofs.Saying.{says_then, says_as}
-use Rattle.ls_writing.proofs.Joins.{join-spaced}
+use Rattle.ls_lists.proofs.Joins.{join-spaced}
 use Rattle.ls_writing.proofs.lines.put_numbered.Goals as goal
 
 pub returns : goal.returns

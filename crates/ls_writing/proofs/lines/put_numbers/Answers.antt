@@ -1,6 +1,6 @@
 use Rattle.std.proofs.Common.{◌<◌, length, decimal, arith}
 use Rattle.ls_writing.proofs.Saying.{says_then, says_as}
-use Rattle.ls_writing.proofs.Joins.{spaced-next}
+use Rattle.ls_lists.proofs.Joins.{spaced-next}
 use Rattle.ls_writing.proofs.lines.put_numbers.Goals as goal
 
 pub loop-number-preserved : goal.loop-number-preserved

@@ -16,7 +16,7 @@ loop-item-preserved c = record {
   joined = join_more (name_of c.args.self.now) c.loop-item.yielded c.in-Some.item c.args.out.now.items c.loop-item.out.items c.extend_from_slice.new.self.items _ _ _ c.loop-item.invariant.joined c.loop-item.invariant.parted c.in_ok-extend_from_slice.ensures.items
       (c.as_bytes.ensures.value ∙ c.name.ensures) c.in_ok-extend_from_slice-2.ensures.items;
   parted = gap-snoc c.loop-item.yielded c.in-Some.item;
-  split = append_assoc c.loop-item.yielded (c.in-Some.item ∷ []) (items c.next.new.self.left) ∙ ap (λ l. c.loop-item.yielded ++ l) (sym c.in-Some.ensures.steps) ∙ c.loop-item.invariant.split;
+  split = append_assoc c.loop-item.yielded (c.in-Some.item ∷ []) (items c.next.new.self) ∙ ap (λ l. c.loop-item.yielded ++ l) (sym c.in-Some.ensures.steps) ∙ c.loop-item.invariant.split;
 }
 
 pub returns-in_err-extend_from_slice-clause-kept : goal.returns-in_err-extend_from_slice-clause-kept

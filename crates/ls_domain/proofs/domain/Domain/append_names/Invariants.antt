@@ -9,5 +9,5 @@ abbrev pub invariant-loop-item : goal.invariant-loop-item
 invariant-loop-item l = record {
   joined : l.out.items ≡ l.fn.out.items ++ join_with_byte 32 (map (name_of l.self) l.yielded);
   parted : l.gap ≡ gap l.yielded;
-  split : l.yielded ++ items l.item-iterator.left ≡ items l.fn.s;
+  split : l.yielded ++ items l.item-iterator ≡ items l.fn.s;
 }

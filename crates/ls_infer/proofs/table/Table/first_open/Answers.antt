@@ -56,10 +56,10 @@ returns-in-Some-next_member c =
     let here : slice_get (sets_of t.blocks) c.in_ok-place.place ≡ Some r.a =
     position-get t.blocks.item_count t.blocks.largest r.a c.in_ok-place.place (ap (λ u. position (is_same r.a) (sets_of u.table.blocks)) (sym c.self.view_is) ∙ sym c.place_of.ensures ∙ c.in_ok-place.was) in
     rw c.in-Some.is
-    (sym (open-same t.blocks.item_count t.blocks.largest (is_open_in t) r c.open_items.result c.in-Some-next_member.q (get-in (sets_of t.blocks) c.in_ok-place.place r.a here) c.open_items.ensures (sym c.next_member.ensures ∙ c.in-Some-next_member.is)))
+    (sym (open-same t.blocks.item_count t.blocks.largest (is_open_in t) r c.open_items.result c.in-Some-next_member.q (get-in (sets_of t.blocks) c.in_ok-place.place r.a here) c.open_items.ensures (sym c.next_member.ensures.value ∙ c.in-Some-next_member.is)))
 
 pub returns-in-None : goal.returns-in-None
 returns-in-None c =
     let t = c.args.self.now.table in
     rw c.in-Some.is
-    (c.open_from-in-None.ensures ∙ open-later t.blocks.item_count t.blocks.largest (is_open_in t) c.in-Some.r.now c.open_items.result c.open_items.ensures (sym c.next_member.ensures ∙ c.in-None.is))
+    (c.open_from-in-None.ensures ∙ open-later t.blocks.item_count t.blocks.largest (is_open_in t) c.in-Some.r.now c.open_items.result c.open_items.ensures (sym c.next_member.ensures.value ∙ c.in-None.is))

@@ -2,7 +2,8 @@ use Rattle.std.proofs.Common.{[], length, take, drop, ap, sym, ◌∙◌, arith,
 use Rattle.std.proofs.Math.ListN.{drop_of_length-le}
 use Rattle.std.proofs.Math.Seq.{take-length}
 use Rattle.ls_writing.proofs.Saying.{says_as, says_nothing}
-use Rattle.ls_writing.proofs.Groups.{group_text-of_set, group_text-none, drop-min}
+use Rattle.ls_writing.proofs.Groups.{group_text-of_set, group_text-none}
+use Rattle.std.proofs.lemmas.List.{drop_min}
 use Rattle.ls_writing.proofs.set_texts.SetTexts.put_group.Goals as goal
 
 pub returns-then-pattern-eq0-clause-says : goal.returns-then-pattern-eq0-clause-says
@@ -21,7 +22,7 @@ returns-clause-says g c =
     let text = c.group_text-text.ensures ∙ is in
     let all = take-length (drop c.min-start.result c.group_text-text.result.now) in
     let few = ap (λ n. take n (drop c.min-start.result c.group_text-text.result.now)) (sym (length-drop c.min-start.result c.group_text-text.result.now)) in
-    says_as (few ∙ all ∙ ap (λ n. drop n c.group_text-text.result.now) c.min-start.ensures ∙ drop-min c.args.skipped c.group_text-text.result.now ∙ ap (drop c.args.skipped) text) c.put.ensures.says
+    says_as (few ∙ all ∙ ap (λ n. drop n c.group_text-text.result.now) c.min-start.ensures ∙ drop_min c.args.skipped c.group_text-text.result.now ∙ ap (drop c.args.skipped) text) c.put.ensures.says
 
 pub returns-clause-skipped : goal.returns-clause-skipped
 returns-clause-skipped g c =

@@ -2,7 +2,8 @@ use Rattle.std.proofs.Common.{◌≡◌, ◌+◌, ◌*◌, ◌++◌, length, dro
 use Rattle.ls_set.specs.ItemSet.{has, numbers_from}
 use Rattle.ls_writing.specs.SetTexts.{group_items, spaced_names}
 use Rattle.ls_writing.proofs.Saying.{says_then, says_as}
-use Rattle.ls_writing.proofs.Groups.{names_before, names_before-next, joined-spaced, drop-parts}
+use Rattle.ls_writing.proofs.Groups.{names_before, names_before-next, joined-spaced}
+use Rattle.ls_lists.proofs.Places.{drop-parts}
 use Rattle.ls_writing.proofs.set_texts.SetTexts.put_names.Goals as goal
 
 pub loop-group-preserved : goal.loop-group-preserved
