@@ -13,8 +13,7 @@ use Rattle.std.specs.String.{string_bytes, string_cmp}
 use Rattle.std.specs.declared.alloc.Global.{Global}
 use Rattle.std.specs.declared.option.Option.{Option}
 use Rattle.std.specs.declared.string.String.{String}
-use Rattle.ls_edge.specs.Files.{Folder, folder_of, FetchedFrom, GivesBytes, given}
-use Rattle.ls_edge.specs.declared.traits.TheConstants.{LONGEST_FILE}
+use Rattle.ls_edge.specs.Files.{longest_file, Folder, folder_of, FetchedFrom, GivesBytes, given}
 use Rattle.ls_edge.specs.declared.traits.FetchFault.{FetchFault}
 use Rattle.ls_edge.specs.declared.traits.FetchFault.TheVariants as fetch
 
@@ -38,27 +37,27 @@ file_found folder files name result found is same was =
     ap (λ f. map.get f name) (sym is) ∙ get-folder_of files.entries name ∙ ap (option_map (λ v. v.items)) (sym same ∙ ap option_copied was)
 
 -- a file of more bytes than the limit is too large
-pub given_long : (file : Option (List ℕ)) (bytes : List ℕ) (n : ℕ) → file ≡ Some bytes → n ≡ length bytes → LONGEST_FILE < n → given file ≡ Err (fetch.TooLarge n)
+pub given_long : (file : Option (List ℕ)) (bytes : List ℕ) (n : ℕ) → file ≡ Some bytes → n ≡ length bytes → longest_file < n → given file ≡ Err (fetch.TooLarge n)
 given_long file bytes n is long above =
-    let more : nat_lt LONGEST_FILE (length bytes) ≡ true = lt-ltb _ _ (omega arith) in
+    let more : nat_lt longest_file (length bytes) ≡ true = lt-ltb _ _ (omega arith) in
     rw (is, more) (ap (λ m. Err (fetch.TooLarge m)) (sym long))
 
 -- a file of no more is given
-pub given_short : (file : Option (List ℕ)) (bytes : List ℕ) → file ≡ Some bytes → length bytes ≤ LONGEST_FILE → given file ≡ Ok bytes
+pub given_short : (file : Option (List ℕ)) (bytes : List ℕ) → file ≡ Some bytes → length bytes ≤ longest_file → given file ≡ Ok bytes
 given_short file bytes is within =
-    let no_more : nat_lt LONGEST_FILE (length bytes) ≡ false = le-ltb _ _ within in
+    let no_more : nat_lt longest_file (length bytes) ≡ false = le-ltb _ _ within in
     rw (is, no_more) refl
 
 -- what is given has no more
-pub given_within : (file : Option (List ℕ)) (bytes : List ℕ) → given file ≡ Ok bytes → length bytes ≤ LONGEST_FILE
+pub given_within : (file : Option (List ℕ)) (bytes : List ℕ) → given file ≡ Ok bytes → length bytes ≤ longest_file
 given_within None bytes is = cc
 given_within (Some b) bytes is =
-    elim (cases_Bool (nat_lt LONGEST_FILE (length b))) [
+    elim (cases_Bool (nat_lt longest_file (length b))) [
       | inl more ↦ let other : Err (fetch.TooLarge (length b)) ≡ Ok bytes = rw more at is in cc
       | inr no_more ↦
           let same : Ok b ≡ Ok bytes = rw no_more at is in
-          let within : length b ≤ LONGEST_FILE = ltb-false _ _ no_more in
-          subst (λ (r : Result (List ℕ) FetchFault). IfOk r (λ x. length x ≤ LONGEST_FILE)) same within
+          let within : length b ≤ longest_file = ltb-false _ _ no_more in
+          subst (λ (r : Result (List ℕ) FetchFault). IfOk r (λ x. length x ≤ longest_file)) same within
     ]
 
 -- a fetch that gives what it has to give

@@ -1,5 +1,5 @@
 -- What the calls on a shelf do to its files, where these are told.
-use Rattle.std.specs.Prelude.{◌≡◌, ◌≤◌, ℕ, List, [], ◌∷◌, length, nat_lt, ⊤, Result, Ok, Err, Some, None, IsErrOf, IfSome, MatchResult, Vec, if◌then◌else◌}
+use Rattle.std.specs.Prelude.{◌≡◌, ◌≤◌, ℕ, List, [], ◌∷◌, length, nat_lt, ◌<◌, ⊤, Result, Ok, Err, Some, None, IsErrOf, IfSome, MatchResult, Vec, if◌then◌else◌}
 use Rattle.std.specs.declared.option.Option.{Option}
 use Rattle.std.specs.declared.alloc.Global.{Global}
 use Rattle.std.specs.Ordering.{nat_cmp}
@@ -8,11 +8,21 @@ use Rattle.std.specs.declared.string.String.{String}
 use Rattle.std.specs.String.{string_bytes}
 use Rattle.std.specs.FinMap as map
 use Rattle.ls_edge.specs.Causes.{Rose}
-use Rattle.ls_edge.specs.declared.traits.TheConstants.{LONGEST_FILE}
 use Rattle.ls_edge.specs.declared.traits.FetchFault.{FetchFault}
 use Rattle.ls_edge.specs.declared.traits.FetchFault.TheVariants as fetch
 use Rattle.ls_edge.specs.declared.traits.StoreFault.{StoreFault}
 use Rattle.ls_edge.specs.declared.traits.StoreFault.TheVariants as store
+
+-- the most bytes of a file
+abbrev pub longest_file : ℕ
+longest_file = 16777216
+
+-- a length that a fault tells is more than the limit
+abbrev pub TellsMore : FetchFault → Type 0
+TellsMore fetch.Missing = ⊤
+TellsMore (fetch.TooLarge bytes) = longest_file < bytes
+TellsMore fetch.Failed = ⊤
+TellsMore (fetch.Memory e) = ⊤
 
 -- a finite map from names to bytes
 abbrev pub Folder : Type 0
@@ -39,7 +49,7 @@ GivesBytes bytes (Err (fetch.Memory e)) = ⊤
 -- the bytes that a fetch of the file has to give, or why it has none to give
 abbrev pub given : Option (List ℕ) → Result (List ℕ) FetchFault
 given None = Err fetch.Missing
-given (Some bytes) = if nat_lt LONGEST_FILE (length bytes) then Err (fetch.TooLarge (length bytes)) else Ok bytes
+given (Some bytes) = if nat_lt longest_file (length bytes) then Err (fetch.TooLarge (length bytes)) else Ok bytes
 
 -- what a fetch answers of the file that a name has: one that is missing and one that is too large are always reported as such
 abbrev pub FetchedFrom : Option (List ℕ) → Result (Vec ℕ Global) FetchFault → Type 0

@@ -38,7 +38,8 @@ impl Calls {
     pub(crate) fn next_fails(&mut self) -> bool
         ensures fails { result ≡ fails_next self.old.fails self.old.calls }
         ensures calls { self.new.calls ≡ one_more self.old.calls }
-        ensures faults { self.new.faults ≡ next_faults self.old.fails self.old.calls self.old.faults }
+        ensures faults { self.new.faults ≡
+            next_faults self.old.fails self.old.calls self.old.faults }
         ensures kept { self.new.fails ≡ self.old.fails }
     {
         if self.made == u64::MAX {

@@ -1,19 +1,22 @@
 // The adapter over one folder. It tells nothing of the files.
-ghost use Rattle.std.specs.Prelude.{◌≡◌, ◌≤◌, ℕ, None, IfOk, IsErrOf, length};
+ghost use Rattle.std.specs.Prelude.{◌≡◌, ◌≤◌, ℕ, None, IfOk, IfErr, IsErrOf, length};
 ghost use Rattle.ls_edge.specs.Causes.{one_more};
-ghost use Rattle.ls_edge.specs.Files.{Fetches, Stores, FetchCause, StoreCause};
+ghost use Rattle.ls_edge.specs.Files.{longest_file, TellsMore, Fetches, Stores, FetchCause, StoreCause};
 
 use crate::{FetchFault, LONGEST_FILE, Shelf, StoreFault};
 use std::alloc::AllocError;
-use std::fs::{File, OpenFile};
+use std::fs::File;
 use std::io::{ErrorKind, Read};
 use std::marker::Model;
 use std::path::{Path, PathBuf};
 use std::rt::Files;
 use std::{fs, io};
 
-/// The files of one folder as a shelf. It tells nothing of the files. Clauses see the count of its faults: each
-/// `Err` of the folder counts, but for that of a file that isn't there.
+/// The regular files of one folder as a shelf. It tells nothing of the files. A name of anything
+/// else, as a folder or a pipe, answers `Failed`, and that isn't opened.
+///
+/// Clauses see the count of its faults: each call counts that fails for any reason but want of
+/// memory, a file to fetch that isn't there, or one that is too large.
 #[derive(Drop)]
 pub struct FolderShelf<R: Files + AllocGlobal + Drop> {
     rt: R,
@@ -42,7 +45,8 @@ impl<R: Files + AllocGlobal + Drop> FolderShelf<R> {
 
     // The bytes of the file of that name.
     fn read(&self, name: &str) -> Result<Vec<u8>, FetchFault>
-        ensures { IfOk result (λ v. length v.items ≤ LONGEST_FILE) }
+        ensures short { IfOk result (λ v. length v.items ≤ longest_file) }
+        ensures large { IfErr result TellsMore }
     {
         let path = self
             .folder
@@ -57,12 +61,14 @@ impl<R: Files + AllocGlobal + Drop> FolderShelf<R> {
             .folder
             .join(self.rt.alloc(), name)
             .map_err(StoreFault::Memory)?;
-        fs::write(&self.rt, path, bytes).map_err(|_| StoreFault::Failed)
+        write_file(&self.rt, path.as_path(), bytes)
     }
 }
 
 // Why a file that is there was not read.
-fn read_fault(error: io::Error) -> FetchFault {
+fn read_fault(error: io::Error) -> FetchFault
+    ensures { TellsMore result }
+{
     match error.kind() {
         ErrorKind::OutOfMemory => FetchFault::Memory(AllocError),
         _ => FetchFault::Failed,
@@ -70,25 +76,37 @@ fn read_fault(error: io::Error) -> FetchFault {
 }
 
 // Why a file was not opened.
-fn open_fault(error: io::Error) -> FetchFault {
+fn open_fault(error: io::Error) -> FetchFault
+    ensures { TellsMore result }
+{
     match error.kind() {
         ErrorKind::NotFound => FetchFault::Missing,
         _ => read_fault(error),
     }
 }
 
-// The bytes of a file. Its length is looked at first, and no more than one byte past the limit is read.
+// Why a file was not written.
+fn write_fault(error: io::Error) -> StoreFault {
+    match error.kind() {
+        ErrorKind::OutOfMemory => StoreFault::Memory(AllocError),
+        _ => StoreFault::Failed,
+    }
+}
+
+// The bytes of a regular file. Its length is looked at first, and no more than one byte past the
+// limit is read.
 fn read_file<R: Files + AllocGlobal>(rt: &R, path: Path<'_>) -> Result<Vec<u8>, FetchFault>
-    ensures { IfOk result (λ v. length v.items ≤ LONGEST_FILE) }
+    ensures short { IfOk result (λ v. length v.items ≤ longest_file) }
+    ensures large { IfErr result TellsMore }
 {
-    let file = File::open(rt, path).map_err(open_fault)?;
-    let about = file.metadata().map_err(read_fault)?;
-    if about.is_dir() {
+    let about = fs::metadata(rt, path).map_err(open_fault)?;
+    if !about.is_file() {
         return Err(FetchFault::Failed);
     }
     let mut length = about.len();
     let mut bytes = Vec::new(rt.alloc());
     if length <= LONGEST_FILE as u64 {
+        let file = File::open(rt, path).map_err(open_fault)?;
         file.take(LONGEST_FILE as u64 + 1)
             .read_to_end(&mut bytes)
             .map_err(read_fault)?;
@@ -100,13 +118,24 @@ fn read_file<R: Files + AllocGlobal>(rt: &R, path: Path<'_>) -> Result<Vec<u8>, 
     Ok(bytes)
 }
 
+// Writes a regular file whole, or a new one.
+fn write_file<R: Files>(rt: &R, path: Path<'_>, bytes: &[u8]) -> Result<(), StoreFault> {
+    match fs::metadata(rt, path) {
+        Ok(about) if !about.is_file() => return Err(StoreFault::Failed),
+        Err(error) if error.kind() != ErrorKind::NotFound => return Err(write_fault(error)),
+        _ => {}
+    }
+    fs::write(rt, path, bytes).map_err(write_fault)
+}
+
 impl<R: Files + AllocGlobal + Drop> Shelf for FolderShelf<R> {
     ghost files = { λ _. None };
 
     ghost faults = { λ s. s };
 
     fn fetch(&mut self, name: &str) -> Result<Vec<u8>, FetchFault>
-        ensures short { IfOk result (λ v. length v.items ≤ LONGEST_FILE) }
+        ensures short { IfOk result (λ v. length v.items ≤ longest_file) }
+        ensures large { IfErr result TellsMore }
         ensures files { Fetches None None name.now result }
         ensures cause { FetchCause self.old self.new result }
         ensures counts { IsErrOf result FetchFault.Failed → self.new ≡ one_more self.old }
@@ -132,3 +161,6 @@ impl<R: Files + AllocGlobal + Drop> Shelf for FolderShelf<R> {
         answer
     }
 }
+
+#[cfg(test)]
+mod tests;

@@ -1,7 +1,8 @@
-//! The outside of the program: where its bytes come from, where they go, and where its files are kept.
+//! The outside of the program: where its bytes come from, where they go, and where its files are
+//! kept.
 //!
-//! Three traits say what the program asks of the outside. Objects in memory tell all that they hold, and the
-//! adapters over the standard streams and over a folder tell nothing.
+//! Three traits say what the program asks of the outside. Objects in memory tell all that they
+//! hold, and the adapters over the standard streams and over a folder tell nothing.
 #![tactic(auto)]
 
 mod calls;

@@ -1,12 +1,12 @@
 // A shelf in memory with calls that fail.
-ghost use Rattle.std.specs.Prelude.{◌≡◌, ◌≤◌, ◌↔◌, Some, true, IfOk, OnOk, OnErr, IsErrOf, length};
+ghost use Rattle.std.specs.Prelude.{◌≡◌, ◌≤◌, ◌↔◌, Some, true, IfOk, IfErr, OnOk, OnErr, IsErrOf, length};
 ghost use Rattle.std.specs.FinMap as map;
 ghost use Rattle.ls_edge.specs.Causes.{one_more};
-ghost use Rattle.ls_edge.specs.Files.{Fetches, Stores, FetchCause, StoreCause};
+ghost use Rattle.ls_edge.specs.Files.{longest_file, TellsMore, Fetches, Stores, FetchCause, StoreCause};
 ghost use Rattle.ls_edge.specs.Memory.{ShelfState, fails_next, next_faults, fetch_fails, fetch_faults};
 
 use crate::calls::Calls;
-use crate::{FetchFault, LONGEST_FILE, Shelf, StoreFault, SureShelf};
+use crate::{FetchFault, Shelf, StoreFault, SureShelf};
 use std::alloc::{AllocError, Global};
 use std::marker::Model;
 
@@ -24,14 +24,21 @@ impl Model for MemShelf {
 
     ghost coded = { shelf_code };
 
-    ghost view = { λ s. record { files = s.shelf; fails = s.calls.fails; calls = s.calls.calls; faults = s.calls.faults } };
+    ghost view = { λ s. record {
+      files = s.shelf;
+      fails = s.calls.fails;
+      calls = s.calls.calls;
+      faults = s.calls.faults;
+    } };
 }
 
 impl MemShelf {
-    /// A shelf with no file. The calls of `fetch` and `store` whose numbers, counted from 1, are in `fails` fail,
-    /// but for a fetch that has no file to give; a call after number 2^64 - 1 doesn't.
+    /// A shelf with no file. The calls of `fetch` and `store` whose numbers, counted from 1, are in
+    /// `fails` fail, but for a fetch that has no file to give; a call after number 2^64 - 1
+    /// doesn't.
     pub fn new(alloc: Global, fails: Vec<u64>) -> Self
-        ensures { result ≡ record { files = map.empty; fails = fails.items; calls = 0; faults = 0 } }
+        ensures { result ≡
+            record { files = map.empty; fails = fails.items; calls = 0; faults = 0 } }
     {
         MemShelf {
             shelf: SureShelf::new(alloc),
@@ -39,10 +46,11 @@ impl MemShelf {
         }
     }
 
-    /// Keeps these bytes as the file of that name, in place of any that it had, unless memory runs out. It is not
-    /// counted as a call.
+    /// Keeps these bytes as the file of that name, in place of any that it had, unless memory runs
+    /// out. It is not counted as a call.
     pub fn put(&mut self, name: &str, bytes: &[u8]) -> Result<(), AllocError>
-        ensures ok { OnOk result (self.new ≡ record self.old { files = map.insert self.old.files name.now bytes.now }) }
+        ensures ok { OnOk result (self.new ≡
+            record self.old { files = map.insert self.old.files name.now bytes.now }) }
         ensures err { OnErr result (self.new ≡ self.old) }
     {
         self.shelf.keep(name, bytes)
@@ -55,7 +63,8 @@ impl Shelf for MemShelf {
     ghost faults = { λ s. s.faults };
 
     fn fetch(&mut self, name: &str) -> Result<Vec<u8>, FetchFault>
-        ensures short { IfOk result (λ v. length v.items ≤ LONGEST_FILE) }
+        ensures short { IfOk result (λ v. length v.items ≤ longest_file) }
+        ensures large { IfErr result TellsMore }
         ensures files { Fetches (Some self.old.files) (Some self.new.files) name.now result }
         ensures cause { FetchCause self.old.faults self.new.faults result }
 
@@ -78,15 +87,18 @@ impl Shelf for MemShelf {
     }
 
     fn store(&mut self, name: &str, bytes: &[u8]) -> Result<(), StoreFault>
-        ensures files { Stores (Some self.old.files) (Some self.new.files) name.now bytes.now result }
+        ensures files { Stores (Some self.old.files) (Some self.new.files)
+            name.now bytes.now result }
         ensures cause { StoreCause self.old.faults self.new.faults result }
 
         // Which calls fail; only memory may refuse the others.
-        ensures fails { IsErrOf result StoreFault.Failed ↔ (fails_next self.old.fails self.old.calls ≡ true) }
+        ensures fails { IsErrOf result StoreFault.Failed ↔
+            (fails_next self.old.fails self.old.calls ≡ true) }
 
         // The counters, and what stays.
         ensures calls { self.new.calls ≡ one_more self.old.calls }
-        ensures faults { self.new.faults ≡ next_faults self.old.fails self.old.calls self.old.faults }
+        ensures faults { self.new.faults ≡
+            next_faults self.old.fails self.old.calls self.old.faults }
         ensures kept_fails { self.new.fails ≡ self.old.fails }
     {
         if self.calls.next_fails() {

@@ -20,15 +20,22 @@ pub struct MemSink {
 impl Model for MemSink {
     ghost Value = { SinkState };
 
-    ghost view = { λ s. record { written = s.sink.written; piece = s.sink.piece; fails = s.calls.fails; calls = s.calls.calls; faults = s.calls.faults } };
+    ghost view = { λ s. record {
+      written = s.sink.written;
+      piece = s.sink.piece;
+      fails = s.calls.fails;
+      calls = s.calls.calls;
+      faults = s.calls.faults;
+    } };
 }
 
 impl MemSink {
-    /// An empty sink. `piece`, at least 1, is the most bytes that one call takes. The calls whose numbers,
-    /// counted from 1, are in `fails` fail; a call after number 2^64 - 1 doesn't.
+    /// An empty sink. `piece`, at least 1, is the most bytes that one call takes. The calls whose
+    /// numbers, counted from 1, are in `fails` fail; a call after number 2^64 - 1 doesn't.
     pub fn new(alloc: Global, piece: usize, fails: Vec<u64>) -> Self
         requires { 0 < piece }
-        ensures { result ≡ record { written = []; piece = piece; fails = fails.items; calls = 0; faults = 0 } }
+        ensures { result ≡
+            record { written = []; piece = piece; fails = fails.items; calls = 0; faults = 0 } }
     {
         MemSink {
             sink: SureSink::new(alloc, piece),
@@ -53,16 +60,19 @@ impl Sink for MemSink {
         requires { 0 < length piece.now }
         ensures some { IfOk result (λ n. 0 < n) }
         ensures bound { WritesAtMost result piece.now }
-        ensures bytes { WriteAppends (Some self.old.written) (Some self.new.written) result piece.now }
+        ensures bytes { WriteAppends (Some self.old.written) (Some self.new.written)
+            result piece.now }
         ensures cause { HasSinkCause self.old.faults self.new.faults result }
 
         // Which calls fail, and how many bytes the others take; only memory may refuse them.
-        ensures fails { IsErrOf result SinkFault.Failed ↔ (fails_next self.old.fails self.old.calls ≡ true) }
+        ensures fails { IsErrOf result SinkFault.Failed ↔
+            (fails_next self.old.fails self.old.calls ≡ true) }
         ensures count { IfOk result (λ n. n ≡ min self.old.piece (length piece.now)) }
 
         // The counters, and what stays.
         ensures calls { self.new.calls ≡ one_more self.old.calls }
-        ensures faults { self.new.faults ≡ next_faults self.old.fails self.old.calls self.old.faults }
+        ensures faults { self.new.faults ≡
+            next_faults self.old.fails self.old.calls self.old.faults }
         ensures kept_piece { self.new.piece ≡ self.old.piece }
         ensures kept_fails { self.new.fails ≡ self.old.fails }
     {

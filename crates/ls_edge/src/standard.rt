@@ -8,8 +8,8 @@ use crate::{Failed, Sink, SinkFault, Source};
 use std::io::{Read, Write};
 use std::marker::Model;
 
-/// Standard input as a source. It tells nothing of its bytes. Clauses see the count of its faults: each `Err` of
-/// the object underneath counts.
+/// Standard input as a source. It tells nothing of its bytes. Clauses see the count of its faults:
+/// each `Err` of the object underneath counts, whatever its reason.
 #[derive(Drop)]
 pub struct StdSource<R: Input> {
     reader: R::Reader,
@@ -56,8 +56,9 @@ impl<R: Input> Source for StdSource<R> {
     }
 }
 
-/// Standard output as a sink. It tells nothing of the bytes. Clauses see the count of its faults: each `Err` of the
-/// object underneath counts, and each call in which that object takes nothing of a piece.
+/// Standard output as a sink. It tells nothing of the bytes. Clauses see the count of its faults:
+/// each `Err` of the object underneath counts, whatever its reason, and each call in which that
+/// object takes nothing of a piece.
 #[derive(Drop)]
 pub struct StdSink<P: Print + Drop> {
     rt: P,

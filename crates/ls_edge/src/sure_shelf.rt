@@ -1,7 +1,7 @@
 // A shelf in memory that never fails.
 ghost use Rattle.std.specs.Prelude.{◌≡◌, ◌≤◌, Some, Ok, Err, IfOk, IfErr, OnOk, OnErr, IsErrOf, length};
 ghost use Rattle.std.specs.FinMap as map;
-ghost use Rattle.ls_edge.specs.Files.{GivesBytes, Fetches, Stores, FetchCause, StoreCause, given};
+ghost use Rattle.ls_edge.specs.Files.{longest_file, TellsMore, GivesBytes, Fetches, Stores, FetchCause, StoreCause, given};
 
 use crate::{FetchFault, LONGEST_FILE, Shelf, StoreFault};
 use std::alloc::{AllocError, Global};
@@ -79,7 +79,8 @@ impl Shelf for SureShelf {
     ghost faults = { λ _. 0 };
 
     fn fetch(&mut self, name: &str) -> Result<Vec<u8>, FetchFault>
-        ensures short { IfOk result (λ v. length v.items ≤ LONGEST_FILE) }
+        ensures short { IfOk result (λ v. length v.items ≤ longest_file) }
+        ensures large { IfErr result TellsMore }
         ensures files { Fetches (Some self.old) (Some self.new) name.now result }
         ensures cause { FetchCause 0 0 result }
         ensures sure { ¬ IsErrOf result FetchFault.Failed }

@@ -53,7 +53,8 @@ impl Sink for SureSink {
         requires { 0 < length piece.now }
         ensures some { IfOk result (λ n. 0 < n) }
         ensures bound { WritesAtMost result piece.now }
-        ensures bytes { WriteAppends (Some self.old.written) (Some self.new.written) result piece.now }
+        ensures bytes { WriteAppends (Some self.old.written) (Some self.new.written)
+            result piece.now }
         ensures cause { HasSinkCause 0 0 result }
         ensures sure { ¬ IsErrOf result SinkFault.Failed }
         ensures count { IfOk result (λ n. n ≡ min self.old.piece (length piece.now)) }

@@ -59,7 +59,8 @@ impl Source for SureSource {
         ensures bytes { ReadConsumes (Some self.old.left) (Some self.new.left) result buf.new }
         ensures cause { HasCause 0 0 result }
         ensures sure { IsOk result }
-        ensures count { IfOk result (λ n. n ≡ min (min self.old.piece (length buf.old)) (length self.old.left)) }
+        ensures count { IfOk result (λ n.
+            n ≡ min (min self.old.piece (length buf.old)) (length self.old.left)) }
         ensures kept { self.new.piece ≡ self.old.piece }
     {
         let count = copy_piece(&self.bytes[self.at..], self.piece, buf);

@@ -1,10 +1,9 @@
 // The objects in memory call by call, and each adapter used once.
 use crate::{
-    Failed, FetchFault, FolderShelf, LONGEST_FILE, MemShelf, MemSink, MemSource, Shelf, Sink,
-    SinkFault, Source, StdSink, StdSource, StoreFault, SureShelf, SureSink, SureSource,
-    write_whole,
+    Failed, FetchFault, LONGEST_FILE, MemShelf, MemSink, MemSource, Shelf, Sink, SinkFault, Source,
+    StdSink, StdSource, StoreFault, SureShelf, SureSink, SureSource, write_whole,
 };
-use std::fs;
+use std::alloc::Global;
 use std::test::Fail;
 
 // Reads until the source answers `Ok(0)`.
@@ -98,12 +97,23 @@ fn sure_objects_never_fail(rt: HostRuntime) -> Result<(), Fail> {
 }
 
 // What the shelf has under a name, as `fetch` answers.
-fn holds<H: Shelf>(shelf: &mut H, name: &str, want: Result<&[u8], FetchFault>) -> bool {
+pub(crate) fn holds<H: Shelf>(shelf: &mut H, name: &str, want: Result<&[u8], FetchFault>) -> bool {
     match (shelf.fetch(name), want) {
         (Ok(bytes), Ok(want)) => bytes.as_slice() == want,
         (Err(fault), Err(want)) => fault == want,
         _ => false,
     }
+}
+
+// Whether the shelf gives back the longest file, and refuses one of a byte more.
+pub(crate) fn limit_holds<H: Shelf>(alloc: Global, shelf: &mut H) -> Result<bool, Fail> {
+    let mut bytes = vec![in alloc; 7; LONGEST_FILE]?;
+    shelf.store("long", &bytes)?;
+    let whole = holds(shelf, "long", Ok(&bytes));
+    bytes.push(7)?;
+    shelf.store("long", &bytes)?;
+    let more = FetchFault::TooLarge { bytes: 16_777_217 };
+    Ok(whole && holds(shelf, "long", Err(more)))
 }
 
 #[test]
@@ -123,18 +133,7 @@ fn a_shelf_keeps_each_name_apart(rt: HostRuntime) -> Result<(), Fail> {
 #[test]
 fn a_shelf_refuses_a_long_file(rt: HostRuntime) -> Result<(), Fail> {
     let mut shelf = SureShelf::new(rt.alloc());
-    let mut bytes = vec![in rt.alloc(); 7; LONGEST_FILE]?;
-    shelf.store("long", &bytes)?;
-    assert!(rt; holds(&mut shelf, "long", Ok(&bytes)));
-    bytes.push(7)?;
-    shelf.store("long", &bytes)?;
-    assert!(rt;
-        holds(
-            &mut shelf,
-            "long",
-            Err(FetchFault::TooLarge { bytes: 16_777_217 })
-        )
-    );
+    assert!(rt; limit_holds(rt.alloc(), &mut shelf)?);
     Ok(())
 }
 
@@ -150,35 +149,6 @@ fn a_shelf_fails_where_listed(rt: HostRuntime) -> Result<(), Fail> {
     assert!(rt; holds(&mut shelf, "one", Ok(b"first")));
     assert_eq!(rt; shelf.store("one", b"second"), Ok(()));
     assert!(rt; holds(&mut shelf, "one", Ok(b"second")));
-    Ok(())
-}
-
-#[test]
-fn a_folder_keeps_files(rt: HostRuntime) -> Result<(), Fail> {
-    let folder = "folder_of_a_test";
-    let _ = fs::remove_dir_all(&rt, folder);
-    fs::create_dir(&rt, folder)?;
-    let mut shelf = FolderShelf::new(&rt, folder)?;
-    assert!(rt; holds(&mut shelf, "one", Err(FetchFault::Missing)));
-    assert_eq!(rt; shelf.store("one", b"first"), Ok(()));
-    assert_eq!(rt; shelf.store("one", b"next"), Ok(()));
-    assert!(rt; holds(&mut shelf, "one", Ok(b"next")));
-    // A folder is no file.
-    assert!(rt; holds(&mut shelf, ".", Err(FetchFault::Failed)));
-    assert_eq!(rt; shelf.store(".", b""), Err(StoreFault::Failed));
-    let mut bytes = vec![in rt.alloc(); 7; LONGEST_FILE]?;
-    assert_eq!(rt; shelf.store("long", &bytes), Ok(()));
-    assert!(rt; holds(&mut shelf, "long", Ok(&bytes)));
-    bytes.push(7)?;
-    assert_eq!(rt; shelf.store("long", &bytes), Ok(()));
-    assert!(rt;
-        holds(
-            &mut shelf,
-            "long",
-            Err(FetchFault::TooLarge { bytes: 16_777_217 })
-        )
-    );
-    fs::remove_dir_all(&rt, folder)?;
     Ok(())
 }
 

@@ -1,5 +1,6 @@
-// What the program asks of the outside: where bytes come from, where they go, and where files are kept.
-ghost use Rattle.std.specs.Prelude.{◌≡◌, ◌<◌, ◌≤◌, List, ℕ, length, IfOk, OnErr};
+// What the program asks of the outside: where bytes come from, where they go, and where files are
+// kept.
+ghost use Rattle.std.specs.Prelude.{◌≡◌, ◌<◌, ◌≤◌, List, ℕ, length, IfOk, IfErr, OnErr};
 ghost use Rattle.std.specs.declared.option.Option.{Option};
 ghost use Rattle.std.specs.Io.{ReadsAtMost, WritesAtMost};
 ghost use Rattle.std.specs.Io.KnownBytes.{ReadConsumes, WriteAppends};
@@ -64,9 +65,10 @@ pub trait Source {
     /// How often the source has failed.
     ghost faults: { Self → ℕ };
 
-    /// Reads some of the bytes that are left to the front of `buf`, and answers how many. `Ok(0)` is the end: where
-    /// the bytes are told, an `Ok` is `Ok(0)` exactly where none is left. `Failed` takes nothing, and comes only
-    /// where the count of faults rose; that count never falls.
+    /// Reads some of the bytes that are left to the front of `buf`, and answers how many. `Ok(0)`
+    /// is the end: where the bytes are told, an `Ok` is `Ok(0)` exactly where none is left.
+    /// `Failed` takes nothing, and comes only where the count of faults rose; that count never
+    /// falls.
     fn read(&mut self, buf: &mut [u8]) -> Result<usize, Failed>
         requires { 0 < length buf.old }
         ensures bound { ReadsAtMost result buf.new }
@@ -84,8 +86,9 @@ pub trait Sink {
     /// How often the sink has failed.
     ghost faults: { Self → ℕ };
 
-    /// Writes a front of `piece`, of at least one byte, and answers how many bytes it took. An `Err` writes nothing.
-    /// `Failed` comes only where the count of faults rose; that count never falls.
+    /// Writes a front of `piece`, of at least one byte, and answers how many bytes it took. An
+    /// `Err` writes nothing. `Failed` comes only where the count of faults rose; that count never
+    /// falls.
     fn write(&mut self, piece: &[u8]) -> Result<usize, SinkFault>
         requires { 0 < length piece.now }
         ensures some { IfOk result (λ n. 0 < n) }
@@ -96,7 +99,7 @@ pub trait Sink {
 
 /// Where files are kept, each under a name.
 pub trait Shelf {
-    ghost use Rattle.ls_edge.specs.Files.{Folder, Fetches, Stores, FetchCause, StoreCause};
+    ghost use Rattle.ls_edge.specs.Files.{longest_file, TellsMore, Folder, Fetches, Stores, FetchCause, StoreCause};
 
     /// The files, where they are told.
     ghost files: { Self → Option Folder };
@@ -104,18 +107,20 @@ pub trait Shelf {
     /// How often the shelf has failed.
     ghost faults: { Self → ℕ };
 
-    /// The bytes of the file of that name, of which there are at most `LONGEST_FILE`. Where the files are told, the
-    /// answer is `Missing` exactly where none has the name, and `TooLarge`, with its length in bytes, exactly where
-    /// it has more; and no told file changes. `Failed` comes only where the count of faults rose; that count never
+    /// The bytes of the file of that name, of which there are at most `LONGEST_FILE`. `TooLarge`
+    /// tells more than that. Where the files are told, the answer is `Missing` exactly where none
+    /// has the name, and `TooLarge`, with its length in bytes, exactly where it has more; and no
+    /// told file changes. `Failed` comes only where the count of faults rose; that count never
     /// falls.
     fn fetch(&mut self, name: &str) -> Result<Vec<u8>, FetchFault>
-        ensures short { IfOk result (λ v. length v.items ≤ LONGEST_FILE) }
+        ensures short { IfOk result (λ v. length v.items ≤ longest_file) }
+        ensures large { IfErr result TellsMore }
         ensures files { Fetches (files self.old) (files self.new) name.now result }
         ensures cause { FetchCause (faults self.old) (faults self.new) result };
 
-    /// Keeps these bytes as the file of that name, in place of any that it had. Where the files are told, all other
-    /// names keep theirs, and an `Err` changes nothing. `Failed` comes only where the count of faults rose; that
-    /// count never falls.
+    /// Keeps these bytes as the file of that name, in place of any that it had. Where the files are
+    /// told, all other names keep theirs, and an `Err` changes nothing. `Failed` comes only where
+    /// the count of faults rose; that count never falls.
     fn store(&mut self, name: &str, bytes: &[u8]) -> Result<(), StoreFault>
         ensures files { Stores (files self.old) (files self.new) name.now bytes.now result }
         ensures cause { StoreCause (faults self.old) (faults self.new) result };

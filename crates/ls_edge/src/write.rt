@@ -5,8 +5,8 @@ ghost use Rattle.ls_edge.specs.Causes.{AppendsFront, HasSinkCause};
 
 use crate::{Sink, SinkFault};
 
-/// Writes all the bytes, piece by piece. After an `Err` a front of them is written. `Failed` comes only where the sink's
-/// count of faults rose; that count never falls.
+/// Writes all the bytes, piece by piece. After an `Err` a front of them is written. `Failed` comes
+/// only where the sink's count of faults rose; that count never falls.
 pub fn write_whole<K: Sink>(out: &mut K, bytes: &[u8]) -> Result<(), SinkFault>
     ensures ok { OnOk result (Appends (K.written out.old) (K.written out.new) bytes.now) }
     ensures err { OnErr result (AppendsFront (K.written out.old) (K.written out.new) bytes.now) }

@@ -2,8 +2,7 @@
 use Rattle.std.proofs.Common.{◌≡◌, ℕ, true, false, cond, ltb, List, length, Option, Some, None, is_some, Result, Ok, Err, IfOk, OnOk, refl, sym, ap, ◌∙◌, subst, arith}
 use Rattle.std.specs.declared.alloc.AllocError.{AllocError}
 use Rattle.std.specs.FinMap as map
-use Rattle.ls_edge.specs.Files.{Folder}
-use Rattle.ls_edge.specs.declared.traits.TheConstants.{LONGEST_FILE}
+use Rattle.ls_edge.specs.Files.{longest_file, Folder}
 use Rattle.ls_reply.specs.Scenes.{Calls, Bytes, Missing, TooLarge, Failed, fetched_from, calls_of}
 use Rattle.ls_reply.specs.Sessions.{Session, has_domain}
 use Rattle.ls_reply.specs.Effects.{Effect}
@@ -24,7 +23,7 @@ has_domain-is (Some c) h = has_domain-some c.session (h c refl)
 never_failed : (o : Option (List ℕ)) → fetched_from false o ≡ Failed → ⊥
 never_failed None e = cc
 never_failed (Some bytes) e =
-    elim (ltb LONGEST_FILE (length bytes)) as (λ b. cond b (TooLarge (length bytes)) (cond false Failed (Bytes bytes)) ≡ Failed → ⊥) [ true ↦ λ e. cc | false ↦ λ e. cc ] e
+    elim (ltb longest_file (length bytes)) as (λ b. cond b (TooLarge (length bytes)) (cond false Failed (Bytes bytes)) ≡ Failed → ⊥) [ true ↦ λ e. cc | false ↦ λ e. cc ] e
 
 -- what told files give, or no file
 abbrev pub calls_told : Option Folder → Calls

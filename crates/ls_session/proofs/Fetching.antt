@@ -3,8 +3,7 @@ use Rattle.std.proofs.Common.{◌≡◌, ℕ, Bool, true, false, cond, ltb, List
 use Rattle.std.specs.declared.alloc.AllocError.{AllocError}
 use Rattle.std.specs.declared.alloc.Global.{Global}
 use Rattle.std.specs.FinMap as map
-use Rattle.ls_edge.specs.Files.{Folder, Fetches, FetchCause, FetchedFrom, GivesBytes, Stays}
-use Rattle.ls_edge.specs.declared.traits.TheConstants.{LONGEST_FILE}
+use Rattle.ls_edge.specs.Files.{longest_file, Folder, Fetches, FetchCause, FetchedFrom, GivesBytes, Stays}
 use Rattle.ls_edge.specs.declared.traits.FetchFault.{FetchFault}
 use Rattle.ls_edge.specs.declared.traits.FetchFault.TheVariants as fetch
 use Rattle.ls_lines.specs.Lines.{Text}
@@ -55,7 +54,7 @@ failed_from : (b : Bool) (o : Option (List ℕ)) → fetched_from b o ≡ Failed
 failed_from true o e = refl
 failed_from false None e = absurd (cc e)
 failed_from false (Some bytes) e =
-    absurd (elim (ltb LONGEST_FILE (length bytes)) as (λ t. cond t (TooLarge (length bytes)) (cond false Failed (Bytes bytes)) ≡ Failed → ⊥) [ true ↦ λ e. cc e | false ↦ λ e. cc e ] e)
+    absurd (elim (ltb longest_file (length bytes)) as (λ t. cond t (TooLarge (length bytes)) (cond false Failed (Bytes bytes)) ≡ Failed → ⊥) [ true ↦ λ e. cc e | false ↦ λ e. cc e ] e)
 
 sees_fetched : (old : Option Folder) (r : Result (Vec ℕ Global) FetchFault) (before now : ℕ) → FetchCause before now r → Sees (calls_seen old r) old before now
 sees_fetched None r before now cause = record {
@@ -88,7 +87,7 @@ given_is (Err (fetch.Memory e)) bytes h = tt
 seen_from : (o : Option (List ℕ)) (r : Result (Vec ℕ Global) FetchFault) → FetchedFrom o r → IsFetched (fetched_from (is_failed r) o) r
 seen_from None r h = subst (IsFetched Missing) (sym h) refl
 seen_from (Some bytes) r h =
-    elim (ltb LONGEST_FILE (length bytes)) as (λ t. MatchResult (cond t (Err (fetch.TooLarge (length bytes))) (Ok bytes)) (λ b. GivesBytes b r) (λ e. r ≡ Err e) → IsFetched (cond t (TooLarge (length bytes)) (cond (is_failed r) Failed (Bytes bytes))) r) [
+    elim (ltb longest_file (length bytes)) as (λ t. MatchResult (cond t (Err (fetch.TooLarge (length bytes))) (Ok bytes)) (λ b. GivesBytes b r) (λ e. r ≡ Err e) → IsFetched (cond t (TooLarge (length bytes)) (cond (is_failed r) Failed (Bytes bytes))) r) [
       | true ↦ λ e. subst (IsFetched (TooLarge (length bytes))) (sym e) refl
       | false ↦ λ g. given_is r bytes g
     ] h
