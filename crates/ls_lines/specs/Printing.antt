@@ -2,7 +2,7 @@
 use Rattle.std.specs.Prelude.{ℕ, Bool, true, ◌&&◌, if◌then◌else◌, nat_le, List, [], ◌∷◌, flat_map, codes, decimal, Option, Some, None}
 use Rattle.std.specs.List.{list_all, join_with_byte}
 use Rattle.ls_lines.specs.Lines.{Text}
-use Rattle.ls_lines.specs.Kinds.{is_of, most_counted, most_number}
+use Rattle.ls_lines.specs.Kinds.{is_of, most_counted, greatest_number}
 use Rattle.ls_lines.specs.Forms.{spelling, parts}
 use Rattle.ls_lines.specs.declared.kind.Kind.TheVariants as kind
 use Rattle.ls_lines.specs.declared.part.Part.{Part}
@@ -94,19 +94,19 @@ operands (commands.Save file) = (file ∷ []) ∷ []
 operands (commands.Reopen file) = (file ∷ []) ∷ []
 
 -- the words at each part: a fixed word stands for itself, and the other parts have the given words in turn
-unfoldable pub placed : List Part → List (List Text) → List (List Text)
-placed [] given = []
-placed (Fixed v ∷ ps) given = (spelling v ∷ []) ∷ placed ps given
-placed (p ∷ ps) [] = [] ∷ placed ps []
-placed (p ∷ ps) (ws ∷ given) = ws ∷ placed ps given
+unfoldable pub laid_out : List Part → List (List Text) → List (List Text)
+laid_out [] given = []
+laid_out (Fixed v ∷ ps) given = (spelling v ∷ []) ∷ laid_out ps given
+laid_out (p ∷ ps) [] = [] ∷ laid_out ps []
+laid_out (p ∷ ps) (ws ∷ given) = ws ∷ laid_out ps given
 
 -- the words of the command
 unfoldable pub spelled : Command → List Text
-spelled c = flat_map (λ ws. ws) (placed (parts (form_of c)) (operands c))
+spelled c = flat_map (λ ws. ws) (laid_out (parts (form_of c)) (operands c))
 
 -- words, joined by single spaces
-abbrev pub line_of : List Text → List ℕ
-line_of ws = join_with_byte 32 ws
+abbrev pub words_joined : List Text → List ℕ
+words_joined ws = join_with_byte 32 ws
 
 -- whether the words, numbers and counts of the command are of their classes
 unfoldable pub is_plain : Command → Bool
@@ -115,10 +115,10 @@ is_plain (commands.Items names) = list_all (is_of kind.Name) names
 is_plain (commands.LoadItems file) = is_of kind.File file
 is_plain (commands.StartSurmise file) = is_of kind.File file
 is_plain (commands.StartBase file) = is_of kind.File file
-is_plain (commands.Blocks size) = nat_le size most_number
+is_plain (commands.Blocks size) = nat_le size greatest_number
 is_plain (commands.Yes names item) = list_all (is_of kind.Item) names && is_of kind.Item item
 is_plain (commands.No names item) = list_all (is_of kind.Item) names && is_of kind.Item item
-is_plain (commands.Retract number) = nat_le number most_number
+is_plain (commands.Retract number) = nat_le number greatest_number
 is_plain (commands.Known names item) = list_all (is_of kind.Item) names && is_of kind.Item item
 is_plain commands.Ask = true
 is_plain (commands.States count None) = nat_le count most_counted
@@ -134,9 +134,9 @@ is_plain (commands.Fringes names) = list_all (is_of kind.Item) names
 is_plain (commands.StateOf inner outer) = list_all (is_of kind.Item) inner && list_all (is_of kind.Item) outer
 is_plain (commands.Paths count None) = nat_le count most_counted
 is_plain (commands.Paths count (Some path)) = nat_le count most_counted && list_all (is_of kind.Item) path
-is_plain (commands.OddsAll right wrong) = nat_le right most_number && nat_le wrong most_number
-is_plain (commands.OddsItem item right wrong) = is_of kind.Item item && nat_le right most_number && nat_le wrong most_number
-is_plain (commands.Limits budget share) = nat_le budget most_number && nat_le share most_number
+is_plain (commands.OddsAll right wrong) = nat_le right greatest_number && nat_le wrong greatest_number
+is_plain (commands.OddsItem item right wrong) = is_of kind.Item item && nat_le right greatest_number && nat_le wrong greatest_number
+is_plain (commands.Limits budget share) = nat_le budget greatest_number && nat_le share greatest_number
 is_plain (commands.Pupil name) = is_of kind.Name name
 is_plain (commands.Question name) = is_of kind.Name name
 is_plain (commands.Reply name item right) = is_of kind.Name name && is_of kind.Item item

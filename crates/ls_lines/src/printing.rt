@@ -1,6 +1,6 @@
 // Printing commands by the table of forms.
 ghost use Rattle.std.specs.Prelude.{◌≡◌, IfOk, map, flat_map};
-ghost use Rattle.ls_lines.specs.Printing.{form_of, operands, placed, spelled, line_of};
+ghost use Rattle.ls_lines.specs.Printing.{form_of, operands, laid_out, spelled, words_joined};
 ghost use Rattle.ls_lines.specs.Operands.{shown, with_spaces};
 
 use crate::operand::Operand::{Count, Many, Number, One, Right};
@@ -13,7 +13,7 @@ use std::alloc::{AllocError, Global};
 
 /// The line that the command is: the words of its form, joined by single spaces.
 pub fn print_command(alloc: Global, command: &Command) -> Result<Vec<u8>, AllocError>
-    ensures { IfOk result (λ line. line.items ≡ line_of (spelled command.now)) }
+    ensures { IfOk result (λ line. line.items ≡ words_joined (spelled command.now)) }
 {
     let operands = operands(alloc, command)?;
     let mut text = spaced(alloc, form_of(command).parts(), &operands)?;
@@ -23,7 +23,7 @@ pub fn print_command(alloc: Global, command: &Command) -> Result<Vec<u8>, AllocE
 
 // The words at the parts, each with a space behind it.
 fn spaced(alloc: Global, form: &[Part], operands: &[Operand]) -> Result<Vec<u8>, AllocError>
-    ensures { IfOk result (λ text. text.items ≡ with_spaces (flat_map (λ ws. ws) (placed form.now (map shown operands.now)))) }
+    ensures { IfOk result (λ text. text.items ≡ with_spaces (flat_map (λ ws. ws) (laid_out form.now (map shown operands.now)))) }
 {
     let mut text = Vec::new(alloc);
     let mut left = operands;

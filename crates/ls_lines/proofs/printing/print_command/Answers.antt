@@ -1,5 +1,5 @@
 use Rattle.std.proofs.Common.{◌≡◌, ◌∙◌, refl, sym, ap, map, rules, length, flat_map, vec_len}
-use Rattle.ls_lines.specs.Printing.{spelled, placed}
+use Rattle.ls_lines.specs.Printing.{spelled, laid_out}
 use Rattle.ls_lines.specs.Operands.{with_spaces}
 use Rattle.ls_lines.proofs.Printed.{trimmed}
 use Rattle.ls_lines.proofs.printing.print_command.Goals as goal
