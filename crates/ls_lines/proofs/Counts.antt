@@ -30,24 +30,15 @@ pub made_by_form : (ws : List Text) (c : Command) → command_of ws ≡ Some c �
 unfolding command_of
 made_by_form ws c h = made ws forms c h
 
-counted : (given : List (List Text)) (n : ℕ) → Some (count given 1) ≡ Some n → n ≤ most_counted
-counted given n h = subst (λ m. m ≤ most_counted) (same_Some (count given 1) n h) (number-within most_counted (one given 1))
-
 form_count-within : (f : Form) (given : List (List Text)) (n : ℕ) → count_of (command f given) ≡ Some n → n ≤ most_counted
 unfolding command
-form_count-within (form.Listing listing.States) given n h = subst (λ m. m ≤ most_counted) (same_Some most_counted n h) (omega arith)
-form_count-within (form.Listing listing.StatesUpTo) given n h = counted given n h
-form_count-within (form.Listing listing.StatesAfter) given n h = counted given n h
-form_count-within (form.Listing listing.Project) given n h = counted given n h
-form_count-within (form.Listing listing.ProjectAfter) given n h = counted given n h
-form_count-within (form.Structure structure.Paths) given n h = counted given n h
-form_count-within (form.Structure structure.PathsAfter) given n h = counted given n h
 form_count-within form.Nothing given n h = absurd (none-some n h)
 form_count-within (form.Setting setting.Items) given n h = absurd (none-some n h)
 form_count-within (form.Interview interview.Blocks) given n h = absurd (none-some n h)
+form_count-within (form.Listing listing.Base) given n h = absurd (none-some n h)
 form_count-within (form.Structure structure.Test) given n h = absurd (none-some n h)
 form_count-within (form.Pupil pupil.OddsAll) given n h = absurd (none-some n h)
-form_count-within f given n h = absurd (none-some n h)
+form_count-within f given n h = grind (arith, number-within)
 
 pub count-within : (ws : List Text) (c : Command) (n : ℕ) → command_of ws ≡ Some c → count_of c ≡ Some n → n ≤ most_counted
 count-within ws c n h k =

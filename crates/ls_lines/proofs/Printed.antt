@@ -6,7 +6,7 @@ use Rattle.std.proofs.Math.Seq.{take-append_seam, take-nil}
 use Rattle.ls_lines.specs.Lines.{Text}
 use Rattle.ls_lines.specs.Forms.{spelling}
 use Rattle.ls_lines.specs.Printing.{laid_out, words_joined}
-use Rattle.ls_lines.specs.Operands.{shown, with_spaces}
+use Rattle.ls_lines.specs.Operands.{words_of, filling, shown, with_spaces}
 use Rattle.ls_lines.specs.declared.keyword.Keyword.{Keyword}
 use Rattle.ls_lines.specs.declared.operand.Operand.{Operand}
 use Rattle.ls_lines.specs.declared.part.Part.{Part}
@@ -61,6 +61,11 @@ no_operand ps i d seen all lt not_own h =
 pub no_part : (ps : List Part) (i : ℕ) (given : List (List Text)) (seen all : List ℕ) → length ps ≤ i → seen ++ text_of (laid_out (drop i ps) given) ≡ all → seen ≡ all
 unfolding laid_out
 no_part ps i given seen all le h = sym (append-nil seen) ∙ sym (ap (λ l. seen ++ text_of (laid_out l given)) (drop_all i ps le)) ∙ h
+
+-- the words of what the code holds
+pub shown-filling : (os : List Operand) → map shown os ≡ map words_of (map filling os)
+shown-filling [] = refl
+shown-filling (o ∷ os) = ap (λ ws. shown o ∷ ws) (shown-filling os)
 
 -- the operands that are left: none, or one and more
 pub none_left : (left : List Operand) → length left < 1 → map shown left ≡ []

@@ -11,9 +11,10 @@ use std::marker::Model;
 /// The most bytes of a line that are kept.
 pub const LONGEST_LINE: usize = 65_536;
 
-/// Cuts a stream of bytes into its lines, piece by piece; how the stream was cut into pieces doesn't
-/// matter. Contracts see what it keeps: the bytes since the last line end, how many these are, and
-/// the line that ended last. Of a line of more than [`LONGEST_LINE`] bytes only their number is kept.
+/// Cuts a stream of bytes into its lines, piece by piece; how the stream was cut into pieces is of
+/// no account. Contracts see what it keeps: the bytes since the last line end, how many these are,
+/// and the line that ended last. Of a line of more than [`LONGEST_LINE`] bytes only their number is
+/// kept.
 #[derive(Drop)]
 pub struct Cutter {
     bytes: Vec<u8>,
@@ -54,7 +55,7 @@ fn line_end(piece: &[u8]) -> Option<usize>
 }
 
 impl Cutter {
-    /// A cutter of a stream of which nothing was taken yet. It takes room for one line, once and for
+    /// A cutter of a stream of which nothing was taken yet. It takes room for one line, once for
     /// all.
     pub fn new(alloc: Global) -> Result<Cutter, AllocError>
         ensures { IfOk result (λ c. Holds c []) }

@@ -4,8 +4,8 @@ ghost use Rattle.ls_lines.specs.Kinds.{is_name_up_to, is_name_byte, is_file, is_
 
 use crate::number::number_up_to;
 
-/// What a word of a command can be. An item's name is a name; it has to be one of the domain's. The last
-/// kind has the two words `right` and `wrong`.
+/// What a word of a command can be. An item's name is a name; it has to be one of the domain's. The
+/// last kind has the two words `right` and `wrong`.
 #[derive(Clone, Copy, Debug, PartialEq, Eq)]
 pub enum Kind {
     Name,

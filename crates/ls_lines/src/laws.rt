@@ -29,8 +29,8 @@ pub fn counts_are_bounded()
         → command_of ws ≡ Some c → count_of c ≡ Some n → n ≤ most_counted }
 {}
 
-/// A printed command is read back, where its words, numbers and counts are of their classes. Nothing
-/// is done.
+/// A printed command is read back, where its words, numbers and counts can stand at the parts of
+/// its form. Nothing is done.
 pub fn commands_read_back()
     ensures words { (c : Command) → is_plain c ≡ true
         → words (words_joined (spelled c)) ≡ spelled c }
