@@ -1,10 +1,10 @@
 -- The count of a command that is read is at most 65536.
-use Rattle.std.proofs.Common.{ℕ, ◌≡◌, ◌≤◌, sym, subst, arith, Option, None, Some, List, [], ◌∷◌, option_map}
+use Rattle.std.proofs.Common.{ℕ, ◌≡◌, ◌≤◌, sym, subst, arith, None, Some, List, [], ◌∷◌, option_map}
 use Rattle.std.specs.List.{filter_map, cons_option, slice_get}
 use Rattle.std.proofs.lemmas.Option.{none-some, same_Some}
 use Rattle.ls_lines.specs.Lines.{Text}
 use Rattle.ls_lines.specs.Kinds.{most_counted}
-use Rattle.ls_lines.specs.Forms.{one, count, parts, command, forms}
+use Rattle.ls_lines.specs.Forms.{parts, command, forms}
 use Rattle.ls_lines.specs.Commands.{cut, command_of, count_of}
 use Rattle.ls_lines.specs.declared.form.Form.{Form}
 use Rattle.ls_lines.specs.declared.form.Form.TheVariants as form

@@ -1,5 +1,5 @@
 -- A printed command is read back.
-use Rattle.std.proofs.Common.{ℕ, ◌<◌, ◌≤◌, ◌≡◌, ◌∙◌, refl, sym, ap, subst, arith, Bool, true, false, ◌&&◌, if◌then◌else◌, nat_le, List, [], ◌∷◌, map, Option, Some, None, is_some, codes, bytes_eq}
+use Rattle.std.proofs.Common.{ℕ, ◌≡◌, ◌∙◌, refl, ap, arith, Bool, true, false, if◌then◌else◌, nat_le, List, [], ◌∷◌, map, Some, None, is_some, codes, bytes_eq}
 use Rattle.std.specs.Fmt.{decimal}
 use Rattle.std.specs.List.{list_all}
 use Rattle.std.proofs.lemmas.Bool.{leb-true}
@@ -8,13 +8,12 @@ use Rattle.ls_lines.specs.Lines.{Text, words}
 use Rattle.ls_lines.specs.Numbers.{number_up_to}
 use Rattle.ls_lines.specs.Kinds.{is_of, most_counted, greatest_number}
 use Rattle.ls_lines.specs.Forms.{spelling, parts, command, forms}
-use Rattle.ls_lines.specs.Commands.{cut, command_of}
+use Rattle.ls_lines.specs.Commands.{command_of}
 use Rattle.ls_lines.specs.Operands.{Filling, Word, Words, Number, Right, words_of}
 use Rattle.ls_lines.specs.Printing.{form_of, operands, laid_out, spelled, words_joined, stands_at, all_stand, is_plain}
 use Rattle.ls_lines.specs.declared.kind.Kind.TheVariants as kind
 use Rattle.ls_lines.specs.declared.part.Part.{Part}
 use Rattle.ls_lines.specs.declared.part.Part.TheVariants.{Fixed, One, Many}
-use Rattle.ls_lines.specs.declared.form.Form.{Form}
 use Rattle.ls_lines.specs.declared.command.Command.{Command}
 use Rattle.ls_lines.specs.declared.command.Command.TheVariants as commands
 use Rattle.ls_lines.proofs.Numbers.{never, both, number_up_to-of_decimal}

@@ -1,15 +1,15 @@
 -- The words of a kind are of cursor bytes, and there is a word of each kind.
-use Rattle.std.proofs.Common.{ℕ, ◌<◌, ◌≡◌, refl, sym, subst, arith, Bool, true, false, not, ◌&&◌, ◌||◌, ◌==◌, List, [], ◌∷◌, length, nat_lt, nat_le, slice_index, bytes_eq, codes}
+use Rattle.std.proofs.Common.{ℕ, ◌<◌, ◌≡◌, refl, sym, subst, arith, Bool, true, false, not, ◌||◌, ◌==◌, [], ◌∷◌, length, nat_lt, nat_le, slice_index, bytes_eq, codes}
 use Rattle.std.specs.List.{list_all}
 use Rattle.std.specs.Cmp.Lexicographic.{same_text}
 use Rattle.std.proofs.lemmas.Bool.{ltb-true, leb-true}
 use Rattle.std.proofs.lemmas.Bool.Decides.{nat_tests}
 use Rattle.ls_lines.specs.Lines.{Text}
 use Rattle.ls_lines.specs.Numbers.{is_digit, is_decimal}
-use Rattle.ls_lines.specs.Kinds.{is_of, is_from_to, is_name_byte, is_name_up_to, is_cursor_byte, is_cursor, longest_name, longest_file_name, most_counted, greatest_number}
+use Rattle.ls_lines.specs.Kinds.{is_of, is_from_to, is_name_byte, is_name_up_to, is_cursor_byte, longest_name, longest_file_name, most_counted, greatest_number}
 use Rattle.ls_lines.specs.declared.kind.Kind.{Kind}
 use Rattle.ls_lines.specs.declared.kind.Kind.TheVariants as kind
-use Rattle.ls_lines.proofs.Numbers.{never, both, some_digits, number_up_to-decimal}
+use Rattle.ls_lines.proofs.Numbers.{both, some_digits, number_up_to-decimal}
 
 all_where : (p q : ℕ → Bool) → ((b : ℕ) → p b ≡ true → q b ≡ true) → (w : Text) → list_all p w ≡ true → list_all q w ≡ true
 all_where p q more [] h = refl

@@ -1,5 +1,5 @@
 -- The forms of commands: ONE TABLE, from which a line is read, a command is printed and a fault has its place (`Commands`).
-use Rattle.std.specs.Prelude.{List, [], ◌∷◌, codes, slice_index_or, ℕ, Bool, bytes_eq, Option, Some, None, unwrap_or}
+use Rattle.std.specs.Prelude.{List, [], ◌∷◌, codes, slice_index_or, ℕ, Bool, bytes_eq, Some, None, unwrap_or}
 use Rattle.ls_lines.specs.Lines.{Text}
 use Rattle.ls_lines.specs.Numbers.{number_up_to}
 use Rattle.ls_lines.specs.Kinds.{most_counted, greatest_number}

@@ -1,5 +1,5 @@
-use Rattle.std.proofs.Common.{◌≡◌, ◌∙◌, refl, sym, ap, map, rules, length, flat_map, vec_len}
-use Rattle.ls_lines.specs.Printing.{spelled, laid_out}
+use Rattle.std.proofs.Common.{◌≡◌, ◌∙◌, refl, ap, rules, length, vec_len}
+use Rattle.ls_lines.specs.Printing.{spelled}
 use Rattle.ls_lines.specs.Operands.{with_spaces}
 use Rattle.ls_lines.proofs.Printed.{trimmed, shown-filling}
 use Rattle.ls_lines.proofs.printing.print_command.Goals as goal
