@@ -1,9 +1,8 @@
 -- No line has two forms.
-use Rattle.std.proofs.Common.{ℕ, zero, suc, ◌≡◌, refl, sym, ap, subst, ◌∙◌, Bool, true, false, not, ◌&&◌, ◌||◌, ◌==◌, List, [], ◌∷◌, bytes_eq, Some}
+use Rattle.std.proofs.Common.{ℕ, zero, suc, ◌≡◌, refl, sym, ap, subst, ◌∙◌, Bool, true, false, cond, ◌&&◌, List, [], ◌∷◌, bytes_eq, Some}
 use Rattle.std.specs.Cmp.Lexicographic.{same_text}
-use Rattle.std.specs.List.{list_all, slice_get}
+use Rattle.std.specs.List.{filter, list_all, slice_get}
 use Rattle.std.proofs.lemmas.Option.{none-some, same_Some}
-use Rattle.std.proofs.lemmas.Bool.Decides.{Decides-eqb}
 use Rattle.ls_lines.specs.Lines.{Text}
 use Rattle.ls_lines.specs.Forms.{spelling, parts, forms}
 use Rattle.ls_lines.specs.Grammar.{IsLine, done, fixed, one, no_more, one_more}
@@ -18,7 +17,7 @@ use Rattle.ls_lines.specs.declared.structure_form.StructureForm.TheVariants as s
 use Rattle.ls_lines.specs.declared.pupil_form.PupilForm.TheVariants as pupil
 use Rattle.ls_lines.specs.declared.part.Part.{Part}
 use Rattle.ls_lines.specs.declared.part.Part.TheVariants.{Fixed, One, Many}
-use Rattle.ls_lines.proofs.Numbers.{never, both}
+use Rattle.ls_lines.proofs.Numbers.{both}
 
 -- whether the two may have a line in common: their fixed words agree as far as no `Many` stands before, and so do their lengths
 abbrev clash : List Part → List Part → Bool
@@ -57,75 +56,61 @@ shared (w ∷ ws) (one e g) (one f h) = shared ws g h
 shared ws done done = refl
 shared ws g h = refl
 
--- the place of each form in the table
-abbrev pub place : Form → ℕ
-place form.Nothing = 0
-place (form.Setting setting.Items) = 1
-place (form.Setting setting.LoadItems) = 2
-place (form.Setting setting.StartSurmise) = 3
-place (form.Setting setting.StartBase) = 4
-place (form.Setting setting.Save) = 5
-place (form.Setting setting.Reopen) = 6
-place (form.Interview interview.Blocks) = 7
-place (form.Interview interview.Yes) = 8
-place (form.Interview interview.No) = 9
-place (form.Interview interview.Retract) = 10
-place (form.Interview interview.Known) = 11
-place (form.Interview interview.Ask) = 12
-place (form.Listing listing.States) = 13
-place (form.Listing listing.StatesUpTo) = 14
-place (form.Listing listing.StatesAfter) = 15
-place (form.Listing listing.Base) = 16
-place (form.Listing listing.Surmise) = 17
-place (form.Listing listing.Learning) = 18
-place (form.Listing listing.Project) = 19
-place (form.Listing listing.ProjectAfter) = 20
-place (form.Listing listing.ProjectBase) = 21
-place (form.Structure structure.Test) = 22
-place (form.Structure structure.Fringes) = 23
-place (form.Structure structure.StateOf) = 24
-place (form.Structure structure.Paths) = 25
-place (form.Structure structure.PathsAfter) = 26
-place (form.Pupil pupil.OddsAll) = 27
-place (form.Pupil pupil.OddsItem) = 28
-place (form.Pupil pupil.Limits) = 29
-place (form.Pupil pupil.Pupil) = 30
-place (form.Pupil pupil.Question) = 31
-place (form.Pupil pupil.Reply) = 32
-place (form.Pupil pupil.Report) = 33
-place (form.Pupil pupil.Close) = 34
-place (form.Pupil pupil.Class) = 35
-
-pub at_place : (f : Form) → slice_get forms (place f) ≡ Some f
-unfolding forms
-at_place form.Nothing = refl
-at_place (form.Setting setting.Items) = refl
-at_place (form.Interview interview.Blocks) = refl
-at_place (form.Listing listing.States) = refl
-at_place (form.Structure structure.Test) = refl
-at_place (form.Pupil pupil.OddsAll) = refl
-at_place f = refl
-
--- a form clashes with none but itself: one test of the table
-abbrev clashes_alone : Form → Bool
-clashes_alone f = list_all (λ g. place f == place g || not (clash (parts f) (parts g))) forms
-
-no_clash : list_all clashes_alone forms ≡ true
+-- of the table, each form clashes with itself alone
+alone : (f : Form) → filter (λ g. clash (parts f) (parts g)) forms ≡ f ∷ []
 unfolding parts spelling forms
-no_clash = refl
+alone form.Nothing = refl
+alone (form.Setting setting.Items) = refl
+alone (form.Interview interview.Blocks) = refl
+alone (form.Listing listing.States) = refl
+alone (form.Structure structure.Test) = refl
+alone (form.Pupil pupil.OddsAll) = refl
+alone f = refl
 
-listed : (test : Form → Bool) (fs : List Form) (i : ℕ) (f : Form) → list_all test fs ≡ true → slice_get fs i ≡ Some f → test f ≡ true
-listed test [] i f all at = absurd (none-some f at)
-listed test (g ∷ fs) zero f all at = subst (λ x. test x ≡ true) (same_Some g f at) (both (test g) (list_all test fs) all).0
-listed test (g ∷ fs) (suc i) f all at = listed test fs i f (both (test g) (list_all test fs) all).1 at
+-- what a filter keeps has a place in the list, and of a list of which it keeps one thing no other passes
+kept_place : (test : Form → Bool) (fs : List Form) (f : Form) (kept : List Form) → filter test fs ≡ f ∷ kept → (i : ℕ) × (slice_get fs i ≡ Some f)
+kept_place test [] f kept e = absurd (let none : [] ≡ f ∷ kept = e in cc)
+kept_place test (g ∷ fs) f kept e =
+    elim (test g) as (λ t. cond t (g ∷ filter test fs) (filter test fs) ≡ f ∷ kept → (i : ℕ) × (slice_get (g ∷ fs) i ≡ Some f)) [
+      | true ↦ λ e. (0, ap Some (let same : g ≡ f = cc in same))
+      | false ↦ λ e. let rest = kept_place test fs f kept e in (suc rest.0, rest.1)
+    ] e
 
-only_first : (a b : Bool) → a || not b ≡ true → b ≡ true → a ≡ true
-only_first true b h k = refl
-only_first false true h k = never h
-only_first false false h k = never k
+kept_some : (test : Form → Bool) (fs : List Form) (i : ℕ) (f : Form) → slice_get fs i ≡ Some f → test f ≡ true → filter test fs ≡ [] → ⊥
+kept_some test [] i f at h e = none-some f at
+kept_some test (g ∷ fs) zero f at h e = let here : test g ≡ true = subst (λ d. test d ≡ true) (sym (same_Some g f at)) h in let none : g ∷ filter test fs ≡ [] = rw here at e in cc
+kept_some test (g ∷ fs) (suc i) f at h e =
+    elim (test g) as (λ t. cond t (g ∷ filter test fs) (filter test fs) ≡ [] → ⊥) [
+      | true ↦ λ none. cc
+      | false ↦ λ none. kept_some test fs i f at h none
+    ] e
+
+kept_alone : (test : Form → Bool) (fs : List Form) (i : ℕ) (f g : Form) → slice_get fs i ≡ Some g → test g ≡ true → filter test fs ≡ f ∷ [] → f ≡ g
+kept_alone test [] i f g at h e = absurd (none-some g at)
+kept_alone test (d ∷ fs) zero f g at h e =
+    let same = same_Some d g at in
+    let here : test d ≡ true = subst (λ d. test d ≡ true) (sym same) h in
+    let kept : d ∷ filter test fs ≡ f ∷ [] = rw here at e in
+    let first : d ≡ f = cc in
+    sym first ∙ same
+kept_alone test (d ∷ fs) (suc i) f g at h e =
+    elim (test d) as (λ t. cond t (d ∷ filter test fs) (filter test fs) ≡ f ∷ [] → f ≡ g) [
+      | true ↦ λ kept. absurd (kept_some test fs i g at h (let rest : filter test fs ≡ [] = cc in rest))
+      | false ↦ λ kept. kept_alone test fs i f g at h kept
+    ] e
+
+-- the place of each form in the table
+pub placed : (f : Form) → (i : ℕ) × (slice_get forms i ≡ Some f)
+placed f = kept_place (λ g. clash (parts f) (parts g)) forms f [] (alone f)
+
+-- what is true of each form of the table is true of each form
+passes_at : (test : Form → Bool) (fs : List Form) (i : ℕ) (f : Form) → list_all test fs ≡ true → slice_get fs i ≡ Some f → test f ≡ true
+passes_at test [] i f all at = absurd (none-some f at)
+passes_at test (g ∷ fs) zero f all at = subst (λ d. test d ≡ true) (same_Some g f at) (both (test g) (list_all test fs) all).0
+passes_at test (g ∷ fs) (suc i) f all at = passes_at test fs i f (both (test g) (list_all test fs) all).1 at
+
+pub each_passes : (test : Form → Bool) → list_all test forms ≡ true → (f : Form) → test f ≡ true
+each_passes test all f = passes_at test forms (placed f).0 f all (placed f).1
 
 pub told_apart : (f g : Form) (ws : List Text) → IsLine (parts f) ws → IsLine (parts g) ws → f ≡ g
-told_apart f g ws of_f of_g =
-    let alone = listed (λ h. place f == place h || not (clash (parts f) (parts h))) forms (place g) g (listed clashes_alone forms (place f) f no_clash (at_place f)) (at_place g) in
-    let same : place f ≡ place g = (Decides-eqb (place f) (place g)).0 (only_first (place f == place g) (clash (parts f) (parts g)) alone (shared ws of_f of_g)) in
-    same_Some f g (sym (at_place f) ∙ ap (slice_get forms) same ∙ at_place g)
+told_apart f g ws of_f of_g = let at = placed g in kept_alone (λ h. clash (parts f) (parts h)) forms at.0 f g at.1 (shared ws of_f of_g) (alone f)

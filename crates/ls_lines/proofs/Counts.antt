@@ -1,10 +1,10 @@
 -- The count of a command that is read is at most 65536.
-use Rattle.std.proofs.Common.{ℕ, ◌≡◌, ◌≤◌, sym, subst, arith, Option, None, Some, List, [], ◌∷◌, option_map}
+use Rattle.std.proofs.Common.{ℕ, ◌≡◌, ◌≤◌, sym, subst, arith, None, Some, List, [], ◌∷◌, option_map}
 use Rattle.std.specs.List.{filter_map, cons_option, slice_get}
 use Rattle.std.proofs.lemmas.Option.{none-some, same_Some}
 use Rattle.ls_lines.specs.Lines.{Text}
 use Rattle.ls_lines.specs.Kinds.{most_counted}
-use Rattle.ls_lines.specs.Forms.{one, count, parts, command, forms}
+use Rattle.ls_lines.specs.Forms.{parts, command, forms}
 use Rattle.ls_lines.specs.Commands.{cut, command_of, count_of}
 use Rattle.ls_lines.specs.declared.form.Form.{Form}
 use Rattle.ls_lines.specs.declared.form.Form.TheVariants as form
@@ -30,24 +30,15 @@ pub made_by_form : (ws : List Text) (c : Command) → command_of ws ≡ Some c �
 unfolding command_of
 made_by_form ws c h = made ws forms c h
 
-counted : (given : List (List Text)) (n : ℕ) → Some (count given 1) ≡ Some n → n ≤ most_counted
-counted given n h = subst (λ m. m ≤ most_counted) (same_Some (count given 1) n h) (number-within most_counted (one given 1))
-
 form_count-within : (f : Form) (given : List (List Text)) (n : ℕ) → count_of (command f given) ≡ Some n → n ≤ most_counted
 unfolding command
-form_count-within (form.Listing listing.States) given n h = subst (λ m. m ≤ most_counted) (same_Some most_counted n h) (omega arith)
-form_count-within (form.Listing listing.StatesUpTo) given n h = counted given n h
-form_count-within (form.Listing listing.StatesAfter) given n h = counted given n h
-form_count-within (form.Listing listing.Project) given n h = counted given n h
-form_count-within (form.Listing listing.ProjectAfter) given n h = counted given n h
-form_count-within (form.Structure structure.Paths) given n h = counted given n h
-form_count-within (form.Structure structure.PathsAfter) given n h = counted given n h
 form_count-within form.Nothing given n h = absurd (none-some n h)
 form_count-within (form.Setting setting.Items) given n h = absurd (none-some n h)
 form_count-within (form.Interview interview.Blocks) given n h = absurd (none-some n h)
+form_count-within (form.Listing listing.Base) given n h = absurd (none-some n h)
 form_count-within (form.Structure structure.Test) given n h = absurd (none-some n h)
 form_count-within (form.Pupil pupil.OddsAll) given n h = absurd (none-some n h)
-form_count-within f given n h = absurd (none-some n h)
+form_count-within f given n h = grind (arith, number-within)
 
 pub count-within : (ws : List Text) (c : Command) (n : ℕ) → command_of ws ≡ Some c → count_of c ≡ Some n → n ≤ most_counted
 count-within ws c n h k =

@@ -5,7 +5,7 @@ use Rattle.ls_lines.specs.Lines.{words}
 use Rattle.ls_lines.specs.Kinds.{is_of}
 use Rattle.ls_lines.specs.Forms.{spelling, parts, command, forms}
 use Rattle.ls_lines.specs.Commands.{cut, is_begun, command_of, fault_place}
-use Rattle.ls_lines.specs.Printing.{form_of, operands, placed, spelled, line_of}
+use Rattle.ls_lines.specs.Printing.{form_of, operands, laid_out, spelled, words_joined}
 use Rattle.ls_lines.specs.declared.command.Command.{Command}
 use Rattle.ls_lines.specs.declared.command.Command.TheVariants as commands
 
@@ -48,18 +48,18 @@ item_after = refl
 
 -- a printed command
 abbrev printed : Command → List ℕ
-printed c = line_of (spelled c)
+printed c = words_joined (spelled c)
 
 printed_page : printed (commands.States 65536 None) ≡ codes "states 65536"
-unfolding spelled placed form_of operands parts spelling digits
+unfolding spelled laid_out form_of operands parts spelling digits
 printed_page = refl
 
 printed_state : printed (commands.StateOf (codes "a" ∷ codes "b" ∷ []) []) ≡ codes "state-of a b |"
-unfolding spelled placed form_of operands parts spelling
+unfolding spelled laid_out form_of operands parts spelling
 printed_state = refl
 
 printed_nothing : printed commands.Nothing ≡ []
-unfolding spelled placed form_of operands parts
+unfolding spelled laid_out form_of operands parts
 printed_nothing = refl
 
 -- the place of the fault in a line

@@ -1,5 +1,5 @@
 -- Decimal numbers are ASCII, and are read by `parse`.
-use Rattle.std.proofs.Common.{zero, suc, None, unwrap_or, ◌≤◌, not, ◌||◌, ◌==◌, nat_lt, slice_index, ℕ, ◌≡◌, ◌<◌, ◌^◌, inl, inr, refl, arith, rules, Bool, true, false, cond, ◌&&◌, nat_le, List, [], ◌∷◌, length, Some, None, Result, is_some}
+use Rattle.std.proofs.Common.{zero, suc, None, unwrap_or, ◌≤◌, not, ◌||◌, ◌==◌, nat_lt, slice_index, ℕ, ◌≡◌, ◌<◌, ◌^◌, inl, inr, refl, arith, rules, Bool, true, false, cond, ◌&&◌, nat_le, [], ◌∷◌, length, Some, None, Result, is_some}
 use Rattle.std.specs.List.{list_all}
 use Rattle.std.specs.Fmt.{decimal}
 use Rattle.std.specs.Str.{IsAscii}

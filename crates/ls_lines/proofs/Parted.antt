@@ -1,24 +1,19 @@
 -- What `front` takes from a line of a form, and what it leaves.
 use Rattle.std.proofs.Common.{ℕ, suc, ◌+◌, ◌≡◌, ◌⊎◌, inl, inr, refl, sym, ap, subst, ◌∙◌, arith, Bool, true, false, not, ◌&&◌, List, [], ◌∷◌, ◌++◌, drop, Some}
-use Rattle.std.specs.List.{prefix_len}
+use Rattle.std.specs.List.{list_all, prefix_len}
 use Rattle.std.specs.Cmp.Lexicographic.{same_text}
 use Rattle.std.proofs.lemmas.Option.{same_Some, none-some, cond_some}
 use Rattle.ls_lines.specs.Lines.{Text}
 use Rattle.ls_lines.specs.Kinds.{is_of}
-use Rattle.ls_lines.specs.Forms.{spelling, parts}
+use Rattle.ls_lines.specs.Forms.{spelling, parts, forms}
 use Rattle.ls_lines.specs.Commands.{fits, front}
 use Rattle.ls_lines.specs.Grammar.{IsLine, fixed, one, no_more, one_more}
 use Rattle.ls_lines.specs.declared.kind.Kind.{Kind}
 use Rattle.ls_lines.specs.declared.form.Form.{Form}
-use Rattle.ls_lines.specs.declared.form.Form.TheVariants as form
-use Rattle.ls_lines.specs.declared.setting_form.SettingForm.TheVariants as setting
-use Rattle.ls_lines.specs.declared.interview_form.InterviewForm.TheVariants as interview
-use Rattle.ls_lines.specs.declared.listing_form.ListingForm.TheVariants as listing
-use Rattle.ls_lines.specs.declared.structure_form.StructureForm.TheVariants as structure
-use Rattle.ls_lines.specs.declared.pupil_form.PupilForm.TheVariants as pupil
 use Rattle.ls_lines.specs.declared.part.Part.{Part}
 use Rattle.ls_lines.specs.declared.part.Part.TheVariants.{Fixed, One, Many}
 use Rattle.ls_lines.proofs.Numbers.{never, both}
+use Rattle.ls_lines.proofs.Apart.{each_passes}
 
 -- whether any number of words of the kind end where these parts begin: at no part, or at a fixed word that is not of the kind
 abbrev pub ends : Kind → List Part → Bool
@@ -32,15 +27,12 @@ many_end [] = true
 many_end (Many k ∷ ps) = ends k ps && many_end ps
 many_end (p ∷ ps) = many_end ps
 
+all_end : list_all (λ f. many_end (parts f)) forms ≡ true
+unfolding parts is_of spelling forms
+all_end = refl
+
 pub forms_end : (f : Form) → many_end (parts f) ≡ true
-unfolding parts is_of spelling
-forms_end form.Nothing = refl
-forms_end (form.Setting setting.Items) = refl
-forms_end (form.Interview interview.Blocks) = refl
-forms_end (form.Listing listing.States) = refl
-forms_end (form.Structure structure.Test) = refl
-forms_end (form.Pupil pupil.OddsAll) = refl
-forms_end f = refl
+forms_end f = each_passes (λ g. many_end (parts g)) all_end f
 
 -- the words of a kind at the front, one more and none
 dropped : (k : Kind) (w : Text) (ws : List Text) → is_of k w ≡ true → drop (prefix_len (is_of k) (w ∷ ws)) (w ∷ ws) ≡ drop (prefix_len (is_of k) ws) ws

@@ -5,15 +5,15 @@ use Rattle.std.proofs.lemmas.List.Concat.{flat_map-append}
 use Rattle.std.proofs.Math.Seq.{take-append_seam, take-nil}
 use Rattle.ls_lines.specs.Lines.{Text}
 use Rattle.ls_lines.specs.Forms.{spelling}
-use Rattle.ls_lines.specs.Printing.{placed, line_of}
-use Rattle.ls_lines.specs.Operands.{shown, with_spaces}
+use Rattle.ls_lines.specs.Printing.{laid_out, words_joined}
+use Rattle.ls_lines.specs.Operands.{words_of, filling, shown, with_spaces}
 use Rattle.ls_lines.specs.declared.keyword.Keyword.{Keyword}
 use Rattle.ls_lines.specs.declared.operand.Operand.{Operand}
 use Rattle.ls_lines.specs.declared.part.Part.{Part}
 use Rattle.ls_lines.specs.declared.part.Part.TheVariants.{Fixed}
 
 -- the words, each with a space behind it, are their line with a space behind it
-spaced : (w : Text) (ws : List Text) → with_spaces (w ∷ ws) ≡ line_of (w ∷ ws) ++ 32 ∷ []
+spaced : (w : Text) (ws : List Text) → with_spaces (w ∷ ws) ≡ words_joined (w ∷ ws) ++ 32 ∷ []
 spaced w [] = append-nil (w ++ 32 ∷ [])
 spaced w (v ∷ ws) = ap (λ t. (w ++ 32 ∷ []) ++ t) (spaced v ws) ∙ simp append_assoc
 
@@ -22,45 +22,50 @@ without_last t b =
     let shorter : length (t ++ b ∷ []) - 1 ≡ length t = omega (arith, length-append t (b ∷ [])) in
     rw shorter (take-append_seam t (b ∷ []))
 
-pub trimmed : (ws : List Text) (n : ℕ) → n ≡ length (with_spaces ws) → take (n - 1) (with_spaces ws) ≡ line_of ws
+pub trimmed : (ws : List Text) (n : ℕ) → n ≡ length (with_spaces ws) → take (n - 1) (with_spaces ws) ≡ words_joined ws
 trimmed [] n e = take-nil (n - 1)
-trimmed (w ∷ ws) n e = rw e (rw (spaced w ws) (without_last (line_of (w ∷ ws)) 32))
+trimmed (w ∷ ws) n e = rw e (rw (spaced w ws) (without_last (words_joined (w ∷ ws)) 32))
 
 -- the text of the words at parts
 abbrev pub text_of : List (List Text) → List ℕ
 text_of given = with_spaces (flat_map (λ ws. ws) given)
 
 -- one part more: a fixed word, a part with an operand, and one without
-pub own_word : (ps : List Part) (i : ℕ) (d : Part) (v : Keyword) (given : List (List Text)) (seen all : List ℕ) → i < length ps → get_or ps i d ≡ Fixed v → seen ++ text_of (placed (drop i ps) given) ≡ all →
-    (seen ++ (spelling v ++ 32 ∷ [])) ++ text_of (placed (drop (i + 1) ps) given) ≡ all
-unfolding placed
-own_word ps i d v given seen all lt is h = append_assoc seen (spelling v ++ 32 ∷ []) _ ∙ sym (ap (λ l. seen ++ text_of (placed l given)) (drop_more ps i d lt ∙ ap (λ p. p ∷ drop (i + 1) ps) is)) ∙ h
+pub own_word : (ps : List Part) (i : ℕ) (d : Part) (v : Keyword) (given : List (List Text)) (seen all : List ℕ) → i < length ps → get_or ps i d ≡ Fixed v → seen ++ text_of (laid_out (drop i ps) given) ≡ all →
+    (seen ++ (spelling v ++ 32 ∷ [])) ++ text_of (laid_out (drop (i + 1) ps) given) ≡ all
+unfolding laid_out
+own_word ps i d v given seen all lt is h = append_assoc seen (spelling v ++ 32 ∷ []) _ ∙ sym (ap (λ l. seen ++ text_of (laid_out l given)) (drop_more ps i d lt ∙ ap (λ p. p ∷ drop (i + 1) ps) is)) ∙ h
 
-placed_other : (part : Part) (ps : List Part) (ws : List Text) (given : List (List Text)) → ((v : Keyword) → part ≡ Fixed v → ⊥) → placed (part ∷ ps) (ws ∷ given) ≡ ws ∷ placed ps given
-unfolding placed
-placed_other (Fixed v) ps ws given not_own = absurd (not_own v refl)
-placed_other part ps ws given not_own = refl
+laid_out_other : (part : Part) (ps : List Part) (ws : List Text) (given : List (List Text)) → ((v : Keyword) → part ≡ Fixed v → ⊥) → laid_out (part ∷ ps) (ws ∷ given) ≡ ws ∷ laid_out ps given
+unfolding laid_out
+laid_out_other (Fixed v) ps ws given not_own = absurd (not_own v refl)
+laid_out_other part ps ws given not_own = refl
 
-placed_none : (part : Part) (ps : List Part) → ((v : Keyword) → part ≡ Fixed v → ⊥) → placed (part ∷ ps) [] ≡ [] ∷ placed ps []
-unfolding placed
-placed_none (Fixed v) ps not_own = absurd (not_own v refl)
-placed_none part ps not_own = refl
+laid_out_none : (part : Part) (ps : List Part) → ((v : Keyword) → part ≡ Fixed v → ⊥) → laid_out (part ∷ ps) [] ≡ [] ∷ laid_out ps []
+unfolding laid_out
+laid_out_none (Fixed v) ps not_own = absurd (not_own v refl)
+laid_out_none part ps not_own = refl
 
-pub operand : (ps : List Part) (i : ℕ) (d : Part) (ws : List Text) (given : List (List Text)) (seen all : List ℕ) → i < length ps → ((v : Keyword) → get_or ps i d ≡ Fixed v → ⊥) → seen ++ text_of (placed (drop i ps) (ws ∷ given)) ≡ all →
-    (seen ++ with_spaces ws) ++ text_of (placed (drop (i + 1) ps) given) ≡ all
+pub operand : (ps : List Part) (i : ℕ) (d : Part) (ws : List Text) (given : List (List Text)) (seen all : List ℕ) → i < length ps → ((v : Keyword) → get_or ps i d ≡ Fixed v → ⊥) → seen ++ text_of (laid_out (drop i ps) (ws ∷ given)) ≡ all →
+    (seen ++ with_spaces ws) ++ text_of (laid_out (drop (i + 1) ps) given) ≡ all
 operand ps i d ws given seen all lt not_own h =
-    let here : placed (drop i ps) (ws ∷ given) ≡ ws ∷ placed (drop (i + 1) ps) given = rw (drop_more ps i d lt) (placed_other (get_or ps i d) (drop (i + 1) ps) ws given not_own) in
+    let here : laid_out (drop i ps) (ws ∷ given) ≡ ws ∷ laid_out (drop (i + 1) ps) given = rw (drop_more ps i d lt) (laid_out_other (get_or ps i d) (drop (i + 1) ps) ws given not_own) in
     append_assoc seen (with_spaces ws) _ ∙ sym (ap (λ t. seen ++ t) (ap text_of here ∙ flat_map-append (λ w. w ++ 32 ∷ []) ws _)) ∙ h
 
-pub no_operand : (ps : List Part) (i : ℕ) (d : Part) (seen all : List ℕ) → i < length ps → ((v : Keyword) → get_or ps i d ≡ Fixed v → ⊥) → seen ++ text_of (placed (drop i ps) []) ≡ all →
-    seen ++ text_of (placed (drop (i + 1) ps) []) ≡ all
+pub no_operand : (ps : List Part) (i : ℕ) (d : Part) (seen all : List ℕ) → i < length ps → ((v : Keyword) → get_or ps i d ≡ Fixed v → ⊥) → seen ++ text_of (laid_out (drop i ps) []) ≡ all →
+    seen ++ text_of (laid_out (drop (i + 1) ps) []) ≡ all
 no_operand ps i d seen all lt not_own h =
-    let here : placed (drop i ps) [] ≡ [] ∷ placed (drop (i + 1) ps) [] = rw (drop_more ps i d lt) (placed_none (get_or ps i d) (drop (i + 1) ps) not_own) in
+    let here : laid_out (drop i ps) [] ≡ [] ∷ laid_out (drop (i + 1) ps) [] = rw (drop_more ps i d lt) (laid_out_none (get_or ps i d) (drop (i + 1) ps) not_own) in
     sym (ap (λ gs. seen ++ text_of gs) here) ∙ h
 
-pub no_part : (ps : List Part) (i : ℕ) (given : List (List Text)) (seen all : List ℕ) → length ps ≤ i → seen ++ text_of (placed (drop i ps) given) ≡ all → seen ≡ all
-unfolding placed
-no_part ps i given seen all le h = sym (append-nil seen) ∙ sym (ap (λ l. seen ++ text_of (placed l given)) (drop_all i ps le)) ∙ h
+pub no_part : (ps : List Part) (i : ℕ) (given : List (List Text)) (seen all : List ℕ) → length ps ≤ i → seen ++ text_of (laid_out (drop i ps) given) ≡ all → seen ≡ all
+unfolding laid_out
+no_part ps i given seen all le h = sym (append-nil seen) ∙ sym (ap (λ l. seen ++ text_of (laid_out l given)) (drop_all i ps le)) ∙ h
+
+-- the words of what the code holds
+pub shown-filling : (os : List Operand) → map shown os ≡ map words_of (map filling os)
+shown-filling [] = refl
+shown-filling (o ∷ os) = ap (λ ws. shown o ∷ ws) (shown-filling os)
 
 -- the operands that are left: none, or one and more
 pub none_left : (left : List Operand) → length left < 1 → map shown left ≡ []

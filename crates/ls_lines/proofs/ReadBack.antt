@@ -1,115 +1,109 @@
 -- A printed command is read back.
-use Rattle.std.proofs.Common.{ℕ, ◌<◌, ◌≤◌, ◌≡◌, ◌∙◌, refl, sym, ap, subst, arith, Bool, true, false, ◌&&◌, nat_le, List, [], ◌∷◌, Option, Some, None, is_some, unwrap_or, codes}
+use Rattle.std.proofs.Common.{ℕ, ◌≡◌, ◌∙◌, refl, ap, arith, Bool, true, false, if◌then◌else◌, nat_le, List, [], ◌∷◌, map, Some, None, is_some, codes, bytes_eq}
 use Rattle.std.specs.Fmt.{decimal}
 use Rattle.std.specs.List.{list_all}
 use Rattle.std.proofs.lemmas.Bool.{leb-true}
+use Rattle.std.proofs.lemmas.Cmp.{nat_list_eq_equiv}
 use Rattle.ls_lines.specs.Lines.{Text, words}
 use Rattle.ls_lines.specs.Numbers.{number_up_to}
-use Rattle.ls_lines.specs.Kinds.{is_of, most_counted, most_number}
+use Rattle.ls_lines.specs.Kinds.{is_of, most_counted, greatest_number}
 use Rattle.ls_lines.specs.Forms.{spelling, parts, command, forms}
-use Rattle.ls_lines.specs.Commands.{cut, command_of}
-use Rattle.ls_lines.specs.Printing.{form_of, operands, placed, spelled, line_of, is_plain}
+use Rattle.ls_lines.specs.Commands.{command_of}
+use Rattle.ls_lines.specs.Operands.{Filling, Word, Words, Number, Right, words_of}
+use Rattle.ls_lines.specs.Printing.{form_of, operands, laid_out, spelled, words_joined, stands_at, all_stand, is_plain}
 use Rattle.ls_lines.specs.declared.kind.Kind.TheVariants as kind
-use Rattle.ls_lines.specs.declared.form.Form.{Form}
-use Rattle.ls_lines.specs.declared.form.Form.TheVariants as form
-use Rattle.ls_lines.specs.declared.setting_form.SettingForm.TheVariants as setting
-use Rattle.ls_lines.specs.declared.interview_form.InterviewForm.TheVariants as interview
-use Rattle.ls_lines.specs.declared.listing_form.ListingForm.TheVariants as listing
-use Rattle.ls_lines.specs.declared.structure_form.StructureForm.TheVariants as structure
-use Rattle.ls_lines.specs.declared.pupil_form.PupilForm.TheVariants as pupil
+use Rattle.ls_lines.specs.declared.part.Part.{Part}
+use Rattle.ls_lines.specs.declared.part.Part.TheVariants.{Fixed, One, Many}
 use Rattle.ls_lines.specs.declared.command.Command.{Command}
 use Rattle.ls_lines.specs.declared.command.Command.TheVariants as commands
-use Rattle.ls_lines.proofs.Numbers.{both, number_up_to-of_decimal}
+use Rattle.ls_lines.proofs.Numbers.{never, both, number_up_to-of_decimal}
 use Rattle.ls_lines.proofs.Rewords.{begins, words-line}
-use Rattle.ls_lines.proofs.Recut.{all_fit, flat, recut, words-fit}
+use Rattle.ls_lines.proofs.Recut.{fits_at, all_fit, flat, recut, words-fit}
 use Rattle.ls_lines.proofs.Parted.{forms_end}
 use Rattle.ls_lines.proofs.Exact.{line_exact}
-use Rattle.ls_lines.proofs.Apart.{place, at_place, told_apart}
+use Rattle.ls_lines.proofs.Apart.{placed, each_passes, told_apart}
 use Rattle.ls_lines.proofs.Choosing.{has_line, only_found, command_of-form}
 
 -- numbers and counts, as they are spelled
 count-read : (n : ℕ) → nat_le n most_counted ≡ true → number_up_to most_counted (decimal n) ≡ Some n
 count-read n h = number_up_to-of_decimal most_counted n (omega arith) (leb-true n most_counted h)
 
-number-read : (n : ℕ) → nat_le n most_number ≡ true → number_up_to most_number (decimal n) ≡ Some n
-number-read n h = number_up_to-of_decimal most_number n (omega arith) (leb-true n most_number h)
+number-read : (n : ℕ) → nat_le n greatest_number ≡ true → number_up_to greatest_number (decimal n) ≡ Some n
+number-read n h = number_up_to-of_decimal greatest_number n (omega arith) (leb-true n greatest_number h)
 
 count-fits : (n : ℕ) → nat_le n most_counted ≡ true → is_of kind.Count (decimal n) ≡ true
 unfolding is_of
 count-fits n h = ap is_some (count-read n h)
 
-number-fits : (n : ℕ) → nat_le n most_number ≡ true → is_of kind.Number (decimal n) ≡ true
+number-fits : (n : ℕ) → nat_le n greatest_number ≡ true → is_of kind.Number (decimal n) ≡ true
 unfolding is_of
 number-fits n h = ap is_some (number-read n h)
 
+right-fits : (right : Bool) → is_of kind.Right (if right then codes "right" else codes "wrong") ≡ true
+unfolding is_of
+right-fits true = refl
+right-fits false = refl
+
+right-read : (right : Bool) → bytes_eq (if right then codes "right" else codes "wrong") (codes "right") ≡ right
+right-read true = refl
+right-read false = refl
+
+-- what can stand at the parts of a form has words that fit them
+fits-one : (part : Part) (f : Filling) → stands_at part f ≡ true → fits_at part (words_of f) ≡ true
+fits-one (One k) (Word w) h = h
+fits-one (Many k) (Words ws) h = h
+fits-one (One kind.Count) (Number n) h = count-fits n h
+fits-one (One kind.Number) (Number n) h = number-fits n h
+fits-one (One kind.Right) (Right right) h = right-fits right
+fits-one part f h = never h
+
+fits-all : (ps : List Part) (fs : List Filling) → all_stand ps fs ≡ true → all_fit ps (laid_out ps (map words_of fs)) ≡ true
+unfolding laid_out
+fits-all [] [] h = refl
+fits-all [] (f ∷ fs) h = never h
+fits-all (Fixed v ∷ ps) fs h = rw (nat_list_eq_equiv.refl (spelling v)) (fits-all ps fs h)
+fits-all (part ∷ ps) [] h = never h
+fits-all (part ∷ ps) (f ∷ fs) h = let p = both (stands_at part f) (all_stand ps fs) h in rw (fits-one part f p.0) (fits-all ps fs p.1)
+
 -- the words of a command at the parts of its form
 abbrev given_of : Command → List (List Text)
-given_of c = placed (parts (form_of c)) (operands c)
-
-right-fits : is_of kind.Right (codes "right") ≡ true
-unfolding is_of
-right-fits = refl
-
-wrong-fits : is_of kind.Right (codes "wrong") ≡ true
-unfolding is_of
-wrong-fits = refl
+given_of c = laid_out (parts (form_of c)) (map words_of (operands c))
 
 fitted : (c : Command) → is_plain c ≡ true → all_fit (parts (form_of c)) (given_of c) ≡ true
-unfolding is_plain form_of operands parts placed spelling
-fitted commands.Nothing h = refl
-fitted (commands.Blocks size) h = rw (number-fits size h) refl
-fitted (commands.Yes names item) h = let p = both (list_all (is_of kind.Item) names) (is_of kind.Item item) h in rw (p.0, p.1) refl
-fitted (commands.No names item) h = let p = both (list_all (is_of kind.Item) names) (is_of kind.Item item) h in rw (p.0, p.1) refl
-fitted (commands.Retract number) h = rw (number-fits number h) refl
-fitted (commands.Known names item) h = let p = both (list_all (is_of kind.Item) names) (is_of kind.Item item) h in rw (p.0, p.1) refl
-fitted commands.Ask h = refl
-fitted (commands.States count None) h = rw (count-fits count h) refl
-fitted (commands.States count (Some cursor)) h = let p = both (nat_le count most_counted) (is_of kind.Cursor cursor) h in rw (count-fits count p.0, p.1) refl
-fitted commands.Base h = refl
-fitted commands.Surmise h = refl
-fitted commands.Learning h = refl
-fitted (commands.Project count None names) h = let p = both (nat_le count most_counted) (list_all (is_of kind.Item) names) h in rw (count-fits count p.0, p.1) refl
-fitted (commands.Project count (Some cursor) names) h = let q = both (nat_le count most_counted && is_of kind.Cursor cursor) (list_all (is_of kind.Item) names) h in let p = both (nat_le count most_counted) (is_of kind.Cursor cursor) q.0 in rw (count-fits count p.0, p.1, q.1) refl
-fitted (commands.StateOf inner outer) h = let p = both (list_all (is_of kind.Item) inner) (list_all (is_of kind.Item) outer) h in rw (p.0, p.1) refl
-fitted (commands.Paths count None) h = rw (count-fits count h) refl
-fitted (commands.Paths count (Some path)) h = let p = both (nat_le count most_counted) (list_all (is_of kind.Item) path) h in rw (count-fits count p.0, p.1) refl
-fitted (commands.OddsAll right wrong) h = let p = both (nat_le right most_number) (nat_le wrong most_number) h in rw (number-fits right p.0, number-fits wrong p.1) refl
-fitted (commands.OddsItem item right wrong) h = let q = both (is_of kind.Item item && nat_le right most_number) (nat_le wrong most_number) h in let p = both (is_of kind.Item item) (nat_le right most_number) q.0 in rw (p.0, number-fits right p.1, number-fits wrong q.1) refl
-fitted (commands.Limits budget share) h = let p = both (nat_le budget most_number) (nat_le share most_number) h in rw (number-fits budget p.0, number-fits share p.1) refl
-fitted (commands.Reply name item true) h = let parts = both (is_of kind.Name name) (is_of kind.Item item) h in rw (parts.0, parts.1, right-fits) refl
-fitted (commands.Reply name item false) h = let parts = both (is_of kind.Name name) (is_of kind.Item item) h in rw (parts.0, parts.1, wrong-fits) refl
-fitted c h = rw h refl
+unfolding is_plain
+fitted c h = fits-all (parts (form_of c)) (operands c) h
 
 rebuilt : (c : Command) → is_plain c ≡ true → command (form_of c) (given_of c) ≡ c
-unfolding is_plain form_of operands parts placed command
-rebuilt (commands.Blocks size) h = rw (number-read size h) refl
-rebuilt (commands.Retract number) h = rw (number-read number h) refl
-rebuilt (commands.States count None) h = rw (count-read count h) refl
-rebuilt (commands.States count (Some cursor)) h = let p = both (nat_le count most_counted) (is_of kind.Cursor cursor) h in rw (count-read count p.0) refl
-rebuilt (commands.Project count None names) h = let p = both (nat_le count most_counted) (list_all (is_of kind.Item) names) h in rw (count-read count p.0) refl
-rebuilt (commands.Project count (Some cursor) names) h = let q = both (nat_le count most_counted && is_of kind.Cursor cursor) (list_all (is_of kind.Item) names) h in let p = both (nat_le count most_counted) (is_of kind.Cursor cursor) q.0 in rw (count-read count p.0) refl
-rebuilt (commands.Paths count None) h = rw (count-read count h) refl
-rebuilt (commands.Paths count (Some path)) h = let p = both (nat_le count most_counted) (list_all (is_of kind.Item) path) h in rw (count-read count p.0) refl
-rebuilt (commands.OddsAll right wrong) h = let p = both (nat_le right most_number) (nat_le wrong most_number) h in rw (number-read right p.0, number-read wrong p.1) refl
-rebuilt (commands.OddsItem item right wrong) h = let q = both (is_of kind.Item item && nat_le right most_number) (nat_le wrong most_number) h in let p = both (is_of kind.Item item) (nat_le right most_number) q.0 in rw (number-read right p.1, number-read wrong q.1) refl
-rebuilt (commands.Limits budget share) h = let p = both (nat_le budget most_number) (nat_le share most_number) h in rw (number-read budget p.0, number-read share p.1) refl
-rebuilt (commands.Reply name item true) h = refl
-rebuilt (commands.Reply name item false) h = refl
-rebuilt c h = refl
+unfolding is_plain form_of operands parts laid_out command
+rebuilt commands.Nothing h = refl
+rebuilt (commands.States count None) h = grind (arith, both, count-read)
+rebuilt (commands.Project count None names) h = grind (arith, both, count-read)
+rebuilt (commands.Paths count None) h = grind (arith, both, count-read)
+rebuilt c h = grind (arith, both, count-read, number-read, right-read)
 
-begins-own : (f : Form) (given : List (List Text)) → begins (flat (placed (parts f) given)) ≡ true
-unfolding parts placed spelling
-begins-own form.Nothing given = refl
-begins-own (form.Setting setting.Items) given = refl
-begins-own (form.Interview interview.Blocks) given = refl
-begins-own (form.Listing listing.States) given = refl
-begins-own (form.Structure structure.Test) given = refl
-begins-own (form.Pupil pupil.OddsAll) given = refl
-begins-own f given = refl
+-- each form but that of nothing begins with a word of its own, which makes no note of the line
+abbrev own_first : List Part → Bool
+own_first [] = true
+own_first (Fixed v ∷ ps) = begins (spelling v ∷ [])
+own_first (part ∷ ps) = false
 
-pub words_back : (c : Command) → is_plain c ≡ true → words (line_of (spelled c)) ≡ spelled c
+all_own_first : list_all (λ f. own_first (parts f)) forms ≡ true
+unfolding parts spelling forms
+all_own_first = refl
+
+begins-first : (w : Text) (ws vs : List Text) → begins (w ∷ ws) ≡ begins (w ∷ vs)
+begins-first [] ws vs = refl
+begins-first (b ∷ w) ws vs = refl
+
+begins-own : (ps : List Part) (given : List (List Text)) → own_first ps ≡ true → begins (flat (laid_out ps given)) ≡ true
+unfolding laid_out
+begins-own [] given h = refl
+begins-own (Fixed v ∷ ps) given h = begins-first (spelling v) (flat (laid_out ps given)) [] ∙ h
+begins-own (part ∷ ps) given h = never h
+
+pub words_back : (c : Command) → is_plain c ≡ true → words (words_joined (spelled c)) ≡ spelled c
 unfolding spelled
-words_back c h = words-line (spelled c) (words-fit (parts (form_of c)) (given_of c) (fitted c h)) (begins-own (form_of c) (operands c))
+words_back c h = words-line (spelled c) (words-fit (parts (form_of c)) (given_of c) (fitted c h)) (begins-own (parts (form_of c)) (map words_of (operands c)) (each_passes (λ f. own_first (parts f)) all_own_first (form_of c)))
 
 command_back : (c : Command) → is_plain c ≡ true → command_of (spelled c) ≡ Some c
 unfolding spelled
@@ -117,8 +111,8 @@ command_back c h =
     let f = form_of c in
     let cut_back = recut (parts f) (given_of c) (forms_end f) (fitted c h) in
     let has : has_line (spelled c) f ≡ true = ap is_some cut_back in
-    let found = only_found forms (spelled c) (place f) f (at_place f) has (λ g k. told_apart g f (spelled c) ((line_exact g (spelled c)).0 k) ((line_exact f (spelled c)).0 has)) in
+    let found = only_found forms (spelled c) (placed f).0 f (placed f).1 has (λ g k. told_apart g f (spelled c) ((line_exact g (spelled c)).0 k) ((line_exact f (spelled c)).0 has)) in
     command_of-form (spelled c) f (given_of c) found cut_back ∙ ap Some (rebuilt c h)
 
-pub read_back : (c : Command) → is_plain c ≡ true → command_of (words (line_of (spelled c))) ≡ Some c
+pub read_back : (c : Command) → is_plain c ≡ true → command_of (words (words_joined (spelled c))) ≡ Some c
 read_back c h = ap command_of (words_back c h) ∙ command_back c h

@@ -1,22 +1,21 @@
 -- Words that fit the parts of a form are cut as they were given.
-use Rattle.std.proofs.Common.{ℕ, suc, ◌+◌, ◌≡◌, ◌∙◌, inl, inr, refl, sym, ap, subst, arith, Bool, true, false, not, ◌&&◌, ◌==◌, List, [], ◌∷◌, ◌++◌, length, take, drop, flat_map, Option, Some, option_map}
+use Rattle.std.proofs.Common.{ℕ, suc, ◌+◌, ◌≡◌, ◌∙◌, inl, inr, refl, sym, ap, subst, arith, Bool, true, false, not, ◌&&◌, List, [], ◌∷◌, ◌++◌, length, flat_map, Some}
 use Rattle.std.specs.List.{list_all, prefix_len}
-use Rattle.std.specs.Option.{option_and_then}
 use Rattle.std.specs.Cmp.Lexicographic.{same_text}
 use Rattle.std.proofs.Math.Seq.{take-append_seam, drop-append_seam}
 use Rattle.ls_lines.specs.Lines.{Text}
 use Rattle.ls_lines.specs.Kinds.{is_of}
 use Rattle.ls_lines.specs.Forms.{spelling}
-use Rattle.ls_lines.specs.Commands.{fits, front, cut}
+use Rattle.ls_lines.specs.Commands.{fits, cut}
 use Rattle.ls_lines.specs.declared.kind.Kind.{Kind}
 use Rattle.ls_lines.specs.declared.keyword.Keyword.{Keyword}
 use Rattle.ls_lines.specs.declared.keyword.Keyword.TheVariants as word
 use Rattle.ls_lines.specs.declared.part.Part.{Part}
 use Rattle.ls_lines.specs.declared.part.Part.TheVariants.{Fixed, One, Many}
 use Rattle.ls_lines.proofs.Numbers.{never, both}
-use Rattle.ls_lines.proofs.Solid.{IsSolid, kind-solid}
+use Rattle.ls_lines.proofs.Solid.{kind-solid}
 use Rattle.ls_lines.proofs.Rewords.{IsWord, AreWords, not_true}
-use Rattle.ls_lines.proofs.Parted.{ends, many_end, many_end-rest}
+use Rattle.ls_lines.proofs.Parted.{ends, many_end}
 
 -- whether the words can stand at the part, and the words of each list at each part
 abbrev pub fits_at : Part → List Text → Bool

@@ -1,13 +1,13 @@
 -- The words of a line of words.
-use Rattle.std.proofs.Common.{ℕ, zero, suc, ◌+◌, ◌-◌, ◌<◌, ◌≡◌, ◌∙◌, ◌⊎◌, inl, inr, refl, sym, ap, subst, arith, Bool, true, false, not, cond, ◌&&◌, ◌||◌, ◌==◌, nat_lt, List, [], ◌∷◌, ◌++◌, length, slice_index, codes}
-use Rattle.std.specs.List.{list_all, prefix_len}
+use Rattle.std.proofs.Common.{ℕ, zero, suc, ◌-◌, ◌≡◌, ◌∙◌, ◌⊎◌, inl, inr, refl, sym, ap, arith, Bool, true, false, not, ◌&&◌, ◌==◌, List, [], ◌∷◌, ◌++◌, length, slice_index}
+use Rattle.std.specs.List.{list_all}
 use Rattle.std.proofs.lemmas.Bool.{lt-ltb}
 use Rattle.std.proofs.lemmas.Bool.Decides.{nat_tests}
 use Rattle.std.proofs.lemmas.List.{append-nil, append_assoc}
 use Rattle.std.proofs.lemmas.List.Folds.{list_all-append}
-use Rattle.ls_lines.specs.Lines.{Text, words, runs, without_return, is_note, is_blank, parts_words}
+use Rattle.ls_lines.specs.Lines.{Text, words, is_note, is_blank, parts_words}
 use Rattle.ls_lines.specs.Kinds.{is_cursor_byte}
-use Rattle.ls_lines.specs.Printing.{line_of}
+use Rattle.ls_lines.specs.Printing.{words_joined}
 use Rattle.ls_lines.proofs.Numbers.{never, both}
 use Rattle.ls_lines.proofs.Runs.{word_of, stands_alone, runs_from, runs-byte_by_byte}
 use Rattle.ls_lines.proofs.Solid.{IsSolid}
@@ -47,10 +47,10 @@ word_last w (inl s) = sym (ap (runs_from []) (append-nil w)) ∙ run_on [] w [] 
 word_last w (inr (inl is)) = rw is refl
 word_last w (inr (inr is)) = rw is refl
 
-runs-line : (ws : List Text) → AreWords ws → runs_from [] (line_of ws) ≡ ws
+runs-line : (ws : List Text) → AreWords ws → runs_from [] (words_joined ws) ≡ ws
 runs-line [] h = refl
 runs-line (w ∷ []) h = word_last w h.0
-runs-line (w ∷ v ∷ ws) h = word_first w (line_of (v ∷ ws)) h.0 ∙ ap (λ l. w ∷ l) (runs-line (v ∷ ws) h.1)
+runs-line (w ∷ v ∷ ws) h = word_first w (words_joined (v ∷ ws)) h.0 ∙ ap (λ l. w ∷ l) (runs-line (v ∷ ws) h.1)
 
 -- no byte of it is a carriage return
 abbrev stays : ℕ → Bool
@@ -75,10 +75,10 @@ word-stays w (inl s) = cursor_bytes-stay w s.bytes
 word-stays w (inr (inl is)) = rw is refl
 word-stays w (inr (inr is)) = rw is refl
 
-line-stays : (ws : List Text) → AreWords ws → list_all stays (line_of ws) ≡ true
+line-stays : (ws : List Text) → AreWords ws → list_all stays (words_joined ws) ≡ true
 line-stays [] h = refl
 line-stays (w ∷ []) h = word-stays w h.0
-line-stays (w ∷ v ∷ ws) h = list_all-append stays w (32 ∷ line_of (v ∷ ws)) ∙ rw (word-stays w h.0) (line-stays (v ∷ ws) h.1)
+line-stays (w ∷ v ∷ ws) h = list_all-append stays w (32 ∷ words_joined (v ∷ ws)) ∙ rw (word-stays w h.0) (line-stays (v ∷ ws) h.1)
 
 no_return : (line : List ℕ) (i : ℕ) → list_all stays line ≡ true → (slice_index line i == 13) ≡ false
 no_return [] i h = refl
@@ -97,13 +97,13 @@ no_note b bs h =
     let blank : is_blank b ≡ false = not_true (is_blank b) parts.0 in
     rw blank (not_true (b == 35) parts.1)
 
-line-no_note : (ws : List Text) → begins ws ≡ true → is_note (line_of ws) ≡ false
+line-no_note : (ws : List Text) → begins ws ≡ true → is_note (words_joined ws) ≡ false
 line-no_note [] h = refl
 line-no_note ([] ∷ ws) h = never h
 line-no_note ((b ∷ w) ∷ []) h = no_note b w h
-line-no_note ((b ∷ w) ∷ v ∷ ws) h = no_note b (w ++ 32 ∷ line_of (v ∷ ws)) h
+line-no_note ((b ∷ w) ∷ v ∷ ws) h = no_note b (w ++ 32 ∷ words_joined (v ∷ ws)) h
 
-pub words-line : (ws : List Text) → AreWords ws → begins ws ≡ true → words (line_of ws) ≡ ws
+pub words-line : (ws : List Text) → AreWords ws → begins ws ≡ true → words (words_joined ws) ≡ ws
 unfolding words
 words-line ws h first =
-    rw (no_return (line_of ws) (length (line_of ws) - 1) (line-stays ws h), line-no_note ws first) (sym (runs-byte_by_byte (line_of ws)) ∙ runs-line ws h)
+    rw (no_return (words_joined ws) (length (words_joined ws) - 1) (line-stays ws h), line-no_note ws first) (sym (runs-byte_by_byte (words_joined ws)) ∙ runs-line ws h)

@@ -1,15 +1,15 @@
 -- The words of a kind are of cursor bytes, and there is a word of each kind.
-use Rattle.std.proofs.Common.{ℕ, ◌<◌, ◌≡◌, refl, sym, subst, arith, Bool, true, false, not, ◌&&◌, ◌||◌, ◌==◌, List, [], ◌∷◌, length, nat_lt, nat_le, slice_index, bytes_eq, codes}
+use Rattle.std.proofs.Common.{ℕ, ◌<◌, ◌≡◌, refl, sym, subst, arith, Bool, true, false, not, ◌||◌, ◌==◌, [], ◌∷◌, length, nat_lt, nat_le, slice_index, bytes_eq, codes}
 use Rattle.std.specs.List.{list_all}
 use Rattle.std.specs.Cmp.Lexicographic.{same_text}
 use Rattle.std.proofs.lemmas.Bool.{ltb-true, leb-true}
 use Rattle.std.proofs.lemmas.Bool.Decides.{nat_tests}
 use Rattle.ls_lines.specs.Lines.{Text}
 use Rattle.ls_lines.specs.Numbers.{is_digit, is_decimal}
-use Rattle.ls_lines.specs.Kinds.{is_of, is_from_to, is_name_byte, is_name_up_to, is_cursor_byte, is_cursor, most_counted, most_number}
+use Rattle.ls_lines.specs.Kinds.{is_of, is_from_to, is_name_byte, is_name_up_to, is_cursor_byte, longest_name, longest_file_name, most_counted, greatest_number}
 use Rattle.ls_lines.specs.declared.kind.Kind.{Kind}
 use Rattle.ls_lines.specs.declared.kind.Kind.TheVariants as kind
-use Rattle.ls_lines.proofs.Numbers.{never, both, some_digits, number_up_to-decimal}
+use Rattle.ls_lines.proofs.Numbers.{both, some_digits, number_up_to-decimal}
 
 all_where : (p q : ℕ → Bool) → ((b : ℕ) → p b ≡ true → q b ≡ true) → (w : Text) → list_all p w ≡ true → list_all q w ≡ true
 all_where p q more [] h = refl
@@ -44,11 +44,11 @@ either v u w of_v of_u h =
 
 pub kind-solid : (k : Kind) (w : Text) → is_of k w ≡ true → IsSolid w
 unfolding is_of
-kind-solid kind.Name w h = name-solid 40 w h
-kind-solid kind.Item w h = name-solid 40 w h
-kind-solid kind.File w h = name-solid 64 w (both (is_name_up_to 64 w) (not (slice_index w 0 == 46)) h).0
+kind-solid kind.Name w h = name-solid longest_name w h
+kind-solid kind.Item w h = name-solid longest_name w h
+kind-solid kind.File w h = name-solid longest_file_name w (both (is_name_up_to longest_file_name w) (not (slice_index w 0 == 46)) h).0
 kind-solid kind.Count w h = decimal-solid w (number_up_to-decimal most_counted w h)
-kind-solid kind.Number w h = decimal-solid w (number_up_to-decimal most_number w h)
+kind-solid kind.Number w h = decimal-solid w (number_up_to-decimal greatest_number w h)
 kind-solid kind.Cursor w h = let parts = both (nat_lt 0 (length w)) (list_all is_cursor_byte w) h in record { long = ltb-true 0 (length w) parts.0; bytes = parts.1 }
 kind-solid kind.Right w h = either (codes "right") (codes "wrong") w (record { long = omega arith; bytes = refl }) (record { long = omega arith; bytes = refl }) h
 

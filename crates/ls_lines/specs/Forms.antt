@@ -1,8 +1,8 @@
 -- The forms of commands: ONE TABLE, from which a line is read, a command is printed and a fault has its place (`Commands`).
-use Rattle.std.specs.Prelude.{List, [], ◌∷◌, codes, slice_index_or, ℕ, Bool, bytes_eq, Option, Some, None, unwrap_or}
+use Rattle.std.specs.Prelude.{List, [], ◌∷◌, codes, slice_index_or, ℕ, Bool, bytes_eq, Some, None, unwrap_or}
 use Rattle.ls_lines.specs.Lines.{Text}
 use Rattle.ls_lines.specs.Numbers.{number_up_to}
-use Rattle.ls_lines.specs.Kinds.{most_counted, most_number}
+use Rattle.ls_lines.specs.Kinds.{most_counted, greatest_number}
 use Rattle.ls_lines.specs.declared.kind.Kind.TheVariants as kind
 use Rattle.ls_lines.specs.declared.keyword.Keyword.{Keyword}
 use Rattle.ls_lines.specs.declared.keyword.Keyword.TheVariants as word
@@ -105,7 +105,7 @@ abbrev pub count : List (List Text) → ℕ → ℕ
 count given place = unwrap_or (number_up_to most_counted (one given place)) 0
 
 abbrev pub number : List (List Text) → ℕ → ℕ
-number given place = unwrap_or (number_up_to most_number (one given place)) 0
+number given place = unwrap_or (number_up_to greatest_number (one given place)) 0
 
 -- whether the one word at a part is `right`
 abbrev pub is_right : List (List Text) → ℕ → Bool

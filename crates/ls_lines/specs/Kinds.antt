@@ -17,9 +17,16 @@ is_name_byte b = is_from_to 65 90 b || is_from_to 97 122 b || is_from_to 48 57 b
 abbrev pub is_name_up_to : ℕ → Text → Bool
 is_name_up_to most w = is_from_to 1 most (length w) && list_all is_name_byte w
 
--- at most 64 such bytes, the first of which is no `.`
+-- the most bytes that a name has, and those that a file's name has
+abbrev pub longest_name : ℕ
+longest_name = 40
+
+abbrev pub longest_file_name : ℕ
+longest_file_name = 64
+
+-- the name of a file: at most so many such bytes, the first of which is no `.`
 abbrev pub is_file : Text → Bool
-is_file w = is_name_up_to 64 w && not (slice_index w 0 == 46)
+is_file w = is_name_up_to longest_file_name w && not (slice_index w 0 == 46)
 
 -- from `!` to `~`, and no comma, colon or bar
 abbrev pub is_cursor_byte : ℕ → Bool
@@ -33,15 +40,15 @@ abbrev pub most_counted : ℕ
 most_counted = 65536
 
 -- the greatest number
-abbrev pub most_number : ℕ
-most_number = 999999999
+abbrev pub greatest_number : ℕ
+greatest_number = 999999999
 
 -- whether the word is of the kind; an item's name is a name
 unfoldable pub is_of : Kind → Text → Bool
-is_of Name w = is_name_up_to 40 w
-is_of Item w = is_name_up_to 40 w
+is_of Name w = is_name_up_to longest_name w
+is_of Item w = is_name_up_to longest_name w
 is_of File w = is_file w
 is_of Count w = is_some (number_up_to most_counted w)
-is_of Number w = is_some (number_up_to most_number w)
+is_of Number w = is_some (number_up_to greatest_number w)
 is_of Cursor w = is_cursor w
 is_of Right w = bytes_eq w (codes "right") || bytes_eq w (codes "wrong")

@@ -1,12 +1,13 @@
 -- Printing a command, by the table of forms.
-use Rattle.std.specs.Prelude.{ℕ, Bool, true, ◌&&◌, if◌then◌else◌, nat_le, List, [], ◌∷◌, flat_map, codes, decimal, Option, Some, None}
+use Rattle.std.specs.Prelude.{ℕ, Bool, true, false, ◌&&◌, nat_le, List, [], ◌∷◌, map, flat_map, Some, None}
 use Rattle.std.specs.List.{list_all, join_with_byte}
 use Rattle.ls_lines.specs.Lines.{Text}
-use Rattle.ls_lines.specs.Kinds.{is_of, most_counted, most_number}
+use Rattle.ls_lines.specs.Kinds.{is_of, most_counted, greatest_number}
 use Rattle.ls_lines.specs.Forms.{spelling, parts}
+use Rattle.ls_lines.specs.Operands.{Filling, Word, Words, Number, Right, words_of}
 use Rattle.ls_lines.specs.declared.kind.Kind.TheVariants as kind
 use Rattle.ls_lines.specs.declared.part.Part.{Part}
-use Rattle.ls_lines.specs.declared.part.Part.TheVariants.{Fixed}
+use Rattle.ls_lines.specs.declared.part.Part.TheVariants.{Fixed, One, Many}
 use Rattle.ls_lines.specs.declared.form.Form.{Form}
 use Rattle.ls_lines.specs.declared.form.Form.TheVariants as form
 use Rattle.ls_lines.specs.declared.setting_form.SettingForm.TheVariants as setting
@@ -55,93 +56,75 @@ form_of (commands.Class file) = form.Pupil pupil.Class
 form_of (commands.Save file) = form.Setting setting.Save
 form_of (commands.Reopen file) = form.Setting setting.Reopen
 
--- the words at those parts of its form that are no fixed words
-unfoldable pub operands : Command → List (List Text)
+-- what stands at those parts of its form that are no fixed words
+unfoldable pub operands : Command → List Filling
 operands commands.Nothing = []
-operands (commands.Items names) = names ∷ []
-operands (commands.LoadItems file) = (file ∷ []) ∷ []
-operands (commands.StartSurmise file) = (file ∷ []) ∷ []
-operands (commands.StartBase file) = (file ∷ []) ∷ []
-operands (commands.Blocks size) = (decimal size ∷ []) ∷ []
-operands (commands.Yes names item) = names ∷ (item ∷ []) ∷ []
-operands (commands.No names item) = names ∷ (item ∷ []) ∷ []
-operands (commands.Retract number) = (decimal number ∷ []) ∷ []
-operands (commands.Known names item) = names ∷ (item ∷ []) ∷ []
+operands (commands.Items names) = Words names ∷ []
+operands (commands.LoadItems file) = Word file ∷ []
+operands (commands.StartSurmise file) = Word file ∷ []
+operands (commands.StartBase file) = Word file ∷ []
+operands (commands.Blocks size) = Number size ∷ []
+operands (commands.Yes names item) = Words names ∷ Word item ∷ []
+operands (commands.No names item) = Words names ∷ Word item ∷ []
+operands (commands.Retract number) = Number number ∷ []
+operands (commands.Known names item) = Words names ∷ Word item ∷ []
 operands commands.Ask = []
-operands (commands.States count None) = (decimal count ∷ []) ∷ []
-operands (commands.States count (Some cursor)) = (decimal count ∷ []) ∷ (cursor ∷ []) ∷ []
+operands (commands.States count None) = Number count ∷ []
+operands (commands.States count (Some cursor)) = Number count ∷ Word cursor ∷ []
 operands commands.Base = []
 operands commands.Surmise = []
 operands commands.Learning = []
-operands (commands.Project count None names) = (decimal count ∷ []) ∷ names ∷ []
-operands (commands.Project count (Some cursor) names) = (decimal count ∷ []) ∷ (cursor ∷ []) ∷ names ∷ []
-operands (commands.ProjectBase names) = names ∷ []
-operands (commands.Test file) = (file ∷ []) ∷ []
-operands (commands.Fringes names) = names ∷ []
-operands (commands.StateOf inner outer) = inner ∷ outer ∷ []
-operands (commands.Paths count None) = (decimal count ∷ []) ∷ []
-operands (commands.Paths count (Some path)) = (decimal count ∷ []) ∷ path ∷ []
-operands (commands.OddsAll right wrong) = (decimal right ∷ []) ∷ (decimal wrong ∷ []) ∷ []
-operands (commands.OddsItem item right wrong) = (item ∷ []) ∷ (decimal right ∷ []) ∷ (decimal wrong ∷ []) ∷ []
-operands (commands.Limits budget share) = (decimal budget ∷ []) ∷ (decimal share ∷ []) ∷ []
-operands (commands.Pupil name) = (name ∷ []) ∷ []
-operands (commands.Question name) = (name ∷ []) ∷ []
-operands (commands.Reply name item right) = (name ∷ []) ∷ (item ∷ []) ∷ ((if right then codes "right" else codes "wrong") ∷ []) ∷ []
-operands (commands.Report name) = (name ∷ []) ∷ []
-operands (commands.Close name) = (name ∷ []) ∷ []
-operands (commands.Class file) = (file ∷ []) ∷ []
-operands (commands.Save file) = (file ∷ []) ∷ []
-operands (commands.Reopen file) = (file ∷ []) ∷ []
+operands (commands.Project count None names) = Number count ∷ Words names ∷ []
+operands (commands.Project count (Some cursor) names) = Number count ∷ Word cursor ∷ Words names ∷ []
+operands (commands.ProjectBase names) = Words names ∷ []
+operands (commands.Test file) = Word file ∷ []
+operands (commands.Fringes names) = Words names ∷ []
+operands (commands.StateOf inner outer) = Words inner ∷ Words outer ∷ []
+operands (commands.Paths count None) = Number count ∷ []
+operands (commands.Paths count (Some path)) = Number count ∷ Words path ∷ []
+operands (commands.OddsAll right wrong) = Number right ∷ Number wrong ∷ []
+operands (commands.OddsItem item right wrong) = Word item ∷ Number right ∷ Number wrong ∷ []
+operands (commands.Limits budget share) = Number budget ∷ Number share ∷ []
+operands (commands.Pupil name) = Word name ∷ []
+operands (commands.Question name) = Word name ∷ []
+operands (commands.Reply name item right) = Word name ∷ Word item ∷ Right right ∷ []
+operands (commands.Report name) = Word name ∷ []
+operands (commands.Close name) = Word name ∷ []
+operands (commands.Class file) = Word file ∷ []
+operands (commands.Save file) = Word file ∷ []
+operands (commands.Reopen file) = Word file ∷ []
 
 -- the words at each part: a fixed word stands for itself, and the other parts have the given words in turn
-unfoldable pub placed : List Part → List (List Text) → List (List Text)
-placed [] given = []
-placed (Fixed v ∷ ps) given = (spelling v ∷ []) ∷ placed ps given
-placed (p ∷ ps) [] = [] ∷ placed ps []
-placed (p ∷ ps) (ws ∷ given) = ws ∷ placed ps given
+unfoldable pub laid_out : List Part → List (List Text) → List (List Text)
+laid_out [] given = []
+laid_out (Fixed v ∷ ps) given = (spelling v ∷ []) ∷ laid_out ps given
+laid_out (p ∷ ps) [] = [] ∷ laid_out ps []
+laid_out (p ∷ ps) (ws ∷ given) = ws ∷ laid_out ps given
 
 -- the words of the command
 unfoldable pub spelled : Command → List Text
-spelled c = flat_map (λ ws. ws) (placed (parts (form_of c)) (operands c))
+spelled c = flat_map (λ ws. ws) (laid_out (parts (form_of c)) (map words_of (operands c)))
 
 -- words, joined by single spaces
-abbrev pub line_of : List Text → List ℕ
-line_of ws = join_with_byte 32 ws
+abbrev pub words_joined : List Text → List ℕ
+words_joined ws = join_with_byte 32 ws
 
--- whether the words, numbers and counts of the command are of their classes
+-- whether it can stand at the part
+abbrev pub stands_at : Part → Filling → Bool
+stands_at (One k) (Word w) = is_of k w
+stands_at (Many k) (Words ws) = list_all (is_of k) ws
+stands_at (One kind.Count) (Number n) = nat_le n most_counted
+stands_at (One kind.Number) (Number n) = nat_le n greatest_number
+stands_at (One kind.Right) (Right right) = true
+stands_at part filling = false
+
+-- whether each can stand at its part, where the fixed words have none
+abbrev pub all_stand : List Part → List Filling → Bool
+all_stand [] [] = true
+all_stand (Fixed v ∷ ps) fillings = all_stand ps fillings
+all_stand (part ∷ ps) (filling ∷ fillings) = stands_at part filling && all_stand ps fillings
+all_stand ps fillings = false
+
+-- whether the words, numbers and counts of the command can stand at the parts of its form
 unfoldable pub is_plain : Command → Bool
-is_plain commands.Nothing = true
-is_plain (commands.Items names) = list_all (is_of kind.Name) names
-is_plain (commands.LoadItems file) = is_of kind.File file
-is_plain (commands.StartSurmise file) = is_of kind.File file
-is_plain (commands.StartBase file) = is_of kind.File file
-is_plain (commands.Blocks size) = nat_le size most_number
-is_plain (commands.Yes names item) = list_all (is_of kind.Item) names && is_of kind.Item item
-is_plain (commands.No names item) = list_all (is_of kind.Item) names && is_of kind.Item item
-is_plain (commands.Retract number) = nat_le number most_number
-is_plain (commands.Known names item) = list_all (is_of kind.Item) names && is_of kind.Item item
-is_plain commands.Ask = true
-is_plain (commands.States count None) = nat_le count most_counted
-is_plain (commands.States count (Some cursor)) = nat_le count most_counted && is_of kind.Cursor cursor
-is_plain commands.Base = true
-is_plain commands.Surmise = true
-is_plain commands.Learning = true
-is_plain (commands.Project count None names) = nat_le count most_counted && list_all (is_of kind.Item) names
-is_plain (commands.Project count (Some cursor) names) = nat_le count most_counted && is_of kind.Cursor cursor && list_all (is_of kind.Item) names
-is_plain (commands.ProjectBase names) = list_all (is_of kind.Item) names
-is_plain (commands.Test file) = is_of kind.File file
-is_plain (commands.Fringes names) = list_all (is_of kind.Item) names
-is_plain (commands.StateOf inner outer) = list_all (is_of kind.Item) inner && list_all (is_of kind.Item) outer
-is_plain (commands.Paths count None) = nat_le count most_counted
-is_plain (commands.Paths count (Some path)) = nat_le count most_counted && list_all (is_of kind.Item) path
-is_plain (commands.OddsAll right wrong) = nat_le right most_number && nat_le wrong most_number
-is_plain (commands.OddsItem item right wrong) = is_of kind.Item item && nat_le right most_number && nat_le wrong most_number
-is_plain (commands.Limits budget share) = nat_le budget most_number && nat_le share most_number
-is_plain (commands.Pupil name) = is_of kind.Name name
-is_plain (commands.Question name) = is_of kind.Name name
-is_plain (commands.Reply name item right) = is_of kind.Name name && is_of kind.Item item
-is_plain (commands.Report name) = is_of kind.Name name
-is_plain (commands.Close name) = is_of kind.Name name
-is_plain (commands.Class file) = is_of kind.File file
-is_plain (commands.Save file) = is_of kind.File file
-is_plain (commands.Reopen file) = is_of kind.File file
+is_plain c = all_stand (parts (form_of c)) (operands c)

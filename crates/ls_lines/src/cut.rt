@@ -7,7 +7,7 @@ ghost use Rattle.ls_lines.specs.Forms.{all, one, count, number, is_right};
 use crate::number::number_up_to;
 use crate::reading::front;
 use crate::token::Token;
-use crate::{MOST_COUNTED, MOST_NUMBER, Part, Word, WordList};
+use crate::{GREATEST_NUMBER, MOST_COUNTED, Part, Word, WordList};
 use std::alloc::{AllocError, Global};
 use std::marker::Model;
 
@@ -74,7 +74,7 @@ impl<'a> Cut<'a> {
     pub(crate) fn number(&self, place: usize) -> u32
         ensures { result ≡ number self.now place }
     {
-        number_up_to(MOST_NUMBER, self.word(place)).unwrap_or(0)
+        number_up_to(GREATEST_NUMBER, self.word(place)).unwrap_or(0)
     }
 
     // Whether the one word at a part is `right`.

@@ -1,5 +1,5 @@
 // Cutting a stream into lines.
-ghost use Rattle.std.specs.Prelude.{◌≡◌, ◌<◌, ◌≤◌, ◌+◌, ◌^◌, ℕ, List, [], ◌∷◌, ◌++◌, ◌==◌, length, position, IfOk, IfSome, MatchOption, take};
+ghost use Rattle.std.specs.Prelude.{◌≡◌, ◌<◌, ◌≤◌, ◌+◌, ◌^◌, ℕ, List, [], ◌∷◌, ◌++◌, ◌==◌, length, position, IfOk, IfSome, IfNone, MatchOption, take};
 ghost use Rattle.ls_lines.specs.Lines.{lines};
 ghost use Rattle.ls_lines.specs.Cutting.{Holds, IsTaken, Ends, ahead};
 
@@ -11,9 +11,10 @@ use std::marker::Model;
 /// The most bytes of a line that are kept.
 pub const LONGEST_LINE: usize = 65_536;
 
-/// Cuts a stream of bytes into its lines, piece by piece; how the stream was cut into pieces doesn't matter. Contracts
-/// see what it keeps: the bytes since the last line end, how many these are, and the line that ended last. Of a line
-/// of more than [`LONGEST_LINE`] bytes only their number is kept.
+/// Cuts a stream of bytes into its lines, piece by piece; how the stream was cut into pieces is of
+/// no account. Contracts see what it keeps: the bytes since the last line end, how many these are,
+/// and the line that ended last. Of a line of more than [`LONGEST_LINE`] bytes only their number is
+/// kept.
 #[derive(Drop)]
 pub struct Cutter {
     bytes: Vec<u8>,
@@ -37,11 +38,12 @@ impl Model for Cutter {
     ghost invariant = { IsKept };
 }
 
-/// The lines of a stream that goes on are those that had ended, and those of what follows, of which the first has the
-/// pending bytes ahead of it. It does nothing when it runs.
+/// The lines of a stream that goes on are those that had ended, and those of what follows, of which
+/// the first has the pending bytes ahead of it. It does nothing when it runs.
 pub fn lines_go_on()
     ensures { (stream more : List ℕ) (ended : List (List ℕ)) (pending : List ℕ)
-        → lines stream ≡ ended ++ pending ∷ [] → lines (stream ++ more) ≡ ended ++ ahead pending (lines more) }
+        → lines stream ≡ ended ++ pending ∷ []
+        → lines (stream ++ more) ≡ ended ++ ahead pending (lines more) }
 {}
 
 // Where the first line end is.
@@ -53,7 +55,8 @@ fn line_end(piece: &[u8]) -> Option<usize>
 }
 
 impl Cutter {
-    /// A cutter of a stream of which nothing was taken yet. It takes room for one line, once and for all.
+    /// A cutter of a stream of which nothing was taken yet. It takes room for one line, once for
+    /// all.
     pub fn new(alloc: Global) -> Result<Cutter, AllocError>
         ensures { IfOk result (λ c. Holds c []) }
     {
@@ -64,12 +67,13 @@ impl Cutter {
         })
     }
 
-    /// Takes bytes of the piece up to and with the first line end, or all of them where there is no line end, and says
-    /// how many, and how a line ended, if one did. It takes no memory.
+    /// Takes bytes of the piece up to and with the first line end, or all of them where there is no
+    /// line end, and says how many, and how a line ended, if one did. It takes no memory.
     pub fn take(&mut self, piece: &[u8]) -> (usize, Option<Ended>)
         ensures within { result.0 ≤ length piece.now }
         ensures some { 0 < length piece.now → 0 < result.0 }
-        ensures taken { (pending : List ℕ) → Holds self.old pending → length pending + length piece.now < 2 ^ 64
+        ensures taken { (pending : List ℕ) → Holds self.old pending
+            → length pending + length piece.now < 2 ^ 64
             → IsTaken self.new pending piece.now result.0 result.1 }
     {
         match line_end(piece) {
@@ -84,10 +88,13 @@ impl Cutter {
         }
     }
 
-    /// Ends the last line, which has no line end. `None` exactly where no byte is pending. It takes no memory.
+    /// Ends the last line, which has no line end. `None` exactly where no byte is pending, and the
+    /// cutter is then as before. It takes no memory.
     pub fn finish(&mut self) -> Option<Ended>
-        ensures { (pending : List ℕ) → Holds self.old pending → length pending < 2 ^ 64
-            → MatchOption result (pending ≡ []) (λ e. (0 < length pending) × Ends self.new pending e) }
+        ensures ended { (pending : List ℕ) → Holds self.old pending → length pending < 2 ^ 64
+            → MatchOption result (pending ≡ []) (λ e.
+            (0 < length pending) × Ends self.new pending e) }
+        ensures kept { IfNone result (self.new ≡ self.old) }
     {
         if self.length == 0 {
             None
@@ -96,7 +103,8 @@ impl Cutter {
         }
     }
 
-    /// The line that ended last, after `Whole`; no byte after `Long`, and where no line has ended since bytes were taken.
+    /// The line that ended last, after `Whole`; no byte after `Long`, and where no line has ended
+    /// since bytes were taken.
     pub fn line(&self) -> &[u8]
         ensures { result.now ≡ self.now.line }
     {
@@ -105,7 +113,9 @@ impl Cutter {
 
     // Puts bytes without a line end behind those that are pending.
     fn hold(&mut self, part: &[u8])
-        ensures { (pending : List ℕ) → Holds self.old pending → length pending + length part.now < 2 ^ 64 → Holds self.new (pending ++ part.now) }
+        ensures { (pending : List ℕ) → Holds self.old pending
+            → length pending + length part.now < 2 ^ 64
+            → Holds self.new (pending ++ part.now) }
     {
         if self.is_ended {
             self.bytes.clear();

@@ -4,8 +4,8 @@ ghost use Rattle.ls_lines.specs.Kinds.{is_name_up_to, is_name_byte, is_file, is_
 
 use crate::number::number_up_to;
 
-/// What a word of a command can be. An item's name is a name; it has to be one of the domain's. The last
-/// kind has the two words `right` and `wrong`.
+/// What a word of a command can be. An item's name is a name; it has to be one of the domain's. The
+/// last kind has the two words `right` and `wrong`.
 #[derive(Clone, Copy, Debug, PartialEq, Eq)]
 pub enum Kind {
     Name,
@@ -21,13 +21,13 @@ pub enum Kind {
 const LONGEST_NAME: usize = 40;
 
 /// The most bytes that a file's name has.
-const LONGEST_FILE: usize = 64;
+const LONGEST_FILE_NAME: usize = 64;
 
 /// The most sets or paths that one page has.
 pub const MOST_COUNTED: u32 = 65_536;
 
 /// The greatest number.
-pub const MOST_NUMBER: u32 = 999_999_999;
+pub const GREATEST_NUMBER: u32 = 999_999_999;
 
 impl Kind {
     ghost use Rattle.ls_lines.specs.Kinds.{is_of};
@@ -41,7 +41,7 @@ impl Kind {
             Kind::Name | Kind::Item => is_name_up_to(LONGEST_NAME, word),
             Kind::File => is_file(word),
             Kind::Count => number_up_to(MOST_COUNTED, word).is_some(),
-            Kind::Number => number_up_to(MOST_NUMBER, word).is_some(),
+            Kind::Number => number_up_to(GREATEST_NUMBER, word).is_some(),
             Kind::Cursor => is_cursor(word),
             Kind::Right => matches!(word, b"right" | b"wrong"),
         }
@@ -55,11 +55,11 @@ fn is_name_up_to(most: usize, word: &[u8]) -> bool
     (1..=most).contains(&word.len()) && word.iter().all(|b| is_name_byte(*b))
 }
 
-// A name of at most 64 bytes that does not begin with `.`.
+// A name of at most as many bytes as a file's name has, that does not begin with `.`.
 fn is_file(word: &[u8]) -> bool
     ensures { result ≡ is_file word.now }
 {
-    is_name_up_to(LONGEST_FILE, word) && word[0] != b'.'
+    is_name_up_to(LONGEST_FILE_NAME, word) && word[0] != b'.'
 }
 
 // A name byte: a letter, a digit, `_`, `-` or `.`.

@@ -4,7 +4,7 @@ ghost use Rattle.ls_lines.specs.Lines.{Text, words};
 ghost use Rattle.ls_lines.specs.Forms.{parts};
 ghost use Rattle.ls_lines.specs.Commands.{cut, is_begun, command_of, count_of};
 ghost use Rattle.ls_lines.specs.Kinds.{most_counted};
-ghost use Rattle.ls_lines.specs.Printing.{is_plain, spelled, line_of};
+ghost use Rattle.ls_lines.specs.Printing.{is_plain, spelled, words_joined};
 ghost use Rattle.ls_lines.specs.Grammar.{IsLine, Completes};
 ghost use Rattle.ls_lines.specs.declared.form.Form.{Form};
 ghost use Rattle.ls_lines.specs.declared.command.Command.{Command};
@@ -12,8 +12,10 @@ ghost use Rattle.ls_lines.specs.declared.command.Command.{Command};
 /// The words that are cut by a form are its lines, and those that it begins with are the beginnings
 /// of its lines. Nothing is done.
 pub fn forms_are_exact()
-    ensures line { (f : Form) (ws : List Text) → (is_some (cut (parts f) ws) ≡ true) ↔ IsLine (parts f) ws }
-    ensures begun { (f : Form) (ws : List Text) → (is_begun (parts f) ws ≡ true) ↔ Completes (parts f) ws }
+    ensures line { (f : Form) (ws : List Text)
+        → (is_some (cut (parts f) ws) ≡ true) ↔ IsLine (parts f) ws }
+    ensures begun { (f : Form) (ws : List Text)
+        → (is_begun (parts f) ws ≡ true) ↔ Completes (parts f) ws }
 {}
 
 /// No line has two forms. Nothing is done.
@@ -23,12 +25,15 @@ pub fn forms_are_told_apart()
 
 /// The count of a command that is read is at most 65536. Nothing is done.
 pub fn counts_are_bounded()
-    ensures { (ws : List Text) (c : Command) (n : ℕ) → command_of ws ≡ Some c → count_of c ≡ Some n → n ≤ most_counted }
+    ensures { (ws : List Text) (c : Command) (n : ℕ)
+        → command_of ws ≡ Some c → count_of c ≡ Some n → n ≤ most_counted }
 {}
 
-/// A printed command is read back, where its words, numbers and counts are of their classes. Nothing
-/// is done.
+/// A printed command is read back, where its words, numbers and counts can stand at the parts of
+/// its form. Nothing is done.
 pub fn commands_read_back()
-    ensures words { (c : Command) → is_plain c ≡ true → words (line_of (spelled c)) ≡ spelled c }
-    ensures command { (c : Command) → is_plain c ≡ true → command_of (words (line_of (spelled c))) ≡ Some c }
+    ensures words { (c : Command) → is_plain c ≡ true
+        → words (words_joined (spelled c)) ≡ spelled c }
+    ensures command { (c : Command) → is_plain c ≡ true
+        → command_of (words (words_joined (spelled c))) ≡ Some c }
 {}

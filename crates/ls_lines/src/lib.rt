@@ -32,7 +32,7 @@ pub use ended::Ended;
 pub use form::{FORMS, Form};
 pub use interview_form::InterviewForm;
 pub use keyword::Keyword;
-pub use kind::{Kind, MOST_COUNTED, MOST_NUMBER};
+pub use kind::{GREATEST_NUMBER, Kind, MOST_COUNTED};
 pub use laws::{commands_read_back, counts_are_bounded, forms_are_exact, forms_are_told_apart};
 pub use line_fault::LineFault;
 pub use listing_form::ListingForm;

@@ -1,7 +1,7 @@
 // Printing commands by the table of forms.
 ghost use Rattle.std.specs.Prelude.{◌≡◌, IfOk, map, flat_map};
-ghost use Rattle.ls_lines.specs.Printing.{form_of, operands, placed, spelled, line_of};
-ghost use Rattle.ls_lines.specs.Operands.{shown, with_spaces};
+ghost use Rattle.ls_lines.specs.Printing.{form_of, operands, laid_out, spelled, words_joined};
+ghost use Rattle.ls_lines.specs.Operands.{filling, shown, with_spaces};
 
 use crate::operand::Operand::{Count, Many, Number, One, Right};
 use crate::operand::{Operand, push_word};
@@ -13,7 +13,7 @@ use std::alloc::{AllocError, Global};
 
 /// The line that the command is: the words of its form, joined by single spaces.
 pub fn print_command(alloc: Global, command: &Command) -> Result<Vec<u8>, AllocError>
-    ensures { IfOk result (λ line. line.items ≡ line_of (spelled command.now)) }
+    ensures { IfOk result (λ line. line.items ≡ words_joined (spelled command.now)) }
 {
     let operands = operands(alloc, command)?;
     let mut text = spaced(alloc, form_of(command).parts(), &operands)?;
@@ -23,7 +23,8 @@ pub fn print_command(alloc: Global, command: &Command) -> Result<Vec<u8>, AllocE
 
 // The words at the parts, each with a space behind it.
 fn spaced(alloc: Global, form: &[Part], operands: &[Operand]) -> Result<Vec<u8>, AllocError>
-    ensures { IfOk result (λ text. text.items ≡ with_spaces (flat_map (λ ws. ws) (placed form.now (map shown operands.now)))) }
+    ensures { IfOk result (λ text. text.items ≡
+        with_spaces (flat_map (λ ws. ws) (laid_out form.now (map shown operands.now)))) }
 {
     let mut text = Vec::new(alloc);
     let mut left = operands;
@@ -84,7 +85,7 @@ fn form_of(command: &Command) -> Form
 // What the command has at the parts of its form that are no fixed words.
 #[tactic(auto, unfolding(crate::specs::Printing::operands))]
 fn operands(alloc: Global, command: &Command) -> Result<Vec<Operand<'_>>, AllocError>
-    ensures { IfOk result (λ v. map shown v.items ≡ operands command.now) }
+    ensures { IfOk result (λ v. map filling v.items ≡ operands command.now) }
 {
     Ok(match command {
         Command::Nothing | Command::Ask | Command::Base | Command::Surmise | Command::Learning => {
@@ -135,7 +136,7 @@ fn operands(alloc: Global, command: &Command) -> Result<Vec<Operand<'_>>, AllocE
 // The same of a page of states.
 #[tactic(auto, unfolding(crate::specs::Printing::operands))]
 fn states(alloc: Global, count: u32, after: &Option<Word>) -> Result<Vec<Operand<'_>>, AllocError>
-    ensures { IfOk result (λ v. map shown v.items ≡ operands (Command.States count after.now)) }
+    ensures { IfOk result (λ v. map filling v.items ≡ operands (Command.States count after.now)) }
 {
     Ok(match after {
         None => vec![in alloc; Count(count)]?,
@@ -151,7 +152,8 @@ fn project<'a>(
     after: &'a Option<Word>,
     names: &'a WordList,
 ) -> Result<Vec<Operand<'a>>, AllocError>
-    ensures { IfOk result (λ v. map shown v.items ≡ operands (Command.Project count after.now names.now)) }
+    ensures { IfOk result (λ v.
+        map filling v.items ≡ operands (Command.Project count after.now names.now)) }
 {
     Ok(match after {
         None => vec![in alloc; Count(count), Many(names)]?,
@@ -166,7 +168,7 @@ fn paths(
     count: u32,
     after: &Option<WordList>,
 ) -> Result<Vec<Operand<'_>>, AllocError>
-    ensures { IfOk result (λ v. map shown v.items ≡ operands (Command.Paths count after.now)) }
+    ensures { IfOk result (λ v. map filling v.items ≡ operands (Command.Paths count after.now)) }
 {
     Ok(match after {
         None => vec![in alloc; Count(count)]?,

@@ -1,8 +1,8 @@
 // The lines of a script and what they are read as.
 use crate::{
-    FORMS, Form, InterviewForm, Keyword, Kind, LineFault, Part, SettingForm, Word, WordList,
-    commands_read_back, counts_are_bounded, forms_are_exact, forms_are_told_apart, print_command,
-    read_command,
+    Cutter, Ended, FORMS, Form, InterviewForm, Keyword, Kind, LONGEST_LINE, LineFault, Part,
+    SettingForm, Word, WordList, commands_read_back, counts_are_bounded, forms_are_exact,
+    forms_are_told_apart, print_command, read_command,
 };
 use std::alloc::{AllocError, Global};
 use std::test::Fail;
@@ -125,5 +125,51 @@ fn each_call_succeeds(rt: HostRuntime) -> Result<(), Fail> {
     let fault = LineFault::Shape { place: 3 };
     let text = format!(in rt.alloc(); "{fault}")?;
     assert_eq!(rt; text.as_str(), "the words are no command from word 3 on");
+    Ok(())
+}
+
+#[test]
+fn streams_are_cut(rt: HostRuntime) -> Result<(), Fail> {
+    let mut cutter = Cutter::new(rt.alloc())?;
+    assert_eq!(rt; cutter.finish(), None);
+
+    // Two lines in one piece, and the beginning of a third.
+    let piece = b"ab\n\ncd";
+    assert_eq!(rt; cutter.take(piece), (3, Some(Ended::Whole)));
+    assert_eq!(rt; cutter.line(), b"ab".as_slice());
+    assert_eq!(rt; cutter.take(&piece[3..]), (1, Some(Ended::Whole)));
+    assert_eq!(rt; cutter.line(), b"".as_slice());
+    assert_eq!(rt; cutter.take(&piece[4..]), (2, None));
+    assert_eq!(rt; cutter.line(), b"".as_slice());
+    assert_eq!(rt; cutter.take(b"e\n"), (2, Some(Ended::Whole)));
+    assert_eq!(rt; cutter.line(), b"cde".as_slice());
+
+    // The last line has no line end, and there is one of it.
+    assert_eq!(rt; cutter.take(b"f"), (1, None));
+    assert_eq!(rt; cutter.finish(), Some(Ended::Whole));
+    assert_eq!(rt; cutter.line(), b"f".as_slice());
+    assert_eq!(rt; cutter.finish(), None);
+    assert_eq!(rt; cutter.line(), b"f".as_slice());
+    Ok(())
+}
+
+#[test]
+fn lines_are_at_most_65536_bytes(rt: HostRuntime) -> Result<(), Fail> {
+    let mut cutter = Cutter::new(rt.alloc())?;
+    let longest = vec![in rt.alloc(); b'a'; LONGEST_LINE]?;
+    assert_eq!(rt; cutter.take(&longest), (65_536, None));
+    assert_eq!(rt; cutter.take(b"\n"), (1, Some(Ended::Whole)));
+    assert_eq!(rt; cutter.line(), longest.as_slice());
+
+    // One byte more, and then a line that is read again.
+    assert_eq!(rt; cutter.take(&longest), (65_536, None));
+    assert_eq!(rt;
+        cutter.take(b"b\nc"),
+        (2, Some(Ended::Long { bytes: 65_537 }))
+    );
+    assert_eq!(rt; cutter.line(), b"".as_slice());
+    assert_eq!(rt; cutter.take(b"c"), (1, None));
+    assert_eq!(rt; cutter.finish(), Some(Ended::Whole));
+    assert_eq!(rt; cutter.line(), b"c".as_slice());
     Ok(())
 }

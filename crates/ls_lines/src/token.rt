@@ -100,7 +100,8 @@ fn runs(alloc: Global, line: &[u8]) -> Result<Vec<Token<'_>>, AllocError>
 
 // A run of no bytes is no word.
 fn push_run<'a>(tokens: &mut Vec<Token<'a>>, run: &'a [u8]) -> Result<(), AllocError>
-    ensures { OnOk result (tokens.new.items ≡ tokens.old.items ++ (if nat_lt 0 (length run.now) then run.now ∷ [] else [])) }
+    ensures { OnOk result (tokens.new.items ≡ tokens.old.items ++
+        (if nat_lt 0 (length run.now) then run.now ∷ [] else [])) }
 {
     if !run.is_empty() {
         tokens.push(Token { bytes: run })?;

@@ -1,12 +1,12 @@
-use Rattle.std.proofs.Common.{◌≡◌, ◌∙◌, refl, sym, ap, map, rules, length, flat_map, vec_len}
-use Rattle.ls_lines.specs.Printing.{spelled, placed}
+use Rattle.std.proofs.Common.{◌≡◌, ◌∙◌, refl, ap, rules, length, vec_len}
+use Rattle.ls_lines.specs.Printing.{spelled}
 use Rattle.ls_lines.specs.Operands.{with_spaces}
-use Rattle.ls_lines.proofs.Printed.{trimmed}
+use Rattle.ls_lines.proofs.Printed.{trimmed, shown-filling}
 use Rattle.ls_lines.proofs.printing.print_command.Goals as goal
 
 pub returns : goal.returns
 unfolding spelled
 returns c =
-    let text : c.in_ok-text.text.items ≡ with_spaces (spelled c.args.command.now) = rw (c.in_ok-text.ensures, c.parts.ensures, c.form_of.ensures, c.deref.ensures.value, c.in_ok-operands.ensures) refl in
+    let text : c.in_ok-text.text.items ≡ with_spaces (spelled c.args.command.now) = rw (c.in_ok-text.ensures, c.parts.ensures, c.form_of.ensures, c.deref.ensures.value, shown-filling, c.in_ok-operands.ensures) refl in
     let long : vec_len c.in_ok-text.text ≡ length c.in_ok-text.text.items = search rules in
     c.pop.ensures.rest ∙ rw text (trimmed (spelled c.args.command.now) (vec_len c.in_ok-text.text) (long ∙ ap length text))

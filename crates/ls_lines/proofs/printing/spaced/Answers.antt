@@ -1,4 +1,4 @@
-use Rattle.std.proofs.Common.{◌≡◌, ◌∙◌, refl, sym, ap, map, rules, subst}
+use Rattle.std.proofs.Common.{map}
 use Rattle.std.proofs.lemmas.List.{take_rest}
 use Rattle.ls_lines.specs.Operands.{shown}
 use Rattle.ls_lines.proofs.Printed.{own_word, operand, no_operand, no_part, none_left, one_left}

@@ -1,7 +1,7 @@
 use Rattle.std.proofs.Common.{◌≡◌, ◌++◌, drop, map, flat_map}
-use Rattle.ls_lines.specs.Printing.{placed}
+use Rattle.ls_lines.specs.Printing.{laid_out}
 use Rattle.ls_lines.specs.Operands.{shown, with_spaces}
 use Rattle.ls_lines.proofs.printing.spaced.Given as goal
 
 abbrev pub invariant-loop-part : goal.invariant-loop-part
-invariant-loop-part l = l.text.items ++ with_spaces (flat_map (λ ws. ws) (placed (drop l.part-index l.form) (map shown l.left))) ≡ with_spaces (flat_map (λ ws. ws) (placed l.form (map shown l.operands)))
+invariant-loop-part l = l.text.items ++ with_spaces (flat_map (λ ws. ws) (laid_out (drop l.part-index l.form) (map shown l.left))) ≡ with_spaces (flat_map (λ ws. ws) (laid_out l.form (map shown l.operands)))

@@ -1,4 +1,4 @@
-use Rattle.std.proofs.Common.{rules, sym, ap, ◌∙◌, drop, is_some}
+use Rattle.std.proofs.Common.{rules, sym, ◌∙◌, drop}
 use Rattle.std.proofs.lemmas.List.{take_rest}
 use Rattle.ls_lines.proofs.Cutting.{line_more, line_stuck, line_end}
 use Rattle.ls_lines.proofs.reading.is_line.Goals as goal

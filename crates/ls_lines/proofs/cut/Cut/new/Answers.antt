@@ -1,11 +1,7 @@
-use Rattle.std.proofs.Common.{◌≡◌, ◌+◌, ◌-◌, ◌∙◌, arith, rules, sym, ap, map, is_some, Some, true, drop, take, subst, length}
-use Rattle.std.specs.Str.{IsAscii}
-use Rattle.std.specs.List.{All}
+use Rattle.std.proofs.Common.{◌≡◌, ◌+◌, ◌-◌, ◌∙◌, arith, rules, sym, ap, map, is_some, drop, take}
 use Rattle.std.proofs.lemmas.List.{take_rest, map-append}
-use Rattle.std.proofs.lemmas.List.Elements.{All-append, All-cons, All-nil}
-use Rattle.ls_lines.specs.Commands.{cut}
 use Rattle.ls_lines.proofs.Ascii.{all-ascii}
-use Rattle.ls_lines.proofs.Cutting.{cut_more, cut_stuck, cut_whole, going_on}
+use Rattle.ls_lines.proofs.Cutting.{cut_more, cut_whole, going_on}
 use Rattle.ls_lines.proofs.cut.Cut.new.Goals as goal
 
 pub unwrap-requires : goal.unwrap-requires
