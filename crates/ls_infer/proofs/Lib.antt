@@ -5,3 +5,4 @@ mod Told
 mod Questions
 mod Changes
 mod Overwriting
+pub mod Least
