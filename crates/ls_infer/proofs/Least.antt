@@ -46,7 +46,7 @@ first_least-value {X} value xs k above here =
     ap (option_map value) x.1 ∙ ap Some same
 
 -- what is found one by one
-least_with-parts : {X : Type 0} (value : X → ℕ) (xs : List X) (m : ℕ)
+pub least_with-parts : {X : Type 0} (value : X → ℕ) (xs : List X) (m : ℕ)
     → (k : ℕ) × (least_with (Some m) (map value xs) ≡ Some k) × (k ≤ m) × (list_all (λ y. leb k (value y)) xs ≡ true) × ((eqb m k || list_any (λ y. eqb (value y) k) xs) ≡ true)
 least_with-parts value [] m = (m, refl, omega arith, refl, or_left (eqb m m) false (eq-eqb m m refl))
 least_with-parts value (x ∷ xs) m =

@@ -6,3 +6,4 @@ mod Questions
 mod Changes
 mod Overwriting
 pub mod Least
+pub mod WithinFamily

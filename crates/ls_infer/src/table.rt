@@ -187,7 +187,7 @@ impl Table {
 
     /// What the standing answers tell of the good query `q`, in at most one step and without memory.
     /// `f` is the family of the table. Where several answers force the query No, the least number is
-    /// named.
+    /// named. That this is what all spaces within the family force is the law `told_is_forced`.
     pub fn answer_of<I: Interior, L: Ledger>(&self, f: &I, q: &Query, steps: &mut Steps<L>) -> Known
         requires count { I.item_count f.now ≡ self.now.table.blocks.item_count }
         requires good { is_good self.now.table.blocks.item_count q.now ≡ true }
