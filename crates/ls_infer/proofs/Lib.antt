@@ -1,6 +1,5 @@
 mod Places
 mod Kept
-mod Opens
 mod Told
 mod Questions
 mod Changes
