@@ -21,7 +21,7 @@ use Rattle.ls_query.proofs.Sorted.{IsIn, filter-in, find-same}
 use Rattle.ls_query.proofs.QuerySets.{queries-in}
 use Rattle.ls_infer.specs.Tables.{TableState, standing, forces, is_open_in, table_of}
 use Rattle.ls_infer.proofs.Told.{forces-standing, closed_of-table}
-use Rattle.ls_infer.proofs.Opens.{block_place}
+use Rattle.ls_query.proofs.Placed.{block_place}
 
 -- some standing No forces the query exactly where closures say so
 any-standing : (n : ℕ) (f : List Items) (r : Query) (given : List Answer) → r.q < n

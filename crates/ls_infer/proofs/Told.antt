@@ -1,5 +1,5 @@
 -- What a table tells is what the answers tell.
-use Rattle.std.proofs.Common.{ℕ, ◌<◌, ◌≡◌, Bool, true, false, cond, ◌&&◌, List, [], ◌∷◌, map, find, Option, Some, None, refl, sym, ap, ap₂, ◌∙◌, lt-ltb}
+use Rattle.std.proofs.Common.{ℕ, ◌<◌, ◌≡◌, Bool, true, false, cond, ◌&&◌, List, [], ◌∷◌, map, filter, Option, Some, None, refl, sym, ap, ap₂, ◌∙◌, lt-ltb}
 use Rattle.std.specs.List.{position}
 use Rattle.std.specs.Option.{option_map, option_map_or}
 use Rattle.ls_set.specs.ItemSet.{Items, has, full, with, is_same, is_within}
@@ -7,19 +7,22 @@ use Rattle.ls_set.specs.Query.{is_good}
 use Rattle.ls_set.specs.declared.query.Query.{Query}
 use Rattle.ls_theory.specs.declared.no.No.{No}
 use Rattle.ls_theory.specs.declared.known.Known.{Known}
+use Rattle.ls_theory.specs.Words.{first_least}
 use Rattle.ls_theory.specs.Families.{closure}
 use Rattle.ls_theory.specs.Interviews.{Interview, nos}
 use Rattle.ls_theory.specs.Compatible.{compatible_sets}
 use Rattle.ls_theory.specs.Forced.{known}
 use Rattle.ls_theory.specs.Blocks.{BlockRange}
-use Rattle.ls_laws.specs.Forced.{IsSound, is_forced_by_closures}
+use Rattle.ls_laws.specs.Forced.{IsSound, IsNumbered, is_forced_by_closures}
 use Rattle.ls_laws.proofs.Breaks.{good-from}
 use Rattle.ls_laws.proofs.Answering.{known_is}
+use Rattle.ls_laws.proofs.Numbered.{nos-increasing}
 use Rattle.ls_query.specs.Blocks.{sets_of}
 use Rattle.ls_query.proofs.Placed.{position-get}
-use Rattle.ls_infer.specs.Tables.{TableState, standing, forces, closed_of, table_of}
+use Rattle.ls_infer.specs.Tables.{TableState, standing, forces, closed_of, table_of, told}
 use Rattle.ls_infer.proofs.Places.{get-map}
 use Rattle.ls_infer.proofs.Kept.{has-enough}
+use Rattle.ls_infer.proofs.Least.{least_with, least_with-first, least_in_order}
 
 -- what is kept of a No forces what the No forces
 pub forces-standing : (n : ℕ) (f : List Items) (r : Query) (a : No) → r.q < n → forces r (standing n f a) ≡ is_forced_by_closures n f r a.query
@@ -27,13 +30,27 @@ forces-standing n f r a l =
     let closed = closure (full n) f a.query.a in
     ap (λ b. is_within r.a closed && b) (has-enough n f closed a.query.q r.q ∙ ap (λ b. b && has (closure (full n) f (with closed r.q)) a.query.q) (lt-ltb r.q n l))
 
-pub find-standing : (n : ℕ) (f : List Items) (r : Query) (ns : List No) → r.q < n
-    → option_map (λ s. s.no.number) (find (forces r) (map (standing n f) ns)) ≡ option_map (λ a. a.number) (find (λ a. is_forced_by_closures n f r a.query) ns)
-find-standing n f r [] l = refl
-find-standing n f r (a ∷ ns) l =
-    ap (λ b. option_map (λ s. s.no.number) (cond b (Some (standing n f a)) (find (forces r) (map (standing n f) ns)))) (forces-standing n f r a l)
-    ∙ elim (is_forced_by_closures n f r a.query) as (λ b. option_map (λ s. s.no.number) (cond b (Some (standing n f a)) (find (forces r) (map (standing n f) ns)))
-    ≡ option_map (λ a. a.number) (cond b (Some a) (find (λ a. is_forced_by_closures n f r a.query) ns))) [ true ↦ refl | false ↦ find-standing n f r ns l ]
+-- so the numbers of those that force it are the same
+forcing-numbers : (n : ℕ) (f : List Items) (r : Query) (ns : List No) → r.q < n
+    → map (λ s. s.no.number) (filter (forces r) (map (standing n f) ns)) ≡ map (λ a. a.number) (filter (λ a. is_forced_by_closures n f r a.query) ns)
+forcing-numbers n f r [] l = refl
+forcing-numbers n f r (a ∷ ns) l =
+    let rest = map (λ s. s.no.number) (filter (forces r) (map (standing n f) ns)) in
+    ap (λ b. map (λ s. s.no.number) (cond b (standing n f a ∷ filter (forces r) (map (standing n f) ns)) (filter (forces r) (map (standing n f) ns)))) (forces-standing n f r a l)
+    ∙ elim (is_forced_by_closures n f r a.query) as (λ b. map (λ s. s.no.number) (cond b (standing n f a ∷ filter (forces r) (map (standing n f) ns)) (filter (forces r) (map (standing n f) ns)))
+    ≡ map (λ a. a.number) (cond b (a ∷ filter (λ a. is_forced_by_closures n f r a.query) ns) (filter (λ a. is_forced_by_closures n f r a.query) ns))) [
+      | true ↦ ap (λ ms. a.number ∷ ms) (forcing-numbers n f r ns l)
+      | false ↦ forcing-numbers n f r ns l
+    ]
+
+-- and the least of them
+least-standing : (n : ℕ) (f : List Items) (r : Query) (ns : List No) → r.q < n
+    → option_map (λ s. s.no.number) (first_least (λ s. s.no.number) (filter (forces r) (map (standing n f) ns)))
+    ≡ option_map (λ a. a.number) (first_least (λ a. a.number) (filter (λ a. is_forced_by_closures n f r a.query) ns))
+least-standing n f r ns l =
+    sym (least_with-first (λ s. s.no.number) (filter (forces r) (map (standing n f) ns)))
+    ∙ ap (least_with None) (forcing-numbers n f r ns l)
+    ∙ least_with-first (λ a. a.number) (filter (λ a. is_forced_by_closures n f r a.query) ns)
 
 -- the closure that a table keeps
 pub closed_of-table : (b : BlockRange) (f : List Items) (ns : List No) (i : ℕ) (a : Items) → position (is_same a) (sets_of b) ≡ Some i → closed_of (table_of b f ns) a ≡ closure (full b.item_count) f a
@@ -51,28 +68,37 @@ number_of : (o : Option No) → option_map_or (λ m. Known.No m) (option_map (λ
 number_of None = refl
 number_of (Some a) = refl
 
--- what is told of the closure of a query's set and the first number is what is known
-pub told : (i : Interview) (t : TableState) (n : ℕ) (f : List Items) (r : Query) (closed : Items) → IsSound i → is_good t.blocks.item_count r ≡ true → n ≡ t.blocks.item_count → i.count ≡ t.blocks.item_count
-    → f ≡ compatible_sets i → t ≡ table_of t.blocks (compatible_sets i) (nos i.answers)
+-- what is told of the closure of a query's set and the least number is what the table tells
+pub told_is : (t : TableState) (n : ℕ) (f : List Items) (r : Query) (closed : Items) (ns : List No) → is_good t.blocks.item_count r ≡ true → n ≡ t.blocks.item_count
+    → t ≡ table_of t.blocks f ns
     → closed ≡ option_map_or (λ j. closed_of t r.a) (position (is_same r.a) (sets_of t.blocks)) (closure (full n) f r.a)
-    → cond (has closed r.q) Known.Yes (option_map_or (λ m. Known.No m) (option_map (λ s. s.no.number) (find (forces r) t.standing)) Known.Unsettled) ≡ known i r
-told i t n f r closed sound good ne ce fe te h =
-    let family = compatible_sets i in
-    let ns = nos i.answers in
+    → cond (has closed r.q) Known.Yes (option_map_or (λ m. Known.No m) (option_map (λ s. s.no.number) (first_least (λ s. s.no.number) (filter (forces r) t.standing))) Known.Unsettled)
+    ≡ told t.blocks.item_count f ns r
+told_is t n f r closed ns good ne te h =
     let b = t.blocks in
-    let good_here : is_good i.count r ≡ true = ap (λ m. is_good m r) ce ∙ good in
-    let item = (good-from i.count r good_here).item in
-    let closed_is : closed ≡ closure (full i.count) family r.a =
-    h ∙ ap₂ (λ m g. option_map_or (λ j. closed_of t r.a) (position (is_same r.a) (sets_of b)) (closure (full m) g r.a)) ne fe
-    ∙ ap (λ u. option_map_or (λ j. closed_of u r.a) (position (is_same r.a) (sets_of b)) (closure (full b.item_count) family r.a)) te
-    ∙ closure_in-table b family ns r.a ∙ ap (λ m. closure (full m) family r.a) (sym ce) in
-    let kept : t.standing ≡ map (standing i.count family) ns = ap (λ u. u.standing) te ∙ ap (λ m. map (standing m family) ns) (sym ce) in
-    let first = find (λ a. is_forced_by_closures i.count family r a.query) ns in
-    let number : option_map (λ s. s.no.number) (find (forces r) t.standing) ≡ option_map (λ a. a.number) first =
-    ap (λ ss. option_map (λ s. s.no.number) (find (forces r) ss)) kept ∙ find-standing i.count family r ns item in
+    let closed_is : closed ≡ closure (full b.item_count) f r.a =
+    h ∙ ap (λ m. option_map_or (λ j. closed_of t r.a) (position (is_same r.a) (sets_of b)) (closure (full m) f r.a)) ne
+    ∙ ap (λ u. option_map_or (λ j. closed_of u r.a) (position (is_same r.a) (sets_of b)) (closure (full b.item_count) f r.a)) te
+    ∙ closure_in-table b f ns r.a in
+    let number =
+    ap (λ u. option_map (λ s. s.no.number) (first_least (λ s. s.no.number) (filter (forces r) u.standing))) te
+    ∙ least-standing b.item_count f r ns (good-from b.item_count r good).item in
     ap₂ (λ c m. cond (has c r.q) Known.Yes (option_map_or (λ m. Known.No m) m Known.Unsettled)) closed_is number
-    ∙ ap (cond (has (closure (full i.count) family r.a) r.q) Known.Yes) (number_of first)
-    ∙ sym (known_is i r sound good_here)
+    ∙ ap (cond (has (closure (full b.item_count) f r.a) r.q) Known.Yes) (number_of (first_least (λ a. a.number) (filter (λ a. is_forced_by_closures b.item_count f r a.query) ns)))
+
+-- in an interview, that is what is known
+known-told : (i : Interview) (r : Query) → IsSound i → IsNumbered i → is_good i.count r ≡ true → told i.count (compatible_sets i) (nos i.answers) r ≡ known i r
+known-told i r sound numbered good =
+    ap (λ o. cond (has (closure (full i.count) (compatible_sets i) r.a) r.q) Known.Yes (option_map_or (λ a. Known.No a.number) o Known.Unsettled))
+    (least_in_order (λ a. is_forced_by_closures i.count (compatible_sets i) r a.query) (nos i.answers) (nos-increasing i.answers numbered.in_order))
+    ∙ sym (known_is i r sound good)
+
+pub known_from : (k : Known) (t : TableState) (f : List Items) (r : Query) → ((ns : List No) → t ≡ table_of t.blocks f ns → k ≡ told t.blocks.item_count f ns r) → is_good t.blocks.item_count r ≡ true
+    → (i : Interview) → IsSound i → IsNumbered i → i.count ≡ t.blocks.item_count → f ≡ compatible_sets i → t ≡ table_of t.blocks (compatible_sets i) (nos i.answers) → k ≡ known i r
+known_from k t f r h good i sound numbered ce fe te =
+    h (nos i.answers) (te ∙ ap (λ g. table_of t.blocks g (nos i.answers)) (sym fe))
+    ∙ ap₂ (λ m g. told m g (nos i.answers) r) (sym ce) fe
+    ∙ known-told i r sound numbered (ap (λ m. is_good m r) ce ∙ good)
 
 pub told_by : (k : Known) (b : Bool) (o : Option ℕ) (c : Bool) (m : Option ℕ) → b ≡ c → o ≡ m → cond b Known.Yes (option_map_or (λ m. Known.No m) o Known.Unsettled) ≡ k → cond c Known.Yes (option_map_or (λ m. Known.No m) m Known.Unsettled) ≡ k
 told_by k b o c m e g h = sym (ap₂ (λ x y. cond x Known.Yes (option_map_or (λ m. Known.No m) y Known.Unsettled)) e g) ∙ h

@@ -2,6 +2,7 @@
 --     table_of b f nos      the table of the family f, for blocks b and the standing answers that are No
 --     forces r s      the No of which s is kept forces the query r No
 --     closed_of t a      the closure that is kept of a block set
+--     told n f nos r      what the family f and the standing Nos tell of the query r
 use Rattle.std.specs.Prelude.{ℕ, Bool, true, not, ◌&&◌, if◌then◌else◌, ◌≤◌, ◌≡◌, List, map, length, filter, slice_get, unwrap_or}
 use Rattle.std.specs.List.{list_all, list_any, position}
 use Rattle.std.specs.Option.{option_map_or}
@@ -10,8 +11,11 @@ use Rattle.ls_set.specs.declared.item_set.TheConstants.{PLACES}
 use Rattle.ls_set.specs.Query.{is_good}
 use Rattle.ls_set.specs.declared.query.Query.{Query}
 use Rattle.ls_theory.specs.declared.no.No.{No}
+use Rattle.ls_theory.specs.declared.known.Known.{Known}
+use Rattle.ls_theory.specs.Words.{first_least}
 use Rattle.ls_theory.specs.Families.{closure}
 use Rattle.ls_theory.specs.Blocks.{BlockRange, most_sets}
+use Rattle.ls_laws.specs.Forced.{is_forced_by_closures}
 use Rattle.ls_query.specs.Blocks.{sets_of}
 use Rattle.ls_infer.specs.declared.standing_no.StandingNo.{StandingNo}
 
@@ -59,6 +63,13 @@ closed_of t a = option_map_or (λ i. unwrap_or (slice_get t.closures i) empty) (
 -- a block query is open by the table: no closure decides it, and no standing No
 abbrev pub is_open_in : TableState → Query → Bool
 is_open_in t r = not (has (closed_of t r.a) r.q) && not (list_any (forces r) t.standing)
+
+-- What is told of the query (A, q): Yes where q is in the closure of A; or else No, by the least number of the Nos that force it, if any does.
+abbrev pub told : ℕ → List Items → List No → Query → Known
+told n f nos r =
+    let forcing = filter (λ a. is_forced_by_closures n f r a.query) nos in
+    if has (closure (full n) f r.a) r.q then Known.Yes
+    else option_map_or (λ a. Known.No a.number) (first_least (λ a. a.number) forcing) Known.Unsettled
 
 -- the number of items; for each block set, of which there are not too many, a closure of items alone; and standing Nos of good queries
 pub record IsTable (n : ℕ) (t : TableState) : Type 0 where

@@ -2,9 +2,11 @@
 #![tactic(auto)]
 
 mod closures;
+mod laws;
 mod standing_no;
 mod table;
 
+pub use laws::told_is_forced;
 pub use ls_theory::{Known, No};
 pub use table::Table;
 

@@ -1,8 +1,10 @@
 // What is kept of a standing answer that is No.
-ghost use Rattle.std.specs.Prelude.{◌≡◌, ◌+◌, ◌*◌, ◌<◌, ◌==◌, ℕ, true, not, map, length, filter, find, option_map};
+ghost use Rattle.std.specs.Prelude.{◌≡◌, ◌+◌, ◌*◌, ◌<◌, ◌==◌, ℕ, true, not, min, map, length, filter, option_map};
 ghost use Rattle.std.specs.List.{list_all, list_any};
+ghost use Rattle.std.specs.Option.{option_map_or};
 ghost use Rattle.ls_set.specs.ItemSet.{full, has, IsWithin};
 ghost use Rattle.ls_set.specs.Query.{is_good};
+ghost use Rattle.ls_theory.specs.Words.{first_least};
 ghost use Rattle.ls_infer.specs.Tables.{enough_for, standing, forces};
 
 use ls_interior::{Interior, Steps, closure};
@@ -66,17 +68,29 @@ impl StandingNo {
     }
 }
 
-/// The number of the first answer that forces the query No.
+// The number, or the least so far where that is less.
+fn lesser(least: Option<u64>, number: u64) -> u64
+    ensures { result ≡ option_map_or (min number) least number }
+{
+    match least {
+        Some(least) => number.min(least),
+        None => number,
+    }
+}
+
+/// The least number of the answers that force the query No.
 pub fn forcing(standing: &[StandingNo], r: &Query) -> Option<u64>
     requires { r.now.q < PLACES }
-    ensures { result ≡ option_map (λ s. s.no.number) (find (forces r.now) standing.now) }
+    ensures { let forcing = filter (forces r.now) standing.now in
+        result ≡ option_map (λ s. s.no.number) (first_least (λ s. s.no.number) forcing) }
 {
+    let mut least = None;
     for s in standing {
         if s.forces(r) {
-            return Some(s.no.number);
+            least = Some(lesser(least, s.no.number));
         }
     }
-    None
+    least
 }
 
 /// The items `q` for which some answer forces the query (`a`, q) No.

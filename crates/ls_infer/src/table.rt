@@ -12,7 +12,7 @@ ghost use Rattle.ls_theory.specs.Forced.{known, next_question};
 ghost use Rattle.ls_theory.specs.Pages.{comes_after};
 ghost use Rattle.ls_laws.specs.Spans.{left_by};
 ghost use Rattle.ls_laws.specs.Families.{IsFamily};
-ghost use Rattle.ls_laws.specs.Forced.{IsSound};
+ghost use Rattle.ls_laws.specs.Forced.{IsSound, IsNumbered};
 ghost use Rattle.ls_query.specs.Blocks.{sets_of, queries_of};
 
 use crate::closures::{close_again, close_blocks, closures_of, standing_of};
@@ -59,7 +59,7 @@ fn closure_at(closures: &[ItemSet], place: u32) -> ItemSet
 }
 
 impl Table {
-    ghost use Rattle.ls_infer.specs.Tables.{table_of, standing, closed_of, forces, is_open_in};
+    ghost use Rattle.ls_infer.specs.Tables.{table_of, standing, closed_of, forces, is_open_in, told};
 
     /// The table of a family, for blocks of its items and the standing answers that are No, whose
     /// queries are good. It takes at most a step for each block set, and for each answer a step for
@@ -186,11 +186,16 @@ impl Table {
     }
 
     /// What the standing answers tell of the good query `q`, in at most one step and without memory.
-    /// `f` is the family of the table. Where several answers force the query No, the first is named.
+    /// `f` is the family of the table. Where several answers force the query No, the least number is
+    /// named. That this is what all spaces within the family force is the law `told_is_forced`.
     pub fn answer_of<I: Interior, L: Ledger>(&self, f: &I, q: &Query, steps: &mut Steps<L>) -> Known
         requires count { I.item_count f.now ≡ self.now.table.blocks.item_count }
         requires good { is_good self.now.table.blocks.item_count q.now ≡ true }
-        ensures known { (i : Interview) → IsSound i → i.count ≡ self.now.table.blocks.item_count →
+        ensures told { (nos : List No) →
+            self.now.table ≡ table_of self.now.table.blocks (I.members f.now) nos →
+            result ≡ told self.now.table.blocks.item_count (I.members f.now) nos q.now }
+        ensures known { (i : Interview) → IsSound i → IsNumbered i →
+            i.count ≡ self.now.table.blocks.item_count →
             I.members f.now ≡ compatible_sets i →
             self.now.table ≡ table_of self.now.table.blocks (compatible_sets i) (nos i.answers) →
             result ≡ known i q.now }

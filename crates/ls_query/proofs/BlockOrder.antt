@@ -6,7 +6,7 @@ use Rattle.ls_set.specs.ItemSet.{Items, has, without, items, len, least, comes_b
 use Rattle.ls_set.proofs.Sets.{members, has-without, both_ways, without-within}
 use Rattle.ls_set.proofs.Ascending.{least-cases}
 use Rattle.ls_set.proofs.Firsts.{items-least, items-none}
-use Rattle.ls_set.proofs.Order.{comes_before-at, differs_first, comes_before-irreflexive, comes_before-asymmetric}
+use Rattle.ls_set.proofs.Order.{comes_before-at, comes_before-transitive, differs_first, comes_before-irreflexive, comes_before-asymmetric}
 use Rattle.ls_theory.specs.Words.{is_lex_before}
 use Rattle.ls_theory.specs.Queries.{block_before}
 use Rattle.ls_laws.proofs.Counts.{len-zero}
@@ -111,3 +111,15 @@ before-asymmetric a b h =
         ]
       ]
     ]
+
+pub before-transitive : (a b c : Items) → block_before a b ≡ true → block_before b c ≡ true → block_before a c ≡ true
+before-transitive a b c h g = elim (before-cases a b h) [
+  | inl l ↦ elim (before-cases b c g) [
+    | inl m ↦ before-smaller a c (omega arith)
+    | inr m ↦ let e = m.0 in before-smaller a c (omega arith)
+  ]
+  | inr l ↦ elim (before-cases b c g) [
+    | inl m ↦ let e = l.0 in before-smaller a c (omega arith)
+    | inr m ↦ before-same a c (l.0 ∙ m.0) ∙ comes_before-transitive a b c l.1 m.1
+  ]
+]

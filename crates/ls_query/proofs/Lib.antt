@@ -7,4 +7,5 @@ pub mod Steps
 pub mod Counted
 pub mod QuerySets
 pub mod Placed
+pub mod Passing
 pub mod Made

@@ -14,7 +14,7 @@ use Rattle.ls_theory.specs.Blocks.{most_sets}
 use Rattle.ls_laws.proofs.Counts.{len-empty}
 use Rattle.ls_query.specs.Blocks.{choose}
 use Rattle.ls_query.specs.Places.{with_first, place_from}
-use Rattle.ls_query.proofs.Sorted.{IsIn, IsSorted, get-in}
+use Rattle.ls_query.proofs.Sorted.{IsIn, IsSorted, get-in, in-get}
 use Rattle.ls_query.proofs.Binomials.{choose-grows}
 use Rattle.ls_query.proofs.BySize.{of_size, of_size-more, of_size-none, length-of_size, len-with, blocks-more, length-blocks_shorter}
 use Rattle.ls_query.proofs.BlockOrder.{before-asymmetric}
@@ -67,6 +67,10 @@ position-get n k a i e =
 pub position-none : (n k : ℕ) (a : Items) → (IsOfBlocks n k a → ⊥) → position (is_same a) (blocks n k) ≡ None
 position-none n k a h =
     rw (prefix-all (blocks n k) a (λ x c. false_from_ne_true (is_same a x) (λ s. h (rw ((Decides-is_same a x).0 s) (blocks-in n k x c)))), le-ltb (length (blocks n k)) (length (blocks n k)) (omega arith)) refl
+
+-- each set of the blocks has a place
+pub block_place : (n k : ℕ) (a : Items) → IsIn a (blocks n k) → (i : ℕ) × (position (is_same a) (blocks n k) ≡ Some i)
+block_place n k a c = let r = in-get (blocks n k) a c in (r.0, position-at n k a r.0 r.1)
 
 -- ---- the place in a size
 

@@ -46,7 +46,7 @@ least-none_left s j e = false_from_ne_true (has s j) (λ k.
 abbrev pub asked_of : Items → ℕ → Query
 asked_of a q = record { a = a; q = q }
 
-some_items : (n : ℕ) (r : Query) → IsGood n r → 0 < len r.a
+pub some_items : (n : ℕ) (r : Query) → IsGood n r → 0 < len r.a
 some_items n r good = elim (cases_size (len r.a)) [
   | inl e ↦ absurd (true≢false (sym ((Decides-is_same r.a empty).1 (len-zero r.a e)) ∙ good.nonempty))
   | inr l ↦ l
@@ -99,97 +99,10 @@ sorted-queries n k =
     let q = map-in (asked_of b) (numbers_from 0 n) v d in
     rw (p.2, q.2) (before-by_set (asked_of a p.0) (asked_of b q.0) h)))
 
--- ---- the next query
+-- ---- the order of queries
 
 pub never_before : (a b : Items) → a ≡ b → block_before a b ≡ true → ⊥
 never_before a b e h = true≢false (sym h ∙ ap (block_before a) (sym e) ∙ before-asymmetric a a (ap (block_before a) e ∙ h))
-
--- the item of a good query is one of those that its set lacks
-lacking : (n : ℕ) (r : Query) → IsGood n r → has (minus (full n) r.a) r.q ≡ true
-lacking n r good = has-minus (full n) r.a r.q ∙ rw (has-full n r.q, lt-ltb r.q n good.item, good.outside) refl
-
-lacking-good : (n : ℕ) (a : Items) (q : ℕ) → IsWithin a (full n) → 0 < len a → has (minus (full n) a) q ≡ true → IsGood n (asked_of a q)
-lacking-good n a q within some h =
-    let p = and_parts (has (full n) q) (not (has a q)) (sym (has-minus (full n) a q) ∙ h) in
-    record {
-      small = within;
-      nonempty = false_from_ne_true (is_same a empty) (λ s. let e : len a ≡ len empty = ap len ((Decides-is_same a empty).0 s) in let z : len empty ≡ 0 = len-empty in absurd (omega arith));
-      item = ltb-true q n (sym (has-full n q) ∙ p.0);
-      outside = let x = p.1 in grind (arith, members);
-    }
-
-pub find-with_same : (n k : ℕ) (r : Query) (q : ℕ) → IsGood n r → len r.a ≤ k → next_item (minus (full n) r.a) r.q ≡ Some q → find (query_before r) (queries n k) ≡ Some (record { a = r.a; q = q })
-find-with_same n k r q good few e =
-    let h = next_item-cases (minus (full n) r.a) r.q q e in
-    find-first query_before (query_before r) (queries n k) (asked_of r.a q) (sorted-queries n k)
-    (in-queries n k (asked_of r.a q) (lacking-good n r.a q good.small (some_items n r good) h.1) few)
-    (before-by_item r (asked_of r.a q) refl h.0)
-    (λ c in_queries g. false_from_ne_true (query_before r c) (λ f.
-    elim (query_before-cases c (asked_of r.a q) g) [
-      | inl x ↦ elim (query_before-cases r c f) [
-        | inl y ↦ true≢false (sym x ∙ before-asymmetric r.a c.a y)
-        | inr y ↦ never_before c.a r.a (sym y.0) x
-      ]
-      | inr x ↦ elim (query_before-cases r c f) [
-        | inl y ↦ never_before r.a c.a (sym x.0) y
-        | inr y ↦ true≢false (sym (lacking n c (queries-in n k c in_queries).0) ∙ ap (λ a. has (minus (full n) a) c.q) x.0 ∙ h.2 c.q y.1 x.1)
-      ]
-    ]))
-
--- where the set of a query has no further one, the next is the first with a later set
-pub find-no_more : (n k : ℕ) (r : Query) → next_item (minus (full n) r.a) r.q ≡ None → find (λ s. block_before r.a s.a) (queries n k) ≡ find (query_before r) (queries n k)
-unfolding query_before
-find-no_more n k r e =
-    find-same (λ s. block_before r.a s.a) (query_before r) (queries n k) (λ c in_queries.
-    let out : (is_same r.a c.a && ltb r.q c.q) ≡ false = false_from_ne_true (is_same r.a c.a && ltb r.q c.q) (λ h.
-    let p = and_parts (is_same r.a c.a) (ltb r.q c.q) h in
-    let same : r.a ≡ c.a = (Decides-is_same r.a c.a).0 p.0 in
-    true≢false (sym (lacking n c (queries-in n k c in_queries).0) ∙ ap (λ a. has (minus (full n) a) c.q) (sym same) ∙ next_item-none_left (minus (full n) r.a) r.q c.q e (ltb-true r.q c.q p.1))) in
-    sym (rw out (or-false (block_before r.a c.a))))
-
-pub find-larger : (n k : ℕ) (r : Query) → k < len r.a → find (query_before r) (queries n k) ≡ None
-find-larger n k r many =
-    find-no_element (query_before r) (queries n k) (λ c in_queries. false_from_ne_true (query_before r c) (λ h.
-    let few = (blocks-in n k c.a (queries-in n k c in_queries).1).few in
-    elim (query_before-cases r c h) [
-      | inl x ↦ elim (before-cases r.a c.a x) [ inl l ↦ omega arith | inr l ↦ let e = l.0 in omega arith ]
-      | inr x ↦ let e : len r.a ≡ len c.a = ap len x.0 in omega arith
-    ]))
-
-pub first-queries : (n k : ℕ) → find (λ s. block_before empty s.a) (queries n k) ≡ find (comes_after query_before None) (queries n k)
-first-queries n k = find-same (λ s. block_before empty s.a) (λ s. true) (queries n k) (λ s c. let l = (blocks-in n k s.a (queries-in n k s c).1).some in before-smaller empty s.a (omega (arith, len-empty)))
-
--- ---- the first query with a later set
-
-pub find-after_set : (n k : ℕ) (a b : Items) (q : ℕ) → find (block_before a) (blocks n k) ≡ Some b → least (minus (full n) b) ≡ Some q → find (λ s. block_before a s.a) (queries n k) ≡ Some (record { a = b; q = q })
-find-after_set n k a b q e l =
-    let h = find-is block_before (block_before a) (blocks n k) b (sorted-blocks n k) before-asymmetric e in
-    let x = blocks-in n k b h.0 in
-    let y = least-cases (minus (full n) b) q l in
-    find-first query_before (λ s. block_before a s.a) (queries n k) (asked_of b q) (sorted-queries n k)
-    (in-queries n k (asked_of b q) (lacking-good n b q x.within x.some y.0) x.few) h.1
-    (λ c in_queries g.
-    let d = queries-in n k c in_queries in
-    elim (query_before-cases c (asked_of b q) g) [
-      | inl z ↦ h.2 c.a d.1 z
-      | inr z ↦ absurd (true≢false (sym (lacking n c d.0) ∙ ap (λ t. has (minus (full n) t) c.q) z.0 ∙ y.1 c.q z.1))
-    ])
-
--- the set of all items is last, and has no query
-pub find-full : (n k : ℕ) (a b : Items) → find (block_before a) (blocks n k) ≡ Some b → least (minus (full n) b) ≡ None → find (λ s. block_before a s.a) (queries n k) ≡ None
-find-full n k a b e l =
-    let h = find-is block_before (block_before a) (blocks n k) b (sorted-blocks n k) before-asymmetric e in
-    find-no_element (λ s. block_before a s.a) (queries n k) (λ c in_queries.
-    let d = queries-in n k c in_queries in
-    let good = d.0 in
-    let all : (j : ℕ) → has (full n) j ≡ true → has b j ≡ true = λ j m. let none = least-none_left (minus (full n) b) j l in grind (arith, members) in
-    h.2 c.a d.1 (before-smaller c.a b (len-less c.a b c.q (λ j m. all j (good.small j m)) good.outside (all c.q (has-full n c.q ∙ lt-ltb c.q n good.item)))))
-
-pub find-none_after : (n k : ℕ) (a : Items) → find (block_before a) (blocks n k) ≡ None → find (λ s. block_before a s.a) (queries n k) ≡ None
-find-none_after n k a e =
-    find-no_element (λ s. block_before a s.a) (queries n k) (λ c in_queries. find-none_is (block_before a) (blocks n k) e c.a (queries-in n k c in_queries).1)
-
--- ---- the order of queries is asymmetric
 
 pub query_before-asymmetric : (r s : Query) → query_before r s ≡ true → query_before s r ≡ false
 query_before-asymmetric r s h = false_from_ne_true (query_before s r) (λ g.
@@ -203,3 +116,13 @@ query_before-asymmetric r s h = false_from_ne_true (query_before s r) (λ g.
         | inr y ↦ let l = x.1 in let m = y.1 in omega arith
       ]
     ])
+
+-- a query with a larger set comes last
+pub find-larger : (n k : ℕ) (r : Query) → k < len r.a → find (query_before r) (queries n k) ≡ None
+find-larger n k r many =
+    find-no_element (query_before r) (queries n k) (λ c in_queries. false_from_ne_true (query_before r c) (λ h.
+    let few = (blocks-in n k c.a (queries-in n k c in_queries).1).few in
+    elim (query_before-cases r c h) [
+      | inl x ↦ elim (before-cases r.a c.a x) [ inl l ↦ omega arith | inr l ↦ let e = l.0 in omega arith ]
+      | inr x ↦ let e : len r.a ≡ len c.a = ap len x.0 in omega arith
+    ]))

@@ -6,7 +6,8 @@ use Rattle.std.proofs.lemmas.Bool.{cases_Bool, cases_eq, and_parts, and_from, or
 use Rattle.ls_set.specs.ItemSet.{Items, has, empty, full, meet, minus, single, with, without, is_same, len, least, IsWithin}
 use Rattle.ls_set.specs.Query.{is_good}
 use Rattle.ls_set.specs.declared.query.Query.{Query}
-use Rattle.ls_set.proofs.Sets.{has-full, has-empty, has-meet, has-minus, has-single, has-with, has-without, without-within, or-false, same_set, Decides-is_same}
+use Rattle.std.proofs.lemmas.Bool.Decides.{nat_tests}
+use Rattle.ls_set.proofs.Sets.{members, has-full, has-empty, has-meet, has-minus, has-single, has-with, has-without, without-within, or-false, same_set, Decides-is_same}
 use Rattle.ls_set.proofs.Sizes.{len-less}
 use Rattle.ls_set.proofs.Firsts.{items-none}
 use Rattle.ls_set.proofs.Ascending.{least-cases}
@@ -35,36 +36,16 @@ pub no_least : (s : Items) → least s ≡ None → s ≡ empty
 unfolding len
 no_least s e = len-zero s (ap length (items-none s e))
 
-keep_with : (s : Items) (i j : ℕ) → has s j ≡ true → has (with s i) j ≡ true
-keep_with s i j h = has-with s i j ∙ ap (λ b. b || eqb j i) h
-
-kept_apart : (s : Items) (i j : ℕ) → has s j ≡ true → eqb j i ≡ false → has (without s i) j ≡ true
-kept_apart s i j h n = has-without s i j ∙ and_from (has s j) (not (eqb j i)) h (not_from_false (eqb j i) n)
+kept : (s : Items) (j i : ℕ) → has s j ≡ true → (j ≡ i → ⊥) → has (without s i) j ≡ true
+kept s j i h n = grind (arith, members, nat_tests)
 
 taken : (s : Items) (i : ℕ) → has (without s i) i ≡ false
-taken s i = has-without s i i ∙ ap (λ b. has s i && not b) (eq-eqb i i refl) ∙ elim (has s i) as (λ b. (b && false) ≡ false) [ true ↦ refl | false ↦ refl ]
-
-gone_is : (s : Items) (i j : ℕ) → has s j ≡ true → has (without s i) j ≡ false → j ≡ i
-gone_is s i j h g = elim (cases_eq j i) [ inl e ↦ e | inr n ↦ absurd (true≢false (sym (kept_apart s i j h (ne_eqb j i n)) ∙ g)) ]
-
-has_added : (s : Items) (i : ℕ) → has (with s i) i ≡ true
-has_added s i = has-with s i i ∙ or_right (has s i) (eqb i i) (eq-eqb i i refl)
+taken s i = grind (arith, members, nat_tests)
 
 len-with : (s : Items) (i : ℕ) → len (with s i) ≤ len s + 1
 len-with s i = elim (cases_Bool (has s i)) [
-  | inl a ↦
-      let e : with s i ≡ s = same_set (with s i) s (λ j. has-with s i j ∙ elim (cases_eq j i) [
-        | inl q ↦ rw (q, a) refl
-        | inr n ↦ ap (λ b. has s j || b) (ne_eqb j i n) ∙ or-false (has s j)
-      ]) in
-      rw e (omega arith)
-  | inr a ↦
-      let e = len-parts s (single i) (with s i) (λ j. has-with s i j ∙ ap (λ b. has s j || b) (sym (has-single i j))) (λ j.
-      ap (λ b. has s j && b) (has-single i j) ∙ elim (cases_eq j i) [
-        | inl q ↦ rw (q, a) refl
-        | inr n ↦ ap (λ b. has s j && b) (ne_eqb j i n) ∙ elim (has s j) as (λ b. (b && false) ≡ false) [ true ↦ refl | false ↦ refl ]
-      ]) in
-      omega (arith, e, len-single i)
+  | inl a ↦ let e : with s i ≡ s = same_set (with s i) s (λ j. grind (arith, members, nat_tests)) in rw e (omega arith)
+  | inr a ↦ let e = len-parts s (single i) (with s i) (λ j. grind (arith, members, nat_tests)) (λ j. grind (arith, members, nat_tests)) in omega (arith, e, len-single i)
 ]
 
 pub len-without : (s : Items) (i : ℕ) → has s i ≡ true → len (without s i) < len s
@@ -112,8 +93,8 @@ After-look s r =
           let more = len-with s.fallen r.q in
           record {
             within = without-within s.kept r.q;
-            grows = λ i x. keep_with s.fallen r.q i x;
-            fell = λ i x g. subst (λ j. has (with s.fallen r.q) j ≡ true) (sym (gone_is s.kept r.q i x g)) (has_added s.fallen r.q);
+            grows = λ i x. grind (arith, members, nat_tests);
+            fell = λ i x g. grind (arith, members, nat_tests);
             lighter = omega arith;
           }
       | false ↦ λ _. After-same s
@@ -126,13 +107,12 @@ After-looks s (r ∷ rs) = After-more s (look s r) (fold look (look s r) rs) (Af
 look-keeps : (t : Items) (s : Round) (r : Query) → breaks t r ≡ false → IsWithin t s.kept → IsWithin t (look s r).kept
 look-keeps t s r u w =
     elim (breaks s.kept r) as (λ b. breaks s.kept r ≡ b → IsWithin t (cond b (without s.kept r.q) s.kept)) [
-      | true ↦ λ h i x. kept_apart s.kept r.q i (w i x) (false_from_ne_true (eqb i r.q) (λ e.
-          true≢false (sym (breaks-part t s.kept r w h (subst (λ j. has t j ≡ true) (eqb-is i r.q e) x)) ∙ u)))
+      | true ↦ λ h i x.
+          let here = w i x in
+          let out : has t r.q ≡ false = false_from_ne_true (has t r.q) (λ y. true≢false (sym (breaks-part t s.kept r w h y) ∙ u)) in
+          grind (arith, members, nat_tests)
       | false ↦ λ _. w
     ] refl
-  where
-    eqb-is : (i j : ℕ) → eqb i j ≡ true → i ≡ j
-    eqb-is i j e = elim (cases_eq i j) [ inl q ↦ q | inr n ↦ absurd (true≢false (sym e ∙ ne_eqb i j n)) ]
 
 -- a set that breaks none of the rules stays
 pub looks-keep : (t : Items) (s : Round) (rs : List Query) → breaks_none rs t ≡ true → IsWithin t s.kept → IsWithin t (fold look s rs).kept
@@ -189,7 +169,7 @@ stays_awake s to i r after old looked h = elim (cases_Bool (breaks s.kept r)) [
       let x = old b in
       elim (cases_eq x.0 i) [
         | inl e ↦ absurd (true≢false (sym (Breaks-from to.kept r h).has_q ∙ looked (subst (λ j. has r.a j ≡ true) e x.1) b))
-        | inr n ↦ (x.0, x.1, after.grows x.0 (kept_apart s.fallen i x.0 x.2 (ne_eqb x.0 i n)))
+        | inr n ↦ (x.0, x.1, after.grows x.0 (kept s.fallen x.0 i x.2 n))
       ]
   | inr u ↦
       let x = meets_rule s.kept r (after.within r.q (Breaks-from to.kept r h).has_q) u in
@@ -260,7 +240,7 @@ Started-more rules n k left s i a =
           (λ r. (j : ℕ) → has (first_of r.a) j ≡ true → has (minus (full n) k) j ≡ true → has (without left i) j ≡ false → breaks k r ≡ true → has to.kept r.q ≡ false)
           (λ r old looked j f o g b. elim (cases_eq j i) [
             | inl e ↦ looked (subst (λ x. has (first_of r.a) x ≡ true) e f) b
-            | inr n ↦ false_from_ne_true (has to.kept r.q) (λ x. true≢false (sym (after.within r.q x) ∙ old j f o (false_from_ne_true (has left j) (λ y. true≢false (sym (kept_apart left i j y (ne_eqb j i n)) ∙ g))) b))
+            | inr n ↦ false_from_ne_true (has to.kept r.q) (λ x. true≢false (sym (after.within r.q x) ∙ old j f o (false_from_ne_true (has left j) (λ y. true≢false (sym (kept left j i y n) ∙ g))) b))
           ]) rules a.looked (looks-break_at k s p rules a.after.within);
       greatest = λ t u w. looks-keep t s (filter p rules) (none_of_part t p rules u) (a.greatest t u w);
     }
@@ -268,7 +248,7 @@ Started-more rules n k left s i a =
 -- a set that is not empty has its first item
 first_at : (a : Items) (o : Option ℕ) → least a ≡ o → is_same a empty ≡ false → (i : ℕ) × (has (option_map_or (λ i. with empty i) o empty) i ≡ true) × (has a i ≡ true)
 first_at a None e h = absurd (true≢false (sym ((Decides-is_same a empty).1 (no_least a e)) ∙ h))
-first_at a (Some i) e h = (i, has_added empty i, (least-cases a i e).0)
+first_at a (Some i) e h = (i, grind (arith, members, nat_tests), (least-cases a i e).0)
 
 first_item : (a : Items) → is_same a empty ≡ false → (i : ℕ) × (has (first_of a) i ≡ true) × (has a i ≡ true)
 first_item a h = first_at a (least a) refl h
@@ -312,7 +292,7 @@ look_at-step rules places i p r s all l e m q h =
 -- ---- the items of a set
 
 pub below : (n : ℕ) (s : Items) (i : ℕ) → IsWithin s (full n) → has s i ≡ true → i < n
-below n s i w h = ltb-true i n (sym (has-full n i) ∙ w i h)
+below n s i w h = let here = w i h in grind (arith, members, nat_tests)
 
 -- the first item of a set is in it
 pub first-within : (a : Items) → IsWithin (first_of a) a
@@ -320,10 +300,7 @@ first-within a i h = first_in a i (least a) refl h
   where
     first_in : (a : Items) (i : ℕ) (o : Option ℕ) → least a ≡ o → has (option_map_or (λ i. with empty i) o empty) i ≡ true → has a i ≡ true
     first_in a i None e h = absurd (true≢false (sym h ∙ has-empty i))
-    first_in a i (Some j) e h = elim (cases_eq i j) [
-      | inl q ↦ rw q (least-cases a j e).0
-      | inr n ↦ absurd (true≢false (sym h ∙ has-with empty j i ∙ ap (λ b. has empty i || b) (ne_eqb i j n) ∙ or-false (has empty i) ∙ has-empty i))
-    ]
+    first_in a i (Some j) e h = let here = (least-cases a j e).0 in grind (arith, members, nat_tests)
 
 -- ---- one turn of the loop over fallen items
 

@@ -1,7 +1,9 @@
-use Rattle.std.proofs.Common.{◌≡◌, find, drop}
+use Rattle.std.proofs.Common.{◌≡◌, map, filter, drop, None}
 use Rattle.ls_infer.specs.Tables.{forces}
+use Rattle.ls_infer.proofs.Least.{least_with}
 use Rattle.ls_infer.proofs.standing_no.forcing.Given as goal
 
--- the first that forces the query is among those that are left
+-- with those that are left it is the least of all that force the query
 abbrev pub invariant-loop-s : goal.invariant-loop-s
-invariant-loop-s l = find (forces l.r) (drop l.s-index l.standing) ≡ find (forces l.r) l.standing
+invariant-loop-s l =
+    least_with l.least (map (λ s. s.no.number) (filter (forces l.r) (drop l.s-index l.standing))) ≡ least_with None (map (λ s. s.no.number) (filter (forces l.r) l.standing))

@@ -1,6 +1,7 @@
 use Rattle.std.proofs.Common.{sym, ◌∙◌, arith}
 use Rattle.ls_laws.proofs.Breaks.{good-from}
-use Rattle.ls_query.proofs.QuerySets.{find-larger, find-with_same, find-no_more}
+use Rattle.ls_query.proofs.QuerySets.{find-larger}
+use Rattle.ls_query.proofs.Passing.{find-with_same, find-no_more}
 use Rattle.ls_query.proofs.asking.query_after.Goals as goal
 
 pub returns-then-len-k : goal.returns-then-len-k
@@ -17,4 +18,4 @@ returns-in-Some c =
 pub returns-in-None : goal.returns-in-None
 returns-in-None c =
     c.query_after_set.ensures
-    ∙ find-no_more c.args.n c.args.k c.args.r (rw (← c.full.ensures, ← c.minus.ensures) (sym c.next_member.ensures.value ∙ c.in-None.is))
+    ∙ find-no_more c.args.n c.args.k c.args.r (good-from c.args.n c.args.r c.requires.good) (rw (← c.full.ensures, ← c.minus.ensures) (sym c.next_member.ensures.value ∙ c.in-None.is))

@@ -1,5 +1,5 @@
 use Rattle.std.proofs.Common.{sym, ◌∙◌, rules}
-use Rattle.ls_query.proofs.QuerySets.{find-after_set, find-full, find-none_after}
+use Rattle.ls_query.proofs.Passing.{find-after_set, find-full, find-none_after}
 use Rattle.ls_query.proofs.asking.query_after_set.Goals as goal
 
 pub returns-in_err-next : goal.returns-in_err-next

@@ -7,9 +7,9 @@ use Rattle.ls_laws.proofs.Breaks.{good-from}
 use Rattle.ls_query.specs.Blocks.{sets_of, queries_of}
 use Rattle.ls_query.proofs.Sorted.{get-in}
 use Rattle.ls_query.proofs.Placed.{position-get}
+use Rattle.ls_query.proofs.Passing.{passing-all, next-passing, passing-later, passing-outside}
 use Rattle.ls_infer.specs.Tables.{is_open_in}
 use Rattle.ls_infer.proofs.Places.{first_place, next_place}
-use Rattle.ls_infer.proofs.Opens.{open-all, open-same, open-later, open-outside}
 use Rattle.ls_infer.proofs.table.Table.first_open.Goals as goal
 
 pub open_from-requires-clause-within : goal.open_from-requires-clause-within
@@ -23,7 +23,7 @@ returns-in_default c =
     let t = c.args.self.now.table in
     rw c.in_default.is
     (c.open_from.ensures ∙ ap (λ e. find (λ s. block_before e s.a && is_open_in t s) (queries_of t.blocks)) c.empty.ensures
-    ∙ open-all t.blocks.item_count t.blocks.largest (is_open_in t))
+    ∙ passing-all t.blocks.item_count t.blocks.largest (is_open_in t))
 
 pub returns-in_err-place : goal.returns-in_err-place
 returns-in_err-place c =
@@ -31,7 +31,7 @@ returns-in_err-place c =
     let r = c.in-Some.r.now in
     let out : position (is_same r.a) (sets_of t.blocks) ≡ None = ap (λ u. position (is_same r.a) (sets_of u.table.blocks)) (sym c.self.view_is) ∙ sym c.place_of.ensures ∙ c.in_err-place.was in
     rw (c.in-Some.is, c.from_residual.ensures)
-    (sym (open-outside t.blocks.item_count t.blocks.largest (is_open_in t) r (good-from t.blocks.item_count r (c.requires c.in-Some.r c.in-Some.is)) out))
+    (sym (passing-outside t.blocks.item_count t.blocks.largest (is_open_in t) r (good-from t.blocks.item_count r (c.requires c.in-Some.r c.in-Some.is)) out))
 
 pub open_items-requires : goal.open_items-requires
 open_items-requires c =
@@ -56,10 +56,10 @@ returns-in-Some-next_member c =
     let here : slice_get (sets_of t.blocks) c.in_ok-place.place ≡ Some r.a =
     position-get t.blocks.item_count t.blocks.largest r.a c.in_ok-place.place (ap (λ u. position (is_same r.a) (sets_of u.table.blocks)) (sym c.self.view_is) ∙ sym c.place_of.ensures ∙ c.in_ok-place.was) in
     rw c.in-Some.is
-    (sym (open-same t.blocks.item_count t.blocks.largest (is_open_in t) r c.open_items.result c.in-Some-next_member.q (get-in (sets_of t.blocks) c.in_ok-place.place r.a here) c.open_items.ensures (sym c.next_member.ensures.value ∙ c.in-Some-next_member.is)))
+    (sym (next-passing t.blocks.item_count t.blocks.largest (is_open_in t) r c.open_items.result c.in-Some-next_member.q (get-in (sets_of t.blocks) c.in_ok-place.place r.a here) c.open_items.ensures (sym c.next_member.ensures.value ∙ c.in-Some-next_member.is)))
 
 pub returns-in-None : goal.returns-in-None
 returns-in-None c =
     let t = c.args.self.now.table in
     rw c.in-Some.is
-    (c.open_from-in-None.ensures ∙ open-later t.blocks.item_count t.blocks.largest (is_open_in t) c.in-Some.r.now c.open_items.result c.open_items.ensures (sym c.next_member.ensures.value ∙ c.in-None.is))
+    (c.open_from-in-None.ensures ∙ passing-later t.blocks.item_count t.blocks.largest (is_open_in t) c.in-Some.r.now c.open_items.result c.open_items.ensures (sym c.next_member.ensures.value ∙ c.in-None.is))

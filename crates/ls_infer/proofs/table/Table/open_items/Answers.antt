@@ -1,10 +1,34 @@
-use Rattle.std.proofs.Common.{◌≡◌, Some, slice_get, sym, ap, ◌∙◌}
-use Rattle.ls_set.specs.ItemSet.{has, full, minus}
+use Rattle.std.proofs.Common.{ℕ, ◌≡◌, Bool, true, false, not, ◌&&◌, Some, slice_get, refl, sym, ap, ap₂, ◌∙◌}
 use Rattle.std.specs.List.{list_any}
-use Rattle.ls_infer.specs.Tables.{forces}
+use Rattle.ls_set.specs.ItemSet.{Items, has, full, minus}
+use Rattle.ls_set.specs.Query.{is_good}
+use Rattle.ls_set.proofs.Sets.{has-minus}
+use Rattle.ls_theory.specs.Queries.{blocks}
+use Rattle.ls_query.proofs.Sorted.{get-in}
+use Rattle.ls_query.proofs.BlockSets.{blocks-in}
+use Rattle.ls_query.proofs.Placed.{position-at}
 use Rattle.ls_query.proofs.QuerySets.{asked_of}
-use Rattle.ls_infer.proofs.Opens.{open-is}
+use Rattle.ls_query.proofs.Passing.{good_items}
+use Rattle.ls_infer.specs.Tables.{TableState, forces, closed_of, is_open_in}
 use Rattle.ls_infer.proofs.table.Table.open_items.Goals as goal
+
+and_next : (a b c : Bool) → ((a && b) && c) ≡ (a && (b && c))
+and_next true b c = refl
+and_next false b c = refl
+
+open_is : (t : TableState) (place : ℕ) (a closed forced : Items) (q : ℕ) → slice_get (blocks t.blocks.item_count t.blocks.largest) place ≡ Some a → slice_get t.closures place ≡ Some closed
+    → has forced q ≡ list_any (forces (asked_of a q)) t.standing
+    → has (minus (minus (minus (full t.blocks.item_count) a) closed) forced) q ≡ (is_good t.blocks.item_count (asked_of a q) && is_open_in t (asked_of a q))
+open_is t place a closed forced q e c h =
+    let n = t.blocks.item_count in
+    let k = t.blocks.largest in
+    let rest = list_any (forces (asked_of a q)) t.standing in
+    let x = blocks-in n k a (get-in (blocks n k) place a e) in
+    let closed_is : closed_of t a ≡ closed = rw (position-at n k a place e, c) refl in
+    has-minus (minus (minus (full n) a) closed) forced q
+    ∙ ap₂ (λ u v. u && not v) (has-minus (minus (full n) a) closed q ∙ ap (λ u. u && not (has closed q)) (good_items n a q x.within x.some)) h
+    ∙ and_next (is_good n (asked_of a q)) (not (has closed q)) (not rest)
+    ∙ sym (ap (λ l. is_good n (asked_of a q) && (not (has l q) && not rest)) closed_is)
 
 pub returns : goal.returns
 returns c = λ q.
@@ -15,4 +39,4 @@ returns c = λ q.
     let listed = c.forced_items.ensures q ∙ ap (λ ss. list_any (forces (asked_of c.args.a q)) ss) (c.deref-2.ensures.value ∙ ap (λ u. u.table.standing) c.self.view_is) in
     let items : c.self.inside.n ≡ t.blocks.item_count = c.self.invariant.items ∙ ap (λ u. u.table.blocks.item_count) c.self.view_is in
     ap (λ s. has s q) (c.minus-3.ensures ∙ ap (λ s. minus s forced) (c.minus-2.ensures ∙ ap (λ s. minus s closed) (c.minus.ensures ∙ ap (λ s. minus s c.args.a) (c.full.ensures ∙ ap full items))))
-    ∙ open-is t c.args.place c.args.a closed forced q c.requires kept listed
+    ∙ open_is t c.args.place c.args.a closed forced q c.requires kept listed

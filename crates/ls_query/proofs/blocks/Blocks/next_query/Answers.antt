@@ -1,6 +1,6 @@
 use Rattle.ls_set.proofs.Sets.{empty-within}
 use Rattle.ls_set.specs.ItemSet.{full}
-use Rattle.ls_query.proofs.QuerySets.{first-queries}
+use Rattle.ls_query.proofs.Passing.{first-queries}
 use Rattle.ls_query.proofs.blocks.Blocks.next_query.Goals as goal
 
 pub query_after_set-requires-clause-within : goal.query_after_set-requires-clause-within

@@ -1,0 +1,10 @@
+use Rattle.std.proofs.Common.{map, filter, sym, ◌∙◌}
+use Rattle.std.proofs.lemmas.List.{at_drop_all}
+use Rattle.ls_infer.specs.Tables.{forces}
+use Rattle.ls_infer.proofs.Least.{least_with, least_with-first}
+use Rattle.ls_infer.proofs.standing_no.forcing.Goals as goal
+
+pub returns : goal.returns
+returns c =
+    sym (at_drop_all (λ xs. least_with c.loop-s.least (map (λ s. s.no.number) (filter (forces c.args.r.now) xs))) c.args.standing.now c.loop-s.s-index c.loop-s-test.false)
+    ∙ c.loop-s.invariant ∙ least_with-first (λ s. s.no.number) (filter (forces c.args.r.now) c.args.standing.now)
