@@ -9,31 +9,37 @@ use Rattle.ls_laws.specs.Spans.{is_proper, needed}
 use Rattle.ls_laws.proofs.Lists.{filter-same}
 use Rattle.ls_laws.proofs.Interiors.{from-interior, to-interior, interior-whole, interior-within}
 use Rattle.ls_base.specs.Unions.{union_below, is_union_in}
+use Rattle.ls_base.proofs.Turns.{Unites}
 
 -- ---- interiors in a list, set by set
 
-pub interior-none : (s : Items) → interior [] s ≡ empty
+interior-none : (s : Items) → interior [] s ≡ empty
 unfolding interior
 interior-none s = refl
 
-pub interior-with : (k s : Items) → is_within k s ≡ true → (f : List Items) → interior (k ∷ f) s ≡ union k (interior f s)
+interior-with : (k s : Items) → is_within k s ≡ true → (f : List Items) → interior (k ∷ f) s ≡ union k (interior f s)
 unfolding interior
 interior-with k s h f = rw h refl
 
-pub interior-without : (k s : Items) → is_within k s ≡ false → (f : List Items) → interior (k ∷ f) s ≡ interior f s
+interior-without : (k s : Items) → is_within k s ≡ false → (f : List Items) → interior (k ∷ f) s ≡ interior f s
 unfolding interior
 interior-without k s h f = rw h refl
 
 -- ---- the same of the sets below
 
-pub below-with : (k s : Items) → is_proper k s ≡ true → (f : List Items) → union_below (k ∷ f) s ≡ union k (union_below f s)
+below-with : (k s : Items) → is_proper k s ≡ true → (f : List Items) → union_below (k ∷ f) s ≡ union k (union_below f s)
 below-with k s h f = rw h (interior-with k s (and_parts (is_within k s) (not (is_same k s)) h).0 (filter (λ l. is_proper l s) f))
 
-pub below-without : (k s : Items) → is_proper k s ≡ false → (f : List Items) → union_below (k ∷ f) s ≡ union_below f s
+below-without : (k s : Items) → is_proper k s ≡ false → (f : List Items) → union_below (k ∷ f) s ≡ union_below f s
 below-without k s h f = rw h refl
 
-pub below-within : (s : Items) (f : List Items) → IsWithin (union_below f s) s
-below-within s f = interior-within (filter (λ l. is_proper l s) f) s
+-- ---- loops that join the sets that lie within s, or below it
+
+pub within-unites : (s : Items) → Unites (λ k. is_within k s) (λ f. interior f s) s
+within-unites s = record { none = interior-none s; taken = λ k h. interior-with k s h; passed = λ k h. interior-without k s h; within = λ f. interior-within f s }
+
+pub below-unites : (s : Items) → Unites (λ k. is_proper k s) (λ f. union_below f s) s
+below-unites s = record { none = interior-none s; taken = λ k h. below-with k s h; passed = λ k h. below-without k s h; within = λ f. interior-within (filter (λ l. is_proper l s) f) s }
 
 -- ---- unions of the sets of another list
 

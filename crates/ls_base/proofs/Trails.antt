@@ -45,13 +45,13 @@ last-push es e = ap (slice_get (es ++ e ∷ [])) (let at : length (es ++ e ∷ [
 last-cons : (x y : Entry) (es : List Entry) → last_entry (x ∷ y ∷ es) ≡ last_entry (y ∷ es)
 last-cons x y es = ap (slice_get (x ∷ y ∷ es)) (let at : length (x ∷ y ∷ es) - 1 ≡ suc (length (y ∷ es) - 1) = omega arith in at)
 
-pub last-remove : (es : List Entry) → 2 < length es → last_entry (take 1 es ++ drop 2 es) ≡ last_entry es
+last-remove : (es : List Entry) → 2 < length es → last_entry (take 1 es ++ drop 2 es) ≡ last_entry es
 last-remove [] l = absurd (omega arith)
 last-remove (x ∷ []) l = absurd (omega arith)
 last-remove (x ∷ y ∷ []) l = absurd (omega arith)
 last-remove (x ∷ y ∷ z ∷ es) l = last-cons x z es ∙ sym (last-cons y z es) ∙ sym (last-cons x y (z ∷ es))
 
-pub begins-remove : (es : List Entry) → 2 < length es → begins_at_none (take 1 es ++ drop 2 es) ≡ begins_at_none es
+begins-remove : (es : List Entry) → 2 < length es → begins_at_none (take 1 es ++ drop 2 es) ≡ begins_at_none es
 begins-remove [] l = absurd (omega arith)
 begins-remove (x ∷ es) l = refl
 
@@ -60,8 +60,23 @@ begins-remove (x ∷ es) l = refl
 pub entry-last : (n : ℕ) (start : Start) (yeses : List Query) (es : List Entry) (e : Entry) → IsTrail n start yeses es → last_entry es ≡ Some e → IsEntry n start yeses e
 entry-last n start yeses es e t l = subst (IsEntry n start yeses) (get_or_from_slice_get es (length es - 1) e e l) (t (length es - 1) e (slice_get_within es (length es - 1) e l))
 
-pub trail-remove : (n : ℕ) (start : Start) (yeses : List Query) (es : List Entry) → IsTrail n start yeses es → IsTrail n start yeses (take 1 es ++ drop 2 es)
+trail-remove : (n : ℕ) (start : Start) (yeses : List Query) (es : List Entry) → IsTrail n start yeses es → IsTrail n start yeses (take 1 es ++ drop 2 es)
 trail-remove n start yeses es t = let P = IsEntry n start yeses in All-append P (take 1 es) (drop 2 es) (All-take P 1 es t) (All-drop P 2 es t)
+
+-- what stays when the oldest entries are let go but the first
+pub record IsLetGo (old new : List Entry) : Type 0 where
+  pub trail : (n : ℕ) (start : Start) (yeses : List Query) → IsTrail n start yeses old → IsTrail n start yeses new
+  pub last : last_entry new ≡ last_entry old
+  pub begins : begins_at_none new ≡ begins_at_none old
+  pub begun : 0 < length old → 0 < length new
+
+pub let_go-more : (old es new : List Entry) → IsLetGo old es → 2 < length es → new ≡ take 1 es ++ drop 2 es → length new ≡ length es - 1 → IsLetGo old new
+let_go-more old es new had more is less = record {
+  trail = λ n start yeses t. subst (IsTrail n start yeses) (sym is) (trail-remove n start yeses es (had.trail n start yeses t));
+  last = ap last_entry is ∙ last-remove es more ∙ had.last;
+  begins = ap begins_at_none is ∙ begins-remove es more ∙ had.begins;
+  begun = λ l. omega arith;
+}
 
 -- an entry that stands for one more Yes answer
 entry-next : (n : ℕ) (start : Start) (yeses : List Query) (first m : ℕ) (f : Followed) (r : Query) → first ≤ m + 1 → slice_get yeses m ≡ Some r

@@ -1,5 +1,5 @@
 -- Turns of loops over lists of sets.
-use Rattle.std.proofs.Common.{ℕ, ◌+◌, ◌<◌, ◌≤◌, ◌≡◌, List, [], ◌∷◌, length, drop, get_or, sym, ap, ap₂, ◌∙◌, add-one}
+use Rattle.std.proofs.Common.{ℕ, ◌+◌, ◌<◌, ◌≤◌, ◌≡◌, Bool, true, false, List, [], ◌∷◌, length, drop, get_or, sym, ap, ap₂, ◌∙◌, subst, add-one}
 use Rattle.std.proofs.Math.Seq.{drop-cons}
 use Rattle.std.proofs.lemmas.List.{drop_all}
 use Rattle.ls_set.specs.ItemSet.{Items, empty, union, IsWithin}
@@ -15,23 +15,37 @@ drop-next sets i k l e = drop-cons sets i k l ∙ ap₂ (λ x n. x ∷ drop n se
 abbrev pub IsUnited : (List Items → Items) → Items → List Items → ℕ → Type 0
 IsUnited f u sets i = union u (f (drop i sets)) ≡ f sets
 
-pub united-none : (f : List Items → Items) (sets : List Items) (u : Items) → u ≡ empty → IsUnited f u sets 0
-united-none f sets u e = ap (λ v. union v (f sets)) e ∙ union-empty_left (f sets)
+-- what a loop gives that joins the sets that it takes, which lie within s
+pub record Unites (takes : Items → Bool) (f : List Items → Items) (s : Items) : Type 0 where
+  pub none : f [] ≡ empty
+  pub taken : (k : Items) → takes k ≡ true → (rest : List Items) → f (k ∷ rest) ≡ union k (f rest)
+  pub passed : (k : Items) → takes k ≡ false → (rest : List Items) → f (k ∷ rest) ≡ f rest
+  pub within : (rest : List Items) → IsWithin (f rest) s
 
-pub united-more : (f : List Items → Items) (sets : List Items) (i : ℕ) (k given u : Items) → i < length sets → k ≡ get_or sets i k
-    → ((rest : List Items) → f (k ∷ rest) ≡ union given (f rest)) → IsUnited f u sets i → IsUnited f (union u given) sets (i + 1)
-united-more f sets i k given u l e gives had =
-    union_assoc u given (f (drop (i + 1) sets)) ∙ ap (union u) (sym (gives (drop (i + 1) sets))) ∙ ap (λ x. union u (f x)) (sym (drop-next sets i k l e)) ∙ had
+module _ {takes : Items → Bool} {f : List Items → Items} {s : Items} (h : Unites takes f s) (sets : List Items) (i : ℕ) where
+  -- before the first
+  pub united-none : (u : Items) → u ≡ empty → IsUnited f u sets 0
+  united-none u e = ap (λ v. union v (f sets)) e ∙ union-empty_left (f sets)
 
-pub united-same : (f : List Items → Items) (sets : List Items) (i : ℕ) (k u : Items) → i < length sets → k ≡ get_or sets i k
-    → ((rest : List Items) → f (k ∷ rest) ≡ f rest) → IsUnited f u sets i → IsUnited f u sets (i + 1)
-united-same f sets i k u l e gives had = ap (union u) (sym (gives (drop (i + 1) sets))) ∙ ap (λ x. union u (f x)) (sym (drop-next sets i k l e)) ∙ had
+  -- after the last
+  pub united-all : (u : Items) → length sets ≤ i → IsUnited f u sets i → u ≡ f sets
+  united-all u l had = sym (ap (union u) (ap f (drop_all i sets l) ∙ h.none) ∙ union-empty_right u) ∙ had
 
-pub united-all : (f : List Items → Items) (sets : List Items) (i : ℕ) (u : Items) → f [] ≡ empty → length sets ≤ i → IsUnited f u sets i → u ≡ f sets
-united-all f sets i u none l had = sym (ap (union u) (ap f (drop_all i sets l) ∙ none) ∙ union-empty_right u) ∙ had
+  module _ (k u v : Items) (l : i < length sets) (e : k ≡ get_or sets i k) (had : IsUnited f u sets i) where
+    -- a set is joined
+    pub united-taken : takes k ≡ true → v ≡ union u k → IsUnited f v sets (i + 1)
+    united-taken t is =
+        ap (λ w. union w (f (drop (i + 1) sets))) is ∙ union_assoc u k (f (drop (i + 1) sets)) ∙ ap (union u) (sym (h.taken k t (drop (i + 1) sets)))
+        ∙ ap (λ x. union u (f x)) (sym (drop-next sets i k l e)) ∙ had
 
--- where the union has all of s, within which all are, no more can be added
-pub united-whole : (f : List Items → Items) (sets : List Items) (i : ℕ) (u s : Items) → ((rest : List Items) → IsWithin (f rest) s) → u ≡ s → IsUnited f u sets i → s ≡ f sets
-united-whole f sets i u s within whole had =
-    same_within s (union s (f (drop i sets))) (union-left s (f (drop i sets))) (union-within s (f (drop i sets)) s (λ _ h. h) (within (drop i sets)))
-    ∙ ap (λ v. union v (f (drop i sets))) (sym whole) ∙ had
+    -- a set is passed over
+    pub united-passed : takes k ≡ false → v ≡ u → IsUnited f v sets (i + 1)
+    united-passed t is =
+        ap₂ (λ w x. union w x) is (sym (h.passed k t (drop (i + 1) sets))) ∙ ap (λ x. union u (f x)) (sym (drop-next sets i k l e)) ∙ had
+
+    -- where the union has all of s, no more can be joined
+    pub united-whole : takes k ≡ true → v ≡ union u k → v ≡ s → v ≡ f sets
+    united-whole t is whole =
+        let rest = f (drop (i + 1) sets) in
+        same_within v (union v rest) (union-left v rest) (subst (λ w. IsWithin (union v rest) w) (sym whole) (union-within v rest s (subst (λ w. IsWithin w s) (sym whole) (λ _ h. h)) (h.within (drop (i + 1) sets))))
+        ∙ united-taken t is

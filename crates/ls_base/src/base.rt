@@ -3,7 +3,7 @@ ghost use Rattle.std.specs.Prelude.{◌≡◌, ◌<◌, ◌≤◌, true, not, Ok
 ghost use Rattle.ls_set.specs.ItemSet.{empty, subsets};
 ghost use Rattle.ls_set.specs.Query.{is_good};
 ghost use Rattle.ls_theory.specs.Queries.{some_breaks};
-ghost use Rattle.ls_theory.specs.Bases.{base, is_atom_at, atoms_at};
+ghost use Rattle.ls_theory.specs.Bases.{base, is_atom_at, atoms_at, most_base_sets};
 ghost use Rattle.ls_laws.specs.Spans.{IsOn, left_by, spanned};
 ghost use Rattle.ls_base.specs.Bases.{family, based, single_sets, IsFaultOf, IsPastOf};
 
@@ -53,7 +53,7 @@ impl Base {
         requires few_items { n ≤ PLACES }
         requires base { base (spanned n sets.items) ≡ sets.items }
         ensures ok { IfOk result (λ b. b ≡ record { item_count = n; sets = sets.items }) }
-        ensures few { OnOk result (length sets.items ≤ MOST_BASE_SETS) }
+        ensures few { OnOk result (length sets.items ≤ most_base_sets) }
         ensures past { IfErr result (IsPastOf sets.items) }
     {
         if sets.len() > MOST_BASE_SETS {
@@ -62,9 +62,9 @@ impl Base {
         Ok(Base { n, sets, alloc })
     }
 
-    /// The base of the family of all unions of the given sets, which have items below `n` alone. The
-    /// error is `NotSpanning` where an item below `n` is in no given set; otherwise `Past`, where the
-    /// base has more sets than [`MOST_BASE_SETS`]; or memory ran out.
+    /// The base of the family of all unions of the given sets, which have items below `n` alone.
+    /// The error is `NotSpanning` where an item below `n` is in no given set; otherwise `Past`,
+    /// where the base has more sets than [`MOST_BASE_SETS`]; or memory ran out.
     pub fn from_sets(alloc: Global, n: u32, sets: &[ItemSet]) -> Result<Base, BaseFault>
         requires few_items { n ≤ PLACES }
         requires is_on { IsOn n sets.now }
@@ -107,7 +107,8 @@ impl Base {
         requires { is_good self.now.item_count r.now ≡ true }
         ensures sets { IfOk result (λ b. b.sets ≡ base (left_by r.now (family self.now))) }
         ensures item_count { IfOk result (λ b. b.item_count ≡ self.now.item_count) }
-        ensures few { OnOk result (length (base (left_by r.now (family self.now))) ≤ MOST_BASE_SETS) }
+        ensures few { OnOk result
+            (length (base (left_by r.now (family self.now))) ≤ most_base_sets) }
         ensures past { IfErr result (IsPastOf (base (left_by r.now (family self.now)))) }
     {
         let left = base_left(self.alloc, self.n, &self.sets, r)?;
@@ -118,7 +119,7 @@ impl Base {
     pub fn sets(&self) -> &[ItemSet]
         ensures value { result.now ≡ self.now.sets }
         ensures base { base (family self.now) ≡ self.now.sets }
-        ensures few { length self.now.sets ≤ MOST_BASE_SETS }
+        ensures few { length self.now.sets ≤ most_base_sets }
         ensures few_items { self.now.item_count ≤ PLACES }
     {
         &self.sets
@@ -129,7 +130,7 @@ impl Base {
         requires { is_good self.now.item_count r.now ≡ true }
         ensures test { result ≡ not (some_breaks self.now.sets r.now) }
         ensures same { IsTrue result → base (left_by r.now (family self.now)) ≡ self.now.sets }
-        ensures few { length self.now.sets ≤ MOST_BASE_SETS }
+        ensures few { length self.now.sets ≤ most_base_sets }
     {
         !some_break(&self.sets, r)
     }
@@ -138,7 +139,8 @@ impl Base {
     pub fn is_atom_at(&self, place: usize, q: u32) -> bool
         requires place { place < length self.now.sets }
         requires item { q < self.now.item_count }
-        ensures { result ≡ is_atom_at (family self.now) q (slice_index_or self.now.sets place empty) }
+        ensures { result
+            ≡ is_atom_at (family self.now) q (slice_index_or self.now.sets place empty) }
     {
         is_atom_at(&self.sets, q, self.sets[place])
     }

@@ -13,9 +13,9 @@ use crate::fault::PastFault;
 use ls_set::{ItemSet, Query};
 use std::alloc::AllocError;
 
-/// The base of the compatible sets under the first Yes answers of an interview; or, from the first of
-/// them on with which the base had too many sets, the number of that answer, counted from 1, and how
-/// many sets the base had then.
+/// The base of the compatible sets under the first Yes answers of an interview; or, from the first
+/// of them on with which the base had too many sets, the number of that answer, counted from 1, and
+/// how many sets the base had then.
 #[derive(Debug, Drop)]
 pub enum Followed {
     Within(Base),

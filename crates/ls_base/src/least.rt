@@ -109,8 +109,8 @@ fn push_unions(
     Ok(())
 }
 
-/// Appends the joins of a set of `sets` with one of `near` within which no other join lies, and none
-/// of `staying`.
+/// Appends the joins of a set of `sets` with one of `near` within which no other join lies, and
+/// none of `staying`.
 pub fn push_joins(
     gained: &mut Vec<ItemSet>,
     staying: &[ItemSet],

@@ -1,4 +1,5 @@
-//! Bases of knowledge spaces: the atoms, of which each state is a union, and what a Yes answer makes of them.
+//! Bases of knowledge spaces: the atoms, of which each state is a union, and what a Yes answer
+//! makes of them.
 #![tactic(auto)]
 
 mod atoms;

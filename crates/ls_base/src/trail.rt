@@ -1,4 +1,5 @@
-// The base followed over the Yes answers when it is asked for, with those of some first answers kept.
+// The base followed over the Yes answers when it is asked for, with those of some first answers
+// kept.
 ghost use Rattle.std.specs.Prelude.{◌≡◌, ◌+◌, ◌<◌, ℕ, List, [], true, map, length, take, slice_get, Some, IfSome, OnOk, OnErr};
 ghost use Rattle.std.specs.Option.{option_copied};
 ghost use Rattle.ls_set.specs.declared.query.Query.{Query};
@@ -25,12 +26,12 @@ pub struct Entry {
     followed: Followed,
 }
 
-/// The base followed over the first Yes answers of an interview, when it is asked for, with those of
-/// fewer first answers, to which a retraction goes back. The first entry, once there is one, stands
-/// for no answer; a Yes that changes nothing makes no new one.
+/// The base followed over the first Yes answers of an interview, when it is asked for, with those
+/// of fewer first answers, to which a retraction goes back. The first entry, once there is one,
+/// stands for no answer; a Yes that changes nothing makes no new one.
 ///
-/// Where the entries keep more than [`MOST_KEPT_SETS`] sets in all, the oldest but the first are let
-/// go, until they don't. The first and the last are kept: they have no more than 8,192.
+/// Where the entries keep more than [`MOST_KEPT_SETS`] sets in all, the oldest but the first are
+/// let go, until they don't. The first and the last are kept: they have no more than 8,192.
 #[derive(Debug, Drop)]
 pub struct Trail {
     entries: Vec<Entry>,
@@ -231,8 +232,8 @@ impl Trail {
         }
     }
 
-    /// The sets of the base that is followed over the most answers, in their order; none where it is
-    /// past, or nothing is kept.
+    /// The sets of the base that is followed over the most answers, in their order; none where it
+    /// is past, or nothing is kept.
     pub fn sets(&self) -> &[ItemSet]
         ensures { result.now ≡ trail_sets self.now }
     {

@@ -14,8 +14,8 @@ use ls_theory::Listing;
 use std::alloc::{AllocError, Global};
 use std::sync::ledger::Ledger;
 
-/// The first `k` members that come after the given set, or of all, and whether a further one follows.
-/// The given set is one of the family's items and need not be a member.
+/// The first `k` members that come after the given set, or of all, and whether a further one
+/// follows. The given set is one of the family's items and need not be a member.
 pub fn page<I: Interior, L: Ledger>(
     alloc: Global,
     f: &I,

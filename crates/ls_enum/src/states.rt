@@ -11,7 +11,8 @@ use ls_set::ItemSet;
 use std::sync::ledger::Ledger;
 
 /// The members of a family in order: all of them, or those after a set. It borrows the family and
-/// the count of steps, looks for a member only when it is asked for the next one, and takes no memory.
+/// the count of steps, looks for a member only when it is asked for the next one, and takes no
+/// memory.
 #[derive(Drop)]
 pub struct States<'a, I: Interior, L: Ledger> {
     /// The family whose members are given.
@@ -62,8 +63,8 @@ impl<'a, I: Interior, L: Ledger> States<'a, I, L> {
         States::new(family, Some(word), steps)
     }
 
-    /// The set that was given last, or else the one after which this began; `None` where it began at
-    /// the start and has given nothing.
+    /// The set that was given last, or else the one after which this began; `None` where it began
+    /// at the start and has given nothing.
     pub fn cursor(&self) -> Option<ItemSet>
         ensures { result ≡ self.now.cursor }
     {
@@ -85,9 +86,11 @@ impl<'a, I: Interior, L: Ledger> Iterator for States<'a, I, L> {
             (item_count (λ s. left_after s.cursor (I.members s.family.now)))
             self.old result self.new }
         ensures small { IfSome result (λ k. IsWithin k (full (I.item_count self.old.family.now))) }
-        ensures cursor { MatchOption result (self.new.cursor ≡ self.old.cursor) (λ k. self.new.cursor ≡ Some k) }
+        ensures cursor { MatchOption result
+            (self.new.cursor ≡ self.old.cursor) (λ k. self.new.cursor ≡ Some k) }
         ensures family { self.new.family.now ≡ self.old.family.now }
-        ensures cost { self.new.steps.now ≤ self.old.steps.now + (I.item_count self.old.family.now + 1) }
+        ensures cost { self.new.steps.now
+            ≤ self.old.steps.now + (I.item_count self.old.family.now + 1) }
         ensures loan { self.new.steps.ghost_name ≡ self.old.steps.ghost_name }
     {
         let member = first_left(self.family, self.cursor, self.steps)?;

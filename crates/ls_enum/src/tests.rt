@@ -9,7 +9,8 @@ use std::marker::Brand;
 use std::sync::ledger::{Blank, Ledger};
 use std::test::Fail;
 
-// The first two sets, those after the second, all of them, how many there are, and those after the first.
+// The first two sets, those after the second, all of them, how many there are, and those after the
+// first.
 fn subsets_of_three<L: Ledger>(
     alloc: Global,
     blank: Blank,

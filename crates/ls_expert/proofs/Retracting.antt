@@ -4,7 +4,8 @@ use Rattle.std.specs.List.{AllByRecursion, IsDistinct, list_all}
 use Rattle.std.proofs.Math.Bool.{and_assoc}
 use Rattle.std.proofs.lemmas.Bool.{and_parts}
 use Rattle.std.proofs.lemmas.List.{length-map}
-use Rattle.std.proofs.lemmas.List.Sums.{length-filter, count_by-le-length}
+use Rattle.std.proofs.lemmas.List.Recursion.{is_sum_by}
+use Rattle.std.proofs.lemmas.List.Sums.{length-filter, count_by-le-length, sum_by-cons}
 use Rattle.ls_set.specs.ItemSet.{Items, full, is_within, subsets}
 use Rattle.ls_set.specs.Query.{is_good}
 use Rattle.ls_set.specs.declared.query.Query.{Query}
@@ -24,23 +25,24 @@ use Rattle.ls_laws.proofs.Numbered.{retracted-numbered}
 use Rattle.ls_infer.specs.Tables.{TableState, standing, table_of}
 use Rattle.ls_expert.specs.Steps.{closures_over}
 use Rattle.ls_expert.specs.Held.{blocks_of, closures_of, rules_before, IsHeld}
-use Rattle.ls_expert.proofs.AnswerLists.{is_other, has_number, all-fewer, told-all, nos-others, rising, yes_queries-without_yes, yes_queries-without_no, nos-without_yes, rules_before-within}
+use Rattle.ls_expert.proofs.AnswerLists.{is_other, all-fewer, all-told, told-all, nos-others, rising, yes_queries-without_yes, yes_queries-without_no, nos-without_yes, rules_before-within}
 
 -- ---- what is kept
 
--- fewer queries are distinct too
-others_fewer : (p : Answer → Bool) (x : Query) (answers : List Answer) → AllByRecursion (λ y. is_same_query x y ≡ false) (map (λ a. a.query) answers) → AllByRecursion (λ y. is_same_query x y ≡ false) (map (λ a. a.query) (filter p answers))
-others_fewer p x [] h = tt
-others_fewer p x (y ∷ answers) h = elim (p y) as (λ b. AllByRecursion (λ z. is_same_query x z ≡ false) (map (λ a. a.query) (cond b (y ∷ filter p answers) (filter p answers)))) [
-  | true ↦ (h.0, others_fewer p x answers h.1)
-  | false ↦ others_fewer p x answers h.1
+-- what holds of each image holds of those of fewer
+All-images : {X Y : Type 0} (P : Y → Type 0) (p : X → Bool) (g : X → Y) (xs : List X) → AllByRecursion P (map g xs) → AllByRecursion P (map g (filter p xs))
+All-images P p g [] h = tt
+All-images P p g (x ∷ xs) h = elim (p x) as (λ b. AllByRecursion P (map g (cond b (x ∷ filter p xs) (filter p xs)))) [
+  | true ↦ (h.0, All-images P p g xs h.1)
+  | false ↦ All-images P p g xs h.1
 ]
 
+-- fewer queries are distinct too
 distinct-fewer : (p : Answer → Bool) (answers : List Answer) → IsDistinct is_same_query (map (λ a. a.query) answers) → IsDistinct is_same_query (map (λ a. a.query) (filter p answers))
 unfolding IsDistinct
 distinct-fewer p [] d = tt
 distinct-fewer p (x ∷ answers) d = elim (p x) as (λ b. IsDistinct is_same_query (map (λ a. a.query) (cond b (x ∷ filter p answers) (filter p answers)))) [
-  | true ↦ (others_fewer p x.query answers d.0, distinct-fewer p answers d.1)
+  | true ↦ (All-images (λ y. is_same_query x.query y ≡ false) p (λ a. a.query) answers d.0, distinct-fewer p answers d.1)
   | false ↦ distinct-fewer p answers d.1
 ]
 
@@ -49,12 +51,8 @@ length-fewer p answers = omega (arith, length-filter p answers, count_by-le-leng
 
 -- ---- interiors
 
-filter-images : {X Y : Type 0} (p : Y → Bool) (g : X → Y) (xs : List X) → length (filter p (map g xs)) ≡ length (filter (λ x. p (g x)) xs)
-filter-images p g [] = refl
-filter-images p g (x ∷ xs) = elim (p (g x)) as (λ b. length (cond b (g x ∷ filter p (map g xs)) (filter p (map g xs))) ≡ length (cond b (x ∷ filter (λ x. p (g x)) xs) (filter (λ x. p (g x)) xs))) [
-  | true ↦ ap suc (filter-images p g xs)
-  | false ↦ filter-images p g xs
-]
+count_by-images : {X Y : Type 0} (p : Y → Bool) (g : X → Y) (xs : List X) → count_by p (map g xs) ≡ count_by (λ x. p (g x)) xs
+count_by-images p g = is_sum_by (λ xs. count_by p (map g xs)) (λ x. cond (p (g x)) 1 0) refl (λ x xs. sum_by-cons (λ y. cond (p y) 1 0) (g x) (map g xs))
 
 -- what a change costs, told by a table
 pub steps-over : (i : Interview) (t : TableState) (a : Items) → t ≡ closures_of i
@@ -63,18 +61,8 @@ steps-over i t a h =
     let close = closure (full i.count) (compatible_sets i) in
     ap (λ (u : TableState). count_by (λ c. is_within a c) u.closures + (u.blocks.item_count + 1) * length u.standing) h
     ∙ ap₂ (λ m k. m + (i.count + 1) * k)
-    (sym (length-filter (λ c. is_within a c) (map close (blocks i.count i.block))) ∙ filter-images (λ c. is_within a c) close (blocks i.count i.block) ∙ length-filter (λ b. is_within a (close b)) (blocks i.count i.block))
+    (count_by-images (λ c. is_within a c) close (blocks i.count i.block))
     (length-map (nos i.answers) (standing i.count (compatible_sets i)))
-
--- what holds of each answer holds of the one that is found
-holds : (q p : Answer → Bool) (answers : List Answer) (a : Answer) → list_all q answers ≡ true → find p answers ≡ Some a → q a ≡ true
-holds q p [] a h e = cc
-holds q p (x ∷ xs) a h e =
-    let b = and_parts (q x) (list_all q xs) h in
-    elim (p x) as (λ k. cond k (Some x) (find p xs) ≡ Some a → q a ≡ true) [
-      | true ↦ λ e. let same : x ≡ a = cc in sym (ap q same) ∙ b.0
-      | false ↦ λ e. holds q p xs a b.1 e
-    ] e
 
 module _ (i : Interview) (a : Answer) (rules : List Query) (t new : TableState) (h : IsHeld i rules t) (stands : answer_with i a.number ≡ Some a) where
   abbrev after : Interview
@@ -98,14 +86,18 @@ module _ (i : Interview) (a : Answer) (rules : List Query) (t new : TableState) 
     };
   }
 
-  pub good-of : is_good i.count a.query ≡ true
-  good-of = holds (λ x. is_good i.count x.query) (has_number a.number) i.answers a h.standing.good stands
-
   -- ---- a Yes
 
   -- its place among the rules
   pub rule-within : a.yes ≡ true → rules_before i.answers a.number < length rules
   rule-within y = let r = h.ruled in rw r (rules_before-within i a h.standing.numbered stands y)
+
+  -- it is good, as all queries that were answered Yes are
+  pub good-of : a.yes ≡ true → is_good i.count a.query ≡ true
+  good-of y =
+      let good = is_good i.count in
+      let all = told-all (λ x. x.yes) (λ x. x.query) a.number a good i.answers (rising i a h.standing.numbered stands) stands y in
+      (and_parts (list_all good (yes_queries after.answers)) (good a.query) (sym all ∙ all-told good (λ x. x.yes) (λ x. x.query) i.answers h.standing.good)).1
 
   pub left-before : a.yes ≡ true → compatible_sets i ≡ left_by a.query (compatible_sets after)
   unfolding compat

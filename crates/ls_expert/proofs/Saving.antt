@@ -1,16 +1,19 @@
 -- Whether answers from which an interview is to go on stand.
-use Rattle.std.proofs.Common.{ℕ, suc, ◌+◌, ◌-◌, ◌<◌, ◌≤◌, ◌≡◌, ◌⊎◌, inl, inr, Bool, true, false, not, ◌&&◌, ◌||◌, ltb, length, get_or, take, drop, List, [], ◌∷◌, map, filter, Result, Ok, refl, sym, ap, ap₂, ◌∙◌, subst, arith, ltb-true, lt-ltb, le-ltb}
+use Rattle.std.proofs.Common.{ℕ, suc, ◌+◌, ◌-◌, ◌<◌, ◌≤◌, ◌≡◌, ◌⊎◌, inl, inr, Bool, true, false, not, ◌&&◌, ◌||◌, ltb, length, get_or, take, drop, List, [], ◌∷◌, map, filter, Result, Ok, IfErr, refl, sym, ap, ap₂, ◌∙◌, subst, arith, ltb-true, lt-ltb, le-ltb}
 use Rattle.std.specs.Bool.{Decides}
 use Rattle.std.specs.Cmp.{nat_cmp_is}
 use Rattle.std.specs.Ordering.{nat_cmp}
 use Rattle.std.specs.List.{AllByRecursion, IsDistinct, list_all, list_any}
 use Rattle.std.specs.List.Sorted.{IsStrictlyIncreasing, IsStrictlySortedBy}
+use Rattle.std.specs.Result.{IsErrAnd}
+use Rattle.std.specs.declared.alloc.AllocError.{AllocError}
 use Rattle.std.proofs.Math.Bool.{not-not}
 use Rattle.std.proofs.Math.Seq.{drop-cons}
 use Rattle.std.proofs.lemmas.Bool.{and_parts, and_from, not-true, not_from_false}
 use Rattle.std.proofs.lemmas.Bool.Decides.{nat_tests}
 use Rattle.std.proofs.lemmas.List.{take_all, length-drop}
 use Rattle.std.proofs.lemmas.Map.Keys.{IsStrictlyIncreasing-from_sorted}
+use Rattle.std.proofs.lemmas.Result.{err_from_is_err_and}
 use Rattle.ls_set.specs.ItemSet.{Items, has, full, minus}
 use Rattle.ls_set.specs.Query.{is_good}
 use Rattle.ls_set.specs.declared.query.Query.{Query}
@@ -31,8 +34,12 @@ use Rattle.ls_laws.proofs.Compat.{compat-IsUnionFamily, compat-in_order, start-s
 use Rattle.ls_laws.proofs.Numbered.{IsRising, rising-from}
 use Rattle.ls_laws.proofs.Search.{fitting_some, All-list_all, list_all-All}
 use Rattle.ls_laws.proofs.Answering.{compatible_fit}
+use Rattle.ls_expert.specs.declared.standing_fault.StandingFault.{StandingFault}
+use Rattle.ls_expert.specs.declared.standing_fault.StandingFault.TheVariants.{Memory}
 use Rattle.ls_expert.specs.declared.start.Start.{Start}
 use Rattle.ls_expert.specs.Starts.{StartOn, start_of}
+use Rattle.ls_expert.specs.Held.{blocks_of}
+use Rattle.ls_expert.specs.Saved.{IsStandingFault}
 use Rattle.ls_expert.proofs.AnswerLists.{all-told}
 use Rattle.ls_expert.proofs.Ruling.{ruled-compat}
 use Rattle.ls_expert.proofs.Holding.{start-whole, range-of}
@@ -171,6 +178,10 @@ has-greatest n f r small l =
 -- blocks that are made are those that are asked for
 pub made-as : (n k : ℕ) (r : Result BlockRange BlockFault) (b : BlockRange) → r ≡ made n k → r ≡ Ok b → made n k ≡ Ok (record { item_count = n; largest = k })
 made-as n k r b e f = let is = sym e ∙ f in is ∙ ap Ok (range-of n k b is)
+
+-- where memory runs out, the blocks were made
+pub ran_out : {X : Type 0} (i : Interview) (r : Result X StandingFault) (e : AllocError) → made i.count i.block ≡ Ok (blocks_of i) → IsErrAnd r (λ f. f ≡ Memory e) → IfErr r (IsStandingFault i)
+ran_out i r e made out = let p = err_from_is_err_and r out in rw (p.1, p.2) made
 
 -- some space fits good answers exactly where each No is broken by some set of the start that breaks no Yes
 pub fit-decides : (i : Interview) (start : Start) (b : Bool) (s : StartOn) (rules : List Query) → start_of start ≡ i.start → list_all (λ a. is_good i.count a.query) i.answers ≡ true

@@ -5,6 +5,7 @@ use Rattle.ls_set.specs.declared.item_set.TheConstants.{PLACES}
 use Rattle.ls_set.specs.declared.query.Query.{Query}
 use Rattle.ls_set.specs.Query.{is_good}
 use Rattle.ls_theory.specs.declared.answer.Answer.{Answer}
+use Rattle.ls_theory.specs.Starts as theory
 use Rattle.ls_theory.specs.Interviews.{Interview, yes_queries, nos}
 use Rattle.ls_theory.specs.Compatible.{compatible_sets}
 use Rattle.ls_theory.specs.Blocks.{BlockRange}
@@ -13,9 +14,13 @@ use Rattle.ls_laws.specs.Forced.{IsSound, IsNumbered}
 use Rattle.ls_infer.specs.Tables.{TableState, table_of}
 use Rattle.ls_expert.specs.Starts.{StartOn}
 
+-- the interview on n items with the start, where sets up to the size k are asked, the answers stand and `next` is the number of the next
+abbrev pub interview_on : ℕ → theory.Start → ℕ → List Answer → ℕ → Interview
+interview_on n start k answers next = record { count = n; start = start; block = k; answers = answers; next = next }
+
 -- the interview that the parts make
 abbrev pub interview_of : StartOn → ℕ → List Answer → ℕ → Interview
-interview_of s block answers next = record { count = s.item_count; start = s.start; block = block; answers = answers; next = next }
+interview_of s = interview_on s.item_count s.start
 
 -- the blocks of an interview
 abbrev pub blocks_of : Interview → BlockRange

@@ -1,10 +1,9 @@
 // Lists of answers.
 ghost use Rattle.std.specs.Prelude.{◌≡◌, ◌+◌, ◌<◌, ◌≤◌, ◌++◌, ◌∷◌, [], ◌&&◌, ◌==◌, not, filter, find, vec_len, vec_capacity, IfOk, IfSome};
 ghost use Rattle.ls_theory.specs.Interviews.{nos, yes_queries};
-ghost use Rattle.ls_theory.specs.Answering.{opposed};
+ghost use Rattle.ls_theory.specs.Answering.{opposed, most_number};
 ghost use Rattle.ls_expert.specs.Held.{rules_before};
 
-use crate::inquiry::MOST_NUMBER;
 use ls_set::Query;
 use ls_theory::{Answer, AnswerFault, Known, No};
 use std::alloc::{AllocError, Global};
@@ -36,7 +35,8 @@ pub fn yes_queries(alloc: Global, answers: &[Answer]) -> Result<Vec<Query>, Allo
 
 /// The queries that were answered Yes but for the answer with the number.
 pub fn yes_others(alloc: Global, answers: &[Answer], number: u64) -> Result<Vec<Query>, AllocError>
-    ensures { IfOk result (λ v. v.items ≡ yes_queries (filter (λ a. not (a.number == number)) answers.now)) }
+    ensures { IfOk result (λ v.
+        v.items ≡ yes_queries (filter (λ a. not (a.number == number)) answers.now)) }
 {
     answers
         .iter()
@@ -60,10 +60,11 @@ pub fn opposed(known: Known, yes: bool) -> Option<AnswerFault>
 /// Puts the answer to a query last, with the next number.
 pub fn put_last(answers: &mut Vec<Answer>, next: &mut u64, query: &Query, yes: bool) -> u64
     requires room { vec_len answers.old < vec_capacity answers.old }
-    requires numbers { next.old ≤ MOST_NUMBER }
+    requires numbers { next.old ≤ most_number }
     ensures number { result ≡ next.old }
     ensures next { next.new ≡ next.old + 1 }
-    ensures last { answers.new.items ≡ answers.old.items ++ (record { number = next.old; query = query.now; yes = yes }) ∷ [] }
+    ensures last { answers.new.items ≡ answers.old.items
+        ++ (record { number = next.old; query = query.now; yes = yes }) ∷ [] }
 {
     let number = *next;
     let answer = Answer {

@@ -62,7 +62,9 @@ impl Model for Inquiry {
 
     ghost view = { λ s. interview_of s.family.inner s.block s.answers.items s.next };
 
-    ghost invariant = { λ s. IsHeld (interview_of s.family.inner s.block s.answers.items s.next) s.family.rules s.table.table };
+    ghost invariant = { λ s. IsHeld
+        (interview_of s.family.inner s.block s.answers.items s.next)
+        s.family.rules s.table.table };
 }
 
 // The table of a family with rules, for the answers that are No.
@@ -75,7 +77,9 @@ fn build<L: Ledger>(
 ) -> Result<Table, AllocError>
     requires items { family.now.inner.item_count ≡ blocks.item_count }
     requires good { list_all (λ a. is_good blocks.item_count a.query) answers.now ≡ true }
-    ensures { IfOk result (λ t. t.table ≡ table_of blocks (compat blocks.item_count family.now.inner.start family.now.rules) (nos answers.now)) }
+    ensures { IfOk result (λ t. t.table ≡ table_of blocks
+        (compat blocks.item_count family.now.inner.start family.now.rules)
+        (nos answers.now)) }
 {
     let nos = nos(alloc, answers)?;
     Table::build(alloc, blocks, &Counted::new(family), &nos, steps)
@@ -110,8 +114,8 @@ impl Inquiry {
         })
     }
 
-    /// Asks queries of sets of 1 to `k` items from now on; it may be called at any time. It is refused
-    /// as blocks are, and nothing changes then.
+    /// Asks queries of sets of 1 to `k` items from now on; it may be called at any time. It is
+    /// refused as blocks are, and nothing changes then.
     pub fn set_blocks<L: Ledger>(&mut self, k: u32, steps: &mut Steps<L>) -> Result<(), BlockFault>
         ensures made { OnOk result (made self.old.count k ≡ Ok (blocks_of self.new)) }
         ensures ok { OnOk result (self.new ≡ record self.old { block = k }) }
@@ -128,10 +132,10 @@ impl Inquiry {
         Ok(())
     }
 
-    /// Takes the expert's answer to a query, and gives its number. It is refused by the first of these
-    /// that holds: the query is not good; an answer to it stands; the standing answers force the other
-    /// reply; there is no room for it. Nothing changes then. It takes at most one interior where
-    /// it is refused.
+    /// Takes the expert's answer to a query, and gives its number. It is refused by the first of
+    /// these that holds: the query is not good; an answer to it stands; the standing answers force
+    /// the other reply; there is no room for it. Nothing changes then. It takes at most one
+    /// interior where it is refused.
     pub fn answer<L: Ledger>(
         &mut self,
         query: Query,
@@ -150,9 +154,9 @@ impl Inquiry {
         Ok(self.take(&query, yes, steps)?)
     }
 
-    /// Takes back the answer with the number, which is never given again. It is refused only where no
-    /// standing answer has the number, and nothing changes then. It takes no memory, and no interior
-    /// for a No.
+    /// Takes back the answer with the number, which is never given again. It is refused only where
+    /// no standing answer has the number, and nothing changes then. It takes no memory, and no
+    /// interior for a No.
     pub fn retract<L: Ledger>(
         &mut self,
         number: u64,
@@ -185,8 +189,8 @@ impl Inquiry {
         Ok(self.table.answer_of(&Counted::new(&self.family), q, steps))
     }
 
-    /// The first open query of the blocks that comes after the given good one, or the first of all. It
-    /// takes no memory.
+    /// The first open query of the blocks that comes after the given good one, or the first of all.
+    /// It takes no memory.
     pub fn next_question(&self, after: Option<&Query>) -> Option<Query>
         requires { ForSome after (λ r. is_good self.now.count r.now ≡ true) }
         ensures value { result ≡ next_question self.now (option_map (λ r. r.now) after.entry) }
@@ -195,11 +199,12 @@ impl Inquiry {
         self.table.next_unsettled(after)
     }
 
-    /// Whether no query of the blocks is open. Where the largest sets are asked, exactly one space then
-    /// fits, that of the compatible sets.
+    /// Whether no query of the blocks is open. Where the largest sets are asked, exactly one space
+    /// then fits, that of the compatible sets.
     pub fn settled(&self) -> bool
         ensures value { result ≡ is_settled self.now }
-        ensures one { result ≡ true → self.now.block ≡ max 1 (self.now.count - 1) → spaces_of self.now ≡ compatible_sets self.now ∷ [] }
+        ensures one { result ≡ true → self.now.block ≡ max 1 (self.now.count - 1) →
+            spaces_of self.now ≡ compatible_sets self.now ∷ [] }
     {
         self.table.next_unsettled(None).is_none()
     }
@@ -251,9 +256,12 @@ impl Inquiry {
 
     /// The family of the compatible sets: those that meet the start and break no Yes.
     pub fn family(&self) -> &Ruled<OnItems>
-        ensures inner { result.now.inner ≡ record { item_count = self.now.count; start = self.now.start } }
+        ensures inner { result.now.inner
+            ≡ record { item_count = self.now.count; start = self.now.start } }
         ensures rules { result.now.rules ≡ yes_queries self.now.answers }
-        ensures members { filter (breaks_none result.now.rules) (compat result.now.inner.item_count result.now.inner.start []) ≡ compatible_sets self.now }
+        ensures members { filter (breaks_none result.now.rules)
+            (compat result.now.inner.item_count result.now.inner.start [])
+            ≡ compatible_sets self.now }
     {
         &self.family
     }
@@ -293,7 +301,8 @@ impl Inquiry {
 
     // The queries that are answered Yes without the answer with the number.
     pub(crate) fn yes_others(&self, number: u64) -> Result<Vec<Query>, AllocError>
-        ensures value { IfOk result (λ v. v.items ≡ yes_queries (retracted self.now number).answers) }
+        ensures value { IfOk result (λ v.
+            v.items ≡ yes_queries (retracted self.now number).answers) }
         ensures good { IfOk result (λ v. list_all (is_good self.now.count) v.items ≡ true) }
     {
         yes_others(self.alloc, &self.answers, number)

@@ -10,7 +10,7 @@ ghost use Rattle.ls_theory.specs.Forced.{known, next_question, is_settled};
 ghost use Rattle.ls_theory.specs.Blocks.{made, IsBlockFault};
 ghost use Rattle.ls_theory.specs.Answering.{refusal, answer_with, IsFaultOf};
 ghost use Rattle.ls_base.specs.Followed.{IsFollowed};
-ghost use Rattle.ls_expert.specs.Held.{blocks_of, IsStanding};
+ghost use Rattle.ls_expert.specs.Held.{blocks_of, interview_on, IsStanding};
 ghost use Rattle.ls_expert.specs.Saved.{IsStandingFault};
 ghost use Rattle.ls_expert.specs.Steps.{steps_back, most_steps};
 
@@ -46,14 +46,15 @@ impl Model for Interview {
 
     ghost view = { λ s. s.inquiry };
 
-    ghost invariant = { λ s. IsFollowed s.inquiry.count s.inquiry.start (yes_queries s.inquiry.answers) s.followed };
+    ghost invariant = { λ s. IsFollowed
+        s.inquiry.count s.inquiry.start (yes_queries s.inquiry.answers) s.followed };
 }
 
 impl Interview {
     ghost use Rattle.ls_expert.specs.Starts.{start_of};
 
-    /// The interview on `n` items that begins with the start: blocks of single items, no answers, and
-    /// the next number 1.
+    /// The interview on `n` items that begins with the start: blocks of single items, no answers,
+    /// and the next number 1.
     pub fn new<L: Ledger>(
         alloc: Global,
         n: u32,
@@ -83,18 +84,20 @@ impl Interview {
     ) -> Result<Interview, StandingFault>
         requires some { 0 < n }
         requires few { n ≤ PLACES }
-        ensures ok { IfOk result (λ i. i ≡ record { count = n; start = start_of start; block = k; answers = answers.now; next = next }) }
+        ensures ok { IfOk result (λ i.
+            i ≡ interview_on n (start_of start) k answers.now next) }
         ensures made { IfOk result (λ i. made n k ≡ Ok (blocks_of i)) }
         ensures standing { IfOk result (λ i. IsStanding i) }
-        ensures fault { IfErr result (IsStandingFault (record { count = n; start = start_of start; block = k; answers = answers.now; next = next })) }
+        ensures fault { IfErr result
+            (IsStandingFault (interview_on n (start_of start) k answers.now next)) }
     {
         let inquiry = Inquiry::from_standing(alloc, n, start, k, next, answers, steps)?;
         let followed = Followed::over(inquiry.first_base()?, inquiry.yes_queries())?;
         Ok(Interview { inquiry, followed })
     }
 
-    /// Asks queries of sets of 1 to `k` items from now on; it may be called at any time. It is refused
-    /// as blocks are, and nothing changes then.
+    /// Asks queries of sets of 1 to `k` items from now on; it may be called at any time. It is
+    /// refused as blocks are, and nothing changes then.
     pub fn set_blocks<L: Ledger>(&mut self, k: u32, steps: &mut Steps<L>) -> Result<(), BlockFault>
         ensures made { OnOk result (made self.old.count k ≡ Ok (blocks_of self.new)) }
         ensures ok { OnOk result (self.new ≡ record self.old { block = k }) }
@@ -104,10 +107,10 @@ impl Interview {
         self.inquiry.set_blocks(k, steps)
     }
 
-    /// Takes the expert's answer to a query, and gives its number. It is refused by the first of these
-    /// that holds: the query is not good; an answer to it stands; the standing answers force the other
-    /// reply; there is no room for it. Nothing changes then. It takes at most one interior where
-    /// it is refused.
+    /// Takes the expert's answer to a query, and gives its number. It is refused by the first of
+    /// these that holds: the query is not good; an answer to it stands; the standing answers force
+    /// the other reply; there is no room for it. Nothing changes then. It takes at most one
+    /// interior where it is refused.
     pub fn answer<L: Ledger>(
         &mut self,
         query: Query,
@@ -160,7 +163,8 @@ impl Interview {
     ) -> Result<(), RetractFault>
         ensures stood { OnOk result (IsSome (answer_with self.old number)) }
         ensures ok { OnOk result (self.new ≡ retracted self.old number) }
-        ensures not_standing { result ≡ Err RetractFault.NotStanding → IsNone (answer_with self.old number) }
+        ensures not_standing { result ≡ Err RetractFault.NotStanding →
+            IsNone (answer_with self.old number) }
         ensures err { OnErr result (self.new ≡ self.old) }
         ensures cost { steps.new ≤ steps.old + steps_back self.old (answer_with self.old number) }
     {
@@ -203,8 +207,8 @@ impl Interview {
         self.inquiry.known(q, steps)
     }
 
-    /// The first open query of the blocks that comes after the given good one, or the first of all. It
-    /// takes no memory.
+    /// The first open query of the blocks that comes after the given good one, or the first of all.
+    /// It takes no memory.
     pub fn next_question(&self, after: Option<&Query>) -> Option<Query>
         requires { ForSome after (λ r. is_good self.now.count r.now ≡ true) }
         ensures value { result ≡ next_question self.now (option_map (λ r. r.now) after.entry) }
@@ -213,11 +217,12 @@ impl Interview {
         self.inquiry.next_question(after)
     }
 
-    /// Whether no query of the blocks is open. Where the largest sets are asked, exactly one space then
-    /// fits, that of the compatible sets.
+    /// Whether no query of the blocks is open. Where the largest sets are asked, exactly one space
+    /// then fits, that of the compatible sets.
     pub fn settled(&self) -> bool
         ensures value { result ≡ is_settled self.now }
-        ensures one { result ≡ true → self.now.block ≡ max 1 (self.now.count - 1) → spaces_of self.now ≡ compatible_sets self.now ∷ [] }
+        ensures one { result ≡ true → self.now.block ≡ max 1 (self.now.count - 1) →
+            spaces_of self.now ≡ compatible_sets self.now ∷ [] }
     {
         self.inquiry.settled()
     }
@@ -269,9 +274,12 @@ impl Interview {
 
     /// The family of the compatible sets: those that meet the start and break no Yes.
     pub fn family(&self) -> &Ruled<OnItems>
-        ensures inner { result.now.inner ≡ record { item_count = self.now.count; start = self.now.start } }
+        ensures inner { result.now.inner
+            ≡ record { item_count = self.now.count; start = self.now.start } }
         ensures rules { result.now.rules ≡ yes_queries self.now.answers }
-        ensures members { filter (breaks_none result.now.rules) (compat result.now.inner.item_count result.now.inner.start []) ≡ compatible_sets self.now }
+        ensures members { filter (breaks_none result.now.rules)
+            (compat result.now.inner.item_count result.now.inner.start [])
+            ≡ compatible_sets self.now }
     {
         self.inquiry.family()
     }
@@ -283,10 +291,11 @@ impl Interview {
         &self.inquiry
     }
 
-    /// The base of the compatible sets; or, where it had too many sets under the first Yes answers, the
-    /// least number of these with which it had, and its size then. It takes no memory.
+    /// The base of the compatible sets; or, where it had too many sets under the first Yes answers,
+    /// the least number of these with which it had, and its size then. It takes no memory.
     pub fn base(&self) -> &Followed
-        ensures { IsFollowed self.now.count self.now.start (yes_queries self.now.answers) result.now }
+        ensures { IsFollowed
+            self.now.count self.now.start (yes_queries self.now.answers) result.now }
     {
         &self.followed
     }

@@ -1,5 +1,5 @@
-//! The interview of an expert: what was asked and answered, and what follows from it; and the base of
-//! what is left, followed over the Yes answers.
+//! The interview of an expert: what was asked and answered, and what follows from it; and the base
+//! of what is left, followed over the Yes answers.
 #![tactic(auto)]
 
 mod answers;

@@ -44,7 +44,8 @@ impl OnItems {
     /// The base of the family.
     pub fn base(&self, alloc: Global) -> Result<Base, AllocError>
         ensures items { IfOk result (λ b. b.item_count ≡ self.now.item_count) }
-        ensures sets { IfOk result (λ b. b.sets ≡ base (compat self.now.item_count self.now.start [])) }
+        ensures sets { IfOk result (λ b.
+            b.sets ≡ base (compat self.now.item_count self.now.start [])) }
     {
         self.start.base(alloc, self.n)
     }

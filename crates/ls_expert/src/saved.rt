@@ -9,7 +9,7 @@ ghost use Rattle.ls_theory.specs.Queries.{some_breaks};
 ghost use Rattle.ls_theory.specs.Interviews.{no_queries};
 ghost use Rattle.ls_theory.specs.Answering.{is_same_query};
 ghost use Rattle.ls_laws.specs.Forced.{IsSound};
-ghost use Rattle.ls_expert.specs.Held.{interview_of, IsStanding};
+ghost use Rattle.ls_expert.specs.Held.{interview_on, IsStanding};
 
 use crate::inquiry::{MOST_ANSWERS, MOST_NUMBER};
 use crate::on_items::OnItems;
@@ -30,7 +30,8 @@ fn are_good(n: u32, answers: &[Answer]) -> bool
 
 // Whether each number is above the one before it, and all are below the next.
 fn are_numbered(answers: &[Answer], next: u64) -> bool
-    ensures { Decides result (IsStrictlyIncreasing (map (λ a. a.number) answers.now) × (list_all (λ a. nat_lt a.number next) answers.now ≡ true)) }
+    ensures { Decides result (IsStrictlyIncreasing (map (λ a. a.number) answers.now)
+        × (list_all (λ a. nat_lt a.number next) answers.now ≡ true)) }
 {
     let mut least = 0;
     for answer in answers {
@@ -67,10 +68,10 @@ pub fn can_stand(n: u32, answers: &[Answer], next: u64) -> bool
     requires { n ≤ PLACES }
     ensures good { result ≡ true → list_all (λ a. is_good n a.query) answers.now ≡ true }
     ensures enough { (start : Start) (k : ℕ) →
-        let i = interview_of (record { item_count = n; start = start }) k answers.now next in
+        let i = interview_on n start k answers.now next in
         result ≡ true → IsSound i → IsStanding i }
     ensures needed { (start : Start) (k : ℕ) →
-        let i = interview_of (record { item_count = n; start = start }) k answers.now next in
+        let i = interview_on n start k answers.now next in
         IsStanding i → result ≡ true }
 {
     answers.len() <= MOST_ANSWERS

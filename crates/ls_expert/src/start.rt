@@ -18,6 +18,15 @@ pub enum Start {
 impl Start {
     ghost use Rattle.ls_expert.specs.Starts.{start_of};
 
+    /// The same start once more.
+    pub fn copy(&self) -> Result<Start, AllocError>
+        ensures { IfOk result (λ s. s ≡ self.now) }
+    {
+        match self {
+            Start::Free => Ok(Start::Free),
+        }
+    }
+
     // The interior of a set of `n` items in the sets that meet the start.
     pub fn inside(&self, n: u32, s: ItemSet) -> ItemSet
         requires { IsWithin s (full n) }

@@ -2,7 +2,7 @@
 ghost use Rattle.std.specs.Prelude.{◌≡◌, ◌<◌, ◌≤◌, Ok, IfOk, IfErr};
 ghost use Rattle.ls_theory.specs.Blocks.{made};
 ghost use Rattle.ls_expert.specs.Starts.{start_of};
-ghost use Rattle.ls_expert.specs.Held.{blocks_of, IsStanding};
+ghost use Rattle.ls_expert.specs.Held.{blocks_of, interview_on, IsStanding};
 ghost use Rattle.ls_expert.specs.Saved.{IsStandingFault};
 
 use crate::answers::yes_queries;
@@ -33,10 +33,12 @@ impl Inquiry {
     ) -> Result<Inquiry, StandingFault>
         requires some { 0 < n }
         requires few { n ≤ PLACES }
-        ensures ok { IfOk result (λ i. i ≡ record { count = n; start = start_of start; block = k; answers = answers.now; next = next }) }
+        ensures ok { IfOk result (λ i.
+            i ≡ interview_on n (start_of start) k answers.now next) }
         ensures made { IfOk result (λ i. made n k ≡ Ok (blocks_of i)) }
         ensures standing { IfOk result (λ i. IsStanding i) }
-        ensures fault { IfErr result (IsStandingFault (record { count = n; start = start_of start; block = k; answers = answers.now; next = next })) }
+        ensures fault { IfErr result
+            (IsStandingFault (interview_on n (start_of start) k answers.now next)) }
     {
         let blocks = Blocks::new(n, k)?;
         if !can_stand(n, answers, next) {

@@ -32,7 +32,7 @@ yes_removed-requires-clause-good g c =
     let a = c.args.answer.now in
     ap (λ (t : TableState). is_good t.blocks.item_count a.query) c.self.invariant.tabled
     ∙ good-of i a c.self.inside.family.rules c.self.inside.table.table c.self.inside.table.table c.self.invariant
-    (ap (λ (j : Interview). answer_with j a.number) c.self.view_is ∙ c.requires.stands)
+    (ap (λ (j : Interview). answer_with j a.number) c.self.view_is ∙ c.requires.stands) c.requires.yes
 
 pub invariant_of-self : goal.invariant_of-self
 invariant_of-self g c =
