@@ -1,6 +1,8 @@
 -- The effect of a command that looks at an interview, and the bytes of responses.
-use Rattle.std.proofs.Common.{◌≡◌, ◌<◌, Bool, true, cond, [], ◌∷◌, length, Some, ap, sym, ◌∙◌}
+use Rattle.std.proofs.Common.{◌≡◌, ◌<◌, Bool, true, cond, List, [], ◌∷◌, length, Some, ap, sym, ◌∙◌}
 use Rattle.std.proofs.lemmas.Bool.{true≢false}
+use Rattle.ls_theory.specs.Interviews.{Interview}
+use Rattle.ls_lines.specs.Lines.{Text}
 use Rattle.ls_lines.specs.declared.command.Command.{Command}
 use Rattle.ls_reply.specs.Scenes.{Calls}
 use Rattle.ls_reply.specs.Texts.{bytes_of}
@@ -14,13 +16,19 @@ use Rattle.ls_reply.specs.declared.request.View.{View}
 use Rattle.ls_reply.specs.declared.request.Request.TheVariants as request
 use Rattle.ls_reply.specs.declared.response.Response.{Response}
 use Rattle.ls_reply.proofs.Effects.{has_domain-some, command_effect-asked}
-use Rattle.ls_views.specs.Views.{is_reading}
+use Rattle.ls_views.specs.Views.{is_reading, session_on}
 
 pub said_bytes : (s : Session) (a b : Response) → a ≡ b → bytes_of (lines_of s b) ≡ bytes_of (lines_of s a)
 said_bytes s a b e = ap (λ (x : Response). bytes_of (lines_of s x)) (sym e)
 
-pub replied : (s t u : Session) (calls : Calls) (c : Command) (r : Response) → t ≡ s → u ≡ s → command_effect u calls c ≡ answers u r → bytes_of (lines_of t r) ≡ reply_of (command_effect s calls c)
-replied s t u calls c r a b e = ap (λ (x : Session). bytes_of (lines_of x r)) (a ∙ sym b) ∙ ap reply_of (sym e) ∙ ap (λ (x : Session). reply_of (command_effect x calls c)) b
+-- the bytes of a response are the reply to the command that it answers, also by other names of the session's parts
+pub reply_is : {texts names : List Text} {i j : Interview} {c : Command} {r : Response} (calls : Calls) → j ≡ i → names ≡ texts → command_effect (session_on names j) calls c ≡ answers (session_on names j) r
+    → bytes_of (lines_of (session_on texts j) r) ≡ reply_of (command_effect (session_on texts i) calls c)
+reply_is {texts} {names} {i} {j} {c} {r} calls inquiry domain e =
+    let same : session_on names j ≡ session_on texts j = ap (λ ns. session_on ns j) domain in
+    ap (λ (s : Session). bytes_of (lines_of s r)) (sym same)
+    ∙ ap reply_of (sym e)
+    ∙ ap (λ (s : Session). reply_of (command_effect s calls c)) (same ∙ ap (session_on texts) inquiry)
 
 pub reading-effect : (s : Session) (calls : Calls) (c : Command) (v : View) → is_reading c ≡ true → 0 < length s.names → unnamed_places s.names c ≡ [] → request_of s.names c ≡ Some (request.View v)
     → command_effect s calls c ≡ answers s (view_row s.interview v)
