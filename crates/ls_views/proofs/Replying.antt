@@ -21,14 +21,10 @@ use Rattle.ls_views.specs.Views.{is_reading, session_on}
 pub said_bytes : (s : Session) (a b : Response) → a ≡ b → bytes_of (lines_of s b) ≡ bytes_of (lines_of s a)
 said_bytes s a b e = ap (λ (x : Response). bytes_of (lines_of s x)) (sym e)
 
--- the bytes of a response are the reply to the command that it answers, also by other names of the session's parts
-pub reply_is : {texts names : List Text} {i j : Interview} {c : Command} {r : Response} (calls : Calls) → j ≡ i → names ≡ texts → command_effect (session_on names j) calls c ≡ answers (session_on names j) r
-    → bytes_of (lines_of (session_on texts j) r) ≡ reply_of (command_effect (session_on texts i) calls c)
-reply_is {texts} {names} {i} {j} {c} {r} calls inquiry domain e =
-    let same : session_on names j ≡ session_on texts j = ap (λ ns. session_on ns j) domain in
-    ap (λ (s : Session). bytes_of (lines_of s r)) (sym same)
-    ∙ ap reply_of (sym e)
-    ∙ ap (λ (s : Session). reply_of (command_effect s calls c)) (same ∙ ap (session_on texts) inquiry)
+-- the bytes of a response are the reply to the command that it answers
+pub reply_is : {names : List Text} {i j : Interview} {r : Response} (calls : Calls) (c : Command) → j ≡ i → command_effect (session_on names j) calls c ≡ answers (session_on names j) r
+    → bytes_of (lines_of (session_on names j) r) ≡ reply_of (command_effect (session_on names i) calls c)
+reply_is {names} {i} {j} {r} calls c same e = ap reply_of (sym e) ∙ ap (λ (k : Interview). reply_of (command_effect (session_on names k) calls c)) same
 
 pub reading-effect : (s : Session) (calls : Calls) (c : Command) (v : View) → is_reading c ≡ true → 0 < length s.names → unnamed_places s.names c ≡ [] → request_of s.names c ≡ Some (request.View v)
     → command_effect s calls c ≡ answers s (view_row s.interview v)
