@@ -1,4 +1,4 @@
--- What contracts see of a course, and which responses it can say.
+-- What contracts see of a course, and which responses it can tell.
 use Rattle.std.specs.Prelude.{◌≡◌, ◌<◌, List, length}
 use Rattle.ls_set.specs.ItemSet.{Items}
 use Rattle.ls_theory.specs.Interviews.{Interview, yes_queries}
@@ -14,9 +14,9 @@ pub record CourseState : Type 0 where
   pub session : Session
   pub followed : List Items
 
--- what is said of the interview speaks of the items alone, and of a base that was found
-abbrev pub CanSay : CourseState → Response → Type 0
-CanSay c response = views.CanSay c.session c.followed response
+-- what is told of the interview speaks of the items alone, and of a base that was found
+abbrev pub CanTell : CourseState → Response → Type 0
+CanTell c response = views.CanSay c.session c.followed response
 
 -- what is followed over the first Yes answers of the interview
 abbrev pub IsTrailOf : Interview → List Entry → Type 0

@@ -9,7 +9,7 @@ ghost use Rattle.ls_reply.specs.Replies.{asked_effect, unnamed_at};
 ghost use Rattle.ls_writing.specs.Rooms.{Says};
 ghost use Rattle.ls_meanings.specs.Asked.{IsOn};
 ghost use Rattle.ls_views.specs.Views.{CanShow, is_based};
-ghost use Rattle.ls_course.specs.States.{CanSay};
+ghost use Rattle.ls_course.specs.States.{CanTell};
 
 use crate::changing::{set_blocks, take, take_back};
 use crate::following::follow;
@@ -85,7 +85,7 @@ impl Course {
         ensures session { let s = self.old.session in
             OnOk result (self.new.session ≡ (asked_effect s (unnamed_at s command.now)
             (request_of s.names command.now)).session) }
-        ensures said { IfOk result (CanSay self.new) }
+        ensures said { IfOk result (CanTell self.new) }
         ensures err { OnErr result (self.new.session ≡ self.old.session) }
     {
         match resolve(self.texts.domain(), command) {
@@ -127,7 +127,7 @@ impl Course {
         requires { IsOn (length self.old.session.names) view.now }
         ensures response { IfOk result (λ r. r ≡ view_row self.old.session.interview view.now) }
         ensures session { self.new.session ≡ self.old.session }
-        ensures said { IfOk result (CanSay self.new) }
+        ensures said { IfOk result (CanTell self.new) }
     {
         match view {
             View::Base => self.base(),
@@ -139,7 +139,7 @@ impl Course {
     fn base(&mut self) -> Result<Response, AllocError>
         ensures response { IfOk result (λ r. r ≡ base_row self.old.session.interview) }
         ensures session { self.new.session ≡ self.old.session }
-        ensures said { IfOk result (CanSay self.new) }
+        ensures said { IfOk result (CanTell self.new) }
     {
         follow(&mut self.trail, &self.inquiry)?;
         match self.trail.last() {
@@ -155,7 +155,7 @@ impl Course {
         ensures interview { OnOk result (self.new.session.interview ≡
             (edit_row self.old.session.interview edit.now).next) }
         ensures names { self.new.session.names ≡ self.old.session.names }
-        ensures said { IfOk result (CanSay self.new) }
+        ensures said { IfOk result (CanTell self.new) }
         ensures err { OnErr result (self.new.session ≡ self.old.session) }
     {
         match edit {

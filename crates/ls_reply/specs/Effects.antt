@@ -13,8 +13,8 @@ refuse refusal holds = if holds then refusal ∷ [] else []
 
 -- that of a fault, if there is one
 abbrev pub refuse_fault : {F : Type 0} → (F → Refusal) → Option F → List Refusal
-refuse_fault refusal None = []
-refuse_fault refusal (Some fault) = refusal fault ∷ []
+refuse_fault refusal_of None = []
+refuse_fault refusal_of (Some fault) = refusal_of fault ∷ []
 
 -- the first refusal, or else the response
 infix 3 ◌otherwise◌

@@ -17,7 +17,8 @@ pub enum View {
     },
     /// The next question.
     Ask,
-    /// At most `count` states: those after a set, or the first ones; or why the cursor's text is none.
+    /// At most `count` states: those after a set, or the first ones; or why the cursor's text is
+    /// none.
     States {
         count: u32,
         after: Result<Option<ItemSet>, CursorFault>,

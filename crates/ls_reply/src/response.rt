@@ -14,6 +14,18 @@ pub enum Response {
     Shown(Shown),
 }
 
+impl Response {
+    ghost use Rattle.std.specs.Prelude.{◌≡◌};
+    ghost use Rattle.ls_reply.specs.Replies.{is_refused};
+
+    /// Whether it is a refusal.
+    pub fn is_refused(&self) -> bool
+        ensures { result ≡ is_refused self.now }
+    {
+        matches!(self, Response::Refused(_))
+    }
+}
+
 /// What is shown of an interview.
 #[derive(Clone, Copy, Debug)]
 pub enum Shown {
@@ -21,7 +33,8 @@ pub enum Shown {
     Known(Known),
     /// The next question, if one is open.
     Question(Option<Query>),
-    /// At most `count` states, those after a set or the first ones, and whether a further one follows.
+    /// At most `count` states, those after a set or the first ones, and whether a further one
+    /// follows.
     States { count: u32, after: Option<ItemSet> },
     /// The base of the states.
     Base,

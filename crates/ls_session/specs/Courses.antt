@@ -5,7 +5,7 @@ use Rattle.ls_reply.specs.Sessions.{Session, started}
 use Rattle.ls_reply.specs.declared.response.Response.{Response}
 use Rattle.ls_reply.specs.declared.response.Response.TheVariants.{Shown}
 use Rattle.ls_writing.specs.Rooms.{RoomState, no_reply}
-use Rattle.ls_course.specs.States.{CourseState, CanSay}
+use Rattle.ls_course.specs.States.{CourseState, CanTell}
 
 -- where there is none, no domain stands
 abbrev pub session_of : Option CourseState → Session
@@ -20,7 +20,7 @@ HasNames course = ForSome course (λ c. 0 < length c.session.names)
 abbrev pub IsSayable : Option CourseState → Response → Type 0
 IsSayable None (Shown what) = ⊥
 IsSayable None response = ⊤
-IsSayable (Some c) response = CanSay c response
+IsSayable (Some c) response = CanTell c response
 
 -- a room, if there is one, is as before a reply
 abbrev pub IsIdle : Option RoomState → Type 0

@@ -4,7 +4,7 @@ ghost use Rattle.std.specs.declared.option.Option.{Option};
 ghost use Rattle.ls_edge.specs.Files.{Folder};
 ghost use Rattle.ls_lines.specs.Lines.{is_long};
 ghost use Rattle.ls_reply.specs.Sessions.{started};
-ghost use Rattle.ls_reply.specs.Replies.{line_effect, is_refused};
+ghost use Rattle.ls_reply.specs.Replies.{line_effect};
 ghost use Rattle.ls_writing.specs.Rooms.{Ends, no_reply};
 ghost use Rattle.ls_session.specs.Follows.{Follows, MovesSink};
 
@@ -12,7 +12,7 @@ use crate::StepFault;
 use crate::decider::Decider;
 use ls_edge::{Shelf, Sink, SinkFault};
 use ls_interior::Steps;
-use ls_reply::{Refusal, Response};
+use ls_reply::Refusal;
 use ls_writing::{Room, put_refusal};
 use std::alloc::{AllocError, Global};
 use std::marker::{Brand, Model};
@@ -37,13 +37,6 @@ impl Model for Session {
     ghost view = { λ s. session_of s.decider.course };
 
     ghost invariant = { λ s. IsIdle s.room };
-}
-
-// Whether the response is a refusal.
-fn is_refused(response: &Response) -> bool
-    ensures { result ≡ is_refused response.now }
-{
-    matches!(response, Response::Refused(_))
 }
 
 impl Session {
@@ -114,7 +107,7 @@ impl Session {
         let response = self.decider.decide_line(line, shelf, &mut steps)?;
         self.decider.put(&response, &mut room, out, &mut steps);
         self.finish(room, out)?;
-        Ok(is_refused(&response))
+        Ok(response.is_refused())
     }
 
     // The room, which is as before a reply. The session has none then.

@@ -37,6 +37,11 @@ pub record Answers (folder : Folder) (all : List (List ℕ)) (rest : List ℕ) (
   pub told : run.is_refused ≡ refuses (begun_over folder) ended
   pub answered : HasAnswered folder ended left shelf_before shelf_now before now
 
+-- nothing was answered yet
+abbrev pub IsFresh : Run → Type 0
+IsFresh run = (m : Folder) (faults : ℕ) (now : Option (List ℕ))
+    → Answers m (lines []) [] run (Some m) faults faults now now
+
 -- the files are those before a line, of whose reply nothing is written, or those after it
 abbrev pub LeavesFiles : Type 0 → World → Marked → Option Folder → ℕ → Type 0
 LeavesFiles write_failed w at left front =

@@ -24,17 +24,17 @@ pub struct Run {
 }
 
 impl Run {
-    ghost use Rattle.ls_shell.specs.Progress.{Answers, StopsAt, AnswersLine};
+    ghost use Rattle.ls_shell.specs.Progress.{Answers, IsFresh, StopsAt, AnswersLine};
     ghost use Rattle.ls_shell.specs.Runs.{AnswersWhole};
 
     /// Nothing was read yet.
     pub fn new(alloc: Global) -> Result<Run, AllocError>
-        ensures { IfOk result (λ r. (m : Folder) (faults : ℕ) (now : Option (List ℕ))
-            → Answers m (lines []) [] r (Some m) faults faults now now) }
+        ensures { IfOk result IsFresh }
     {
+        let cutter = Cutter::new(alloc)?;
         Ok(Run {
             session: Session::new(alloc),
-            cutter: Cutter::new(alloc)?,
+            cutter,
             is_refused: false,
         })
     }
@@ -79,9 +79,9 @@ impl Run {
     }
 
     /// Answers the last line, where it has no line end, and says whether some reply begins with
-    /// `no `. After an `Err` the run stopped before that line.
+    /// `no `. After an `Err` the run stopped before that line. The run isn't used again.
     pub fn finish<R: Threads + Sync, K: Sink, H: Shelf>(
-        mut self,
+        &mut self,
         rt: &R,
         out: &mut K,
         shelf: &mut H,
@@ -89,14 +89,14 @@ impl Run {
         ensures answered { IfOk result (λ b.
             (m : Folder) (script : List ℕ) (faults : ℕ) (start : Option (List ℕ))
             → length script < 2 ^ 64
-            → Answers m (lines script) [] self
+            → Answers m (lines script) [] self.old
             (H.files shelf.old) faults (H.faults shelf.old) start (K.written out.old)
             → AnswersWhole m script
             (H.files shelf.new) faults (H.faults shelf.new) start (K.written out.new) b) }
         ensures stopped { OnErr result (
             (m : Folder) (script : List ℕ) (faults : ℕ) (start : Option (List ℕ))
             → length script < 2 ^ 64
-            → Answers m (lines script) [] self
+            → Answers m (lines script) [] self.old
             (H.files shelf.old) faults (H.faults shelf.old) start (K.written out.old)
             → StopsAt (IsErrOf result StepFault.Write) m (lines script)
             (H.files shelf.new) faults (H.faults shelf.new) start (K.written out.new)) }

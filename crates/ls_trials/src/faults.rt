@@ -1,5 +1,5 @@
 // Runs in which each call of the source, or of the sink, fails in turn.
-use crate::trial::{PLAIN, Trial, run};
+use crate::trial::{Trial, answered, check, run};
 use ls_edge::{MemShelf, MemSink, MemSource, Source};
 use ls_shell::{Status, lspace};
 use std::test::Fail;
@@ -28,74 +28,67 @@ const WRITES: [(&str, usize, u64); 7] = [
     ("items a b c d e f g h i j k l\nstates\n", 16_384, 7),
 ];
 
-// The last call of the source finds the script's end.
+// The last call of the source finds the script's end. The lines that ended within the bytes that
+// were taken are answered.
 #[test]
 fn each_read_fails_in_turn(rt: HostRuntime) -> Result<(), Fail> {
     for (piece, calls) in [(1, 30), (2, 16), (12, 4)] {
+        let mut replies = String::new(rt.alloc());
         for call in 1..=calls + 1 {
-            let trial = Trial {
-                script: THREE_ITEMS.as_bytes(),
-                piece,
-                failing_reads: &[call as u64],
-                ..PLAIN
-            };
-            let outcome = run(&rt, trial)?;
-            // The lines that ended within the bytes that were taken are answered.
             let taken = THREE_ITEMS.bytes().take((call - 1) * piece);
             let ended = taken.filter(|b| *b == b'\n').count();
-            let replies = REPLIES.iter().take(ended).flat_map(|reply| reply.bytes());
-            assert!(rt;
-                outcome.written.iter().copied().eq(replies),
-                "for call {call} in pieces of {piece}"
-            );
+            replies.clear();
+            for reply in REPLIES.iter().take(ended) {
+                replies.push_str(reply)?;
+            }
             let status = if call <= calls {
                 Status::ReadFault
             } else {
                 Status::Done
             };
-            assert_eq!(rt;
-                outcome.status,
+            let trial = Trial {
+                piece,
+                failing_reads: &[call as u64],
                 status,
-                "for call {call} in pieces of {piece}"
-            );
+                ..answered(THREE_ITEMS, &replies)
+            };
+            check(&rt, &trial)?;
         }
     }
     Ok(())
 }
 
+// What is written is a front of what the whole run writes.
 #[test]
 fn each_write_fails_in_turn(rt: HostRuntime) -> Result<(), Fail> {
     for (script, piece, calls) in WRITES {
         let plain = Trial {
-            script: script.as_bytes(),
             piece,
-            ..PLAIN
+            ..answered(script, "")
         };
-        let whole = run(&rt, plain)?;
-        assert_eq!(rt; whole.status, Status::Done);
-        for call in 1..=calls {
-            let outcome = run(
-                &rt,
-                Trial {
-                    failing_writes: &[call],
-                    ..plain
-                },
-            )?;
+        let whole = run(&rt, &plain)?;
+        for call in 1..=calls + 1 {
+            let trial = Trial {
+                failing_writes: &[call],
+                ..plain
+            };
+            let outcome = run(&rt, &trial)?;
+            let is_whole = outcome.written == whole.written;
             assert!(rt;
-                whole.written.starts_with(&outcome.written),
+                whole.written.starts_with(outcome.written.as_str()),
                 "for call {call}"
             );
-            assert_eq!(rt; outcome.status, Status::WriteFault, "for call {call}");
+            let (status, is_last) = if call <= calls {
+                (Status::WriteFault, false)
+            } else {
+                (Status::Done, true)
+            };
+            assert_eq!(rt;
+                (outcome.status, is_whole),
+                (status, is_last),
+                "for call {call}"
+            );
         }
-        let outcome = run(
-            &rt,
-            Trial {
-                failing_writes: &[calls + 1],
-                ..plain
-            },
-        )?;
-        assert_eq!(rt; outcome.written.as_slice(), whole.written.as_slice());
-        assert_eq!(rt; outcome.status, Status::Done);
     }
     Ok(())
 }

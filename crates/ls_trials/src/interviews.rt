@@ -1,118 +1,124 @@
 // Interviews of an expert, line for line.
-use crate::trial::{PLAIN, Trial, assert_replies, run};
+use crate::trial::{answered, check_scripts, run};
 use ls_shell::Status;
 use std::alloc::{AllocError, Global};
 use std::test::Fail;
 
-// A script, its replies, and whether one of them is a refusal.
-const INTERVIEWS: [(&str, &str, Status); 16] = [
+// A script, and its replies.
+const INTERVIEWS: [(&str, &str); 16] = [
     // One item: nothing is asked.
     (
         "items a\nask\nstates\n",
         "ok 1\nsettled\nset 8 {a}\nset 0 {}\nmore no\n",
-        Status::Done,
     ),
     // Were b to entail c, so would a, since a entails b.
     (
         "items a b c\nyes a : b\nno a : c\nknown b : c\nknown a : b\nknown c : a\nask\n",
         "ok 3\nok 1\nok 2\nknown no 2\nknown yes\nknown open\nask b : a\n",
-        Status::Done,
     ),
     // What is forced No may be answered No, and the earlier answer still tells it.
     (
         "items a b c\nyes a : b\nno a : c\nyes b : c\nstates 1\nno b : c\nknown b : c\n",
         "ok 3\nok 1\nok 2\nno 21 2\nset e {a b c}\nmore yes\nok 3\nknown no 2\n",
-        Status::Refused,
     ),
     // What an answer told isn't known without it, and an answer is taken back once.
     (
         "items a b c\nyes a : b\nno a : c\nretract 1\nknown b : c\nretract 1\nstates\n",
-        "ok 3\nok 1\nok 2\nok 1\nknown open\nno 23\nset e {a b c}\nset c {a b}\nset a {a c}\nset 8 {a}\nset 6 {b c}\nset 4 {b}\nset 2 {c}\nset 0 {}\nmore no\n",
-        Status::Refused,
+        "ok 3\nok 1\nok 2\nok 1\nknown open\nno 23\nset e {a b c}\nset c {a b}\nset a {a c}\n\
+         set 8 {a}\nset 6 {b c}\nset 4 {b}\nset 2 {c}\nset 0 {}\nmore no\n",
     ),
     // What is forced Yes was never asked; queries that aren't good.
     (
-        "items a b c\nyes a : b\nno a c : b\nknown a : a\nyes : b\nno : b\nknown a b : b\nknown z : a\nno a : z\n",
+        "items a b c\nyes a : b\nno a c : b\nknown a : a\nyes : b\nno : b\nknown a b : b\n\
+         known z : a\nno a : z\n",
         "ok 3\nok 1\nno 20\nno 18\nno 18\nno 18\nno 18\nno 15 2\nno 15 4\n",
-        Status::Refused,
     ),
     // Pages go on from a cursor in the states of the moment.
     (
-        "items a b c\nyes a : b\nstates 2\nstates 2 after c\nstates 1 after 6\nretract 1\nstates 4 after 8\nstates 1 after 2\n",
-        "ok 3\nok 1\nset e {a b c}\nset c {a b}\nmore yes\nset a {a c}\nset 8 {a}\nmore yes\nset 2 {c}\nmore yes\nok 1\nset 6 {b c}\nset 4 {b}\nset 2 {c}\nset 0 {}\nmore no\nset 0 {}\nmore no\n",
-        Status::Done,
+        "items a b c\nyes a : b\nstates 2\nstates 2 after c\nstates 1 after 6\nretract 1\n\
+         states 4 after 8\nstates 1 after 2\n",
+        "ok 3\nok 1\nset e {a b c}\nset c {a b}\nmore yes\nset a {a c}\nset 8 {a}\nmore yes\n\
+         set 2 {c}\nmore yes\nok 1\nset 6 {b c}\nset 4 {b}\nset 2 {c}\nset 0 {}\nmore no\n\
+         set 0 {}\nmore no\n",
     ),
     // The base of all sets, and one with unions of a set that is lost with one that stays.
-    (
-        "items a b\nbase\n",
-        "ok 2\nset 8 {a}\nset 4 {b}\nbase 2\n",
-        Status::Done,
-    ),
+    ("items a b\nbase\n", "ok 2\nset 8 {a}\nset 4 {b}\nbase 2\n"),
     (
         "items a b c\nyes a b : c\nbase\nretract 1\nbase\n",
-        "ok 3\nok 1\nset a {a c}\nset 8 {a}\nset 6 {b c}\nset 4 {b}\nbase 4\nok 1\nset 8 {a}\nset 4 {b}\nset 2 {c}\nbase 3\n",
-        Status::Done,
+        "ok 3\nok 1\nset a {a c}\nset 8 {a}\nset 6 {b c}\nset 4 {b}\nbase 4\nok 1\nset 8 {a}\n\
+         set 4 {b}\nset 2 {c}\nbase 3\n",
     ),
     // A query that is answered already, and one that was.
     (
         "items a b c\nyes a : b\nyes a : b\nno a : b\nretract 1\nyes a,b : c\n",
         "ok 3\nok 1\nno 19 1\nno 19 1\nok 1\nok 2\n",
-        Status::Refused,
     ),
     // Two items, asked to the end: one space is left.
     (
         "items a b\nask\nyes a : b\nask\nno b : a\nask\nstates\n",
-        "ok 2\nask a : b\nok 1\nask b : a\nok 2\nsettled\nset c {a b}\nset 8 {a}\nset 0 {}\nmore no\n",
-        Status::Done,
+        "ok 2\nask a : b\nok 1\nask b : a\nok 2\nsettled\nset c {a b}\nset 8 {a}\nset 0 {}\n\
+         more no\n",
     ),
     // Closures shrink again where a Yes is taken back.
     (
-        "items a b c\nyes a : b\nyes b : c\nknown a : c\nretract 1\nknown a : c\nknown b : c\nask\n",
+        "items a b c\nyes a : b\nyes b : c\nknown a : c\nretract 1\nknown a : c\nknown b : c\n\
+         ask\n",
         "ok 3\nok 1\nok 2\nknown yes\nok 1\nknown open\nknown yes\nask a : b\n",
-        Status::Done,
     ),
     // Larger blocks have more questions, and smaller ones fewer.
     (
-        "items a b c\nno a : b\nno a : c\nno b : a\nno b : c\nno c : a\nno c : b\nask\nblocks 2\nask\nblocks 1\nask\n",
+        "items a b c\nno a : b\nno a : c\nno b : a\nno b : c\nno c : a\nno c : b\nask\n\
+         blocks 2\nask\nblocks 1\nask\n",
         "ok 3\nok 1\nok 2\nok 3\nok 4\nok 5\nok 6\nsettled\nok 6\nask a b : c\nok 3\nsettled\n",
-        Status::Done,
     ),
     // Without a domain.
     (
         "ask\nknown a : b\nno a : b\nretract 1\nbase\n",
         "no 15 0\nno 15 0\nno 15 0\nno 15 0\nno 15 0\n",
-        Status::Refused,
     ),
     // A No that was forced is open again without the Yes that forced it, and a number is not given
     // again.
     (
-        "items a b c\nno a : c\nyes a : b\nknown b : c\nretract 2\nknown b : c\nyes b : c\nretract 9\nknown a : b\n",
+        "items a b c\nno a : c\nyes a : b\nknown b : c\nretract 2\nknown b : c\nyes b : c\n\
+         retract 9\nknown a : b\n",
         "ok 3\nok 1\nok 2\nknown no 1\nok 2\nknown open\nok 3\nno 23\nknown no 1\n",
-        Status::Refused,
     ),
     // The base without an answer in the middle, with it as the last, and without the first.
     (
-        "items a b c d e\nyes a b : c\nyes d : a\nyes b e : d\nyes c e : b\nbase\nretract 2\nbase\nyes d : a\nbase\nretract 1\nbase\n",
-        "ok 5\nok 1\nok 2\nok 3\nok 4\nset f0 {a b c d}\nset b8 {a c d e}\nset 98 {a d e}\nset 70 {b c d}\nset 60 {b c}\nset 48 {b e}\nset 18 {d e}\nset 08 {e}\nbase 8\nok 2\nset a0 {a c}\nset 80 {a}\nset 70 {b c d}\nset 60 {b c}\nset 48 {b e}\nset 18 {d e}\nset 08 {e}\nbase 7\nok 5\nset f0 {a b c d}\nset b8 {a c d e}\nset 98 {a d e}\nset 70 {b c d}\nset 60 {b c}\nset 48 {b e}\nset 18 {d e}\nset 08 {e}\nbase 8\nok 1\nset f0 {a b c d}\nset 98 {a d e}\nset 70 {b c d}\nset 60 {b c}\nset 48 {b e}\nset 20 {c}\nset 18 {d e}\nset 08 {e}\nbase 8\n",
-        Status::Done,
+        "items a b c d e\nyes a b : c\nyes d : a\nyes b e : d\nyes c e : b\nbase\nretract 2\n\
+         base\nyes d : a\nbase\nretract 1\nbase\n",
+        "ok 5\nok 1\nok 2\nok 3\nok 4\nset f0 {a b c d}\nset b8 {a c d e}\nset 98 {a d e}\n\
+         set 70 {b c d}\nset 60 {b c}\nset 48 {b e}\nset 18 {d e}\nset 08 {e}\nbase 8\nok 2\n\
+         set a0 {a c}\nset 80 {a}\nset 70 {b c d}\nset 60 {b c}\nset 48 {b e}\nset 18 {d e}\n\
+         set 08 {e}\nbase 7\nok 5\nset f0 {a b c d}\nset b8 {a c d e}\nset 98 {a d e}\n\
+         set 70 {b c d}\nset 60 {b c}\nset 48 {b e}\nset 18 {d e}\nset 08 {e}\nbase 8\nok 1\n\
+         set f0 {a b c d}\nset 98 {a d e}\nset 70 {b c d}\nset 60 {b c}\nset 48 {b e}\n\
+         set 20 {c}\nset 18 {d e}\nset 08 {e}\nbase 8\n",
     ),
     // The base of what stood without that answer in the middle.
     (
         "items a b c d e\nyes a b : c\nyes b e : d\nyes c e : b\nbase\n",
-        "ok 5\nok 1\nok 2\nok 3\nset a0 {a c}\nset 80 {a}\nset 70 {b c d}\nset 60 {b c}\nset 48 {b e}\nset 18 {d e}\nset 08 {e}\nbase 7\n",
-        Status::Done,
+        "ok 5\nok 1\nok 2\nok 3\nset a0 {a c}\nset 80 {a}\nset 70 {b c d}\nset 60 {b c}\n\
+         set 48 {b e}\nset 18 {d e}\nset 08 {e}\nbase 7\n",
     ),
 ];
 
 #[test]
 fn interviews_are_answered(rt: HostRuntime) -> Result<(), Fail> {
-    assert_replies(&rt, &INTERVIEWS)
+    check_scripts(&rt, &INTERVIEWS)
 }
 
-// The names of a letter with the numbers 1 to 8, each behind a space.
-fn group(alloc: Global, letter: &str) -> Result<String, AllocError> {
+// So many names of a letter with the numbers below `numbers`, from a number on, each behind a
+// space. After the greatest number comes 0.
+fn in_turn(
+    alloc: Global,
+    letter: char,
+    numbers: u32,
+    from: usize,
+    count: usize,
+) -> Result<String, AllocError> {
     let mut names = String::new(alloc);
-    for number in 1..9u32 {
+    for number in (0..numbers).cycle().skip(from).take(count) {
         let name = format!(in alloc; " {letter}{number}")?;
         names.push_str(&name)?;
     }
@@ -124,46 +130,30 @@ fn group(alloc: Global, letter: &str) -> Result<String, AllocError> {
 #[test]
 fn bases_have_a_limit(rt: HostRuntime) -> Result<(), Fail> {
     let alloc = rt.alloc();
-    let (a, b) = (group(alloc, "a")?, group(alloc, "b")?);
-    let (c, d) = (group(alloc, "c")?, group(alloc, "d")?);
-    let script = format!(in alloc;
-        "items q{a}{b}{c}{d}\nyes{a} : q\nyes{b} : q\nyes{c} : q\nbase\nyes{d} : q\nbase\nstates 3\nyes a1 : a2\nbase\nretract 4\nbase\n"
-    )?;
-    let trial = Trial {
-        script: script.as_bytes(),
-        ..PLAIN
-    };
-    let outcome = run(&rt, trial)?;
+    let mut script = format!(in alloc; "items q{}\n", in_turn(alloc, 'x', 32, 0, 32)?)?;
+    for (from, after) in [(0, ""), (8, ""), (16, "base\n"), (24, "base\nstates 3\n")] {
+        let names = in_turn(alloc, 'x', 32, from, 8)?;
+        let answer = format!(in alloc; "yes{names} : q\n{after}")?;
+        script.push_str(&answer)?;
+    }
+    script.push_str("yes x0 : x1\nbase\nretract 4\nbase\n")?;
+    let outcome = run(&rt, &answered(&script, ""))?;
     assert_eq!(rt; outcome.status, Status::Refused);
-    let written = outcome.written.as_slice();
-    let counts = [
+    let mut rest = outcome.written.as_str();
+    for part in [
         "\nbase 544\n",
-        "\nok 4\nno 25 4 4128\nset ffffffff8 {",
+        "ok 4\nno 25 4 4128\nset ffffffff8 {",
         "}\nset ffffffff0 {",
         "}\nset fffffffe8 {",
         "}\nmore yes\nok 5\nno 25 4 4128\nok 4\nset ",
         "\nbase 480\n",
-    ];
-    let mut rest = written;
-    for count in counts {
-        let place = rest
-            .windows(count.len())
-            .position(|w| w == count.as_bytes());
-        assert!(rt; place.is_some(), "no {count:?}");
-        rest = &rest[place.unwrap_or(0)..];
+    ] {
+        let found = rest.split_once(part);
+        assert!(rt; found.is_some(), "no {part:?}");
+        rest = found.map_or("", |parts| parts.1);
     }
-    assert!(rt; written.ends_with(b"\nbase 480\n"));
+    assert_eq!(rt; rest, "");
     Ok(())
-}
-
-// So many of the names x0 to x36 from a number on, each behind a space; after x36 comes x0.
-fn in_turn(alloc: Global, from: usize, count: usize) -> Result<String, AllocError> {
-    let mut names = String::new(alloc);
-    for number in (0..37u32).cycle().skip(from).take(count) {
-        let name = format!(in alloc; " x{number}")?;
-        names.push_str(&name)?;
-    }
-    Ok(names)
 }
 
 // Answer 6 takes the base past the limit, and answer 7 is answered. Without answer 6 there is a
@@ -171,24 +161,21 @@ fn in_turn(alloc: Global, from: usize, count: usize) -> Result<String, AllocErro
 #[test]
 fn answers_stand_where_no_base_is_kept(rt: HostRuntime) -> Result<(), Fail> {
     let alloc = rt.alloc();
-    let all = in_turn(alloc, 0, 37)?;
+    let all = in_turn(alloc, 'x', 37, 0, 37)?;
     let mut script = format!(in alloc; "items q{all}\n")?;
     for from in [0, 6, 12, 18, 24, 30, 36] {
-        let names = in_turn(alloc, from, 12)?;
+        let names = in_turn(alloc, 'x', 37, from, 12)?;
         let answer = format!(in alloc; "yes{names} : q\n")?;
         script.push_str(&answer)?;
     }
     script.push_str("base\nstates 1\nretract 6\nbase\n")?;
     let replies = format!(in alloc;
-        "ok 38\nok 1\nok 2\nok 3\nok 4\nok 5\nok 6\nok 7\nno 25 6 4789\nset fffffffffc {{q{all}}}\nmore yes\nok 6\nset "
+        "ok 38\nok 1\nok 2\nok 3\nok 4\nok 5\nok 6\nok 7\nno 25 6 4789\n\
+         set fffffffffc {{q{all}}}\nmore yes\nok 6\nset "
     )?;
-    let trial = Trial {
-        script: script.as_bytes(),
-        ..PLAIN
-    };
-    let outcome = run(&rt, trial)?;
-    assert!(rt; outcome.written.starts_with(replies.as_bytes()));
-    assert!(rt; outcome.written.ends_with(b"\nbase 2629\n"));
+    let outcome = run(&rt, &answered(&script, ""))?;
+    assert!(rt; outcome.written.starts_with(replies.as_str()));
+    assert!(rt; outcome.written.ends_with("\nbase 2629\n"));
     assert_eq!(rt; outcome.status, Status::Refused);
     Ok(())
 }

@@ -1,83 +1,106 @@
 // A run of the program over objects in memory.
 use ls_edge::{MemShelf, MemSink, MemSource};
 use ls_shell::{Status, lspace};
-use std::alloc::AllocError;
 use std::process::Abort;
 use std::test::Fail;
 use std::thread::Threads;
 
 /// What a run is given: the words after the program's name, the script, how many bytes one read and
 /// one write move at most, the files of the folder, and which reads, writes and calls on the folder
-/// fail, counted from 1.
+/// fail, counted from 1. And what it is to write, and how it is to end.
 #[derive(Clone, Copy)]
 pub struct Trial<'a> {
     pub words: &'a [&'a str],
-    pub script: &'a [u8],
+    pub script: &'a str,
     pub piece: usize,
-    pub files: &'a [(&'a str, &'a [u8])],
+    pub files: &'a [(&'a str, &'a str)],
     pub failing_reads: &'a [u64],
     pub failing_writes: &'a [u64],
     pub failing_calls: &'a [u64],
+    pub replies: &'a str,
+    pub status: Status,
 }
 
 /// An empty script, no file, and nothing that fails.
 pub const PLAIN: Trial = Trial {
     words: &[],
-    script: &[],
+    script: "",
     piece: 4096,
     files: &[],
     failing_reads: &[],
     failing_writes: &[],
     failing_calls: &[],
+    replies: "",
+    status: Status::Done,
 };
 
 /// What a run wrote, and how it ended.
 #[derive(Debug, Drop)]
 pub struct Outcome {
-    pub written: Vec<u8>,
+    pub written: String,
     pub status: Status,
 }
 
-pub fn run<R: Threads + Sync + AllocGlobal>(rt: &R, trial: Trial) -> Result<Outcome, AllocError> {
+pub fn run<R: Threads + Sync + AllocGlobal>(rt: &R, trial: &Trial) -> Result<Outcome, Fail> {
     let alloc = rt.alloc();
     let piece = trial.piece.max(1);
-    let mut src = MemSource::new(
-        trial.script.to_vec(alloc)?,
-        piece,
-        trial.failing_reads.to_vec(alloc)?,
-    );
+    let script = trial.script.as_bytes().to_vec(alloc)?;
+    let mut src = MemSource::new(script, piece, trial.failing_reads.to_vec(alloc)?);
     let mut out = MemSink::new(alloc, piece, trial.failing_writes.to_vec(alloc)?);
     let mut shelf = MemShelf::new(alloc, trial.failing_calls.to_vec(alloc)?);
-    for (name, bytes) in trial.files {
-        shelf.put(name, bytes)?;
+    for (name, text) in trial.files {
+        shelf.put(name, text.as_bytes())?;
     }
     let status = lspace(rt, alloc, trial.words, &mut src, &mut out, &mut shelf);
     Ok(Outcome {
-        written: out.written().to_vec(alloc)?,
+        written: String::from_utf8(out.written().to_vec(alloc)?)?,
         status,
     })
 }
 
-/// Runs each script in pieces of several sizes, and compares what was written and how it ended.
-pub fn assert_replies<R: Threads + Sync + AllocGlobal + Abort>(
+/// A run over a script that is answered to its end by these replies.
+pub fn answered<'a>(script: &'a str, replies: &'a str) -> Trial<'a> {
+    let is_refused = replies.starts_with("no ") || replies.contains("\nno ");
+    let status = if is_refused {
+        Status::Refused
+    } else {
+        Status::Done
+    };
+    Trial {
+        script,
+        replies,
+        status,
+        ..PLAIN
+    }
+}
+
+/// Runs a trial, and compares what was written and how it ended.
+pub fn check<R: Threads + Sync + AllocGlobal + Abort>(rt: &R, trial: &Trial) -> Result<(), Fail> {
+    let outcome = run(rt, trial)?;
+    let script = trial.script;
+    assert_eq!(rt; outcome.written.as_str(), trial.replies, "for {script:?}");
+    assert_eq!(rt; outcome.status, trial.status, "for {script:?}");
+    Ok(())
+}
+
+/// Does so in pieces of several sizes.
+pub fn check_in_pieces<R: Threads + Sync + AllocGlobal + Abort>(
     rt: &R,
-    scripts: &[(&str, &str, Status)],
+    trial: &Trial,
 ) -> Result<(), Fail> {
-    for (script, replies, status) in scripts {
-        for piece in [1, 7, 12, 4096] {
-            let trial = Trial {
-                script: script.as_bytes(),
-                piece,
-                ..PLAIN
-            };
-            let outcome = run(rt, trial)?;
-            assert_eq!(rt;
-                outcome.written.as_slice(),
-                replies.as_bytes(),
-                "for {script:?} in pieces of {piece}"
-            );
-            assert_eq!(rt; outcome.status, *status, "for {script:?}");
-        }
+    for piece in [1, 7, 12, 4096] {
+        check(rt, &Trial { piece, ..*trial })?;
+    }
+    Ok(())
+}
+
+/// Does so with each script and its replies.
+pub fn check_scripts<R: Threads + Sync + AllocGlobal + Abort>(
+    rt: &R,
+    scripts: &[(&str, &str)],
+) -> Result<(), Fail> {
+    for (script, replies) in scripts {
+        check_in_pieces(rt, &answered(script, replies))?;
     }
     Ok(())
 }

@@ -1,7 +1,6 @@
 // As many items as there can be.
-use crate::trial::{PLAIN, Trial, run};
+use crate::trial::{answered, check};
 use ls_set::PLACES;
-use ls_shell::Status;
 use std::alloc::{AllocError, Global};
 use std::test::Fail;
 
@@ -27,21 +26,14 @@ fn listings_begin_after_any_cursor(rt: HostRuntime) -> Result<(), Fail> {
     let fs = "f".repeat(alloc, PLACES as usize / 4 - 1)?;
     let zeros = "0".repeat(alloc, PLACES as usize / 4 - 1)?;
     let script = format!(in alloc;
-        "items {all}\nstates 1\nstates 1 after 0{zeros}\nstates 1 after 0\nask\nyes i1 : i0\nstates 1 after c{zeros}\n"
+        "items {all}\nstates 1\nstates 1 after 0{zeros}\nstates 1 after 0\nask\nyes i1 : i0\n\
+         states 1 after c{zeros}\n"
     )?;
     let replies = format!(in alloc;
-        "ok {PLACES}\nset f{fs} {{{all}}}\nmore yes\nmore no\nno 24 length 1\nask i0 : i1\nok 1\nset 7{fs} {{{without_first}}}\nmore yes\n"
+        "ok {PLACES}\nset f{fs} {{{all}}}\nmore yes\nmore no\nno 24 length 1\nask i0 : i1\nok 1\n\
+         set 7{fs} {{{without_first}}}\nmore yes\n"
     )?;
-    let outcome = run(
-        &rt,
-        Trial {
-            script: script.as_bytes(),
-            ..PLAIN
-        },
-    )?;
-    assert_eq!(rt; outcome.written.as_slice(), replies.as_bytes());
-    assert_eq!(rt; outcome.status, Status::Refused);
-    Ok(())
+    check(&rt, &answered(&script, &replies))
 }
 
 // One name more is too many, unless it is a name that came before.
@@ -60,15 +52,7 @@ fn one_item_too_many_is_refused(rt: HostRuntime) -> Result<(), Fail> {
     ] {
         let script = format!(in alloc; "items {all} {name}\n")?;
         let replies = format!(in alloc; "no 12 {fault}\n")?;
-        let outcome = run(
-            &rt,
-            Trial {
-                script: script.as_bytes(),
-                ..PLAIN
-            },
-        )?;
-        assert_eq!(rt; outcome.written.as_slice(), replies.as_bytes());
-        assert_eq!(rt; outcome.status, Status::Refused);
+        check(&rt, &answered(&script, &replies))?;
     }
     Ok(())
 }
@@ -82,14 +66,5 @@ fn blocks_have_a_limit(rt: HostRuntime) -> Result<(), Fail> {
         "items {all}\nblocks 2\nblocks 3\nblocks {most}\nblocks {PLACES}\n"
     )?;
     let replies = format!(in alloc; "ok {PLACES}\nok 131328\nno 16 3\nno 16 3\nno 17\n")?;
-    let outcome = run(
-        &rt,
-        Trial {
-            script: script.as_bytes(),
-            ..PLAIN
-        },
-    )?;
-    assert_eq!(rt; outcome.written.as_slice(), replies.as_bytes());
-    assert_eq!(rt; outcome.status, Status::Refused);
-    Ok(())
+    check(&rt, &answered(&script, &replies))
 }

@@ -1,6 +1,8 @@
 -- The effect of a command that looks at an interview, and the bytes of responses.
-use Rattle.std.proofs.Common.{◌≡◌, ◌<◌, Bool, true, cond, [], ◌∷◌, length, Some, ap, sym, ◌∙◌}
+use Rattle.std.proofs.Common.{◌≡◌, ◌<◌, Bool, true, cond, List, [], ◌∷◌, length, Some, ap, sym, ◌∙◌}
 use Rattle.std.proofs.lemmas.Bool.{true≢false}
+use Rattle.ls_theory.specs.Interviews.{Interview}
+use Rattle.ls_lines.specs.Lines.{Text}
 use Rattle.ls_lines.specs.declared.command.Command.{Command}
 use Rattle.ls_reply.specs.Scenes.{Calls}
 use Rattle.ls_reply.specs.Texts.{bytes_of}
@@ -14,13 +16,15 @@ use Rattle.ls_reply.specs.declared.request.View.{View}
 use Rattle.ls_reply.specs.declared.request.Request.TheVariants as request
 use Rattle.ls_reply.specs.declared.response.Response.{Response}
 use Rattle.ls_reply.proofs.Effects.{has_domain-some, command_effect-asked}
-use Rattle.ls_views.specs.Views.{is_reading}
+use Rattle.ls_views.specs.Views.{is_reading, session_on}
 
 pub said_bytes : (s : Session) (a b : Response) → a ≡ b → bytes_of (lines_of s b) ≡ bytes_of (lines_of s a)
 said_bytes s a b e = ap (λ (x : Response). bytes_of (lines_of s x)) (sym e)
 
-pub replied : (s t u : Session) (calls : Calls) (c : Command) (r : Response) → t ≡ s → u ≡ s → command_effect u calls c ≡ answers u r → bytes_of (lines_of t r) ≡ reply_of (command_effect s calls c)
-replied s t u calls c r a b e = ap (λ (x : Session). bytes_of (lines_of x r)) (a ∙ sym b) ∙ ap reply_of (sym e) ∙ ap (λ (x : Session). reply_of (command_effect x calls c)) b
+-- the bytes of a response are the reply to the command that it answers
+pub reply_is : {names : List Text} {i j : Interview} {r : Response} (calls : Calls) (c : Command) → j ≡ i → command_effect (session_on names j) calls c ≡ answers (session_on names j) r
+    → bytes_of (lines_of (session_on names j) r) ≡ reply_of (command_effect (session_on names i) calls c)
+reply_is {names} {i} {j} {r} calls c same e = ap reply_of (sym e) ∙ ap (λ (k : Interview). reply_of (command_effect (session_on names k) calls c)) same
 
 pub reading-effect : (s : Session) (calls : Calls) (c : Command) (v : View) → is_reading c ≡ true → 0 < length s.names → unnamed_places s.names c ≡ [] → request_of s.names c ≡ Some (request.View v)
     → command_effect s calls c ≡ answers s (view_row s.interview v)

@@ -17,7 +17,7 @@ use Rattle.ls_expert.proofs.Ruling.{question-good}
 use Rattle.ls_reply.specs.Sessions.{Session}
 use Rattle.ls_reply.specs.Effects.{refuse, refuse_fault, ◌otherwise◌}
 use Rattle.ls_reply.specs.Rows.{view_row, base_row, past_refusal}
-use Rattle.ls_reply.specs.declared.refusal.Refusal.TheVariants as refusal
+use Rattle.ls_reply.specs.declared.refusal.Refusal.TheVariants as refusal_of
 use Rattle.ls_reply.specs.declared.response.Response.{Response}
 use Rattle.ls_reply.specs.declared.response.Response.TheVariants.{Refused, Shown}
 use Rattle.ls_reply.specs.declared.response.Shown.TheVariants as shown
@@ -32,10 +32,10 @@ can-base s sets (Within b) r same h e =
     let row : base_row s.interview ≡ Shown shown.Base = ap (λ (p : Option Peak). refuse_fault past_refusal p otherwise Shown shown.Base) h.no_peak in
     subst (CanSay s sets) (sym (e ∙ row)) (same ∙ h.is_base)
 can-base s sets (Past position count) r same h e =
-    let row : base_row s.interview ≡ Refused (refusal.Past position count) = ap (λ (p : Option Peak). refuse_fault past_refusal p otherwise Shown shown.Base) h in
+    let row : base_row s.interview ≡ Refused (refusal_of.Past position count) = ap (λ (p : Option Peak). refuse_fault past_refusal p otherwise Shown shown.Base) h in
     subst (CanSay s sets) (sym (e ∙ row)) tt
 
-can-known : (s : Session) (sets : List Items) (good : Bool) (k : Known) → CanSay s sets (refuse (refusal.Answer BadQuery) (not good) otherwise Shown (shown.Known k))
+can-known : (s : Session) (sets : List Items) (good : Bool) (k : Known) → CanSay s sets (refuse (refusal_of.Answer BadQuery) (not good) otherwise Shown (shown.Known k))
 can-known s sets true k = tt
 can-known s sets false k = tt
 

@@ -58,7 +58,7 @@ response_steps (response.Shown what) n = shown_steps what n
 response_steps r n = 0
 
 -- and the reply to a command
-abbrev pub most_steps : Command → ℕ → ℕ
-most_steps (command.Known names item) n = 1
-most_steps (command.States count after) n = (count + 1) * (n + 1)
-most_steps c n = 0
+abbrev pub command_steps : Command → ℕ → ℕ
+command_steps (command.Known names item) n = 1
+command_steps (command.States count after) n = (count + 1) * (n + 1)
+command_steps c n = 0

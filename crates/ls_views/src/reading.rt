@@ -13,7 +13,7 @@ ghost use Rattle.ls_base.specs.Followed.{IsFollowed, followed_sets};
 ghost use Rattle.ls_reply.specs.Rows.{view_row};
 ghost use Rattle.ls_meanings.specs.Asked.{IsOn};
 ghost use Rattle.ls_writing.specs.Rooms.{Says, Wrote, no_reply};
-ghost use Rattle.ls_views.specs.Views.{CanSay, is_reading, most_steps, response_steps, view_steps, session_on};
+ghost use Rattle.ls_views.specs.Views.{CanSay, is_reading, command_steps, response_steps, view_steps, session_on};
 
 use crate::deciding::{based, decide};
 use crate::showing::put_shown;
@@ -29,13 +29,6 @@ use ls_set::ItemSet;
 use ls_writing::{Room, SetTexts, put_done, put_refusal};
 use std::alloc::{AllocError, Global};
 use std::sync::ledger::Ledger;
-
-// Whether the response is a refusal.
-fn is_refused(response: &Response) -> bool
-    ensures { result ≡ is_refused response.now }
-{
-    matches!(response, Response::Refused(_))
-}
 
 /// Says a response. `sets` are those of the base, where that is shown.
 pub fn put_response<K: Sink, L: Ledger>(
@@ -79,7 +72,7 @@ fn respond<L: Ledger>(
         command_effect s calls command.now ≡ answers s result }
     ensures said { CanSay (session_on domain.now inquiry.now) (followed_sets followed.now) result }
     ensures cost { let n = inquiry.now.count in
-        steps.new + response_steps result n ≤ steps.old + most_steps command.now n }
+        steps.new + response_steps result n ≤ steps.old + command_steps command.now n }
 {
     prove!(domain.count() > 0);
     match resolve(domain, command) {
@@ -138,36 +131,6 @@ fn set_texts(alloc: Global, domain: &Domain) -> Result<SetTexts, AllocError>
     SetTexts::new(alloc, domain.copy()?)
 }
 
-// The reply to a command, on a room as before a reply.
-fn reply<K: Sink, L: Ledger>(
-    texts: &SetTexts,
-    interview: &Interview,
-    command: &Command,
-    room: &mut Room,
-    out: &mut K,
-    steps: &mut Steps<L>,
-) -> Result<bool, SinkFault>
-    requires items { length texts.now ≡ interview.now.count }
-    requires reading { is_reading command.now ≡ true }
-    requires named { unnamed_places texts.now command.now ≡ [] }
-    requires empty { room.old ≡ no_reply }
-    ensures told { (calls : Calls) → IfOk result (λ b.
-        b ≡ is_refusal (reply_of (command_effect (session_on texts.now interview.now) calls
-        command.now))) }
-    ensures whole { (calls : Calls) → OnOk result (Appends (K.written out.old) (K.written out.new)
-        (reply_of (command_effect (session_on texts.now interview.now) calls command.now))) }
-    ensures front { (calls : Calls) → AppendsFront (K.written out.old) (K.written out.new)
-        (reply_of (command_effect (session_on texts.now interview.now) calls command.now)) }
-    ensures cause { HasSinkCause (K.faults out.old) (K.faults out.new) result }
-    ensures cost { steps.new ≤ steps.old + most_steps command.now interview.now.count }
-{
-    let inquiry = interview.inquiry();
-    let followed = interview.base();
-    let response = respond(texts.domain(), inquiry, followed, command, steps);
-    write(texts, inquiry, followed.sets(), &response, room, out, steps)?;
-    Ok(is_refused(&response))
-}
-
 /// Writes the reply to a command that looks at the interview on a domain's items, and says whether
 /// it begins with `no `. After a fault a front of the reply is written. It takes at most one
 /// interior for `known`, and for a page of `COUNT` states of n items at most `(COUNT + 1) * (n +
@@ -191,9 +154,13 @@ pub fn view<K: Sink, L: Ledger>(
     ensures front { (calls : Calls) → AppendsFront (K.written out.old) (K.written out.new)
         (reply_of (command_effect (session_on domain.now interview.now) calls command.now)) }
     ensures cause { HasSinkCause (K.faults out.old) (K.faults out.new) result }
-    ensures cost { steps.new ≤ steps.old + most_steps command.now interview.now.count }
+    ensures cost { steps.new ≤ steps.old + command_steps command.now interview.now.count }
 {
     let mut room = Room::new(alloc).map_err(SinkFault::Memory)?;
     let texts = set_texts(alloc, domain).map_err(SinkFault::Memory)?;
-    reply(&texts, interview, command, &mut room, out, steps)
+    let inquiry = interview.inquiry();
+    let followed = interview.base();
+    let response = respond(domain, inquiry, followed, command, steps);
+    write(&texts, inquiry, followed.sets(), &response, &mut room, out, steps)?;
+    Ok(response.is_refused())
 }

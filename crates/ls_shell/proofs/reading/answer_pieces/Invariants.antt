@@ -1,7 +1,7 @@
 use Rattle.std.proofs.Common.{◌≤◌, ◌+◌, ◌-◌}
 use Rattle.ls_shell.specs.Runs.{longest_script, IsExtended}
 use Rattle.ls_shell.proofs.Pieces.{HasRead}
-use Rattle.ls_shell.proofs.reading.answer_source.Given as goal
+use Rattle.ls_shell.proofs.reading.answer_pieces.Given as goal
 
 abbrev pub invariant-pieces : goal.invariant-pieces
 invariant-pieces g l = record {
