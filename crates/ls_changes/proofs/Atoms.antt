@@ -13,7 +13,7 @@ use Rattle.ls_laws.proofs.Lists.{same_members, IsInOrder-filter}
 use Rattle.ls_laws.proofs.Counts.{some_item}
 use Rattle.ls_laws.proofs.Atoms.{IsAtom, IsAtom-from, is_atom_at-from, among-base, base-atom, base-member, atom_within}
 use Rattle.ls_laws.proofs.Breaks.{Breaks-from, breaks-from, breaker, some_breaks-here, some_breaks-part, among-left_from, among-left_parts}
-use Rattle.ls_laws.proofs.Remains.{among-joins, from-joins}
+use Rattle.ls_laws.proofs.Remains.{among-joins, from-joins, touches-at, common, spared, unbroken}
 use Rattle.ls_laws.proofs.Spans.{base-in_order}
 use Rattle.ls_changes.specs.Least.{least_sets, IsBelow, having, near, joined, has_none_within, gained}
 use Rattle.ls_changes.proofs.Least.{among-parts, among-from, among-either, among-left, among-right, least-below, below-through, below-more, IsLeast-from, same-least, atoms-least, least-either, beside-least}
@@ -27,23 +27,6 @@ pub atom-among : (f : List Items) (i : ℕ) (k : Items) → IsAtom f i k → is_
 atom-among f i k a = among-from (is_atom_at f i) f k a.member (is_atom_at-from f i k a)
 
 -- ---- which sets have an item of A
-
--- a set with q that does not break the query has an item of A, and a set with an item of A does not break it
-spared : (k : Items) (r : Query) → breaks k r ≡ false → has k r.q ≡ true → touches k r.a ≡ true
-spared k r b h = not_from_false (is_same (meet k r.a) empty) (false_from_ne_true (is_same (meet k r.a) empty) (λ e. true≢false (sym (and_from (is_same (meet k r.a) empty) (has k r.q) e h) ∙ b)))
-
-unbroken : (k : Items) (r : Query) → touches k r.a ≡ true → breaks k r ≡ false
-unbroken k r m = false_from_ne_true (breaks k r) (λ b. true≢false (sym (and_parts (is_same (meet k r.a) empty) (has k r.q) b).0 ∙ not-true (is_same (meet k r.a) empty) m))
-
-pub touches-at : (s t : Items) (i : ℕ) → has s i ≡ true → has t i ≡ true → touches s t ≡ true
-touches-at s t i a b = not_from_false (is_same (meet s t) empty) (false_from_ne_true (is_same (meet s t) empty) (λ e.
-    true≢false (sym (has-meet s t i ∙ and_from (has s i) (has t i) a b) ∙ ap (λ u. has u i) ((Decides-is_same (meet s t) empty).0 e) ∙ has-empty i)))
-
-pub common : (s t : Items) → touches s t ≡ true → (i : ℕ) × (has s i ≡ true) × (has t i ≡ true)
-common s t m = elim (some_item (meet s t)) [
-  | inl e ↦ absurd (true≢false (sym ((Decides-is_same (meet s t) empty).1 e) ∙ not-true (is_same (meet s t) empty) m))
-  | inr x ↦ let b = and_parts (has s x.0) (has t x.0) (sym (has-meet s t x.0) ∙ x.1) in (x.0, b.0, b.1)
-]
 
 -- of a set with an item of A, a set that it lies within has one
 pub touches_more : (g s t : Items) → IsWithin g s → touches g t ≡ true → touches s t ≡ true

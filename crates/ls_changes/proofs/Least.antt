@@ -12,6 +12,7 @@ use Rattle.ls_set.proofs.Members.{among-append, among-filter}
 use Rattle.ls_theory.specs.Bases.{is_atom_at, atoms_at}
 use Rattle.ls_laws.specs.Spans.{IsPart, is_proper}
 use Rattle.ls_laws.proofs.Lists.{some-among, some-from}
+pub use Rattle.ls_laws.proofs.Lists.{some-filter, some-same}
 use Rattle.ls_laws.proofs.Counts.{as_many}
 use Rattle.ls_laws.proofs.Atoms.{fewest_of}
 use Rattle.ls_changes.specs.Least.{least_sets, least_beside, has_none_within, IsBelow, having}
@@ -134,17 +135,6 @@ beside-least kept js k a =
     })
 
 -- ---- the atoms at an item
-
-pub some-filter : (p q : Items → Bool) (f : List Items) → list_any q (filter p f) ≡ list_any (λ k. p k && q k) f
-some-filter p q [] = refl
-some-filter p q (k ∷ f) = elim (p k) as (λ b. list_any q (cond b (k ∷ filter p f) (filter p f)) ≡ (b && q k || list_any (λ k. p k && q k) f)) [
-  | true ↦ ap (λ b. q k || b) (some-filter p q f)
-  | false ↦ some-filter p q f
-]
-
-pub some-same : (p q : Items → Bool) (f : List Items) → ((k : Items) → p k ≡ q k) → list_any p f ≡ list_any q f
-some-same p q [] h = refl
-some-same p q (k ∷ f) h = ap₂ (λ a b. a || b) (h k) (some-same p q f h)
 
 pub atoms-least : (f : List Items) (i : ℕ) → atoms_at f i ≡ least_sets (having i f)
 atoms-least f i =

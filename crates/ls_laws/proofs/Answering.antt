@@ -7,6 +7,7 @@ use Rattle.std.proofs.lemmas.Bool.{cases_Bool, and_parts, and_cases, false_from_
 use Rattle.ls_lists.proofs.Filters.{filter_true}
 use Rattle.ls_lists.proofs.Finds.{find-is_none}
 use Rattle.ls_lists.proofs.Bools.{same_truth}
+use Rattle.ls_lists.proofs.Every.{list_any-map}
 use Rattle.ls_set.specs.ItemSet.{Items, has, full, subsets}
 use Rattle.ls_set.specs.Query.{is_good}
 use Rattle.ls_set.specs.declared.query.Query.{Query}
@@ -173,14 +174,10 @@ known_is i r sound good =
     ∙ ap (λ o. option_map_or (λ a. Known.No a.number) o Known.Unsettled) (same_find (λ a. is_forced_by f r a.query) (λ a. is_forced_by_closures i.count f r a.query) (nos i.answers) (each_kept i r sound good)))
 
 -- a forced No has a number
-any-queries : (p : Query → Bool) (ns : List No) → list_any p (map (λ a. a.query) ns) ≡ list_any (λ a. p a.query) ns
-any-queries p [] = refl
-any-queries p (s ∷ ns) = ap (λ b. p s.query || b) (any-queries p ns)
-
 pub number_told : (i : Interview) (r : Query) → SomeFits i → is_good i.count r ≡ true → is_forced_no (spaces_of i) r ≡ true → (m : ℕ) × (by (compatible_sets i) (nos i.answers) r ≡ Some m)
 number_told i r some good h =
     let p = is_forced_by (compatible_sets i) r in
-    told-any (λ a. p a.query) (nos i.answers) (sym (any-queries p (nos i.answers)) ∙ ap (list_any p) (sym (queries_of_nos i.answers)) ∙ sym (forced_no_is i r some good) ∙ h)
+    told-any (λ a. p a.query) (nos i.answers) (list_any-map (λ (a : No). a.query) p (nos i.answers) ∙ ap (list_any p) (sym (queries_of_nos i.answers)) ∙ sym (forced_no_is i r some good) ∙ h)
 
 -- and it is the one that is told
 pub number_known : (i : Interview) (r : Query) (m : ℕ) → SomeFits i → is_good i.count r ≡ true → known i r ≡ Known.No m → (is_forced_no (spaces_of i) r ≡ true) × (by (compatible_sets i) (nos i.answers) r ≡ Some m)

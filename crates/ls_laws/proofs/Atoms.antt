@@ -1,12 +1,13 @@
 -- Atoms: each item of a member is in an atom at it that lies within the member. So the base spans, and every list of members that spans has it.
-use Rattle.std.proofs.Common.{ℕ, zero, suc, ◌+◌, ◌<◌, ◌≤◌, ◌≡◌, ◌⊎◌, inl, inr, Bool, true, false, not, cond, ◌&&◌, List, [], ◌∷◌, filter, refl, sym, ap, ◌∙◌, subst, arith, true≢false}
+use Rattle.std.proofs.Common.{ℕ, ◌≤◌, ◌≡◌, ◌⊎◌, inl, inr, Bool, true, false, not, ◌&&◌, List, [], ◌∷◌, refl, sym, ap, ◌∙◌, subst, arith, true≢false}
 use Rattle.std.specs.List.{list_any}
-use Rattle.std.proofs.lemmas.Bool.{cases_Bool, cases_lt, and_parts, and_from, or_left, or_right, not_from_false, not-true, false_from_ne_true}
+use Rattle.std.proofs.lemmas.Bool.{cases_Bool, cases_lt, and_parts, and_from, not_from_false, not-true, false_from_ne_true}
 use Rattle.ls_lists.proofs.Every.{some_of}
-use Rattle.ls_set.specs.ItemSet.{Items, has, is_same, is_within, is_among, numbers_from, items, bound, len, IsWithin}
+use Rattle.ls_lists.proofs.Elements.{in-some}
+use Rattle.ls_laws.proofs.Listed.{in-items}
+use Rattle.ls_set.specs.ItemSet.{Items, has, is_same, is_within, is_among, items, len, IsWithin}
 use Rattle.ls_set.proofs.Sets.{Decides-is_same, IsWithin-from, is_within-from}
 use Rattle.ls_set.proofs.Members.{among-here, among-there, among-cases, among-filter}
-use Rattle.ls_set.proofs.Ascending.{bound-has}
 use Rattle.ls_theory.specs.Families.{unions}
 use Rattle.ls_theory.specs.Bases.{is_atom_at, base}
 use Rattle.ls_laws.specs.Spans.{IsPart, Spans}
@@ -102,29 +103,13 @@ is_atom_at-from f q k a =
     let z = and_parts (has x.0 q) (is_within x.0 k) y.0 in
     true≢false (sym ((Decides-is_same x.0 k).1 (a.least x.0 x.1 (IsWithin-from x.0 k z.1) z.0)) ∙ not-true (is_same x.0 k) y.1))))
 
-some-numbers : (p q : ℕ → Bool) (k i m : ℕ) → i ≤ k → k < i + m → p k ≡ true → q k ≡ true → list_any q (filter p (numbers_from i m)) ≡ true
-some-numbers p q k i zero a b g h = absurd (omega arith)
-some-numbers p q k i (suc m) a b g h =
-    elim (cases_lt i k) [
-      | inl l ↦
-          let rest = some-numbers p q k (suc i) m (omega arith) (omega arith) g h in
-          elim (p i) as (λ x. list_any q (cond x (i ∷ filter p (numbers_from (suc i) m)) (filter p (numbers_from (suc i) m))) ≡ true) [
-            | true ↦ or_right (q i) _ rest
-            | false ↦ rest
-          ]
-      | inr l ↦
-          let e : k ≡ i = omega arith in
-          rw (sym (ap p e) ∙ g) (or_left (q i) _ (sym (ap q e) ∙ h))
-    ]
-
 -- an atom is in the base
 pub among-base : (f : List Items) (q : ℕ) (k : Items) → IsAtom f q k → is_among (base f) k ≡ true
-unfolding base items
+unfolding base
 among-base f q k a =
-    let l : q < bound k = bound-has k q a.has_q in
     among-filter (λ k. list_any (λ q. is_atom_at f q k) (items k)) f k
     ∙ and_from (is_among f k) (list_any (λ q. is_atom_at f q k) (items k)) a.member
-    (some-numbers (has k) (λ q. is_atom_at f q k) q 0 (bound k) (omega arith) (omega arith) a.has_q (is_atom_at-from f q k a))
+    (in-some (λ q. is_atom_at f q k) (items k) q (in-items k q a.has_q) (is_atom_at-from f q k a))
 
 -- and a base set is an atom at some item
 pub base-atom : (f : List Items) (k : Items) → is_among (base f) k ≡ true → (q : ℕ) × IsAtom f q k

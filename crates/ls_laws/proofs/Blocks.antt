@@ -1,36 +1,18 @@
 -- Each good query whose A has few enough items is asked in the blocks.
-use Rattle.std.proofs.Common.{ℕ, zero, suc, ◌+◌, ◌<◌, ◌≤◌, ◌≡◌, inl, inr, Bool, true, eqb, List, [], ◌∷◌, map, filter, refl, sym, ◌∙◌, arith, true≢false, eq-eqb}
+use Rattle.std.proofs.Common.{ℕ, ◌<◌, ◌≤◌, ◌≡◌, inl, inr, Bool, true, eqb, map, filter, refl, sym, ◌∙◌, arith, true≢false, eq-eqb}
 use Rattle.std.specs.List.{list_any, flat_map}
 use Rattle.std.proofs.lemmas.Bool.{cases_eq}
 use Rattle.ls_lists.proofs.Elements.{in-filter, in-flat_map, in-map, in-some}
 use Rattle.ls_lists.specs.Lists.{IsIn}
-use Rattle.ls_set.specs.ItemSet.{Items, empty, full, is_among, is_within, subsets, numbers_from, len}
+pub use Rattle.ls_laws.proofs.Listed.{in-numbers, numbers-in, in-among, among-in}
+use Rattle.ls_set.specs.ItemSet.{Items, empty, full, is_within, subsets, numbers_from, len}
 use Rattle.ls_set.specs.Query.{is_good}
 use Rattle.ls_set.specs.declared.query.Query.{Query}
 use Rattle.ls_set.proofs.Sets.{Decides-is_same, is_within-from}
-use Rattle.ls_set.proofs.Members.{among-here, among-there, among-cases}
 use Rattle.ls_set.proofs.Order.{among-subsets}
 use Rattle.ls_theory.specs.Queries.{blocks, queries}
 use Rattle.ls_laws.proofs.Counts.{len-zero}
 use Rattle.ls_laws.proofs.Breaks.{IsGood, good-to}
-
--- ---- numbers in a row, and members
-
-pub in-numbers : (i m k : ℕ) → i ≤ k → k < i + m → IsIn k (numbers_from i m)
-in-numbers i zero k a b = absurd (omega arith)
-in-numbers i (suc m) k a b = elim (cases_eq k i) [ inl e ↦ inl e | inr n ↦ inr (in-numbers (suc i) m k (omega arith) (omega arith)) ]
-
-pub numbers-in : (i m k : ℕ) → IsIn k (numbers_from i m) → (i ≤ k) × (k < i + m)
-numbers-in i zero k c = absurd c
-numbers-in i (suc m) k c = elim c [ inl e ↦ (omega arith, omega arith) | inr a ↦ let r = numbers-in (suc i) m k a in let l = r.0 in let h = r.1 in (omega arith, omega arith) ]
-
-pub in-among : (ss : List Items) (s : Items) → is_among ss s ≡ true → IsIn s ss
-in-among [] s c = absurd (true≢false (sym c))
-in-among (t ∷ ss) s c = elim (among-cases s t ss c) [ inl e ↦ inl e | inr a ↦ inr (in-among ss s a) ]
-
-pub among-in : (ss : List Items) (s : Items) → IsIn s ss → is_among ss s ≡ true
-among-in [] s c = absurd c
-among-in (t ∷ ss) s c = elim c [ inl e ↦ among-here s t ss e | inr a ↦ among-there s t ss (among-in ss s a) ]
 
 -- ---- the blocks
 

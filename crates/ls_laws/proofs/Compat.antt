@@ -1,19 +1,20 @@
 -- The compatible sets are a family, whatever the start.
-use Rattle.std.proofs.Common.{ℕ, zero, suc, ◌+◌, ◌<◌, ◌≤◌, ◌≡◌, inl, inr, Bool, true, false, cond, not, ◌&&◌, List, [], ◌∷◌, ◌++◌, filter, refl, sym, ap, ◌∙◌, arith}
+use Rattle.std.proofs.Common.{ℕ, ◌≡◌, inl, inr, Bool, true, not, ◌&&◌, List, [], ◌∷◌, ◌++◌, refl, sym, ap, ◌∙◌}
 use Rattle.std.specs.Prelude.{slice_index_or}
 use Rattle.std.specs.List.{list_all, list_any}
-use Rattle.std.proofs.lemmas.Bool.{cases_eq, and_parts, and_from, or_cases}
+use Rattle.std.proofs.lemmas.Bool.{and_parts, and_from, or_cases}
 use Rattle.std.proofs.lemmas.List.Folds.{list_all-append}
 use Rattle.std.proofs.Math.Bool.{and_assoc}
 use Rattle.std.proofs.lemmas.List.Elements.{filter_agree}
-use Rattle.ls_lists.proofs.Every.{list_all-kept}
+use Rattle.ls_lists.proofs.Every.{list_all-kept, list_all-All}
 use Rattle.ls_lists.proofs.Filters.{filter-both}
+use Rattle.ls_lists.proofs.Elements.{each-in}
+use Rattle.ls_laws.proofs.Listed.{in-items}
 use Rattle.ls_set.specs.ItemSet.{Items, has, empty, full, union, is_within, is_among, subsets, items, bound, numbers_from, IsWithin, IsInOrder}
 use Rattle.ls_set.specs.declared.query.Query.{Query}
 use Rattle.ls_set.proofs.Sets.{has-union, union-left, union-right, and-true, IsWithin-from, is_within-from, Decides-is_same}
 use Rattle.ls_set.proofs.Members.{among-filter}
 use Rattle.ls_set.proofs.Order.{among-subsets, subsets_from-in_order}
-use Rattle.ls_set.proofs.Ascending.{bound-has}
 use Rattle.ls_theory.specs.Families.{interior, is_space}
 use Rattle.ls_theory.specs.Queries.{breaks, breaks_none}
 use Rattle.ls_theory.specs.Starts.{Start, Free, Clauses, Sets, meets}
@@ -27,26 +28,12 @@ use Rattle.ls_laws.proofs.Breaks.{breaks_none-empty, breaks_none-union, IsGood, 
 
 -- ---- each item of a set
 
-all_at : (p q : ℕ → Bool) (i m k : ℕ) → i ≤ k → k < i + m → p k ≡ true → list_all q (filter p (numbers_from i m)) ≡ true → q k ≡ true
-all_at p q i zero k a b g h = absurd (omega arith)
-all_at p q i (suc m) k a b g h =
-    elim (cases_eq i k) [
-      | inl e ↦
-          let here : list_all q (i ∷ filter p (numbers_from (suc i) m)) ≡ true = sym (rw (ap p e ∙ g) refl) ∙ h in
-          sym (ap q e) ∙ (and_parts (q i) (list_all q (filter p (numbers_from (suc i) m))) here).0
-      | inr n ↦ all_at p q (suc i) m k (omega arith) (omega arith) g (elim (p i) as (λ b. list_all q (cond b (i ∷ filter p (numbers_from (suc i) m)) (filter p (numbers_from (suc i) m))) ≡ true → list_all q (filter p (numbers_from (suc i) m)) ≡ true) [
-        | true ↦ λ h. (and_parts (q i) (list_all q (filter p (numbers_from (suc i) m))) h).1
-        | false ↦ λ h. h
-      ] h)
-    ]
-
 pub items-all : (p : ℕ → Bool) (k : Items) → ((q : ℕ) → has k q ≡ true → p q ≡ true) → list_all p (items k) ≡ true
 unfolding items
 items-all p k h = list_all-kept (has k) p (numbers_from 0 (bound k)) h
 
 pub all-items : (p : ℕ → Bool) (k : Items) (q : ℕ) → list_all p (items k) ≡ true → has k q ≡ true → p q ≡ true
-unfolding items
-all-items p k q h a = let l : q < bound k = bound-has k q a in all_at (has k) p 0 (bound k) q (omega arith) (omega arith) a h
+all-items p k q h a = each-in (λ j. p j ≡ true) (items k) q (list_all-All p (items k) h) (in-items k q a)
 
 -- ---- the sets of a start
 

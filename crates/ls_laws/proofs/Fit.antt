@@ -2,6 +2,7 @@
 use Rattle.std.proofs.Common.{ℕ, ◌≡◌, ◌↔◌, ◌≤◌, ◌⊎◌, inl, inr, true, false, not, ◌||◌, List, [], ◌∷◌, refl, sym, ◌∙◌, true≢false}
 use Rattle.std.specs.List.{AllByRecursion, list_any}
 use Rattle.std.proofs.lemmas.Bool.{cases_Bool, false_from_ne_true}
+use Rattle.ls_lists.proofs.Every.{each}
 use Rattle.ls_set.specs.ItemSet.{Items, full, len, is_among, IsInOrder}
 use Rattle.ls_set.specs.declared.query.Query.{Query}
 use Rattle.ls_theory.specs.Queries.{breaks, some_breaks}
@@ -35,8 +36,7 @@ IsSettled n block compat nos = (r : Query) → IsGood n r → len r.a ≤ block 
 -- ---- the compatible sets
 
 All-broken_part : (f g : List Items) (nos : List Query) → IsPart f g → AllByRecursion (λ r. some_breaks f r ≡ true) nos → AllByRecursion (λ r. some_breaks g r ≡ true) nos
-All-broken_part f g [] part h = tt
-All-broken_part f g (r ∷ nos) part h = (some_breaks-part f g r part h.0, All-broken_part f g nos part h.1)
+All-broken_part f g nos part h = each (λ r. some_breaks-part f g r part) nos h
 
 -- where some space fits, the compatible sets do
 pub compat_fits : (n : ℕ) (compat : List Items) (nos : List Query) (f : List Items) → IsInOrder compat → IsUnionFamily n compat → Fits n compat nos f → Fits n compat nos compat
@@ -66,20 +66,26 @@ none_or_all : (f : List Items) (nos : List Query) → AllByRecursion (λ s. some
 none_or_all f [] h = refl
 none_or_all f (s ∷ nos) h = rw h.0 (none_or_all f nos h.1)
 
+-- what is left fits where its members break each No
+left-Fits : (n : ℕ) (compat : List Items) (nos : List Query) (r : Query) → IsInOrder compat → IsUnionFamily n compat → is_among compat (full n) ≡ true → IsGood n r
+    → AllByRecursion (λ s. some_breaks (left_by r compat) s ≡ true) nos → Fits n compat nos (left_by r compat)
+left-Fits n compat nos r order family holds good broken = record {
+  in_order = IsInOrder-filter (λ k. not (breaks k r)) compat order;
+  is_family = left-IsUnionFamily n compat r family;
+  holds_full = left-holds_full n compat r good holds;
+  compatible = λ k c. (among-left_parts compat r k c).0;
+  broken = broken;
+}
+
 -- what is left fits exactly where some fitting space has no member that breaks the query
 pub left_fits : (n : ℕ) (compat : List Items) (nos : List Query) (r : Query) → IsInOrder compat → IsUnionFamily n compat → is_among compat (full n) ≡ true → IsGood n r
     → Fits n compat nos (left_by r compat) ↔ ((f : List Items) × Fits n compat nos f × (some_breaks f r ≡ false))
 left_fits n compat nos r order family holds good = (
   λ h. (left_by r compat, h, left-unbroken compat r),
-  λ h. record {
-    in_order = IsInOrder-filter (λ k. not (breaks k r)) compat order;
-    is_family = left-IsUnionFamily n compat r family;
-    holds_full = left-holds_full n compat r good holds;
-    compatible = λ k c. (among-left_parts compat r k c).0;
-    broken = All-broken_part h.0 (left_by r compat) nos
-        (λ k c. among-left_from compat r k (h.1.compatible k c) (false_from_ne_true (breaks k r) (λ b. true≢false (sym (some_breaks-here h.0 k r c b) ∙ h.2))))
-        h.1.broken;
-  },
+  λ h. left-Fits n compat nos r order family holds good
+      (All-broken_part h.0 (left_by r compat) nos
+      (λ k c. among-left_from compat r k (h.1.compatible k c) (false_from_ne_true (breaks k r) (λ b. true≢false (sym (some_breaks-here h.0 k r c b) ∙ h.2))))
+      h.1.broken),
 )
 
 -- a good query is forced No exactly where some No is broken by no member of what is left
@@ -89,13 +95,7 @@ forced_no n compat nos r order family holds good = (
   λ forced. elim (cases_Bool (list_any (is_forced_by compat r) nos)) [
     | inl a ↦ a
     | inr b ↦
-        let rest : Fits n compat nos (left_by r compat) = record {
-          in_order = IsInOrder-filter (λ k. not (breaks k r)) compat order;
-          is_family = left-IsUnionFamily n compat r family;
-          holds_full = left-holds_full n compat r good holds;
-          compatible = λ k c. (among-left_parts compat r k c).0;
-          broken = all_or_none (left_by r compat) nos b;
-        } in
+        let rest = left-Fits n compat nos r order family holds good (all_or_none (left_by r compat) nos b) in
         absurd (true≢false (sym (forced (left_by r compat) rest) ∙ left-unbroken compat r))
   ],
   λ kept f fits. elim (cases_Bool (some_breaks f r)) [

@@ -1,5 +1,5 @@
 -- Families, and their interiors: the union of the members within a set is the greatest of them.
-use Rattle.std.proofs.Common.{ℕ, ◌≡◌, Bool, true, false, cond, ◌&&◌, ◌||◌, List, [], ◌∷◌, filter, refl, sym, ap, ◌∙◌, subst}
+use Rattle.std.proofs.Common.{ℕ, ◌≡◌, Bool, true, ◌&&◌, ◌||◌, List, [], ◌∷◌, filter, refl, sym, ap, ◌∙◌, subst}
 use Rattle.std.specs.List.{list_all, list_any}
 use Rattle.std.proofs.lemmas.Bool.{and_parts, and_from}
 use Rattle.ls_lists.proofs.Bools.{same_truth}
@@ -10,7 +10,7 @@ use Rattle.ls_set.proofs.Order.{among-subsets}
 use Rattle.ls_theory.specs.Families.{unions, interior, is_union_closed, is_space}
 use Rattle.ls_laws.specs.Spans.{IsOn, IsPart}
 use Rattle.ls_laws.specs.Families.{IsUnionClosed}
-use Rattle.ls_laws.proofs.Lists.{every-among, every-from, some-among, some-from}
+use Rattle.ls_laws.proofs.Lists.{every-among, every-from, some-among, some-from, some-filter}
 
 -- ---- families
 
@@ -68,17 +68,10 @@ pub has-unions : (ss : List Items) (i : ℕ) → has (unions ss) i ≡ list_any 
 has-unions [] i = has-empty i
 has-unions (s ∷ ss) i = has-union s (unions ss) i ∙ ap (λ b. has s i || b) (has-unions ss i)
 
-list_any-filter : (p q : Items → Bool) (f : List Items) → list_any q (filter p f) ≡ list_any (λ k. p k && q k) f
-list_any-filter p q [] = refl
-list_any-filter p q (k ∷ f) = elim (p k) as (λ b. list_any q (cond b (k ∷ filter p f) (filter p f)) ≡ (b && q k || list_any (λ k. p k && q k) f)) [
-  | true ↦ ap (λ b. q k || b) (list_any-filter p q f)
-  | false ↦ list_any-filter p q f
-]
-
 -- an item is in the interior where some member within has it
 pub has-interior : (f : List Items) (s : Items) (i : ℕ) → has (interior f s) i ≡ list_any (λ k. is_within k s && has k i) f
 unfolding interior
-has-interior f s i = has-unions (filter (λ k. is_within k s) f) i ∙ list_any-filter (λ k. is_within k s) (λ k. has k i) f
+has-interior f s i = has-unions (filter (λ k. is_within k s) f) i ∙ some-filter (λ k. is_within k s) (λ k. has k i) f
 
 pub from-interior : (g : List Items) (s : Items) (i : ℕ) → has (interior g s) i ≡ true → (l : Items) × (is_among g l ≡ true) × IsWithin l s × (has l i ≡ true)
 from-interior g s i h =

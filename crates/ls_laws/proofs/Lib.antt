@@ -16,6 +16,7 @@ pub mod Fit
 pub mod Settled
 pub mod Search
 pub mod Only
+pub mod Listed
 pub mod Blocks
 pub mod Answering
 pub mod Accepting

@@ -1,5 +1,5 @@
 -- Lists of sets: all and some of them, filters, and lists in order.
-use Rattle.std.proofs.Common.{◌≡◌, inl, inr, Bool, true, false, cond, List, [], ◌∷◌, filter, find, Some, None, refl, sym, ap, ap₂, ◌∙◌, subst, true≢false}
+use Rattle.std.proofs.Common.{◌&&◌, ◌≡◌, ◌||◌, ap₂, cond, inl, inr, Bool, true, false, List, [], ◌∷◌, filter, find, Some, None, refl, sym, ap, ◌∙◌, subst, true≢false}
 use Rattle.std.specs.List.{AllByRecursion, list_all, list_any}
 use Rattle.std.proofs.lemmas.Bool.{cases_Bool, and_parts, and_from, or_cases, or_left, or_right}
 use Rattle.std.proofs.lemmas.List.Elements.{filter_agree}
@@ -34,6 +34,17 @@ some-from p (t ∷ f) h =
       | inl a ↦ (t, among-here t t f refl, a)
       | inr a ↦ let r = some-from p f a in (r.0, among-there r.0 t f r.1, r.2)
     ]
+
+pub some-filter : {X : Type 0} (p q : X → Bool) (xs : List X) → list_any q (filter p xs) ≡ list_any (λ x. p x && q x) xs
+some-filter p q [] = refl
+some-filter p q (x ∷ xs) = elim (p x) as (λ b. list_any q (cond b (x ∷ filter p xs) (filter p xs)) ≡ (b && q x || list_any (λ x. p x && q x) xs)) [
+  | true ↦ ap (λ b. q x || b) (some-filter p q xs)
+  | false ↦ some-filter p q xs
+]
+
+pub some-same : {X : Type 0} (p q : X → Bool) (xs : List X) → ((x : X) → p x ≡ q x) → list_any p xs ≡ list_any q xs
+some-same p q [] h = refl
+some-same p q (x ∷ xs) h = ap₂ (λ a b. a || b) (h x) (some-same p q xs h)
 
 -- ---- filters and searches
 

@@ -57,21 +57,21 @@ from-joins l (t ∷ ks) gs c =
 -- ---- after a Yes
 
 -- two sets meet where they have an item in common
-touches-at : (s t : Items) (x : ℕ) → has s x ≡ true → has t x ≡ true → touches s t ≡ true
+pub touches-at : (s t : Items) (x : ℕ) → has s x ≡ true → has t x ≡ true → touches s t ≡ true
 touches-at s t x a b = not_from_false (is_same (meet s t) empty) (false_from_ne_true (is_same (meet s t) empty) (λ e.
     true≢false (sym (has-meet s t x ∙ and_from (has s x) (has t x) a b) ∙ ap (λ u. has u x) ((Decides-is_same (meet s t) empty).0 e) ∙ has-empty x)))
 
-common : (s t : Items) → touches s t ≡ true → (x : ℕ) × (has s x ≡ true) × (has t x ≡ true)
+pub common : (s t : Items) → touches s t ≡ true → (x : ℕ) × (has s x ≡ true) × (has t x ≡ true)
 common s t m = elim (some_item (meet s t)) [
   | inl e ↦ absurd (true≢false (sym ((Decides-is_same (meet s t) empty).1 e) ∙ not-true (is_same (meet s t) empty) m))
   | inr r ↦ let b = and_parts (has s r.0) (has t r.0) (sym (has-meet s t r.0) ∙ r.1) in (r.0, b.0, b.1)
 ]
 
 -- a set that has q and does not break the query meets its A
-spared : (k : Items) (r : Query) → breaks k r ≡ false → has k r.q ≡ true → touches k r.a ≡ true
+pub spared : (k : Items) (r : Query) → breaks k r ≡ false → has k r.q ≡ true → touches k r.a ≡ true
 spared k r b h = not_from_false (is_same (meet k r.a) empty) (false_from_ne_true (is_same (meet k r.a) empty) (λ e. true≢false (sym (and_from (is_same (meet k r.a) empty) (has k r.q) e h) ∙ b)))
 
-unbroken : (k : Items) (r : Query) → touches k r.a ≡ true → breaks k r ≡ false
+pub unbroken : (k : Items) (r : Query) → touches k r.a ≡ true → breaks k r ≡ false
 unbroken k r m = false_from_ne_true (breaks k r) (λ b. true≢false (sym (and_parts (is_same (meet k r.a) empty) (has k r.q) b).0 ∙ not-true (is_same (meet k r.a) empty) m))
 
 -- each member that does not break the query is the union of those sets within it
