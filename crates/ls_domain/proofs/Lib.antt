@@ -1,4 +1,3 @@
-pub mod Positions
 pub mod Numbers
 pub mod Rows
 pub mod Readings

@@ -18,6 +18,7 @@ use Rattle.ls_set.specs.ItemSet.{Items, has, full, with, set_of, items, IsWithin
 use Rattle.ls_set.specs.declared.item_set.TheConstants.{PLACES}
 use Rattle.ls_set.proofs.Sets.{members, same_set, has-full}
 use Rattle.ls_set.proofs.Firsts.{listed-has}
+use Rattle.ls_lists.proofs.Places.{is_some-position}
 use Rattle.ls_lines.specs.Lines.{Text}
 use Rattle.ls_lines.specs.declared.part.Part.TheVariants.{One}
 use Rattle.ls_lines.specs.declared.kind.Kind.TheVariants.{Name}
@@ -25,7 +26,6 @@ use Rattle.ls_lines.proofs.Ascii.{front-ascii}
 use Rattle.ls_domain.specs.Texts.{name_of}
 use Rattle.ls_domain.specs.Meanings.{is_named, number_of, item_of, items_of}
 use Rattle.ls_domain.specs.Domains.{is_name, AreNames}
-use Rattle.ls_domain.proofs.Positions.{is_some-position}
 
 -- ---- one to one
 

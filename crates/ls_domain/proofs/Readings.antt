@@ -8,17 +8,18 @@ use Rattle.std.proofs.lemmas.List.{map-append, map-id}
 use Rattle.std.proofs.lemmas.List.Folds.{list_all-append}
 use Rattle.std.proofs.lemmas.Option.{none-some, same_Some}
 use Rattle.ls_set.specs.declared.item_set.TheConstants.{PLACES}
+use Rattle.ls_lists.proofs.Options.{same_Ok, ok-err}
 use Rattle.ls_lines.specs.Lines.{Text}
 use Rattle.std.proofs.lemmas.Bool.{and_parts}
 use Rattle.ls_domain.specs.Meanings.{is_named}
-use Rattle.ls_domain.specs.Domains.{AreNames, IsDomain, Row, first_field, is_name, name_fault, names_from, names_of, names_of_table, names_of_words, row_of, rows_of, table_records, width_of}
+use Rattle.ls_domain.specs.Domains.{AreNames, IsDomain, FirstField, first_field, is_name, name_fault, names_from, names_of, names_of_table, names_of_words, even_field, first_fields, table_records, width_of}
 use Rattle.ls_domain.proofs.Numbers.{AreNames-nil, AreNames-push}
-use Rattle.ls_domain.proofs.Rows.{fault-none, free, length-names_from, names_from-bad, names_from-fault, names_from-next, names_from-nil, ok-err, same_Ok}
+use Rattle.ls_domain.proofs.Rows.{fault-none, free, length-names_from, names_from-bad, names_from-fault, names_from-next, names_from-nil}
 
 -- ---- what is read
 
 -- the names are those of the rows, in their order
-pub names_from-rows : (earlier : List Text) (rows : List Row) (names : List Text) → AreNames earlier → names_from earlier rows ≡ Ok names → AreNames names × (map Some names ≡ map Some earlier ++ rows)
+pub names_from-rows : (earlier : List Text) (rows : List FirstField) (names : List Text) → AreNames earlier → names_from earlier rows ≡ Ok names → AreNames names × (map Some names ≡ map Some earlier ++ rows)
 names_from-rows earlier [] names are e =
     let same : earlier ≡ names = same_Ok (sym (names_from-nil earlier) ∙ e) in (subst AreNames same are, ap (map Some) (sym same) ∙ sym (append-nil (map Some earlier)))
 names_from-rows earlier (None ∷ rows) names are e = absurd (ok-err (sym e ∙ names_from-bad earlier rows))
@@ -31,7 +32,7 @@ names_from-rows earlier (Some w ∷ rows) names are e =
       | Some fault ↦ λ f. absurd (ok-err (sym e ∙ names_from-fault earlier w rows fault f))
     ] refl
 
-names_of-rows : (rows : List Row) (names : List Text) → names_of rows ≡ Ok names → IsDomain names × (map Some names ≡ rows)
+names_of-rows : (rows : List FirstField) (names : List Text) → names_of rows ≡ Ok names → IsDomain names × (map Some names ≡ rows)
 names_of-rows [] names e = absurd (ok-err (sym e))
 names_of-rows (row ∷ rows) names e =
     let all = names_from-rows [] (row ∷ rows) names AreNames-nil e in
@@ -39,7 +40,7 @@ names_of-rows (row ∷ rows) names e =
     (record { some = omega (arith, as_many); are_names = all.0 }, all.1)
 
 -- rows that all have names
-named : {X : Type 0} (row : X → Row) (name : X → Text) → ((x : X) (w : Text) → Some w ≡ row x → w ≡ name x) → (xs : List X) (names : List Text) → map Some names ≡ map row xs → names ≡ map name xs
+named : {X : Type 0} (row : X → FirstField) (name : X → Text) → ((x : X) (w : Text) → Some w ≡ row x → w ≡ name x) → (xs : List X) (names : List Text) → map Some names ≡ map row xs → names ≡ map name xs
 named row name told [] [] e = refl
 named row name told [] (w ∷ names) e = cc
 named row name told (x ∷ xs) [] e = cc
@@ -48,8 +49,8 @@ named row name told (x ∷ xs) (w ∷ names) e =
     let tail : map Some names ≡ map row xs = cc in
     ap₂ (λ v vs. v ∷ vs) (told x w head) (named row name told xs names tail)
 
-row_of-name : (width : ℕ) (fields : List Text) (w : Text) → Some w ≡ row_of width fields → w ≡ first_field fields
-row_of-name width fields w e =
+even_field-name : (width : ℕ) (fields : List Text) (w : Text) → Some w ≡ even_field width fields → w ≡ first_field fields
+even_field-name width fields w e =
     elim (cases_Bool (length fields == width)) [
       | inl good ↦ let is : Some w ≡ Some (first_field fields) = rw good at e in same_Some w (first_field fields) is
       | inr bad ↦ let is : Some w ≡ None = rw bad at e in absurd (none-some w (sym is))
@@ -62,8 +63,8 @@ names_of_words-read ws names e =
 pub names_of_table-read : (bytes : List ℕ) (names : List Text) → names_of_table bytes ≡ Ok names → IsDomain names × (names ≡ map first_field (table_records bytes))
 names_of_table-read bytes names e =
     let table = table_records bytes in
-    let all = names_of-rows (rows_of table) names e in
-    (all.0, named (row_of (width_of table)) first_field (row_of-name (width_of table)) table names all.1)
+    let all = names_of-rows (first_fields table) names e in
+    (all.0, named (even_field (width_of table)) first_field (even_field-name (width_of table)) table names all.1)
 
 -- ---- a domain's own names
 

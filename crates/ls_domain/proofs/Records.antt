@@ -3,6 +3,7 @@ use Rattle.std.proofs.Common.{◌≡◌, ℕ, zero, suc, ◌+◌, ◌-◌, ◌�
 use Rattle.std.specs.declared.option.Option.{Option}
 use Rattle.std.proofs.lemmas.List.{take_all}
 use Rattle.std.proofs.Math.Seq.{take-append_seam}
+use Rattle.std.proofs.lemmas.Option.{none-some}
 use Rattle.csv.specs.Machine.{Read, next_record, step, is_end, ends_at_end, fields_after, field_after}
 use Rattle.csv.specs.Reading.{records_from, records_next, records, Reached, AreRecords}
 use Rattle.csv.specs.declared.parser.Config.{Config}
@@ -25,9 +26,6 @@ ended : (b : Bool) (x : Option Read) (a : List (List ℕ)) (t : State) (ys : Lis
 ended true x a t ys p n h g f = let e : ◌≡◌ {A = Read} (a, t, ys) p = cc in subst (λ (q : Read). length q.2 ≤ n) e g
 ended false x a t ys p n h g f = f h
 
-none-some : {A : Type 0} (G : Type 0) (p : A) → None ≡ Some p → G
-none-some G p h = cc
-
 -- a record that begins before the end of the text takes a byte
 shorter : (cfg : Config) (s : State) (fields : List (List ℕ)) (field : List ℕ) (c : ℕ) (rest : List ℕ) (p : Read)
     → next_record cfg s fields field (c ∷ rest) ≡ Some p → length p.2 ≤ length rest
@@ -37,14 +35,14 @@ shorter cfg s fields field c [] p h =
     let f1 = fields_after (step cfg s c).1 fields field in
     let f2 = f1 ++ field_after (step cfg s c).1 c field ∷ [] in
     ended (is_end (step cfg s c).1) (cond (ends_at_end t) (Some (f2, st.StartRecord, [])) None) f1 t [] p 0 h (omega arith)
-    (λ k. ended (ends_at_end t) None f2 st.StartRecord [] p 0 k (omega arith) (λ j. none-some _ p j))
+    (λ k. ended (ends_at_end t) None f2 st.StartRecord [] p 0 k (omega arith) (λ j. absurd (none-some p j)))
 shorter cfg s fields field c (d ∷ r) p h =
     ended (is_end (step cfg s c).1) _ (fields_after (step cfg s c).1 fields field) (step cfg s c).0 (d ∷ r) p (suc (length r)) h (omega arith) (λ k. let i : length p.2 ≤ length r = shorter cfg (step cfg s c).0 (fields_after (step cfg s c).1 fields field) (field_after (step cfg s c).1 c field) d r p k in omega arith)
 
 at_end : (cfg : Config) (b : Bool) (f : List (List ℕ)) (p q : Read) (G : Type 0) → cond b (Some (f, st.StartRecord, [])) None ≡ Some p → next_record cfg p.1 [] [] p.2 ≡ Some q → G
 unfolding next_record
-at_end cfg true f p q G h k = let e : ◌≡◌ {A = Read} (f, st.StartRecord, []) p = cc in none-some G q (subst (λ (o : Read). next_record cfg o.1 [] [] o.2 ≡ Some q) (sym e) k)
-at_end cfg false f p q G h k = none-some G p h
+at_end cfg true f p q G h k = let e : ◌≡◌ {A = Read} (f, st.StartRecord, []) p = cc in absurd (none-some q (subst (λ (o : Read). next_record cfg o.1 [] [] o.2 ≡ Some q) (sym e) k))
+at_end cfg false f p q G h k = absurd (none-some p h)
 
 last : (cfg : Config) (s : State) (p q : Read) (G : Type 0) → next_record cfg s [] [] [] ≡ Some p → next_record cfg p.1 [] [] p.2 ≡ Some q → G
 unfolding next_record

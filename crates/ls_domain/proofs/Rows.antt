@@ -8,18 +8,13 @@ use Rattle.std.proofs.lemmas.Option.{none-some}
 use Rattle.std.proofs.lemmas.Simd.{map-map}
 use Rattle.csv.specs.Records as records
 use Rattle.ls_set.specs.declared.item_set.TheConstants.{PLACES}
+use Rattle.ls_lists.proofs.Options.{same_Ok, ok-err}
 use Rattle.ls_lines.specs.Lines.{Text}
 use Rattle.ls_domain.specs.Meanings.{is_named, number_of, item_of}
-use Rattle.ls_domain.specs.Domains.{is_name, Row, IsNameFault, IsFaultOf, name_fault, names_from, names_of, names_of_words, names_of_table, table_records, first_field, row_of, rows_of}
+use Rattle.ls_domain.specs.Domains.{is_name, FirstField, IsNameFault, IsFaultOf, name_fault, names_from, names_of, names_of_words, names_of_table, table_records, first_field, even_field, first_fields}
 use Rattle.ls_domain.specs.declared.domain_fault.DomainFault.{DomainFault}
 use Rattle.ls_domain.specs.declared.domain_fault.DomainFault.TheVariants.{NoItems, BadCsv, BadName, Repeat, TooMany, Memory}
 use Rattle.ls_domain.proofs.Numbers.{is_named-some, item_of-some}
-
-pub same_Ok : {T E : Type 0} {a b : T} → ◌≡◌ {A = Result T E} (Ok a) (Ok b) → a ≡ b
-same_Ok e = cc
-
-pub ok-err : {T E : Type 0} {a : T} {b : E} → ◌≡◌ {A = Result T E} (Ok a) (Err b) → ⊥
-ok-err e = cc
 
 -- ---- one row
 
@@ -27,15 +22,15 @@ pub names_from-nil : (earlier : List Text) → names_from earlier [] ≡ Ok earl
 unfolding names_from
 names_from-nil earlier = refl
 
-pub names_from-bad : (earlier : List Text) (rows : List Row) → names_from earlier (None ∷ rows) ≡ Err (BadCsv (length earlier + 1))
+pub names_from-bad : (earlier : List Text) (rows : List FirstField) → names_from earlier (None ∷ rows) ≡ Err (BadCsv (length earlier + 1))
 unfolding names_from
 names_from-bad earlier rows = refl
 
-pub names_from-fault : (earlier : List Text) (w : Text) (rows : List Row) (fault : DomainFault) → name_fault earlier w ≡ Some fault → names_from earlier (Some w ∷ rows) ≡ Err fault
+pub names_from-fault : (earlier : List Text) (w : Text) (rows : List FirstField) (fault : DomainFault) → name_fault earlier w ≡ Some fault → names_from earlier (Some w ∷ rows) ≡ Err fault
 unfolding names_from
 names_from-fault earlier w rows fault e = rw e refl
 
-pub names_from-next : (earlier : List Text) (w : Text) (rows : List Row) → name_fault earlier w ≡ None → names_from earlier (Some w ∷ rows) ≡ names_from (earlier ++ w ∷ []) rows
+pub names_from-next : (earlier : List Text) (w : Text) (rows : List FirstField) → name_fault earlier w ≡ None → names_from earlier (Some w ∷ rows) ≡ names_from (earlier ++ w ∷ []) rows
 unfolding names_from
 names_from-next earlier w rows e = rw e refl
 
@@ -84,11 +79,11 @@ free earlier w none =
 -- ---- all rows
 
 -- the row of a record of the reader
-abbrev pub record_row : ℕ → records.Row → Row
-record_row width r = row_of width (records.fields_of r)
+abbrev pub record_field : ℕ → records.Row → FirstField
+record_field width r = even_field width (records.fields_of r)
 
 -- the names of rows are as many as the rows
-pub length-names_from : (earlier : List Text) (rows : List Row) (names : List Text) → names_from earlier rows ≡ Ok names → length names ≡ length earlier + length rows
+pub length-names_from : (earlier : List Text) (rows : List FirstField) (names : List Text) → names_from earlier rows ≡ Ok names → length names ≡ length earlier + length rows
 length-names_from earlier [] names e =
     let same : earlier ≡ names = same_Ok (sym (names_from-nil earlier) ∙ e) in
     rw (← same) (omega arith)
@@ -102,7 +97,7 @@ length-names_from earlier (Some w ∷ rows) names e =
     ] refl
 
 -- rows past the limit tell nothing
-names_from-take : (n : ℕ) (earlier : List Text) (rows : List Row) → PLACES < length earlier + n → length earlier ≤ PLACES → names_from earlier (take n rows) ≡ names_from earlier rows
+names_from-take : (n : ℕ) (earlier : List Text) (rows : List FirstField) → PLACES < length earlier + n → length earlier ≤ PLACES → names_from earlier (take n rows) ≡ names_from earlier rows
 names_from-take zero earlier rows above within = absurd (omega arith)
 names_from-take (suc n) earlier [] above within = refl
 names_from-take (suc n) earlier (None ∷ rows) above within = names_from-bad earlier (take n rows) ∙ sym (names_from-bad earlier rows)
@@ -117,15 +112,15 @@ names_from-take (suc n) earlier (Some w ∷ rows) above within =
       | Some fault ↦ λ f. names_from-fault earlier w (take n rows) fault f ∙ sym (names_from-fault earlier w rows fault f)
     ] refl
 
-pub names_of-take : (n : ℕ) (table : List (List Text)) → PLACES < n → names_of (rows_of (take n table)) ≡ names_of (rows_of table)
+pub names_of-take : (n : ℕ) (table : List (List Text)) → PLACES < n → names_of (first_fields (take n table)) ≡ names_of (first_fields table)
 names_of-take zero table above = absurd (omega arith)
 names_of-take (suc n) [] above = refl
 names_of-take (suc n) (fields ∷ table) above =
-    let row = row_of (length fields) in
+    let row = even_field (length fields) in
     ap (λ rows. names_from [] (row fields ∷ rows)) (sym (take-map row n table))
     ∙ names_from-take (suc n) [] (row fields ∷ map row table) (omega arith) (omega arith)
 
-names_of-some : (rows : List Row) → 0 < length rows → names_of rows ≡ names_from [] rows
+names_of-some : (rows : List FirstField) → 0 < length rows → names_of rows ≡ names_from [] rows
 names_of-some [] some = absurd (omega arith)
 names_of-some (row ∷ rows) some = refl
 
@@ -140,7 +135,7 @@ fault_told reading found (Memory e) told is = tt
 
 -- ---- a loop over rows: the names so far, and the rows from i on
 
-module _ {X : Type 0} (row : X → Row) (xs : List X) (i : ℕ) (x : X) (lt : i < length xs) (at : x ≡ get_or xs i x) where
+module _ {X : Type 0} (row : X → FirstField) (xs : List X) (i : ℕ) (x : X) (lt : i < length xs) (at : x ≡ get_or xs i x) where
   next : drop i xs ≡ x ∷ drop (i + 1) xs
   next = drop_more xs i x lt ∙ ap (λ y. y ∷ drop (i + 1) xs) (sym at)
 
@@ -157,14 +152,14 @@ module _ {X : Type 0} (row : X → Row) (xs : List X) (i : ℕ) (x : X) (lt : i 
       fault_told reading (name_fault earlier w) e
       (λ fault f. so_far ∙ ap (λ l. names_from earlier (map row l)) next ∙ ap (λ r. names_from earlier (r ∷ map row (drop (i + 1) xs))) is ∙ names_from-fault earlier w (map row (drop (i + 1) xs)) fault f) found
 
-pub loop-end : {X : Type 0} (row : X → Row) (xs : List X) (i : ℕ) (earlier : List Text) (reading : Result (List Text) DomainFault) → length xs ≤ i → reading ≡ names_from earlier (map row (drop i xs)) → reading ≡ Ok earlier
+pub loop-end : {X : Type 0} (row : X → FirstField) (xs : List X) (i : ℕ) (earlier : List Text) (reading : Result (List Text) DomainFault) → length xs ≤ i → reading ≡ names_from earlier (map row (drop i xs)) → reading ≡ Ok earlier
 loop-end row xs i earlier reading end so_far = so_far ∙ ap (λ l. names_from earlier (map row l)) (drop_all i xs end) ∙ names_from-nil earlier
 
 -- rows that were all read gave some names, where there is some row
-some_names : (rows : List Row) (names : List Text) → names_from [] rows ≡ Ok names → 0 < length rows → 0 < length names
+some_names : (rows : List FirstField) (names : List Text) → names_from [] rows ≡ Ok names → 0 < length rows → 0 < length names
 some_names rows names read some = let as_many = length-names_from [] rows names read in omega arith
 
-pub some_rows : {X : Type 0} (row : X → Row) (xs : List X) (i : ℕ) (names : List Text) → length xs ≤ i → names_from [] (map row xs) ≡ names_from names (map row (drop i xs)) → 0 < length xs → 0 < length names
+pub some_rows : {X : Type 0} (row : X → FirstField) (xs : List X) (i : ℕ) (names : List Text) → length xs ≤ i → names_from [] (map row xs) ≡ names_from names (map row (drop i xs)) → 0 < length xs → 0 < length names
 some_rows row xs i names end so_far some = some_names (map row xs) names (loop-end row xs i names (names_from [] (map row xs)) end so_far) (rw (length-map xs row) some)
 
 -- ---- words and tables
@@ -172,38 +167,34 @@ some_rows row xs i names end so_far some = some_names (map row xs) names (loop-e
 pub not_none : (n : ℕ) → false ≡ (n == 0) → 0 < n
 not_none n e = grind (arith, nat_tests)
 
-pub begun-some : {X : Type 0} (xs : List X) (x : X) → Some x ≡ slice_get xs 0 → 0 < length xs
-begun-some [] x e = cc
-begun-some (y ∷ xs) x e = omega arith
-
 pub words_read : (ws : List Text) → 0 < length ws → names_of_words ws ≡ names_from [] (map Some ws)
 words_read ws some = names_of-some (map Some ws) (rw (length-map ws Some) some)
 
-pub row_of-good : (width : ℕ) (fields : List Text) → length fields ≡ width → row_of width fields ≡ Some (first_field fields)
-row_of-good width fields e = rw (eq-eqb (length fields) width e) refl
+pub even_field-good : (width : ℕ) (fields : List Text) → length fields ≡ width → even_field width fields ≡ Some (first_field fields)
+even_field-good width fields e = rw (eq-eqb (length fields) width e) refl
 
-pub row_of-bad : (width : ℕ) (fields : List Text) → length fields ≢ width → row_of width fields ≡ None
-row_of-bad width fields ne = rw (ne_eqb (length fields) width ne) refl
+pub even_field-bad : (width : ℕ) (fields : List Text) → length fields ≢ width → even_field width fields ≡ None
+even_field-bad width fields ne = rw (ne_eqb (length fields) width ne) refl
 
-empty : (vs : List records.Row) → None ≡ slice_get vs 0 → names_of (rows_of (map records.fields_of vs)) ≡ Err NoItems
+empty : (vs : List records.Row) → None ≡ slice_get vs 0 → names_of (first_fields (map records.fields_of vs)) ≡ Err NoItems
 empty [] none = refl
 empty (v ∷ vs) none = cc
 
-begun : (vs : List records.Row) (first : records.Row) → Some first ≡ slice_get vs 0 → names_of (rows_of (map records.fields_of vs)) ≡ names_from [] (map (record_row (length (records.fields_of first))) vs)
+begun : (vs : List records.Row) (first : records.Row) → Some first ≡ slice_get vs 0 → names_of (first_fields (map records.fields_of vs)) ≡ names_from [] (map (record_field (length (records.fields_of first))) vs)
 begun [] first some = cc
 begun (v ∷ vs) first some =
     let same : v ≡ first = cc in
-    ap (λ rows. names_from [] (row_of (length (records.fields_of v)) (records.fields_of v) ∷ rows)) (map-map (row_of (length (records.fields_of v))) records.fields_of vs)
-    ∙ ap (λ f. names_from [] (map (record_row (length (records.fields_of f))) (v ∷ vs))) same
+    ap (λ rows. names_from [] (even_field (length (records.fields_of v)) (records.fields_of v) ∷ rows)) (map-map (even_field (length (records.fields_of v))) records.fields_of vs)
+    ∙ ap (λ f. names_from [] (map (record_field (length (records.fields_of f))) (v ∷ vs))) same
 
 module _ (bytes : List ℕ) (vs deref : List records.Row) (front : map records.fields_of vs ≡ take (PLACES + 1) (table_records bytes)) (same : deref ≡ vs) where
-  table : names_of_table bytes ≡ names_of (rows_of (map records.fields_of deref))
-  table = sym (names_of-take (PLACES + 1) (table_records bytes) (omega arith)) ∙ ap (λ t. names_of (rows_of t)) (sym front) ∙ ap (λ l. names_of (rows_of (map records.fields_of l))) (sym same)
+  table : names_of_table bytes ≡ names_of (first_fields (map records.fields_of deref))
+  table = sym (names_of-take (PLACES + 1) (table_records bytes) (omega arith)) ∙ ap (λ t. names_of (first_fields t)) (sym front) ∙ ap (λ l. names_of (first_fields (map records.fields_of l))) (sym same)
 
   -- a table with no record
   pub table-none : None ≡ slice_get deref 0 → names_of_table bytes ≡ Err NoItems
   table-none none = table ∙ empty deref none
 
   -- a table with a first record
-  pub table-begun : (first : records.Row) (items : List records.Row) → Some first ≡ slice_get deref 0 → items ≡ vs → names_of_table bytes ≡ names_from [] (map (record_row (length (records.fields_of first))) items)
-  table-begun first items some is = table ∙ begun deref first some ∙ ap (λ l. names_from [] (map (record_row (length (records.fields_of first))) l)) (same ∙ sym is)
+  pub table-begun : (first : records.Row) (items : List records.Row) → Some first ≡ slice_get deref 0 → items ≡ vs → names_of_table bytes ≡ names_from [] (map (record_field (length (records.fields_of first))) items)
+  table-begun first items some is = table ∙ begun deref first some ∙ ap (λ l. names_from [] (map (record_field (length (records.fields_of first))) l)) (same ∙ sym is)

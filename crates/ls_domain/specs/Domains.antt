@@ -28,9 +28,9 @@ pub record IsDomain (names : List Text) : Type 0 where
 
 -- ---- reading
 
--- a row: its name, or none where its record has another number of fields than the first one
-abbrev pub Row : Type 0
-Row = Option Text
+-- the first field of a row, or none where its record has another number of fields than the first one
+abbrev pub FirstField : Type 0
+FirstField = Option Text
 
 -- what is wrong with a name that comes after the names of the earlier rows: it is no name, or else an earlier row has it, or else
 -- there are too many. Rows are counted from 1.
@@ -42,13 +42,13 @@ name_fault earlier w =
     else None
 
 -- the earlier names and then those of the rows, or the fault of the first row that has one
-unfoldable pub names_from : List Text → List Row → Result (List Text) DomainFault
+unfoldable pub names_from : List Text → List FirstField → Result (List Text) DomainFault
 names_from earlier [] = Ok earlier
 names_from earlier (None ∷ rows) = Err (BadCsv (length earlier + 1))
 names_from earlier (Some w ∷ rows) = option_map_or (λ fault. Err fault) (name_fault earlier w) (names_from (earlier ++ w ∷ []) rows)
 
 -- the names of rows, of which there is at least one
-abbrev pub names_of : List Row → Result (List Text) DomainFault
+abbrev pub names_of : List FirstField → Result (List Text) DomainFault
 names_of [] = Err NoItems
 names_of (row ∷ rows) = names_from [] (row ∷ rows)
 
@@ -63,20 +63,20 @@ table_records bytes = records default_config (strip_bom bytes)
 abbrev pub first_field : List Text → Text
 first_field fields = slice_index_or fields 0 []
 
--- the row of a record, where records have so many fields
-abbrev pub row_of : ℕ → List Text → Row
-row_of width fields = if length fields == width then Some (first_field fields) else None
+-- the first field of a record, where records have so many fields
+abbrev pub even_field : ℕ → List Text → FirstField
+even_field width fields = if length fields == width then Some (first_field fields) else None
 
 -- how many fields the first record has
 abbrev pub width_of : List (List Text) → ℕ
 width_of table = length (slice_index_or table 0 [])
 
-abbrev pub rows_of : List (List Text) → List Row
-rows_of table = map (row_of (width_of table)) table
+abbrev pub first_fields : List (List Text) → List FirstField
+first_fields table = map (even_field (width_of table)) table
 
 -- the first field of each record is a name, and further fields are passed over
 abbrev pub names_of_table : List ℕ → Result (List Text) DomainFault
-names_of_table bytes = names_of (rows_of (table_records bytes))
+names_of_table bytes = names_of (first_fields (table_records bytes))
 
 -- ---- faults
 

@@ -7,14 +7,19 @@ ghost use Rattle.ls_domain.specs.Domains.{IsDomain, first_field, names_of_table,
 
 /// The names of a domain and its numbers stand for each other, one to one. Nothing is done.
 pub fn names_and_numbers_agree()
-    ensures number { (names : List Text) (i : ℕ) → IsDomain names → i < length names → number_of names (name_of names i) ≡ Some i }
-    ensures name { (names : List Text) (w : Text) (i : ℕ) → number_of names w ≡ Some i → name_of names i ≡ w }
+    ensures number { (names : List Text) (i : ℕ) → IsDomain names → i < length names
+        → number_of names (name_of names i) ≡ Some i }
+    ensures name { (names : List Text) (w : Text) (i : ℕ)
+        → number_of names w ≡ Some i → name_of names i ≡ w }
 {}
 
-/// What is read from words is a domain, with the words as its names. What is read from a table is one, with the first
-/// fields of the records as its names. Each domain is read from its names. Nothing is done.
+/// What is read from words is a domain, with the words as its names. What is read from a table is
+/// one, with the first fields of the records as its names. Each domain is read from its names.
+/// Nothing is done.
 pub fn domains_are_read()
-    ensures words { (ws names : List Text) → names_of_words ws ≡ Ok names → IsDomain names × (names ≡ ws) }
-    ensures table { (bytes : List ℕ) (names : List Text) → names_of_table bytes ≡ Ok names → IsDomain names × (names ≡ map first_field (table_records bytes)) }
+    ensures words { (ws names : List Text)
+        → names_of_words ws ≡ Ok names → IsDomain names × (names ≡ ws) }
+    ensures table { (bytes : List ℕ) (names : List Text) → names_of_table bytes ≡ Ok names
+        → IsDomain names × (names ≡ map first_field (table_records bytes)) }
     ensures again { (names : List Text) → IsDomain names → names_of_words names ≡ Ok names }
 {}

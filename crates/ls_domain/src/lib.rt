@@ -1,5 +1,5 @@
-//! The names of the items: how they are read, which item has which name, and how sets are read and printed by
-//! them.
+//! The names of the items: how they are read, which item has which name, and how sets are read and
+//! printed by them.
 #![tactic(auto)]
 
 mod domain;

@@ -9,7 +9,8 @@ use std::alloc::{AllocError, Global};
 
 /// The records of a table with no header row, up to the first that is one too many for a domain.
 pub(crate) fn first_records(alloc: Global, bytes: &[u8]) -> Result<Vec<ByteRecord>, AllocError>
-    ensures { IfOk result (λ v. map fields_of v.items ≡ take (PLACES + 1) (table_records bytes.now)) }
+    ensures { IfOk result (λ v.
+        map fields_of v.items ≡ take (PLACES + 1) (table_records bytes.now)) }
 {
     let reader = ReaderBuilder::new()
         .has_headers(false)

@@ -3,6 +3,7 @@ use Rattle.std.proofs.Common.{ℕ, zero, suc, ◌≡◌, refl, sym, ap, subst, �
 use Rattle.std.specs.Cmp.Lexicographic.{same_text}
 use Rattle.std.specs.List.{filter, list_all, slice_get}
 use Rattle.std.proofs.lemmas.Option.{none-some, same_Some}
+use Rattle.std.proofs.lemmas.Bool.{and_parts}
 use Rattle.ls_lines.specs.Lines.{Text}
 use Rattle.ls_lines.specs.Forms.{spelling, parts, forms}
 use Rattle.ls_lines.specs.Grammar.{IsLine, done, fixed, one, no_more, one_more}
@@ -17,7 +18,6 @@ use Rattle.ls_lines.specs.declared.structure_form.StructureForm.TheVariants as s
 use Rattle.ls_lines.specs.declared.pupil_form.PupilForm.TheVariants as pupil
 use Rattle.ls_lines.specs.declared.part.Part.{Part}
 use Rattle.ls_lines.specs.declared.part.Part.TheVariants.{Fixed, One, Many}
-use Rattle.ls_lines.proofs.Numbers.{both}
 
 -- whether the two may have a line in common: their fixed words agree as far as no `Many` stands before, and so do their lengths
 abbrev clash : List Part → List Part → Bool
@@ -106,8 +106,8 @@ placed f = kept_place (λ g. clash (parts f) (parts g)) forms f [] (alone f)
 -- what is true of each form of the table is true of each form
 passes_at : (test : Form → Bool) (fs : List Form) (i : ℕ) (f : Form) → list_all test fs ≡ true → slice_get fs i ≡ Some f → test f ≡ true
 passes_at test [] i f all at = absurd (none-some f at)
-passes_at test (g ∷ fs) zero f all at = subst (λ d. test d ≡ true) (same_Some g f at) (both (test g) (list_all test fs) all).0
-passes_at test (g ∷ fs) (suc i) f all at = passes_at test fs i f (both (test g) (list_all test fs) all).1 at
+passes_at test (g ∷ fs) zero f all at = subst (λ d. test d ≡ true) (same_Some g f at) (and_parts (test g) (list_all test fs) all).0
+passes_at test (g ∷ fs) (suc i) f all at = passes_at test fs i f (and_parts (test g) (list_all test fs) all).1 at
 
 pub each_passes : (test : Form → Bool) → list_all test forms ≡ true → (f : Form) → test f ≡ true
 each_passes test all f = passes_at test forms (placed f).0 f all (placed f).1

@@ -16,14 +16,6 @@ has_line ws f = is_some (cut (parts f) ws)
 abbrev readings : List Form → List Text → List Command
 readings fs ws = filter_map (λ f. option_map (command f) (cut (parts f) ws)) fs
 
-pub found-passes : {X : Type 0} (test : X → Bool) (xs : List X) (x : X) → find test xs ≡ Some x → test x ≡ true
-found-passes test [] x h = absurd (none-some x h)
-found-passes test (y ∷ xs) x h =
-    elim (test y) as (λ t. test y ≡ t → cond t (Some y) (find test xs) ≡ Some x → test x ≡ true) [
-      | true ↦ λ e k. subst (λ z. test z ≡ true) (same_Some y x k) e
-      | false ↦ λ e k. found-passes test xs x k
-    ] refl h
-
 first_found : (fs : List Form) (ws : List Text) (f : Form) (given : List (List Text)) → find (has_line ws) fs ≡ Some f → cut (parts f) ws ≡ Some given → slice_get (readings fs ws) 0 ≡ Some (command f given)
 first_found [] ws f given h k = absurd (none-some f h)
 first_found (g ∷ fs) ws f given h k =

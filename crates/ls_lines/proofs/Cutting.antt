@@ -4,11 +4,12 @@ use Rattle.std.specs.Option.{IsSome}
 use Rattle.std.proofs.lemmas.Bool.{cases_lt}
 use Rattle.std.proofs.lemmas.Bool.Decides.{nat_tests}
 use Rattle.std.proofs.lemmas.List.{append-nil, append_assoc, drop_more, drop_all, drop-drop}
+use Rattle.ls_lists.proofs.Bools.{never}
+use Rattle.ls_lists.proofs.Options.{is_some-mapped}
 use Rattle.ls_lines.specs.Lines.{Text}
 use Rattle.ls_lines.specs.Commands.{front, cut}
 use Rattle.ls_lines.specs.Reading.{begun_length}
 use Rattle.ls_lines.specs.declared.part.Part.{Part}
-use Rattle.ls_lines.proofs.Numbers.{never}
 
 abbrev onto : List (List Text) → Option (List (List Text)) → Option (List (List Text))
 onto given more = option_map (λ lists. given ++ lists) more
@@ -61,10 +62,6 @@ cut_whole ps i ws start given le within h e =
     ] (sym (ap is_some ended) ∙ h)
 
 -- the same of whether the words are a line
-is_some-mapped : {X Y : Type 0} (f : X → Y) (o : Option X) → is_some (option_map f o) ≡ is_some o
-is_some-mapped f None = refl
-is_some-mapped f (Some x) = refl
-
 pub line_more : (ps : List Part) (i : ℕ) (d : Part) (ws : List Text) (start m : ℕ) → i < length ps → front (get_or ps i d) (drop start ws) ≡ Some m →
     is_some (cut (drop (i + 1) ps) (drop (start + m) ws)) ≡ is_some (cut (drop i ps) (drop start ws))
 line_more ps i d ws start m lt h =

@@ -3,6 +3,8 @@ use Rattle.std.proofs.Common.{ℕ, ◌≡◌, refl, sym, ap, subst, ◌∙◌, B
 use Rattle.std.specs.Option.{option_map_or, option_and_then}
 use Rattle.std.proofs.lemmas.List.{append-nil}
 use Rattle.std.proofs.lemmas.Cmp.{nat_list_eq_equiv}
+use Rattle.ls_lists.proofs.Bools.{never}
+use Rattle.ls_lists.proofs.Options.{is_some-mapped, passed, passes}
 use Rattle.ls_lines.specs.Lines.{Text}
 use Rattle.ls_lines.specs.Forms.{spelling, parts}
 use Rattle.ls_lines.specs.Commands.{front, cut, is_begun}
@@ -10,22 +12,9 @@ use Rattle.ls_lines.specs.Grammar.{IsLine, Completes, done, fixed, one, no_more}
 use Rattle.ls_lines.specs.declared.form.Form.{Form}
 use Rattle.ls_lines.specs.declared.part.Part.{Part}
 use Rattle.ls_lines.specs.declared.part.Part.TheVariants.{Fixed, One, Many}
-use Rattle.ls_lines.proofs.Numbers.{never}
 use Rattle.ls_lines.proofs.Solid.{sample}
 use Rattle.ls_lines.proofs.Places.{begun_by_none}
 use Rattle.ls_lines.proofs.Parted.{many_end, forms_end, many_end-rest, joined, parted}
-
--- a test of what `front` leaves
-passed : (test : ℕ → Bool) (o : Option ℕ) → option_map_or test o false ≡ true → (m : ℕ) × (o ≡ Some m) × (test m ≡ true)
-passed test None h = never h
-passed test (Some m) h = (m, refl, h)
-
-passes : (test : ℕ → Bool) (o : Option ℕ) (m : ℕ) → o ≡ Some m → test m ≡ true → option_map_or test o false ≡ true
-passes test o m e h = rw e h
-
-is_some-mapped : {X Y : Type 0} (f : X → Y) (o : Option X) → is_some (option_map f o) ≡ is_some o
-is_some-mapped f None = refl
-is_some-mapped f (Some x) = refl
 
 -- the words are a line of the parts, as far as `cut` tells
 abbrev is_cut : List Part → List Text → Bool

@@ -8,22 +8,15 @@ use Rattle.std.specs.Result.{OkIff}
 use Rattle.std.proofs.lemmas.Fmt.{decimal_nonempty, decimal_digit, first_decimal, digits_decimal, digits_value-decimal}
 use Rattle.std.proofs.lemmas.Str.Ascii.{IsAscii-nil, IsAscii-cons}
 use Rattle.std.proofs.lemmas.Str.Parse.{IsNumeralModel, IsDigitsTest, numerals_by_value, parse_digits}
-use Rattle.std.proofs.lemmas.Bool.{cases_lt, ltb-true, leb-true, lt-ltb, le-leb}
+use Rattle.std.proofs.lemmas.Bool.{cases_lt, ltb-true, leb-true, lt-ltb, le-leb, and_parts}
 use Rattle.std.proofs.lemmas.Bool.Decides.{nat_tests}
 use Rattle.ls_lines.specs.Lines.{Text}
 use Rattle.ls_lines.specs.Numbers.{is_digit, is_decimal, number_up_to}
 
-pub never : {A : Type 0} → false ≡ true → A
-never e = absurd (cc e)
-
-pub both : (a b : Bool) → a && b ≡ true → (a ≡ true) × (b ≡ true)
-both true b h = (refl, h)
-both false b h = never h
-
 pub ascii_where : (test : ℕ → Bool) → ((b : ℕ) → test b ≡ true → b < 128) → (w : Text) → list_all test w ≡ true → IsAscii w
 ascii_where test below [] h = IsAscii-nil
 ascii_where test below (b ∷ w) h =
-    let parts = both (test b) (list_all test w) h in
+    let parts = and_parts (test b) (list_all test w) h in
     IsAscii-cons b w (below b parts.0) (ascii_where test below w parts.1)
 
 is_digit-ascii : (b : ℕ) → is_digit b ≡ true → b < 128
@@ -32,8 +25,8 @@ is_digit-ascii b h = grind (arith, nat_tests)
 -- a decimal number is some digits
 pub some_digits : (w : Text) → is_decimal w ≡ true → (0 < length w) × (list_all is_digit w ≡ true)
 some_digits w h =
-    let parts = both (nat_lt 0 (length w) && list_all is_digit w) (length w == 1 || not (slice_index w 0 == 48)) h in
-    let some = both (nat_lt 0 (length w)) (list_all is_digit w) parts.0 in
+    let parts = and_parts (nat_lt 0 (length w) && list_all is_digit w) (length w == 1 || not (slice_index w 0 == 48)) h in
+    let some = and_parts (nat_lt 0 (length w)) (list_all is_digit w) parts.0 in
     let long : 0 < length w = ltb-true 0 (length w) some.0 in
     (long, some.1)
 
@@ -51,7 +44,7 @@ number_up_to-decimal most w h =
 pub number-within : (most : ℕ) (w : Text) → unwrap_or (number_up_to most w) 0 ≤ most
 number-within most w =
     elim (is_decimal w && nat_le (digits_value 10 w) most) as (λ t. is_decimal w && nat_le (digits_value 10 w) most ≡ t → unwrap_or (cond t (Some (digits_value 10 w)) None) 0 ≤ most) [
-      | true ↦ λ e. leb-true (digits_value 10 w) most (both (is_decimal w) (nat_le (digits_value 10 w) most) e).1
+      | true ↦ λ e. leb-true (digits_value 10 w) most (and_parts (is_decimal w) (nat_le (digits_value 10 w) most) e).1
       | false ↦ λ e. omega arith
     ] refl
 

@@ -3,6 +3,8 @@ use Rattle.std.proofs.Common.{ℕ, suc, ◌+◌, ◌≡◌, ◌⊎◌, inl, inr,
 use Rattle.std.specs.List.{list_all, prefix_len}
 use Rattle.std.specs.Cmp.Lexicographic.{same_text}
 use Rattle.std.proofs.lemmas.Option.{same_Some, none-some, cond_some}
+use Rattle.std.proofs.lemmas.Bool.{and_parts}
+use Rattle.ls_lists.proofs.Bools.{never}
 use Rattle.ls_lines.specs.Lines.{Text}
 use Rattle.ls_lines.specs.Kinds.{is_of}
 use Rattle.ls_lines.specs.Forms.{spelling, parts, forms}
@@ -12,7 +14,6 @@ use Rattle.ls_lines.specs.declared.kind.Kind.{Kind}
 use Rattle.ls_lines.specs.declared.form.Form.{Form}
 use Rattle.ls_lines.specs.declared.part.Part.{Part}
 use Rattle.ls_lines.specs.declared.part.Part.TheVariants.{Fixed, One, Many}
-use Rattle.ls_lines.proofs.Numbers.{never, both}
 use Rattle.ls_lines.proofs.Apart.{each_passes}
 
 -- whether any number of words of the kind end where these parts begin: at no part, or at a fixed word that is not of the kind
@@ -82,8 +83,8 @@ pub parted : (part : Part) (ps : List Part) (w : Text) (ws more : List Text) →
     (m : ℕ) × (front part (w ∷ ws) ≡ Some m) × (((drop m (w ∷ ws) ≡ []) × IsLine (part ∷ ps) more) ⊎ IsLine ps (drop m (w ∷ ws) ++ more))
 parted (Fixed v) ps w ws more p (fixed e h) = (1, rw e refl, inr h)
 parted (One k) ps w ws more p (one e h) = (1, rw e refl, inr h)
-parted (Many k) ps w ws more p h = (prefix_len (is_of k) (w ∷ ws), refl, behind k ps (w ∷ ws) more (both (ends k ps) (many_end ps) p).0 h)
+parted (Many k) ps w ws more p h = (prefix_len (is_of k) (w ∷ ws), refl, behind k ps (w ∷ ws) more (and_parts (ends k ps) (many_end ps) p).0 h)
 
 pub many_end-rest : (part : Part) (ps : List Part) → many_end (part ∷ ps) ≡ true → many_end ps ≡ true
-many_end-rest (Many k) ps p = (both (ends k ps) (many_end ps) p).1
+many_end-rest (Many k) ps p = (and_parts (ends k ps) (many_end ps) p).1
 many_end-rest part ps p = p

@@ -3,6 +3,7 @@ use Rattle.std.proofs.Common.{ℕ, ◌+◌, ◌-◌, ◌<◌, ◌≤◌, ◌≡�
 use Rattle.std.proofs.lemmas.List.{append-nil, append_assoc, drop_more, drop_all, length-append}
 use Rattle.std.proofs.lemmas.List.Concat.{flat_map-append}
 use Rattle.std.proofs.Math.Seq.{take-append_seam, take-nil}
+use Rattle.ls_lists.proofs.Places.{without_last}
 use Rattle.ls_lines.specs.Lines.{Text}
 use Rattle.ls_lines.specs.Forms.{spelling}
 use Rattle.ls_lines.specs.Printing.{laid_out, words_joined}
@@ -16,11 +17,6 @@ use Rattle.ls_lines.specs.declared.part.Part.TheVariants.{Fixed}
 spaced : (w : Text) (ws : List Text) → with_spaces (w ∷ ws) ≡ words_joined (w ∷ ws) ++ 32 ∷ []
 spaced w [] = append-nil (w ++ 32 ∷ [])
 spaced w (v ∷ ws) = ap (λ t. (w ++ 32 ∷ []) ++ t) (spaced v ws) ∙ simp append_assoc
-
-without_last : (t : List ℕ) (b : ℕ) → take (length (t ++ b ∷ []) - 1) (t ++ b ∷ []) ≡ t
-without_last t b =
-    let shorter : length (t ++ b ∷ []) - 1 ≡ length t = omega (arith, length-append t (b ∷ [])) in
-    rw shorter (take-append_seam t (b ∷ []))
 
 pub trimmed : (ws : List Text) (n : ℕ) → n ≡ length (with_spaces ws) → take (n - 1) (with_spaces ws) ≡ words_joined ws
 trimmed [] n e = take-nil (n - 1)

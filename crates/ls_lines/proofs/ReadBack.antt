@@ -2,8 +2,9 @@
 use Rattle.std.proofs.Common.{ℕ, ◌≡◌, ◌∙◌, refl, ap, arith, Bool, true, false, if◌then◌else◌, nat_le, List, [], ◌∷◌, map, Some, None, is_some, codes, bytes_eq}
 use Rattle.std.specs.Fmt.{decimal}
 use Rattle.std.specs.List.{list_all}
-use Rattle.std.proofs.lemmas.Bool.{leb-true}
+use Rattle.std.proofs.lemmas.Bool.{leb-true, and_parts}
 use Rattle.std.proofs.lemmas.Cmp.{nat_list_eq_equiv}
+use Rattle.ls_lists.proofs.Bools.{never}
 use Rattle.ls_lines.specs.Lines.{Text, words}
 use Rattle.ls_lines.specs.Numbers.{number_up_to}
 use Rattle.ls_lines.specs.Kinds.{is_of, most_counted, greatest_number}
@@ -16,7 +17,7 @@ use Rattle.ls_lines.specs.declared.part.Part.{Part}
 use Rattle.ls_lines.specs.declared.part.Part.TheVariants.{Fixed, One, Many}
 use Rattle.ls_lines.specs.declared.command.Command.{Command}
 use Rattle.ls_lines.specs.declared.command.Command.TheVariants as commands
-use Rattle.ls_lines.proofs.Numbers.{never, both, number_up_to-of_decimal}
+use Rattle.ls_lines.proofs.Numbers.{number_up_to-of_decimal}
 use Rattle.ls_lines.proofs.Rewords.{begins, words-line}
 use Rattle.ls_lines.proofs.Recut.{fits_at, all_fit, flat, recut, words-fit}
 use Rattle.ls_lines.proofs.Parted.{forms_end}
@@ -63,7 +64,7 @@ fits-all [] [] h = refl
 fits-all [] (f ∷ fs) h = never h
 fits-all (Fixed v ∷ ps) fs h = rw (nat_list_eq_equiv.refl (spelling v)) (fits-all ps fs h)
 fits-all (part ∷ ps) [] h = never h
-fits-all (part ∷ ps) (f ∷ fs) h = let p = both (stands_at part f) (all_stand ps fs) h in rw (fits-one part f p.0) (fits-all ps fs p.1)
+fits-all (part ∷ ps) (f ∷ fs) h = let p = and_parts (stands_at part f) (all_stand ps fs) h in rw (fits-one part f p.0) (fits-all ps fs p.1)
 
 -- the words of a command at the parts of its form
 abbrev given_of : Command → List (List Text)
@@ -76,10 +77,10 @@ fitted c h = fits-all (parts (form_of c)) (operands c) h
 rebuilt : (c : Command) → is_plain c ≡ true → command (form_of c) (given_of c) ≡ c
 unfolding is_plain form_of operands parts laid_out command
 rebuilt commands.Nothing h = refl
-rebuilt (commands.States count None) h = grind (arith, both, count-read)
-rebuilt (commands.Project count None names) h = grind (arith, both, count-read)
-rebuilt (commands.Paths count None) h = grind (arith, both, count-read)
-rebuilt c h = grind (arith, both, count-read, number-read, right-read)
+rebuilt (commands.States count None) h = grind (arith, and_parts, count-read)
+rebuilt (commands.Project count None names) h = grind (arith, and_parts, count-read)
+rebuilt (commands.Paths count None) h = grind (arith, and_parts, count-read)
+rebuilt c h = grind (arith, and_parts, count-read, number-read, right-read)
 
 -- each form but that of nothing begins with a word of its own, which makes no note of the line
 abbrev own_first : List Part → Bool

@@ -1,14 +1,14 @@
 -- The words of a line of words.
 use Rattle.std.proofs.Common.{ℕ, zero, suc, ◌-◌, ◌≡◌, ◌∙◌, ◌⊎◌, inl, inr, refl, sym, ap, arith, Bool, true, false, not, ◌&&◌, ◌==◌, List, [], ◌∷◌, ◌++◌, length, slice_index}
 use Rattle.std.specs.List.{list_all}
-use Rattle.std.proofs.lemmas.Bool.{lt-ltb}
+use Rattle.std.proofs.lemmas.Bool.{lt-ltb, and_parts, not-true}
 use Rattle.std.proofs.lemmas.Bool.Decides.{nat_tests}
 use Rattle.std.proofs.lemmas.List.{append-nil, append_assoc}
 use Rattle.std.proofs.lemmas.List.Folds.{list_all-append}
+use Rattle.ls_lists.proofs.Bools.{never}
 use Rattle.ls_lines.specs.Lines.{Text, words, is_note, is_blank, parts_words}
 use Rattle.ls_lines.specs.Kinds.{is_cursor_byte}
 use Rattle.ls_lines.specs.Printing.{words_joined}
-use Rattle.ls_lines.proofs.Numbers.{never, both}
 use Rattle.ls_lines.proofs.Runs.{word_of, stands_alone, runs_from, runs-byte_by_byte}
 use Rattle.ls_lines.proofs.Solid.{IsSolid}
 
@@ -30,7 +30,7 @@ cursor_byte-alone b h = grind (arith, nat_tests)
 run_on : (run w bs : List ℕ) → list_all is_cursor_byte w ≡ true → runs_from run (w ++ bs) ≡ runs_from (run ++ w) bs
 run_on run [] bs h = rw append-nil refl
 run_on run (b ∷ w) bs h =
-    let parts = both (is_cursor_byte b) (list_all is_cursor_byte w) h in
+    let parts = and_parts (is_cursor_byte b) (list_all is_cursor_byte w) h in
     rw (cursor_byte-parts b parts.0, cursor_byte-alone b parts.0) (run_on (run ++ b ∷ []) w bs parts.1 ∙ ap (λ r. runs_from r bs) (append_assoc run (b ∷ []) w))
 
 word_of-solid : (w : Text) → IsSolid w → word_of w ≡ w ∷ []
@@ -59,14 +59,10 @@ stays b = not (b == 13)
 cursor_byte-stays : (b : ℕ) → is_cursor_byte b ≡ true → stays b ≡ true
 cursor_byte-stays b h = grind (arith, nat_tests)
 
-pub not_true : (b : Bool) → not b ≡ true → b ≡ false
-not_true true h = never h
-not_true false h = refl
-
 cursor_bytes-stay : (w : Text) → list_all is_cursor_byte w ≡ true → list_all stays w ≡ true
 cursor_bytes-stay [] h = refl
 cursor_bytes-stay (b ∷ w) h =
-    let parts = both (is_cursor_byte b) (list_all is_cursor_byte w) h in
+    let parts = and_parts (is_cursor_byte b) (list_all is_cursor_byte w) h in
     let here : stays b ≡ true = cursor_byte-stays b parts.0 in
     rw here (cursor_bytes-stay w parts.1)
 
@@ -82,8 +78,8 @@ line-stays (w ∷ v ∷ ws) h = list_all-append stays w (32 ∷ words_joined (v 
 
 no_return : (line : List ℕ) (i : ℕ) → list_all stays line ≡ true → (slice_index line i == 13) ≡ false
 no_return [] i h = refl
-no_return (b ∷ line) zero h = let here = (both (stays b) (list_all stays line) h).0 in grind (arith, nat_tests)
-no_return (b ∷ line) (suc i) h = no_return line i (both (stays b) (list_all stays line) h).1
+no_return (b ∷ line) zero h = let here = (and_parts (stays b) (list_all stays line) h).0 in grind (arith, nat_tests)
+no_return (b ∷ line) (suc i) h = no_return line i (and_parts (stays b) (list_all stays line) h).1
 
 -- whether the first word begins neither with a blank nor with `#`
 abbrev pub begins : List Text → Bool
@@ -93,9 +89,9 @@ begins ((b ∷ w) ∷ ws) = not (is_blank b) && not (b == 35)
 
 no_note : (b : ℕ) (bs : List ℕ) → not (is_blank b) && not (b == 35) ≡ true → is_note (b ∷ bs) ≡ false
 no_note b bs h =
-    let parts = both (not (is_blank b)) (not (b == 35)) h in
-    let blank : is_blank b ≡ false = not_true (is_blank b) parts.0 in
-    rw blank (not_true (b == 35) parts.1)
+    let parts = and_parts (not (is_blank b)) (not (b == 35)) h in
+    let blank : is_blank b ≡ false = not-true (is_blank b) parts.0 in
+    rw blank (not-true (b == 35) parts.1)
 
 line-no_note : (ws : List Text) → begins ws ≡ true → is_note (words_joined ws) ≡ false
 line-no_note [] h = refl

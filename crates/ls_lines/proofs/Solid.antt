@@ -2,18 +2,18 @@
 use Rattle.std.proofs.Common.{ℕ, ◌<◌, ◌≡◌, refl, sym, subst, arith, Bool, true, false, not, ◌||◌, ◌==◌, [], ◌∷◌, length, nat_lt, nat_le, slice_index, bytes_eq, codes}
 use Rattle.std.specs.List.{list_all}
 use Rattle.std.specs.Cmp.Lexicographic.{same_text}
-use Rattle.std.proofs.lemmas.Bool.{ltb-true, leb-true}
+use Rattle.std.proofs.lemmas.Bool.{ltb-true, leb-true, and_parts}
 use Rattle.std.proofs.lemmas.Bool.Decides.{nat_tests}
 use Rattle.ls_lines.specs.Lines.{Text}
 use Rattle.ls_lines.specs.Numbers.{is_digit, is_decimal}
 use Rattle.ls_lines.specs.Kinds.{is_of, is_from_to, is_name_byte, is_name_up_to, is_cursor_byte, longest_name, longest_file_name, most_counted, greatest_number}
 use Rattle.ls_lines.specs.declared.kind.Kind.{Kind}
 use Rattle.ls_lines.specs.declared.kind.Kind.TheVariants as kind
-use Rattle.ls_lines.proofs.Numbers.{both, some_digits, number_up_to-decimal}
+use Rattle.ls_lines.proofs.Numbers.{some_digits, number_up_to-decimal}
 
 all_where : (p q : ℕ → Bool) → ((b : ℕ) → p b ≡ true → q b ≡ true) → (w : Text) → list_all p w ≡ true → list_all q w ≡ true
 all_where p q more [] h = refl
-all_where p q more (b ∷ w) h = let parts = both (p b) (list_all p w) h in rw (more b parts.0) (all_where p q more w parts.1)
+all_where p q more (b ∷ w) h = let parts = and_parts (p b) (list_all p w) h in rw (more b parts.0) (all_where p q more w parts.1)
 
 -- some bytes, all of which are cursor bytes
 pub record IsSolid (w : Text) : Type 0 where
@@ -28,8 +28,8 @@ is_digit-cursor b h = grind (arith, nat_tests)
 
 name-solid : (most : ℕ) (w : Text) → is_name_up_to most w ≡ true → IsSolid w
 name-solid most w h =
-    let parts = both (is_from_to 1 most (length w)) (list_all is_name_byte w) h in
-    let long = leb-true 1 (length w) (both (nat_le 1 (length w)) (nat_le (length w) most) parts.0).0 in
+    let parts = and_parts (is_from_to 1 most (length w)) (list_all is_name_byte w) h in
+    let long = leb-true 1 (length w) (and_parts (nat_le 1 (length w)) (nat_le (length w) most) parts.0).0 in
     record { long = omega arith; bytes = all_where is_name_byte is_cursor_byte is_name_byte-cursor w parts.1 }
 
 decimal-solid : (w : Text) → is_decimal w ≡ true → IsSolid w
@@ -46,10 +46,10 @@ pub kind-solid : (k : Kind) (w : Text) → is_of k w ≡ true → IsSolid w
 unfolding is_of
 kind-solid kind.Name w h = name-solid longest_name w h
 kind-solid kind.Item w h = name-solid longest_name w h
-kind-solid kind.File w h = name-solid longest_file_name w (both (is_name_up_to longest_file_name w) (not (slice_index w 0 == 46)) h).0
+kind-solid kind.File w h = name-solid longest_file_name w (and_parts (is_name_up_to longest_file_name w) (not (slice_index w 0 == 46)) h).0
 kind-solid kind.Count w h = decimal-solid w (number_up_to-decimal most_counted w h)
 kind-solid kind.Number w h = decimal-solid w (number_up_to-decimal greatest_number w h)
-kind-solid kind.Cursor w h = let parts = both (nat_lt 0 (length w)) (list_all is_cursor_byte w) h in record { long = ltb-true 0 (length w) parts.0; bytes = parts.1 }
+kind-solid kind.Cursor w h = let parts = and_parts (nat_lt 0 (length w)) (list_all is_cursor_byte w) h in record { long = ltb-true 0 (length w) parts.0; bytes = parts.1 }
 kind-solid kind.Right w h = either (codes "right") (codes "wrong") w (record { long = omega arith; bytes = refl }) (record { long = omega arith; bytes = refl }) h
 
 pub sample : (k : Kind) → (w : Text) × (is_of k w ≡ true)

@@ -5,30 +5,11 @@ use Rattle.std.specs.List.{position, position_or_len}
 use Rattle.std.proofs.lemmas.Bool.{cases_Bool, cases_lt}
 use Rattle.std.proofs.lemmas.List.{map-append}
 use Rattle.std.proofs.lemmas.List.Elements.{filter-append}
+use Rattle.ls_lists.proofs.Places.{first-front, first-rest, position-lt, position-here, position-later, is_some-position}
 use Rattle.ls_lines.specs.Lines.{Text}
 use Rattle.ls_domain.specs.Meanings.{is_named, number_of, first_unnamed}
 use Rattle.ls_domain.specs.declared.unknown_at.UnknownAt.{UnknownAt}
-use Rattle.ls_domain.proofs.Positions.{position-here, position-later, is_some-position}
 use Rattle.ls_reply.specs.Meanings.{placed, query_words, unnamed}
-
--- the first of what is joined is that of the front, or else that of the rest
-first-front : {X : Type 0} (xs ys : List X) (x : X) → slice_get xs 0 ≡ Some x → slice_get (xs ++ ys) 0 ≡ Some x
-first-front [] ys x e = absurd (cc e)
-first-front (z ∷ zs) ys x e = e
-
-first-rest : {X : Type 0} (xs ys : List X) → slice_get xs 0 ≡ None → slice_get (xs ++ ys) 0 ≡ slice_get ys 0
-first-rest [] ys e = refl
-first-rest (z ∷ zs) ys e = absurd (cc e)
-
-position-lt : {X : Type 0} (p : X → Bool) (xs : List X) (i : ℕ) → position p xs ≡ Some i → i < length xs
-position-lt p xs i e = elim (cases_lt (position_or_len p xs) (length xs)) [
-  | inl l ↦ let f : Some (position_or_len p xs) ≡ Some i = rw (lt-ltb _ _ l) at e in let same : position_or_len p xs ≡ i = cc in omega arith
-  | inr g ↦ absurd (let f : None ≡ Some i = rw (le-ltb _ _ g) at e in cc)
-]
-
-pub none-first : {X : Type 0} (xs : List X) → slice_get xs 0 ≡ None → xs ≡ []
-none-first [] e = refl
-none-first (x ∷ xs) e = absurd (cc e)
 
 next_place : (n : ℕ) (o : Option ℕ) → option_map (λ i. suc n + i) o ≡ option_map (λ i. n + i) (option_map (λ i. 1 + i) o)
 next_place n None = refl

@@ -1,4 +1,5 @@
-//! What the words of commands mean on named items: each command is resolved once, and what carries it out speaks of items.
+//! What the words of commands mean on named items: each command is resolved once, and what carries
+//! it out speaks of items.
 #![tactic(auto)]
 
 mod query;

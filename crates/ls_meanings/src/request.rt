@@ -29,13 +29,14 @@ pub fn asks(command: &Command) -> bool
     )
 }
 
-/// What the command asks of the interview on a domain's items, or `None` where it asks nothing of one. The error is the
-/// first of its words that must name an item and doesn't.
+/// What the command asks of the interview on a domain's items, or `None` where it asks nothing of
+/// one. The error is the first of its words that must name an item and doesn't.
 pub fn resolve(domain: &Domain, command: &Command) -> Result<Option<Request>, Unnamed>
     ensures request { IfOk result (λ r. r ≡ request_of domain.now command.now) }
     ensures on { IfOk result (IsAskedOn (length domain.now)) }
     ensures named { OnOk result (unnamed_places domain.now command.now ≡ []) }
-    ensures unnamed { IfErr result (λ u. slice_get (unnamed_places domain.now command.now) 0 ≡ Some u.place) }
+    ensures unnamed { IfErr result (λ u.
+        slice_get (unnamed_places domain.now command.now) 0 ≡ Some u.place) }
 {
     let request = match command {
         Command::Blocks { size } => Request::Edit(Edit::Blocks { size: *size }),

@@ -1,6 +1,7 @@
 use Rattle.std.proofs.Common.{◌∙◌, ap, sym, Some}
+use Rattle.ls_lists.proofs.Finds.{found-passes}
 use Rattle.ls_lines.specs.Forms.{forms}
-use Rattle.ls_lines.proofs.Choosing.{has_line, found-passes, command_of-form, command_of-none}
+use Rattle.ls_lines.proofs.Choosing.{has_line, command_of-form, command_of-none}
 use Rattle.ls_lines.proofs.reading.command_of.Goals as goal
 
 pub returns-in_default : goal.returns-in_default

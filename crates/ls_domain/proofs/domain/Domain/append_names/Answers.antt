@@ -2,8 +2,9 @@ use Rattle.std.proofs.Common.{◌≡◌, ◌∙◌, [], ◌∷◌, ◌++◌, len
 use Rattle.std.proofs.Math.Seq.{take-append_seam}
 use Rattle.std.specs.List.{join_with_byte}
 use Rattle.ls_set.specs.ItemSet.{items}
+use Rattle.ls_lists.proofs.Joins.{gap-snoc}
 use Rattle.ls_domain.specs.Texts.{name_of, names_of_set}
-use Rattle.ls_domain.proofs.Joins.{gap-snoc, join_more}
+use Rattle.ls_domain.proofs.Joins.{word_joined}
 use Rattle.ls_domain.proofs.Numbers.{listed-below}
 use Rattle.ls_domain.proofs.domain.Domain.append_names.Goals as goal
 
@@ -13,7 +14,7 @@ name-requires c =
 
 pub loop-item-preserved : goal.loop-item-preserved
 loop-item-preserved c = record {
-  joined = join_more (name_of c.args.self.now) c.loop-item.yielded c.in-Some.item c.args.out.now.items c.loop-item.out.items c.extend_from_slice.new.self.items _ _ _ c.loop-item.invariant.joined c.loop-item.invariant.parted c.in_ok-extend_from_slice.ensures.items
+  joined = word_joined (name_of c.args.self.now) c.loop-item.yielded c.in-Some.item c.args.out.now.items c.loop-item.out.items c.extend_from_slice.new.self.items _ _ _ c.loop-item.invariant.joined c.loop-item.invariant.parted c.in_ok-extend_from_slice.ensures.items
       (c.as_bytes.ensures.value ∙ c.name.ensures) c.in_ok-extend_from_slice-2.ensures.items;
   parted = gap-snoc c.loop-item.yielded c.in-Some.item;
   split = append_assoc c.loop-item.yielded (c.in-Some.item ∷ []) (items c.next.new.self) ∙ ap (λ l. c.loop-item.yielded ++ l) (sym c.in-Some.ensures.steps) ∙ c.loop-item.invariant.split;

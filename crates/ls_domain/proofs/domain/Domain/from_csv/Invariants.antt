@@ -1,9 +1,9 @@
 use Rattle.std.proofs.Common.{◌≡◌, [], map, drop, length}
 use Rattle.csv.specs.Records.{fields_of}
 use Rattle.ls_domain.specs.Domains.{names_from}
-use Rattle.ls_domain.proofs.Rows.{record_row}
+use Rattle.ls_domain.proofs.Rows.{record_field}
 use Rattle.ls_domain.proofs.domain.Domain.from_csv.Given as goal
 
 abbrev pub invariant-loop-record : goal.invariant-loop-record
 invariant-loop-record l =
-    names_from [] (map (record_row (length (fields_of l.first))) l.record-items) ≡ names_from l.list (map (record_row (length (fields_of l.first))) (drop l.record-index l.record-items))
+    names_from [] (map (record_field (length (fields_of l.first))) l.record-items) ≡ names_from l.list (map (record_field (length (fields_of l.first))) (drop l.record-index l.record-items))

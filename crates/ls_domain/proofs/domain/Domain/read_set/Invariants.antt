@@ -1,7 +1,7 @@
 use Rattle.std.proofs.Common.{◌≡◌, length, take, drop}
 use Rattle.ls_set.specs.ItemSet.{full, IsWithin}
+use Rattle.ls_lists.specs.Lists.{moved}
 use Rattle.ls_domain.specs.Meanings.{items_of, first_unnamed}
-use Rattle.ls_domain.proofs.Positions.{moved}
 use Rattle.ls_domain.proofs.domain.Domain.read_set.Given as goal
 
 abbrev pub invariant-loop-index : goal.invariant-loop-index

@@ -2,7 +2,7 @@ use Rattle.std.proofs.Common.{◌∙◌, ap, arith, string_bytes}
 use Rattle.std.proofs.lemmas.Grind.{common_steps}
 use Rattle.std.specs.List.{position}
 use Rattle.std.specs.Str.{bytes_eq}
-use Rattle.ls_domain.proofs.Positions.{position-map}
+use Rattle.ls_lists.proofs.Places.{position-map}
 use Rattle.ls_domain.proofs.names.Names.number.Goals as goal
 
 pub returns-clause-value : goal.returns-clause-value

@@ -3,11 +3,11 @@ use Rattle.std.specs.List.{list_any}
 use Rattle.std.specs.Str.{bytes_eq}
 use Rattle.std.specs.String.{string_eq}
 use Rattle.std.proofs.lemmas.List.{map-append}
+use Rattle.ls_lists.proofs.Every.{list_any-map}
 use Rattle.indexmap.specs.IndexSet.{insert_key}
 use Rattle.ls_lines.specs.Lines.{Text}
 use Rattle.ls_domain.specs.Meanings.{is_named}
 use Rattle.ls_domain.specs.Domains.{AreNames}
-use Rattle.ls_domain.proofs.Positions.{list_any-map}
 use Rattle.ls_domain.proofs.Numbers.{AreNames-push}
 use Rattle.ls_domain.proofs.names.Names.push.Goals as goal
 
