@@ -6,9 +6,9 @@ use Rattle.std.specs.List.Sorted.{IsStrictlyIncreasing}
 use Rattle.std.specs.Option.{option_map_or}
 use Rattle.std.proofs.lemmas.Bool.{cases_Bool, and_parts, and_from, or_left, or_right, le-leb}
 use Rattle.std.proofs.lemmas.Bool.Decides.{nat_tests}
+use Rattle.ls_lists.proofs.Sorted.{tail-increasing}
 use Rattle.ls_theory.specs.declared.no.No.{No}
 use Rattle.ls_theory.specs.Words.{first_least}
-use Rattle.ls_laws.proofs.Numbered.{tail-increasing}
 use Rattle.ls_laws.proofs.Least.{first_is_least}
 
 -- the least of the numbers, and of the one that is found before them

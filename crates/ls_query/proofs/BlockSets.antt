@@ -1,5 +1,8 @@
 -- The sets of the blocks: which they are, and that they stand in the order.
 use Rattle.std.proofs.Common.{ℕ, ◌<◌, ◌≤◌, ◌≡◌, inl, inr, true, eqb, ltb, List, [], ◌∷◌, find, None, refl, sym, ◌∙◌, arith, true≢false, ltb-true, eqb-true, eq-eqb}
+use Rattle.ls_lists.proofs.Elements.{each-in, in-filter, filter-in, in-flat_map, flat_map-in}
+use Rattle.ls_lists.proofs.Sorted.{sorted-as, sorted-filter, sorted-flat_map, find-same}
+use Rattle.ls_lists.specs.Lists.{IsIn, IsSorted}
 use Rattle.ls_set.specs.ItemSet.{Items, empty, full, len, numbers_from, subsets, is_among, comes_before, IsWithin, IsInOrder}
 use Rattle.ls_set.proofs.Sets.{IsWithin-from, is_within-from}
 use Rattle.ls_set.proofs.Members.{among-here, among-there, among-cases}
@@ -7,7 +10,7 @@ use Rattle.ls_set.proofs.Order.{among-subsets, subsets_from-in_order}
 use Rattle.ls_theory.specs.Queries.{blocks, block_before}
 use Rattle.ls_theory.specs.Pages.{comes_after}
 use Rattle.ls_laws.proofs.Counts.{len-empty}
-use Rattle.ls_query.proofs.Sorted.{IsIn, IsSorted, each-in, in-filter, filter-in, in-flat_map, flat_map-in, in-numbers, numbers-in, sorted-as, sorted-filter, sorted-flat_map, sorted-numbers, find-same}
+use Rattle.ls_query.proofs.Sorted.{in-numbers, numbers-in, sorted-numbers}
 use Rattle.ls_query.proofs.BySize.{of_size}
 use Rattle.ls_query.proofs.BlockOrder.{before-smaller, before-same}
 

@@ -2,17 +2,21 @@
 use Rattle.std.proofs.Common.{ℕ, zero, suc, ◌<◌, ◌≤◌, ◌≡◌, ◌⊎◌, inl, inr, true, false, not, ◌&&◌, ltb, map, find, None, Some, refl, sym, ap, ◌∙◌, subst, arith, true≢false, lt-ltb, ltb-true}
 use Rattle.std.specs.List.{flat_map}
 use Rattle.std.proofs.lemmas.Bool.{and_parts, and_from, or_cases, or_left, or_right, false_from_ne_true}
+use Rattle.ls_lists.proofs.Elements.{in-filter, filter-in, in-flat_map, flat_map-in, in-map, map-in}
+use Rattle.ls_lists.proofs.Finds.{slice_get-filter, find-filter}
+use Rattle.ls_lists.proofs.Sorted.{sorted-map, sorted-filter, sorted-flat_map, find-same, find-first, find-is, find-none_is, find-no_element}
+use Rattle.ls_lists.specs.Lists.{IsIn, IsSorted}
 use Rattle.ls_set.specs.ItemSet.{Items, has, empty, full, minus, len, least, next_item, items, bound, is_same, numbers_from, IsWithin}
 use Rattle.ls_set.specs.Query.{is_good}
 use Rattle.ls_set.specs.declared.query.Query.{Query}
 use Rattle.ls_set.proofs.Sets.{members, has-full, has-minus, Decides-is_same, or-false}
 use Rattle.ls_set.proofs.Sizes.{len-less}
-use Rattle.ls_set.proofs.Ascending.{slice_get-filter, find-filter, find_some, bound-has, least-cases}
+use Rattle.ls_set.proofs.Ascending.{find_some, bound-has, least-cases}
 use Rattle.ls_theory.specs.Queries.{blocks, block_before, queries, query_before}
 use Rattle.ls_theory.specs.Pages.{comes_after}
 use Rattle.ls_laws.proofs.Breaks.{IsGood, good-from, good-to}
 use Rattle.ls_laws.proofs.Counts.{len-zero, len-empty}
-use Rattle.ls_query.proofs.Sorted.{IsIn, IsSorted, in-filter, filter-in, in-flat_map, flat_map-in, in-map, map-in, in-numbers, sorted-map, sorted-filter, sorted-flat_map, sorted-numbers, find-same, find-first, find-is, find-none_is, find-no_element}
+use Rattle.ls_query.proofs.Sorted.{in-numbers, sorted-numbers}
 use Rattle.ls_query.proofs.BlockOrder.{before-smaller, before-cases, before-asymmetric}
 use Rattle.ls_query.proofs.BlockSets.{in-blocks, blocks-in, sorted-blocks}
 
