@@ -67,7 +67,7 @@ all_within p n f nos fits = (
       ∙ all_sublists-each (λ g. not (passes n nos g) || p g) f fits.is_family.in_order (sym (list_all-filter p (passes n nos) (sublists f)) ∙ h) g a.in_order a.compatible,
   λ h. list_all-filter p (passes n nos) (sublists f)
       ∙ All-list_all (λ g. not (passes n nos g) || p g) (sublists f)
-        (sublists-each (λ g. (not (passes n nos g) || p g) ≡ true) f fits.is_family.in_order (λ g order part. either (passes n nos g) (p g) (λ e. h g (within-from n f nos g fits order part e)))),
+      (sublists-each (λ g. (not (passes n nos g) || p g) ≡ true) f fits.is_family.in_order (λ g order part. either (passes n nos g) (p g) (λ e. h g (within-from n f nos g fits order part e)))),
 )
 
 -- the family is one of them
