@@ -1,9 +1,10 @@
 -- The atoms of what a Yes leaves: those that do not break the query stay, and the others are unions of one that does with a set that has an item of A.
 use Rattle.std.proofs.Common.{ℕ, ◌≡◌, ◌⊎◌, inl, inr, true, false, cond, not, ◌||◌, List, [], ◌∷◌, ◌++◌, filter, refl, sym, ap, ◌∙◌, subst, true≢false}
 use Rattle.std.proofs.lemmas.Bool.{cases_Bool, and_parts, and_from, not-true, not_from_false, false_from_ne_true}
+use Rattle.ls_lists.proofs.Bools.{same_truth}
 use Rattle.ls_set.specs.ItemSet.{Items, has, empty, union, meet, is_same, is_among, IsWithin, IsInOrder}
 use Rattle.ls_set.specs.declared.query.Query.{Query}
-use Rattle.ls_set.proofs.Sets.{has-empty, has-meet, both_ways, union-left, union-right, union-within, Decides-is_same}
+use Rattle.ls_set.proofs.Sets.{has-empty, has-meet, union-left, union-right, union-within, Decides-is_same}
 use Rattle.ls_theory.specs.Queries.{breaks, some_breaks}
 use Rattle.ls_theory.specs.Bases.{is_atom_at, atoms_at, base}
 use Rattle.ls_laws.specs.Spans.{IsPart, left_by, touches}
@@ -173,7 +174,7 @@ base-list f r gs list closed low o p kept new only = same_members (base (left_by
 -- ---- where no base set breaks the query
 
 base-breaks : (f : List Items) (r : Query) → some_breaks (base f) r ≡ some_breaks f r
-base-breaks f r = both_ways (some_breaks (base f) r) (some_breaks f r) (some_breaks-part (base f) f r (base-member f)) (λ h.
+base-breaks f r = same_truth (some_breaks (base f) r) (some_breaks f r) (some_breaks-part (base f) f r (base-member f)) (λ h.
     let b = breaker f r h in
     let lost = Breaks-from b.0 r b.2 in
     let x = atom_within f b.0 r.q b.1 lost.has_q in

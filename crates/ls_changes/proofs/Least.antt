@@ -2,12 +2,16 @@
 use Rattle.std.proofs.Common.{ℕ, ◌≡◌, ◌⊎◌, inl, inr, Bool, true, false, cond, not, ◌&&◌, ◌||◌, List, [], ◌∷◌, ◌++◌, filter, refl, sym, ap, ap₂, ◌∙◌, subst, true≢false}
 use Rattle.std.specs.List.{list_any}
 use Rattle.std.proofs.lemmas.Bool.{cases_Bool, and_parts, and_from, or_cases, or_left, or_right, not-true, not_from_false, false_from_ne_true}
+use Rattle.std.proofs.Math.Bool.{and_assoc}
+use Rattle.std.proofs.lemmas.List.Elements.{filter_agree}
+use Rattle.ls_lists.proofs.Bools.{same_truth}
+use Rattle.ls_lists.proofs.Filters.{filter-both}
 use Rattle.ls_set.specs.ItemSet.{Items, has, is_same, is_within, is_among, IsWithin}
-use Rattle.ls_set.proofs.Sets.{same_within, both_ways, Decides-is_same, IsWithin-from, is_within-from}
+use Rattle.ls_set.proofs.Sets.{same_within, Decides-is_same, IsWithin-from, is_within-from}
 use Rattle.ls_set.proofs.Members.{among-append, among-filter}
 use Rattle.ls_theory.specs.Bases.{is_atom_at, atoms_at}
 use Rattle.ls_laws.specs.Spans.{IsPart, is_proper}
-use Rattle.ls_laws.proofs.Lists.{some-among, some-from, filter-both, filter-same}
+use Rattle.ls_laws.proofs.Lists.{some-among, some-from}
 use Rattle.ls_laws.proofs.Counts.{as_many}
 use Rattle.ls_laws.proofs.Atoms.{fewest_of}
 use Rattle.ls_changes.specs.Least.{least_sets, least_beside, has_none_within, IsBelow, having}
@@ -83,7 +87,7 @@ pub below-more : (c d g : List Items) → IsBelow c g → IsPart c d → IsPart 
 below-more c d g a p q = record { part = q; within = λ k h. let x = a.within k h in (x.0, p x.0 x.1, x.2) }
 
 pub same-least : (c g : List Items) → IsBelow c g → (k : Items) → is_among (least_sets g) k ≡ is_among (least_sets c) k
-same-least c g b k = both_ways (is_among (least_sets g) k) (is_among (least_sets c) k)
+same-least c g b k = same_truth (is_among (least_sets g) k) (is_among (least_sets c) k)
     (λ h.
     let x = IsLeast-from g k h in
     let m = b.within k x.member in
@@ -142,13 +146,9 @@ pub some-same : (p q : Items → Bool) (f : List Items) → ((k : Items) → p k
 some-same p q [] h = refl
 some-same p q (k ∷ f) h = ap₂ (λ a b. a || b) (h k) (some-same p q f h)
 
-and_regroup : (x y z : Bool) → (x && (y && z)) ≡ (x && y && z)
-and_regroup true y z = refl
-and_regroup false y z = refl
-
 pub atoms-least : (f : List Items) (i : ℕ) → atoms_at f i ≡ least_sets (having i f)
 atoms-least f i =
     sym (filter-both (λ k. has k i) (λ k. not (list_any (λ l. is_proper l k) (having i f))) f
-    ∙ filter-same (λ k. has k i && not (list_any (λ l. is_proper l k) (having i f))) (is_atom_at f i) f (λ k. ap (λ b. has k i && not b)
+    ∙ filter_agree (λ k. has k i && not (list_any (λ l. is_proper l k) (having i f))) (is_atom_at f i) (λ k. ap (λ b. has k i && not b)
     (some-filter (λ l. has l i) (λ l. is_proper l k) f
-    ∙ some-same (λ l. has l i && is_proper l k) (λ l. has l i && is_within l k && not (is_same l k)) f (λ l. and_regroup (has l i) (is_within l k) (not (is_same l k))))))
+    ∙ some-same (λ l. has l i && is_proper l k) (λ l. has l i && is_within l k && not (is_same l k)) f (λ l. sym (and_assoc (has l i) (is_within l k) (not (is_same l k)))))) f)

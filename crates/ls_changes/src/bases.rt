@@ -22,7 +22,8 @@ pub fn atoms_are_least()
 /// sets that lie below, the least base sets with an item of A are an example. Where no base set
 /// breaks the query, the base is the same.
 pub fn base_after_yes()
-    ensures stays { (f : List Items) (r : Query) → IsPart (left_by r (base f)) (base (left_by r f)) }
+    ensures stays { (f : List Items) (r : Query) →
+        IsPart (left_by r (base f)) (base (left_by r f)) }
     ensures gains { (f : List Items) (r : Query) (gs : List Items) (i : ℕ) →
         is_union_closed f ≡ true → IsBelow gs (near f r) →
         IsPart (gained f r gs i) (base (left_by r f)) }

@@ -2,6 +2,7 @@
 use Rattle.std.proofs.Common.{ℕ, ◌≡◌, Bool, true, false, cond, not, eqb, List, [], ◌∷◌, ◌++◌, map, filter, refl, sym, ap, ◌∙◌, subst}
 use Rattle.std.specs.List.{list_all}
 use Rattle.std.proofs.lemmas.Bool.{and_parts, and_from, not-false}
+use Rattle.ls_lists.proofs.Every.{All-list_all, list_all-All}
 use Rattle.ls_set.specs.ItemSet.{Items, full, is_within}
 use Rattle.ls_set.specs.Query.{is_good}
 use Rattle.ls_set.specs.declared.query.Query.{Query}
@@ -21,7 +22,7 @@ use Rattle.ls_laws.proofs.Breaks.{good-from}
 use Rattle.ls_laws.proofs.Closures.{left-IsUnionFamily}
 use Rattle.ls_laws.proofs.Compat.{compat-IsUnionFamily, compat-in_order, compat-more, among-compat}
 use Rattle.ls_laws.proofs.Fit.{Fits, all_or_none, left-holds_full}
-use Rattle.ls_laws.proofs.Search.{fitting_some, All-list_all, list_all-All}
+use Rattle.ls_laws.proofs.Search.{fitting_some}
 use Rattle.ls_laws.proofs.Answering.{FitsIn, a_space, compatible_fit, forced_yes_unbroken, forced_no_is}
 
 -- ---- the answers of an interview

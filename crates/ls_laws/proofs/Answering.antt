@@ -4,10 +4,12 @@ use Rattle.std.specs.Prelude.{option_map, unwrap_or}
 use Rattle.std.specs.List.{AllByRecursion, list_any, list_all}
 use Rattle.std.specs.Option.{option_map_or}
 use Rattle.std.proofs.lemmas.Bool.{cases_Bool, and_parts, and_cases, false_from_ne_true, not-true, not-false, not_from_false}
+use Rattle.ls_lists.proofs.Filters.{filter_true}
+use Rattle.ls_lists.proofs.Finds.{find-is_none}
+use Rattle.ls_lists.proofs.Bools.{same_truth}
 use Rattle.ls_set.specs.ItemSet.{Items, has, full, subsets}
 use Rattle.ls_set.specs.Query.{is_good}
 use Rattle.ls_set.specs.declared.query.Query.{Query}
-use Rattle.ls_set.proofs.Sets.{both_ways}
 use Rattle.ls_set.proofs.Order.{subsets_from-in_order}
 use Rattle.ls_theory.specs.declared.answer.Answer.{Answer}
 use Rattle.ls_theory.specs.declared.no.No.{No}
@@ -74,7 +76,7 @@ forced_yes_unbroken i r some =
     let search = forced_yes_search i r in
     let g = a_space i some in
     let same = forced_yes i.count (compatible_sets i) (no_queries i.answers) r g.0 (compat-in_order i.count i.start (yes_queries i.answers)) (compat_family i) g.1 in
-    both_ways (is_forced_yes (spaces_of i) r) (not (some_breaks (compatible_sets i) r))
+    same_truth (is_forced_yes (spaces_of i) r) (not (some_breaks (compatible_sets i) r))
     (λ h. not_from_false (some_breaks (compatible_sets i) r) (same.0 (search.0 h)))
     (λ h. search.1 (same.1 (not-true (some_breaks (compatible_sets i) r) h)))
 
@@ -86,7 +88,7 @@ forced_no_is i r some good =
     let search = forced_no_search i r in
     let g = compatible_fit i some in
     let same = forced_no i.count (compatible_sets i) (no_queries i.answers) r (compat-in_order i.count i.start (yes_queries i.answers)) (compat_family i) g.holds_full (good-from i.count r good) in
-    both_ways (is_forced_no (spaces_of i) r) (list_any (is_forced_by (compatible_sets i) r) (no_queries i.answers)) (λ h. same.0 (search.0 h)) (λ h. search.1 (same.1 h))
+    same_truth (is_forced_no (spaces_of i) r) (list_any (is_forced_by (compatible_sets i) r) (no_queries i.answers)) (λ h. same.0 (search.0 h)) (λ h. search.1 (same.1 h))
 
 -- what is left fits where some space that fits has no member that breaks the query
 pub left_decides : (i : Interview) (r : Query) → SomeFits i → is_good i.count r ≡ true → FitsAnswers i (left_by r (compatible_sets i)) ↔ ((f : List Items) × FitsAnswers i f × (some_breaks f r ≡ false))
@@ -211,17 +213,6 @@ settled_is i h r good few =
     ]
 
 -- there is a first question exactly where some query is open
-filter_true : {X : Type 0} (xs : List X) → filter (λ x. true) xs ≡ xs
-filter_true [] = refl
-filter_true (x ∷ xs) = ap (λ l. x ∷ l) (filter_true xs)
-
-find-is_none : {X : Type 0} (p : X → Bool) (xs : List X) → (not (list_any p xs) ≡ true) ↔ (find p xs ≡ None)
-find-is_none p [] = (λ _. refl, λ _. refl)
-find-is_none p (x ∷ xs) = elim (p x) as (λ b. (not (b || list_any p xs) ≡ true) ↔ (cond b (Some x) (find p xs) ≡ None)) [
-  | true ↦ (λ h. absurd (let z : ⊥ = cc in z), λ e. absurd (let z : ⊥ = cc in z))
-  | false ↦ find-is_none p xs
-]
-
 pub no_question : (i : Interview) → (is_settled i ≡ true) ↔ (next_question i None ≡ None)
 unfolding is_settled next_question
 no_question i = subst (λ qs. (not (list_any (is_open (spaces_of i)) (queries i.count i.block)) ≡ true) ↔ (find (is_open (spaces_of i)) qs ≡ None)) (sym (filter_true (queries i.count i.block))) (find-is_none (is_open (spaces_of i)) (queries i.count i.block))

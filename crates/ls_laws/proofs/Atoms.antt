@@ -2,6 +2,7 @@
 use Rattle.std.proofs.Common.{ℕ, zero, suc, ◌+◌, ◌<◌, ◌≤◌, ◌≡◌, ◌⊎◌, inl, inr, Bool, true, false, not, cond, ◌&&◌, List, [], ◌∷◌, filter, refl, sym, ap, ◌∙◌, subst, arith, true≢false}
 use Rattle.std.specs.List.{list_any}
 use Rattle.std.proofs.lemmas.Bool.{cases_Bool, cases_lt, and_parts, and_from, or_left, or_right, not_from_false, not-true, false_from_ne_true}
+use Rattle.ls_lists.proofs.Every.{some_of}
 use Rattle.ls_set.specs.ItemSet.{Items, has, is_same, is_within, is_among, numbers_from, items, bound, len, IsWithin}
 use Rattle.ls_set.proofs.Sets.{Decides-is_same, IsWithin-from, is_within-from}
 use Rattle.ls_set.proofs.Members.{among-here, among-there, among-cases, among-filter}
@@ -9,7 +10,7 @@ use Rattle.ls_set.proofs.Ascending.{bound-has}
 use Rattle.ls_theory.specs.Families.{unions}
 use Rattle.ls_theory.specs.Bases.{is_atom_at, base}
 use Rattle.ls_laws.specs.Spans.{IsPart, Spans}
-use Rattle.ls_laws.proofs.Lists.{some-among, some-from, some_of}
+use Rattle.ls_laws.proofs.Lists.{some-among, some-from}
 use Rattle.ls_laws.proofs.Interiors.{has-unions, from-interior, interior-whole}
 use Rattle.ls_laws.proofs.Counts.{as_many}
 

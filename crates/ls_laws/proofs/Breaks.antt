@@ -1,7 +1,8 @@
 -- What it is to break a query, and what is left without the members that do.
-use Rattle.std.proofs.Common.{ℕ, ◌<◌, ◌≡◌, ◌⊎◌, inl, inr, Bool, true, false, not, ◌&&◌, List, [], ◌∷◌, refl, sym, ap, ◌∙◌, true≢false, ltb, ltb-true, lt-ltb}
+use Rattle.std.proofs.Common.{ℕ, ◌<◌, ◌≡◌, ◌⊎◌, inl, inr, true, false, not, ◌&&◌, List, [], ◌∷◌, refl, sym, ap, ◌∙◌, true≢false, ltb, ltb-true, lt-ltb}
 use Rattle.std.specs.List.{list_all}
 use Rattle.std.proofs.lemmas.Bool.{and_parts, and_from, false_from_ne_true, not-true, not_from_false, or_cases}
+use Rattle.ls_lists.proofs.Bools.{no_common, none_common}
 use Rattle.ls_set.specs.ItemSet.{Items, has, empty, full, union, meet, is_same, is_within, is_among, IsWithin}
 use Rattle.ls_set.specs.Query.{is_good}
 use Rattle.ls_set.specs.declared.query.Query.{Query}
@@ -46,13 +47,6 @@ good-to n r g =
 pub record Breaks (k : Items) (r : Query) : Type 0 where
   pub apart : (i : ℕ) → has k i ≡ true → has r.a i ≡ false
   pub has_q : has k r.q ≡ true
-
-none_common : (p q : Bool) → (p && q) ≡ false → p ≡ true → q ≡ false
-none_common p q e h = sym (ap (λ b. b && q) h) ∙ e
-
-no_common : (p q : Bool) → (p ≡ true → q ≡ false) → (p && q) ≡ false
-no_common true q h = h refl
-no_common false q h = refl
 
 pub Breaks-from : (k : Items) (r : Query) → breaks k r ≡ true → Breaks k r
 Breaks-from k r h =

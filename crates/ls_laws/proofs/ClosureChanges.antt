@@ -1,6 +1,7 @@
 -- Closures: how they grow with the set and where members go, and what a Yes changes of them.
-use Rattle.std.proofs.Common.{ℕ, ◌≡◌, Bool, true, false, cond, not, ◌&&◌, List, refl, sym, ap, ◌∙◌, true≢false}
+use Rattle.std.proofs.Common.{ℕ, ◌≡◌, true, false, cond, not, ◌&&◌, List, refl, sym, ap, ◌∙◌, true≢false}
 use Rattle.std.proofs.lemmas.Bool.{and_parts, and_from, false_from_ne_true, not-true, not_from_false}
+use Rattle.ls_lists.proofs.Bools.{both_out}
 use Rattle.ls_set.specs.ItemSet.{Items, has, full, minus, is_within, IsWithin}
 use Rattle.ls_set.specs.declared.query.Query.{Query}
 use Rattle.ls_set.proofs.Sets.{has-minus, same_set, same_within, minus-within, IsWithin-from, is_within-from}
@@ -21,12 +22,6 @@ outside_each_other : (whole s t : Items) → IsWithin s whole → IsWithin t (mi
 outside_each_other whole s t w out i h =
     has-minus whole t i ∙ and_from (has whole i) (not (has t i)) (w i h) (not_from_false (has t i) (false_from_ne_true (has t i) (λ a.
     true≢false (sym h ∙ not-true (has s i) (and_parts (has whole i) (not (has s i)) (sym (has-minus whole s i) ∙ out i a)).1))))
-
-both_out : (w s : Bool) → (s ≡ true → w ≡ true) → (w && not (w && not s)) ≡ s
-both_out true true h = refl
-both_out true false h = refl
-both_out false true h = h refl
-both_out false false h = refl
 
 minus_twice : (whole s : Items) → IsWithin s whole → minus whole (minus whole s) ≡ s
 minus_twice whole s w = same_set (minus whole (minus whole s)) s (λ i. has-minus whole (minus whole s) i ∙ ap (λ b. has whole i && not b) (has-minus whole s i) ∙ both_out (has whole i) (has s i) (w i))

@@ -2,9 +2,10 @@
 use Rattle.std.proofs.Common.{ℕ, ◌≡◌, ◌<◌, ◌≢◌, Bool, true, false, not, ◌&&◌, ◌||◌, eqb, List, [], ◌∷◌, refl, sym, ap, ap₂, ◌∙◌, true≢false, eqb-true, eq-eqb, lt-ltb}
 use Rattle.std.specs.List.{list_any}
 use Rattle.std.proofs.lemmas.Bool.{and_parts, and_from, false_from_ne_true, true_from_ne_false, not-true, not_from_false, or_left, or_right}
+use Rattle.ls_lists.proofs.Bools.{not_both_ways, outside, same_truth}
 use Rattle.ls_set.specs.ItemSet.{Items, has, empty, full, with, union, meet, minus, is_same, is_among, is_within, IsWithin}
 use Rattle.ls_set.specs.declared.query.Query.{Query}
-use Rattle.ls_set.proofs.Sets.{has-empty, has-full, has-meet, has-minus, has-with, same_set, and-false, IsWithin-from, is_within-from, Decides-is_same, both_ways}
+use Rattle.ls_set.proofs.Sets.{has-empty, has-full, has-meet, has-minus, has-with, same_set, IsWithin-from, is_within-from, Decides-is_same}
 use Rattle.ls_set.proofs.Members.{among-here, among-there}
 use Rattle.ls_theory.specs.Families.{interior, closure}
 use Rattle.ls_theory.specs.Queries.{breaks, some_breaks}
@@ -22,14 +23,9 @@ list_any-agree : (p q : Items → Bool) (f : List Items) → ((k : Items) → is
 list_any-agree p q [] h = refl
 list_any-agree p q (k ∷ f) h = ap₂ (λ a b. a || b) (h k (among-here k k f refl)) (list_any-agree p q f (λ t c. h t (among-there t k f c)))
 
-outside : (k h a : Bool) → (k ≡ true → h ≡ true) → (k ≡ true → (h && not a) ≡ true) → (k && a) ≡ false
-outside true h true _ w = absurd (true≢false (sym (w refl) ∙ and-false h))
-outside true h false _ w = refl
-outside false h a _ w = refl
-
 -- within the complement of A is to have no item of A
 within-complement : (n : ℕ) (k a : Items) → IsWithin k (full n) → is_within k (minus (full n) a) ≡ is_same (meet k a) empty
-within-complement n k a small = both_ways (is_within k (minus (full n) a)) (is_same (meet k a) empty)
+within-complement n k a small = same_truth (is_within k (minus (full n) a)) (is_same (meet k a) empty)
     (λ w. (Decides-is_same (meet k a) empty).1 (same_set (meet k a) empty (λ i.
     has-meet k a i ∙ outside (has k i) (has (full n) i) (has a i) (small i) (λ h. sym (has-minus (full n) a i) ∙ IsWithin-from k (minus (full n) a) w i h) ∙ sym (has-empty i))))
     (λ e. is_within-from k (minus (full n) a) (λ i h.
@@ -69,10 +65,6 @@ closure-is n f b family =
 -- the No with q added to what it closes
 abbrev grown : ℕ → List Items → Query → Query → Query
 grown n f r s = record { a = with (closure (full n) f s.a) r.q; q = s.q }
-
-not_both_ways : (b c : Bool) → (b ≡ true → c ≡ false) → c ≡ true → b ≡ false
-not_both_ways true c h e = absurd (true≢false (sym e ∙ h refl))
-not_both_ways false c h e = refl
 
 -- outside a closure and q is outside the closure, and not q
 grown-none : (n : ℕ) (f : List Items) (r s : Query) (i : ℕ) → has (with (closure (full n) f s.a) r.q) i ≡ false → (has (closure (full n) f s.a) i ≡ false) × (i ≢ r.q)
@@ -122,7 +114,7 @@ closed-kept n f r s family item h =
 
 -- the closure form
 pub kept_is : (n : ℕ) (f : List Items) (r s : Query) → IsUnionFamily n f → IsGood n r → s.q < n → some_breaks f s ≡ true → is_forced_by f r s ≡ is_forced_by_closures n f r s
-kept_is n f r s family good item is_broken = both_ways (is_forced_by f r s) (is_forced_by_closures n f r s)
+kept_is n f r s family good item is_broken = same_truth (is_forced_by f r s) (is_forced_by_closures n f r s)
     (λ h. kept-closed n f r s family good item is_broken (not-true (some_breaks (left_by r f) s) h))
     (λ h. not_from_false (some_breaks (left_by r f) s) (closed-kept n f r s family item h))
 

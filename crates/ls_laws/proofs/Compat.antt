@@ -5,6 +5,9 @@ use Rattle.std.specs.List.{list_all, list_any}
 use Rattle.std.proofs.lemmas.Bool.{cases_eq, and_parts, and_from, or_cases}
 use Rattle.std.proofs.lemmas.List.Folds.{list_all-append}
 use Rattle.std.proofs.Math.Bool.{and_assoc}
+use Rattle.std.proofs.lemmas.List.Elements.{filter_agree}
+use Rattle.ls_lists.proofs.Every.{list_all-kept}
+use Rattle.ls_lists.proofs.Filters.{filter-both}
 use Rattle.ls_set.specs.ItemSet.{Items, has, empty, full, union, is_within, is_among, subsets, items, bound, numbers_from, IsWithin, IsInOrder}
 use Rattle.ls_set.specs.declared.query.Query.{Query}
 use Rattle.ls_set.proofs.Sets.{has-union, union-left, union-right, and-true, IsWithin-from, is_within-from, Decides-is_same}
@@ -17,19 +20,12 @@ use Rattle.ls_theory.specs.Starts.{Start, Free, Clauses, Sets, meets}
 use Rattle.ls_theory.specs.Compatible.{is_compatible, compat}
 use Rattle.ls_set.specs.Query.{is_good}
 use Rattle.ls_laws.specs.Spans.{left_by}
-use Rattle.ls_laws.proofs.Lists.{some-among, some-from, filter-both, filter-same, IsInOrder-filter}
+use Rattle.ls_laws.proofs.Lists.{some-among, some-from, IsInOrder-filter}
 use Rattle.ls_laws.proofs.Interiors.{IsUnionFamily, subsets-IsUnionFamily, filter-IsUnionFamily, space-from, space-to}
 use Rattle.ls_laws.proofs.Spans.{interior-empty, interior-union}
 use Rattle.ls_laws.proofs.Breaks.{breaks_none-empty, breaks_none-union, IsGood, breaks-empty, full-unbroken, unbroken-union, among-left_from, among-left_parts, breaks_none-full}
 
 -- ---- each item of a set
-
-filter_all : (p q : ℕ → Bool) (xs : List ℕ) → ((j : ℕ) → p j ≡ true → q j ≡ true) → list_all q (filter p xs) ≡ true
-filter_all p q [] h = refl
-filter_all p q (x ∷ xs) h = elim (p x) as (λ b. p x ≡ b → list_all q (cond b (x ∷ filter p xs) (filter p xs)) ≡ true) [
-  | true ↦ λ e. and_from (q x) (list_all q (filter p xs)) (h x e) (filter_all p q xs h)
-  | false ↦ λ _. filter_all p q xs h
-] refl
 
 all_at : (p q : ℕ → Bool) (i m k : ℕ) → i ≤ k → k < i + m → p k ≡ true → list_all q (filter p (numbers_from i m)) ≡ true → q k ≡ true
 all_at p q i zero k a b g h = absurd (omega arith)
@@ -46,7 +42,7 @@ all_at p q i (suc m) k a b g h =
 
 pub items-all : (p : ℕ → Bool) (k : Items) → ((q : ℕ) → has k q ≡ true → p q ≡ true) → list_all p (items k) ≡ true
 unfolding items
-items-all p k h = filter_all (has k) p (numbers_from 0 (bound k)) h
+items-all p k h = list_all-kept (has k) p (numbers_from 0 (bound k)) h
 
 pub all-items : (p : ℕ → Bool) (k : Items) (q : ℕ) → list_all p (items k) ≡ true → has k q ≡ true → p q ≡ true
 unfolding items
@@ -106,9 +102,9 @@ among-compat n start yeses k = among-filter (is_compatible start yeses) (subsets
 pub compat-more : (n : ℕ) (start : Start) (yeses : List Query) (r : Query) → compat n start (yeses ++ (r ∷ [])) ≡ left_by r (compat n start yeses)
 unfolding compat
 compat-more n start yeses r =
-    filter-same (is_compatible start (yeses ++ (r ∷ []))) (λ k. is_compatible start yeses k && not (breaks k r)) (subsets n) (λ k.
+    filter_agree (is_compatible start (yeses ++ (r ∷ []))) (λ k. is_compatible start yeses k && not (breaks k r)) (λ k.
     ap (λ b. meets start k && b) (list_all-append (λ r. not (breaks k r)) yeses (r ∷ []) ∙ ap (λ b. breaks_none yeses k && b) (and-true (not (breaks k r))))
-    ∙ sym (and_assoc (meets start k) (breaks_none yeses k) (not (breaks k r))))
+    ∙ sym (and_assoc (meets start k) (breaks_none yeses k) (not (breaks k r)))) (subsets n)
     ∙ sym (filter-both (is_compatible start yeses) (λ k. not (breaks k r)) (subsets n))
 
 -- ---- spaces

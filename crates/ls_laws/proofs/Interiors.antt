@@ -2,8 +2,9 @@
 use Rattle.std.proofs.Common.{ℕ, ◌≡◌, Bool, true, false, cond, ◌&&◌, ◌||◌, List, [], ◌∷◌, filter, refl, sym, ap, ◌∙◌, subst}
 use Rattle.std.specs.List.{list_all, list_any}
 use Rattle.std.proofs.lemmas.Bool.{and_parts, and_from}
+use Rattle.ls_lists.proofs.Bools.{same_truth}
 use Rattle.ls_set.specs.ItemSet.{Items, has, empty, full, union, is_among, is_within, IsWithin, subsets}
-use Rattle.ls_set.proofs.Sets.{has-empty, has-union, same_set, same_within, IsWithin-from, is_within-from, union-within, empty-within, both_ways}
+use Rattle.ls_set.proofs.Sets.{has-empty, has-union, same_set, same_within, IsWithin-from, is_within-from, union-within, empty-within}
 use Rattle.ls_set.proofs.Members.{among-here, among-there, among-filter}
 use Rattle.ls_set.proofs.Order.{among-subsets}
 use Rattle.ls_theory.specs.Families.{unions, interior, is_union_closed, is_space}
@@ -90,7 +91,7 @@ to-interior g s l i c w h = has-interior g s i ∙ some-among (λ l. is_within l
 
 -- a set is the union of the sets of g within it where each of its items is in one of those
 pub interior-whole : (g : List Items) (k : Items) → ((q : ℕ) → has k q ≡ true → (l : Items) × (is_among g l ≡ true) × IsWithin l k × (has l q ≡ true)) → interior g k ≡ k
-interior-whole g k h = same_set (interior g k) k (λ i. both_ways (has (interior g k) i) (has k i)
+interior-whole g k h = same_set (interior g k) k (λ i. same_truth (has (interior g k) i) (has k i)
     (λ a. let r = from-interior g k i a in r.2 i r.3)
     (λ a. let r = h i a in to-interior g k r.0 i r.1 r.2 r.3))
 
@@ -129,7 +130,7 @@ IsInterior-interior f e u s inside h = same_within inside (interior f s) (interi
 
 -- a set within its interior is a member, and a member is
 pub is_within-interior : (f : List Items) → is_among f empty ≡ true → IsUnionClosed f → (s : Items) → is_within s (interior f s) ≡ is_among f s
-is_within-interior f e u s = both_ways (is_within s (interior f s)) (is_among f s)
+is_within-interior f e u s = same_truth (is_within s (interior f s)) (is_among f s)
     (λ w. subst (λ t. is_among f t ≡ true) (sym (same_within s (interior f s) (IsWithin-from s (interior f s) w) (interior-within f s))) (interior-is f e u s).member)
     (λ c. is_within-from s (interior f s) (interior-greatest f s s c (λ i a. a)))
 

@@ -4,6 +4,7 @@ use Rattle.std.specs.Prelude.{slice_index, unwrap_or}
 use Rattle.std.specs.List.{list_any}
 use Rattle.std.proofs.lemmas.Bool.{cases_Bool, and_parts, and_from, or_parts, or_from, not-true, not-false, false_from_ne_true}
 use Rattle.std.proofs.lemmas.List.Folds.{list_any-append}
+use Rattle.ls_lists.proofs.Finds.{find-nothing, find-some}
 use Rattle.ls_set.specs.ItemSet.{Items, empty, union, is_among}
 use Rattle.ls_set.proofs.Sets.{members, same_set}
 use Rattle.ls_set.proofs.Members.{among-here, among-there, among-cases}
@@ -64,18 +65,6 @@ none_unclosed f (x ∷ xs) part u =
     let r = some-from (λ y. is_unclosed f (x, y)) xs h in
     true≢false (sym (u x r.0 (part x (among-here x x xs refl)) (part r.0 (among-there r.0 x xs r.1))) ∙ not-true (is_among f (union x r.0)) r.2)))
     (none_unclosed f xs (λ s c. part s (among-there s x xs c)) u)
-
--- a search finds one exactly where some passes
-find-some : {X : Type 0} (p : X → Bool) (xs : List X) → list_any p xs ≡ true → (x : X) × (find p xs ≡ Some x)
-find-some p [] h = absurd (true≢false (sym h))
-find-some p (x ∷ xs) h = elim (p x) as (λ b. (b || list_any p xs) ≡ true → (y : _) × (cond b (Some x) (find p xs) ≡ Some y)) [
-  | true ↦ λ _. (x, refl)
-  | false ↦ λ h. find-some p xs h
-] h
-
-find-nothing : {X : Type 0} (p : X → Bool) (xs : List X) → list_any p xs ≡ false → find p xs ≡ None
-find-nothing p [] h = refl
-find-nothing p (x ∷ xs) h = let a = or_parts (p x) (list_any p xs) h in rw a.0 (find-nothing p xs a.1)
 
 closed-none : (f : List Items) → is_union_closed f ≡ true → unclosed_pair f ≡ None
 closed-none f h = find-nothing (is_unclosed f) (pairs f) (none_unclosed f f (λ s c. c) (closed-from f h))

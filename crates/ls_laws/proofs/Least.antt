@@ -4,8 +4,8 @@ use Rattle.std.specs.Prelude.{option_map}
 use Rattle.std.specs.List.{list_any, list_all}
 use Rattle.std.specs.List.Sorted.{IsStrictlyIncreasing}
 use Rattle.std.proofs.lemmas.Bool.{and_from, or_left, or_right, le-leb}
+use Rattle.ls_lists.proofs.Sorted.{tail-increasing}
 use Rattle.ls_theory.specs.declared.no.No.{No}
-use Rattle.ls_laws.proofs.Numbered.{tail-increasing}
 
 -- each later number is greater
 later : (m : ℕ) (s : No) (ns : List No) → IsStrictlyIncreasing (map (λ a. a.number) (s ∷ ns)) → m ≤ s.number → list_all (λ a. leb m a.number) ns ≡ true

@@ -24,3 +24,4 @@ pub mod Least
 pub mod Judged
 pub mod Projecting
 pub mod Weights
+pub mod BaseStarts

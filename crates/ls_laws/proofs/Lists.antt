@@ -1,11 +1,14 @@
 -- Lists of sets: all and some of them, filters, and lists in order.
-use Rattle.std.proofs.Common.{◌≡◌, inl, inr, Bool, true, false, cond, ◌&&◌, List, [], ◌∷◌, filter, find, Some, None, refl, sym, ap, ap₂, ◌∙◌, subst, true≢false}
+use Rattle.std.proofs.Common.{◌≡◌, inl, inr, Bool, true, false, cond, List, [], ◌∷◌, filter, find, Some, None, refl, sym, ap, ap₂, ◌∙◌, subst, true≢false}
 use Rattle.std.specs.List.{AllByRecursion, list_all, list_any}
 use Rattle.std.proofs.lemmas.Bool.{cases_Bool, and_parts, and_from, or_cases, or_left, or_right}
+use Rattle.std.proofs.lemmas.List.Elements.{filter_agree}
 use Rattle.ls_set.specs.ItemSet.{Items, is_among, IsInOrder, comes_before}
 use Rattle.ls_set.proofs.Members.{among-here, among-there, among-cases, Each-among}
 use Rattle.ls_set.proofs.Order.{comes_before-irreflexive, comes_before-asymmetric}
 use Rattle.ls_laws.specs.Spans.{IsPart}
+pub use Rattle.ls_lists.proofs.Filters.{filter-both}
+pub use Rattle.ls_lists.proofs.Every.{All-filter}
 
 -- ---- all and some of a list
 
@@ -32,23 +35,10 @@ some-from p (t ∷ f) h =
       | inr a ↦ let r = some-from p f a in (r.0, among-there r.0 t f r.1, r.2)
     ]
 
--- some element of any list that passes
-pub some_of : {X : Type 0} (p : X → Bool) (xs : List X) → list_any p xs ≡ true → (x : X) × (p x ≡ true)
-some_of p [] h = absurd (true≢false (sym h))
-some_of p (x ∷ xs) h = elim (or_cases (p x) (list_any p xs) h) [ inl a ↦ (x, a) | inr a ↦ some_of p xs a ]
-
 -- ---- filters and searches
 
-pub filter-both : {X : Type 0} (p q : X → Bool) (xs : List X) → filter q (filter p xs) ≡ filter (λ x. p x && q x) xs
-filter-both p q [] = refl
-filter-both p q (x ∷ xs) = elim (p x) as (λ b. filter q (cond b (x ∷ filter p xs) (filter p xs)) ≡ cond (b && q x) (x ∷ filter (λ x. p x && q x) xs) (filter (λ x. p x && q x) xs)) [
-  | true ↦ ap (λ l. cond (q x) (x ∷ l) l) (filter-both p q xs)
-  | false ↦ filter-both p q xs
-]
-
 pub filter-same : {X : Type 0} (p q : X → Bool) (xs : List X) → ((x : X) → p x ≡ q x) → filter p xs ≡ filter q xs
-filter-same p q [] h = refl
-filter-same p q (x ∷ xs) h = ap₂ (λ b l. cond b (x ∷ l) l) (h x) (filter-same p q xs h)
+filter-same p q xs h = filter_agree p q h xs
 
 pub find-none : (p : Items → Bool) (f : List Items) → ((l : Items) → is_among f l ≡ true → p l ≡ false) → find p f ≡ None
 find-none p [] h = refl
@@ -67,10 +57,6 @@ find-one p (t ∷ f) k c h u =
     ]
 
 -- ---- lists in order
-
-pub All-filter : {X : Type 0} (P : X → Type 0) (p : X → Bool) (xs : List X) → AllByRecursion P xs → AllByRecursion P (filter p xs)
-All-filter P p [] h = tt
-All-filter P p (x ∷ xs) h = elim (p x) as (λ b. AllByRecursion P (cond b (x ∷ filter p xs) (filter p xs))) [ true ↦ (h.0, All-filter P p xs h.1) | false ↦ All-filter P p xs h.1 ]
 
 pub IsInOrder-filter : (p : Items → Bool) (xs : List Items) → IsInOrder xs → IsInOrder (filter p xs)
 IsInOrder-filter p [] h = tt

@@ -1,49 +1,23 @@
 -- Answers in order of number.
-use Rattle.std.proofs.Common.{ℕ, zero, suc, ◌+◌, ◌<◌, ◌≤◌, ◌≡◌, Bool, true, false, cond, not, eqb, ltb, List, [], ◌∷◌, ◌++◌, map, filter, get_or, refl, sym, ap, subst, arith, ltb-true, lt-ltb}
+use Rattle.std.proofs.Common.{ℕ, ◌+◌, ◌<◌, ◌≤◌, ◌≡◌, Bool, true, false, cond, not, eqb, ltb, List, [], ◌∷◌, ◌++◌, map, filter, refl, sym, ap, subst, arith, ltb-true, lt-ltb}
 use Rattle.std.specs.List.{AllByRecursion, list_all}
 use Rattle.std.specs.List.Sorted.{IsStrictlyIncreasing}
 use Rattle.std.proofs.lemmas.Bool.{and_parts, and_from}
+use Rattle.ls_lists.proofs.Sorted.{increasing-from}
 use Rattle.ls_set.specs.declared.query.Query.{Query}
 use Rattle.ls_theory.specs.declared.answer.Answer.{Answer}
 use Rattle.ls_theory.specs.declared.no.No.{No}
 use Rattle.ls_theory.specs.Starts.{Start}
 use Rattle.ls_theory.specs.Interviews.{Interview, begun, accepted, retracted, nos}
 use Rattle.ls_laws.specs.Forced.{IsNumbered}
-
-pub tail-increasing : (x : ℕ) (xs : List ℕ) → IsStrictlyIncreasing (x ∷ xs) → IsStrictlyIncreasing xs
-tail-increasing x xs h k within = let e : suc k + 1 ≡ suc (k + 1) = omega arith in subst (λ n. get_or xs k 0 < get_or (x ∷ xs) n 0) e (h (suc k) (omega arith))
+pub use Rattle.ls_lists.specs.Lists.{IsRising}
+pub use Rattle.ls_lists.proofs.Sorted.{rising-from}
 
 abbrev number_of : Answer → ℕ
 number_of a = a.number
 
 abbrev is_no : Answer → Bool
 is_no a = not a.yes
-
--- each later number is greater, by recursion
-abbrev pub IsRising : List ℕ → Type 0
-IsRising [] = Unit {0}
-IsRising (x ∷ xs) = AllByRecursion (λ y. x < y) xs × IsRising xs
-
-all-above : (x y : ℕ) (xs : List ℕ) → x < y → AllByRecursion (λ z. y < z) xs → AllByRecursion (λ z. x < z) xs
-all-above x y [] l h = tt
-all-above x y (z ∷ xs) l h = (let m = h.0 in omega arith, all-above x y xs l h.1)
-
-pub rising-from : (xs : List ℕ) → IsStrictlyIncreasing xs → IsRising xs
-rising-from [] h = tt
-rising-from (x ∷ []) h = (tt, tt)
-rising-from (x ∷ y ∷ xs) h =
-    let rest = rising-from (y ∷ xs) (tail-increasing x (y ∷ xs) h) in
-    let next : x < y = h 0 (omega arith) in
-    ((next, all-above x y xs next rest.0), rest)
-
-increasing-cons : (x : ℕ) (xs : List ℕ) → AllByRecursion (λ y. x < y) xs → IsStrictlyIncreasing xs → IsStrictlyIncreasing (x ∷ xs)
-increasing-cons x [] a h k within = absurd (omega arith)
-increasing-cons x (y ∷ xs) a h zero within = a.0
-increasing-cons x (y ∷ xs) a h (suc k) within = let e : suc (k + 1) ≡ suc k + 1 = omega arith in subst (λ n. get_or (y ∷ xs) k 0 < get_or (x ∷ y ∷ xs) n 0) e (h k (omega arith))
-
-increasing-from : (xs : List ℕ) → IsRising xs → IsStrictlyIncreasing xs
-increasing-from [] h = λ k within. absurd (omega arith)
-increasing-from (x ∷ xs) h = increasing-cons x xs h.0 (increasing-from xs h.1)
 
 kept-above : (x : ℕ) (p : Answer → Bool) (answers : List Answer) → AllByRecursion (λ y. x < y) (map number_of answers) → AllByRecursion (λ y. x < y) (map number_of (filter p answers))
 kept-above x p [] h = tt

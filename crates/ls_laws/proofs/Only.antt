@@ -1,25 +1,13 @@
 -- A test that one list in order passes finds it alone among the sublists.
-use Rattle.std.proofs.Common.{◌≡◌, inl, inr, Bool, true, false, cond, List, [], ◌∷◌, ◌++◌, map, filter, refl, sym, ap, ap₂, ◌∙◌, subst, true≢false}
-use Rattle.std.specs.List.{AllByRecursion}
+use Rattle.std.proofs.Common.{◌≡◌, inl, inr, Bool, true, List, [], ◌∷◌, ◌++◌, map, filter, refl, sym, ap, ap₂, ◌∙◌, subst, true≢false}
 use Rattle.std.proofs.lemmas.List.Elements.{filter-append}
-use Rattle.std.proofs.lemmas.Bool.{false_from_ne_true}
+use Rattle.ls_lists.proofs.Filters.{All-none, filter-map}
 use Rattle.ls_set.specs.ItemSet.{Items, is_among, IsInOrder}
 use Rattle.ls_set.proofs.Members.{among-here, among-there, among-cases}
 use Rattle.ls_theory.specs.Words.{sublists}
 use Rattle.ls_laws.specs.Spans.{IsPart}
 use Rattle.ls_laws.proofs.Lists.{not_among, tail_part}
 use Rattle.ls_laws.proofs.Search.{IsPart-cons, in_order-cons, past_head, sublists-each}
-
-filter-map : {X Y : Type 0} (q : Y → Bool) (h : X → Y) (xs : List X) → filter q (map h xs) ≡ map h (filter (λ x. q (h x)) xs)
-filter-map q h [] = refl
-filter-map q h (x ∷ xs) = elim (q (h x)) as (λ b. cond b (h x ∷ filter q (map h xs)) (filter q (map h xs)) ≡ map h (cond b (x ∷ filter (λ x. q (h x)) xs) (filter (λ x. q (h x)) xs))) [
-  | true ↦ ap (λ l. h x ∷ l) (filter-map q h xs)
-  | false ↦ filter-map q h xs
-]
-
-All-none : {X : Type 0} (q : X → Bool) (xs : List X) → AllByRecursion (λ x. q x ≡ true → ⊥) xs → filter q xs ≡ []
-All-none q [] h = refl
-All-none q (x ∷ xs) h = rw (false_from_ne_true (q x) h.0) (All-none q xs h.1)
 
 none_passes : (q : List Items → Bool) (g : List Items) → IsInOrder g → ((f : List Items) → IsInOrder f → IsPart f g → q f ≡ true → ⊥) → filter q (sublists g) ≡ []
 none_passes q g o h = All-none q (sublists g) (sublists-each (λ f. q f ≡ true → ⊥) g o h)

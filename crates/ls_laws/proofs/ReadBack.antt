@@ -1,15 +1,17 @@
 -- In a well-graded family a member is the greatest that has no item of its outer fringe, so its fringes tell it.
 use Rattle.std.proofs.Common.{ℕ, ◌≡◌, inl, inr, Bool, true, false, not, cond, ◌&&◌, eqb, List, filter, Some, None, refl, sym, ap, ◌∙◌, arith, true≢false, eq-eqb, lt-ltb, le-ltb, zero-add}
 use Rattle.std.proofs.lemmas.Bool.{cases_Bool, cases_lt, and_parts, and_from, or_right, le-leb}
+use Rattle.ls_lists.proofs.Bools.{absorbed_last}
+use Rattle.ls_lists.proofs.Filters.{filter-both}
 use Rattle.ls_set.specs.ItemSet.{Items, has, full, union, minus, with, without, is_same, is_among, numbers_from, items, bound, set_of}
-use Rattle.ls_set.proofs.Sets.{members, and-false, has-minus, has-with, union-right, Decides-is_same}
+use Rattle.ls_set.proofs.Sets.{members, has-minus, has-with, union-right, Decides-is_same}
 use Rattle.ls_set.proofs.Ascending.{has-above}
 use Rattle.ls_set.proofs.Cursors.{has-set_of-filter}
 use Rattle.ls_theory.specs.Families.{interior}
 use Rattle.ls_theory.specs.Fringes.{inner_fringe, outer_fringe, state_of}
 use Rattle.ls_laws.specs.Spans.{IsOn}
 use Rattle.ls_laws.specs.Walks.{IsWellGraded}
-use Rattle.ls_laws.proofs.Lists.{filter-both, find-none, find-one}
+use Rattle.ls_laws.proofs.Lists.{find-none, find-one}
 use Rattle.ls_laws.proofs.Interiors.{IsUnionFamily, IsInterior-interior, interior-is}
 use Rattle.ls_laws.proofs.Counts.{some_missing}
 use Rattle.ls_laws.proofs.Climbs.{outward, removable}
@@ -33,17 +35,12 @@ has-inner_fringe f k i = has-chosen (λ i. is_among f (without k i)) k i
 with-small : (n : ℕ) (f : List Items) → IsOn n f → (k : Items) (i : ℕ) → is_among f (with k i) ≡ true → has (full n) i ≡ true
 with-small n f small k i c = small (with k i) c i (has-with k i i ∙ or_right (has k i) (eqb i i) (eq-eqb i i refl))
 
-small-and : (a b c : Bool) → (c ≡ true → a ≡ true) → (a && b && c) ≡ (b && c)
-small-and true b c h = refl
-small-and false b true h = absurd (true≢false (sym (h refl)))
-small-and false b false h = sym (and-false b)
-
 pub has-outer_fringe : (n : ℕ) (f : List Items) → IsOn n f → (k : Items) (i : ℕ) → has (outer_fringe n f k) i ≡ (not (has k i) && is_among f (with k i))
 unfolding outer_fringe
 has-outer_fringe n f small k i =
     has-chosen (λ i. is_among f (with k i)) (minus (full n) k) i
     ∙ ap (λ b. b && is_among f (with k i)) (has-minus (full n) k i)
-    ∙ small-and (has (full n) i) (not (has k i)) (is_among f (with k i)) (with-small n f small k i)
+    ∙ absorbed_last (has (full n) i) (not (has k i)) (is_among f (with k i)) (with-small n f small k i)
 
 in_minus : (s t : Items) (i : ℕ) → has s i ≡ true → has t i ≡ false → has (minus s t) i ≡ true
 in_minus s t i a b = grind (arith, members)

@@ -1,8 +1,9 @@
 -- The families on n items are the lists in order of sets of those items, and the search through them finds each that fits.
-use Rattle.std.proofs.Common.{ℕ, ◌≡◌, ◌≢◌, ◌↔◌, inl, inr, Bool, true, false, cond, not, ◌&&◌, ◌||◌, List, [], ◌∷◌, ◌++◌, map, filter, refl, sym, ap, ◌∙◌, subst, true≢false}
+use Rattle.std.proofs.Common.{ℕ, ◌≡◌, ◌≢◌, ◌↔◌, inl, inr, Bool, true, false, not, ◌&&◌, ◌||◌, List, [], ◌∷◌, map, refl, sym, ap, ◌∙◌, subst, true≢false}
 use Rattle.std.specs.List.{AllByRecursion, list_all}
 use Rattle.std.proofs.lemmas.List.Folds.{list_all-append, list_all-map}
 use Rattle.std.proofs.lemmas.Bool.{and_parts, and_from}
+use Rattle.ls_lists.proofs.Every.{All-append, All-kept, All-map, All-to, list_all-filter}
 use Rattle.ls_set.specs.ItemSet.{Items, full, is_within, is_among, IsInOrder, comes_before, subsets}
 use Rattle.ls_set.specs.declared.query.Query.{Query}
 use Rattle.ls_set.proofs.Sets.{IsWithin-from, is_within-from}
@@ -19,6 +20,7 @@ use Rattle.ls_laws.proofs.Lists.{every-among, every-from, not_among, tail_part}
 use Rattle.ls_laws.proofs.Interiors.{space-from, space-to, family-from}
 use Rattle.ls_laws.proofs.Compat.{among-compat}
 use Rattle.ls_laws.proofs.Fit.{Fits}
+pub use Rattle.ls_lists.proofs.Every.{All-list_all, list_all-All}
 
 AllByRecursion-from : (P : Items → Type 0) (f : List Items) → ((k : Items) → is_among f k ≡ true → P k) → AllByRecursion P f
 AllByRecursion-from P [] h = tt
@@ -33,28 +35,12 @@ in_order-cons x xs ys h k part = (AllByRecursion-from (λ t. comes_before x t �
 pub IsPart-cons : (x : Items) (ys xs : List Items) → IsPart ys xs → IsPart (x ∷ ys) (x ∷ xs)
 IsPart-cons x ys xs part t c = elim (among-cases t x ys c) [ inl e ↦ among-here t x xs e | inr a ↦ among-there t x xs (part t a) ]
 
-All-append : {X : Type 0} (P : X → Type 0) (xs ys : List X) → AllByRecursion P xs → AllByRecursion P ys → AllByRecursion P (xs ++ ys)
-All-append P [] ys h k = k
-All-append P (x ∷ xs) ys h k = (h.0, All-append P xs ys h.1 k)
-
-All-map : {X Y : Type 0} (P : Y → Type 0) (h : X → Y) (xs : List X) → AllByRecursion (λ x. P (h x)) xs → AllByRecursion P (map h xs)
-All-map P h [] a = tt
-All-map P h (x ∷ xs) a = (a.0, All-map P h xs a.1)
-
 -- what holds of each list in order of members holds of each sublist
 pub sublists-each : (P : List Items → Type 0) (g : List Items) → IsInOrder g → ((f : List Items) → IsInOrder f → IsPart f g → P f) → AllByRecursion P (sublists g)
 sublists-each P [] o h = (h [] tt (λ x c. c), tt)
 sublists-each P (x ∷ xs) o h = All-append P (map (λ ys. x ∷ ys) (sublists xs)) (sublists xs)
     (All-map P (λ ys. x ∷ ys) (sublists xs) (sublists-each (λ ys. P (x ∷ ys)) xs o.1 (λ ys k part. h (x ∷ ys) (in_order-cons x xs ys o k part) (IsPart-cons x ys xs part))))
     (sublists-each P xs o.1 (λ ys k part. h ys k (λ t c. among-there t x xs (part t c))))
-
-pub All-list_all : {X : Type 0} (p : X → Bool) (xs : List X) → AllByRecursion (λ x. p x ≡ true) xs → list_all p xs ≡ true
-All-list_all p [] h = refl
-All-list_all p (x ∷ xs) h = and_from (p x) (list_all p xs) h.0 (All-list_all p xs h.1)
-
-pub list_all-All : {X : Type 0} (p : X → Bool) (xs : List X) → list_all p xs ≡ true → AllByRecursion (λ x. p x ≡ true) xs
-list_all-All p [] h = tt
-list_all-All p (x ∷ xs) h = let a = and_parts (p x) (list_all p xs) h in (a.0, list_all-All p xs a.1)
 
 -- where the first of f is not x, x is not in f
 pub past_head : (x : Items) (xs : List Items) (y : Items) (ys : List Items) → IsInOrder (x ∷ xs) → IsInOrder (y ∷ ys) → is_among xs y ≡ true → IsPart (y ∷ ys) (x ∷ xs) → IsPart (y ∷ ys) xs
@@ -112,30 +98,12 @@ IsOn-subsets n f part s c = IsWithin-from s (full n) (sym (among-subsets n s) �
 pub subsets-IsOn : (n : ℕ) (f : List Items) → IsOn n f → IsPart f (subsets n)
 subsets-IsOn n f on s c = among-subsets n s ∙ is_within-from s (full n) (on s c)
 
-list_all-filter : {X : Type 0} (p q : X → Bool) (xs : List X) → list_all p (filter q xs) ≡ list_all (λ x. not (q x) || p x) xs
-list_all-filter p q [] = refl
-list_all-filter p q (x ∷ xs) = elim (q x) as (λ b. list_all p (cond b (x ∷ filter q xs) (filter q xs)) ≡ ((not b || p x) && list_all (λ x. not (q x) || p x) xs)) [
-  | true ↦ ap (λ b. p x && b) (list_all-filter p q xs)
-  | false ↦ list_all-filter p q xs
-]
-
-All-kept : {X : Type 0} (P : X → Type 0) (q : X → Bool) (xs : List X) → AllByRecursion (λ x. q x ≡ true → P x) xs → AllByRecursion P (filter q xs)
-All-kept P q [] h = tt
-All-kept P q (x ∷ xs) h = elim (q x) as (λ b. q x ≡ b → AllByRecursion P (cond b (x ∷ filter q xs) (filter q xs))) [
-  | true ↦ λ e. (h.0 e, All-kept P q xs h.1)
-  | false ↦ λ _. All-kept P q xs h.1
-] refl
-
 -- each of the fitting spaces fits
 pub all_fit : (n : ℕ) (start : Start) (yeses nos : List Query) → AllByRecursion (Fits n (compat n start yeses) nos) (fitting_spaces n start yeses nos)
 unfolding fitting_spaces families
 all_fit n start yeses nos = All-kept (Fits n (compat n start yeses) nos) (fits n start yeses nos) (sublists (subsets n))
     (sublists-each (λ f. fits n start yeses nos f ≡ true → Fits n (compat n start yeses) nos f) (subsets n) (subsets_from-in_order 0 n)
     (λ f o part. fits-is n start yeses nos f o (IsOn-subsets n f part)))
-
-All-to : {X : Type 0} (P : X → Type 0) (p : X → Bool) (xs : List X) → AllByRecursion P xs → ((x : X) → P x → p x ≡ true) → list_all p xs ≡ true
-All-to P p [] h w = refl
-All-to P p (x ∷ xs) h w = and_from (p x) (list_all p xs) (w x h.0) (All-to P p xs h.1 w)
 
 -- what each of the fitting spaces passes, as a search and as a statement
 pub all_fitting : (p : List Items → Bool) (n : ℕ) (start : Start) (yeses nos : List Query)

@@ -1,6 +1,7 @@
 -- Where every good query is forced, only the compatible sets fit.
-use Rattle.std.proofs.Common.{ℕ, zero, suc, ◌-◌, ◌<◌, ◌≤◌, ◌≡◌, ◌↔◌, inl, inr, Bool, true, false, cond, not, ◌&&◌, max, List, ◌∷◌, filter, length, refl, sym, ap, ◌∙◌, subst, true≢false, ltb-true, arith}
-use Rattle.std.proofs.lemmas.Bool.{cases_Bool, and_from, false_from_ne_true}
+use Rattle.std.proofs.Common.{ℕ, zero, suc, ◌-◌, ◌<◌, ◌≤◌, ◌≡◌, ◌↔◌, inl, inr, Bool, true, false, cond, max, List, ◌∷◌, filter, length, refl, sym, ap, ◌∙◌, subst, true≢false, ltb-true, arith}
+use Rattle.std.proofs.lemmas.Bool.{cases_Bool, false_from_ne_true}
+use Rattle.ls_lists.proofs.Bools.{back_in, left_out}
 use Rattle.ls_set.specs.ItemSet.{Items, has, bound, items, len, numbers_from, empty, full, minus, is_same, is_among, IsWithin, IsInOrder}
 use Rattle.ls_set.specs.declared.query.Query.{Query}
 use Rattle.ls_set.proofs.Sets.{has-empty, has-full, has-minus, same_within, minus-within, Decides-is_same, is_within-from}
@@ -28,14 +29,6 @@ unfolding len items
 len-small s n h = let l = filter_below (has s) n 0 (bound s) (λ j a. ltb-true j n (sym (has-full n j) ∙ h j a)) in omega arith
 
 -- ---- the query of a set that a fitting space could lack
-
-left_out : (a b : Bool) → b ≡ true → (a && not b) ≡ false
-left_out true b e = rw e refl
-left_out false b e = refl
-
-back_in : (a b : Bool) → a ≡ true → (a && not b) ≡ false → b ≡ true
-back_in a true h e = refl
-back_in a false h e = absurd (true≢false (sym (and_from a true h refl) ∙ e))
 
 -- the complement of k, and q
 abbrev rest_of : ℕ → Items → ℕ → Query

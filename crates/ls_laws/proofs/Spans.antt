@@ -1,8 +1,9 @@
 -- The base of a family, told by any list of its members that spans it.
 use Rattle.std.proofs.Common.{ℕ, ◌≡◌, inl, inr, true, not, ◌&&◌, List, filter, sym, ap, ◌∙◌, subst, true≢false}
 use Rattle.std.proofs.lemmas.Bool.{cases_Bool, or_cases, and_parts, and_from, not_from_false, not-true, false_from_ne_true}
+use Rattle.ls_lists.proofs.Bools.{same_truth}
 use Rattle.ls_set.specs.ItemSet.{Items, has, empty, full, union, is_same, is_within, is_among, subsets, IsInOrder}
-use Rattle.ls_set.proofs.Sets.{same_within, has-union, both_ways, empty-within, union-left, union-right, Decides-is_same, is_within-from}
+use Rattle.ls_set.proofs.Sets.{same_within, has-union, empty-within, union-left, union-right, Decides-is_same, is_within-from}
 use Rattle.ls_set.proofs.Members.{among-filter}
 use Rattle.ls_set.proofs.Order.{among-subsets, subsets_from-in_order}
 use Rattle.ls_theory.specs.Families.{interior}
@@ -16,7 +17,7 @@ use Rattle.ls_laws.proofs.Atoms.{among-base, base-atom, base-member, base-spans,
 pub base-of : (f g : List Items) → IsPart g f → Spans g f
     → (k : Items) → is_among (base f) k ≡ is_among (needed g) k
 unfolding needed
-base-of f g part span k = both_ways (is_among (base f) k) (is_among g k && not (is_same (interior others k) k)) there back ∙ sym (among-filter (λ k. not (is_same (interior (filter (λ l. is_proper l k) g) k) k)) g k)
+base-of f g part span k = same_truth (is_among (base f) k) (is_among g k && not (is_same (interior others k) k)) there back ∙ sym (among-filter (λ k. not (is_same (interior (filter (λ l. is_proper l k) g) k) k)) g k)
   where
     others : List Items
     others = filter (λ l. is_proper l k) g
@@ -90,7 +91,7 @@ base-spanned n g small = base-of (spanned n g) g (spanned-has n g small) (spanne
 -- members that span a family span nothing else
 pub spanned-same : (n : ℕ) (f g : List Items) → IsUnionFamily n f → IsPart g f → Spans g f
     → (k : Items) → is_among (spanned n g) k ≡ is_among f k
-spanned-same n f g family part span k = both_ways (is_among (spanned n g) k) (is_among f k)
+spanned-same n f g family part span k = same_truth (is_among (spanned n g) k) (is_among f k)
     (λ c. subst (λ s. is_among f s ≡ true) (spanned-whole n g k c) (interior-among f g family.holds_empty family.holds_unions part k))
     (λ c. among-spanned n g k ∙ and_from (is_within k (full n)) (is_same (interior g k) k) (is_within-from k (full n) (family.small k c)) ((Decides-is_same (interior g k) k).1 (span k c)))
 

@@ -2,8 +2,10 @@
 use Rattle.std.proofs.Common.{ℕ, zero, suc, ◌+◌, ◌<◌, ◌≤◌, ◌≡◌, ◌≢◌, ◌↔◌, inl, inr, Bool, true, not, ◌&&◌, eqb, ltb, List, [], ◌∷◌, length, filter, refl, sym, ap, ◌∙◌, subst, arith, true≢false, eq-eqb, eqb-true, lt-ltb, ltb-true}
 use Rattle.std.specs.List.{list_all, list_any}
 use Rattle.std.proofs.lemmas.Bool.{cases_Bool, cases_lt, cases_eq, and_parts, and_from, not_from_false, not-true, false_from_ne_true}
+use Rattle.ls_lists.proofs.Filters.{filter-both}
+use Rattle.ls_lists.proofs.Bools.{same_truth}
 use Rattle.ls_set.specs.ItemSet.{Items, has, empty, full, differing, len, is_same, is_within, is_among, numbers_from, items, bound}
-use Rattle.ls_set.proofs.Sets.{Decides-is_same, both_ways}
+use Rattle.ls_set.proofs.Sets.{Decides-is_same}
 use Rattle.ls_set.proofs.Ascending.{bound-has}
 use Rattle.ls_set.proofs.Members.{among-filter}
 use Rattle.ls_theory.specs.Families.{is_space}
@@ -11,7 +13,7 @@ use Rattle.ls_theory.specs.Bases.{is_atom_at, base}
 use Rattle.ls_theory.specs.Verdict.{neighbours, is_joined, is_well_graded, is_learning_space}
 use Rattle.ls_laws.specs.Spans.{IsOn, is_double}
 use Rattle.ls_laws.specs.Walks.{LeadsTo, IsWellGraded}
-use Rattle.ls_laws.proofs.Lists.{every-among, every-from, some-among, some-from, filter-both}
+use Rattle.ls_laws.proofs.Lists.{every-among, every-from, some-among, some-from}
 use Rattle.ls_laws.specs.Families.{IsUnionClosed}
 use Rattle.ls_laws.proofs.Interiors.{IsUnionFamily, family-from}
 use Rattle.ls_laws.proofs.Climbs.{graded_by_atoms}
@@ -111,7 +113,7 @@ pub is_well_graded-atoms : (f : List Items) → is_among f empty ≡ true → Is
 is_well_graded-atoms f e u =
     let test = graded_by_atoms f e u in
     let decides = is_well_graded-decides f in
-    both_ways (is_well_graded f) (not (list_any (is_double f) (base f)))
+    same_truth (is_well_graded f) (not (list_any (is_double f) (base f)))
     (λ h. not_from_false (list_any (is_double f) (base f)) (false_from_ne_true (list_any (is_double f) (base f)) (λ a.
     let x = some-from (is_double f) (base f) a in
     let y = twice_at f x.0 x.2 in

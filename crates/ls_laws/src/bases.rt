@@ -1,10 +1,13 @@
 // Laws of bases, and of what lists of sets span.
-ghost use Rattle.std.specs.Prelude.{◌≡◌, ℕ, true, false, List};
+ghost use Rattle.std.specs.Prelude.{◌≡◌, ℕ, true, false, List, [], filter};
 ghost use Rattle.ls_set.specs.ItemSet.{Items, full, is_among, IsInOrder};
 ghost use Rattle.ls_set.specs.declared.query.Query.{Query};
-ghost use Rattle.ls_theory.specs.Queries.{breaks};
+ghost use Rattle.ls_theory.specs.Queries.{breaks, breaks_none};
 ghost use Rattle.ls_theory.specs.Families.{unions, is_union_closed, is_space};
+ghost use Rattle.ls_theory.specs.Starts.{Sets};
 ghost use Rattle.ls_theory.specs.Bases.{base};
+ghost use Rattle.ls_theory.specs.Compatible.{compat};
+ghost use Rattle.ls_laws.specs.Families.{IsFamily};
 ghost use Rattle.ls_laws.specs.Spans.{IsOn, IsPart, Spans, needed, spanned, left_by, after_yes};
 
 /// Each member is the union of the base sets within it, no base set is a union of other members,
@@ -53,4 +56,14 @@ pub fn spans_after_yes()
         IsInOrder g →
         ((k : Items) → is_among g k ≡ is_among (after_yes (base f) r) k) →
         base (left_by r f) ≡ needed g }
+{}
+
+/// What is compatible with a start by listed sets is what the sets span. So a family, whatever it
+/// comes from, is what is compatible with the start by its base; and Yes answers leave its members
+/// that break none of them.
+pub fn family_is_compatible_with_its_base()
+    ensures spanned { (n : ℕ) (sets : List Items) → compat n (Sets sets) [] ≡ spanned n sets }
+    ensures family { (n : ℕ) (f : List Items) → IsFamily n f → compat n (Sets (base f)) [] ≡ f }
+    ensures after_yeses { (n : ℕ) (f : List Items) (yeses : List Query) → IsFamily n f →
+        compat n (Sets (base f)) yeses ≡ filter (breaks_none yeses) f }
 {}

@@ -11,7 +11,9 @@ mod gradation;
 mod spaces;
 
 pub use assessments::{masses_are_sums, share_comes_before_budget};
-pub use bases::{base_of_spanning, base_spans, spanned_by, spans_after_yes};
+pub use bases::{
+    base_of_spanning, base_spans, family_is_compatible_with_its_base, spanned_by, spans_after_yes,
+};
 pub use changes::{answers_stay_in_order, changes_keep_a_space, yes_cuts_compatible_sets};
 pub use forced::{
     closures_decide, closures_tell, forced_once, least_number_is_told, search_is_over_all_spaces,

@@ -20,8 +20,8 @@ pub fn begun(alloc: Global, n: u32, start: ListedStart) -> ListedInterview
     }
 }
 
-/// The interview after the answer to `r` was accepted: it gets the next number and is put last. Fails only where memory
-/// runs out.
+/// The interview after the answer to `r` was accepted: it gets the next number and is put last.
+/// Fails only where memory runs out.
 pub fn accepted(
     mut i: ListedInterview,
     r: Query,
@@ -40,7 +40,8 @@ pub fn accepted(
     Ok(i)
 }
 
-/// The interview after the answer with the number, if one stands, was taken out. Fails only where memory runs out.
+/// The interview after the answer with the number, if one stands, was taken out. Fails only where
+/// memory runs out.
 pub fn retracted(
     alloc: Global,
     i: ListedInterview,

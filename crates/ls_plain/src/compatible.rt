@@ -48,7 +48,8 @@ pub fn is_compatible(start: &ListedStart, yeses: &[Query], k: ItemSet) -> bool
     meets(start, k) && breaks_none(yeses, k)
 }
 
-/// The compatible sets of `n` items, in the order: those that meet the start and break no query that was answered Yes.
+/// The compatible sets of `n` items, in the order: those that meet the start and break no query
+/// that was answered Yes.
 #[tactic(auto, unfolding(ls_theory::specs::Compatible::compat))]
 pub fn compat(
     alloc: Global,

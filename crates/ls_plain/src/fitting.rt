@@ -26,8 +26,8 @@ fn breaks_each(nos: &[Query], f: &[ItemSet]) -> bool
     nos.iter().all(|r| some_breaks(f, r))
 }
 
-/// Whether the family is a space on `n` items whose members are compatible, and of which some member breaks each query
-/// that was answered No.
+/// Whether the family is a space on `n` items whose members are compatible, and of which some
+/// member breaks each query that was answered No.
 pub fn fits(n: u32, start: &ListedStart, yeses: &[Query], nos: &[Query], f: &[ItemSet]) -> bool
     requires { n ≤ PLACES }
     ensures { result ≡ fits n (start_of start.now) yeses.now nos.now f.now }

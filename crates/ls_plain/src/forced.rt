@@ -70,14 +70,16 @@ fn left_by(alloc: Global, sets: &[ItemSet], r: &Query) -> Result<Vec<ItemSet>, A
 
 // The number of the first No that no set of the list breaks.
 fn first_lost(left: &[ItemSet], nos: &[No]) -> Option<u64>
-    ensures { result ≡ option_map (λ a. a.number) (find (λ a. not (some_breaks left.now a.query)) nos.now) }
+    ensures { result ≡
+        option_map (λ a. a.number) (find (λ a. not (some_breaks left.now a.query)) nos.now) }
 {
     nos.iter()
         .find(|a| !some_breaks(left, &a.query))
         .map(|a| a.number)
 }
 
-/// The least number of a standing No that no compatible set breaks once the sets that break the query are left out.
+/// The least number of a standing No that no compatible set breaks once the sets that break the
+/// query are left out.
 pub fn by(
     alloc: Global,
     compatible: &[ItemSet],
@@ -93,7 +95,8 @@ pub fn by(
 // The number of the No by which the query is forced, or 0.
 fn number_of(alloc: Global, i: &ListedInterview, r: &Query) -> Result<u64, AllocError>
     requires { i.now.count ≤ PLACES }
-    ensures { IfOk result (λ n. n ≡ unwrap_or (by (compatible_sets (interview_of i.now)) (nos i.now.answers.items) r.now) 0) }
+    ensures { IfOk result (λ n. n ≡
+        unwrap_or (by (compatible_sets (interview_of i.now)) (nos i.now.answers.items) r.now) 0) }
 {
     let compatible = compatible_sets(alloc, i)?;
     let nos = nos(alloc, &i.answers)?;
@@ -130,7 +133,8 @@ fn comes_after(last: &Option<Query>, r: &Query) -> bool
 
 // The first of the queries that is open and comes after the given one.
 fn first_open(spaces: &[SetList], all: &[Query], last: &Option<Query>) -> Option<Query>
-    ensures { result ≡ find (is_open spaces.now) (filter (comes_after query_before last.now) all.now) }
+    ensures { result ≡
+        find (is_open spaces.now) (filter (comes_after query_before last.now) all.now) }
 {
     all.iter()
         .copied()
@@ -138,8 +142,8 @@ fn first_open(spaces: &[SetList], all: &[Query], last: &Option<Query>) -> Option
         .find(|r| is_open(spaces, r))
 }
 
-/// The first open query of the blocks that comes after the given one, or the first of all, in an interview on at most 3
-/// items.
+/// The first open query of the blocks that comes after the given one, or the first of all, in an
+/// interview on at most 3 items.
 #[tactic(auto, unfolding(ls_theory::specs::Forced::next_question))]
 pub fn next_question(
     alloc: Global,

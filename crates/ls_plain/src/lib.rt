@@ -1,5 +1,5 @@
-//! Plain, slow programs of interviews, each of which computes the definition of its name: queries, starts, compatible
-//! sets, spaces, fitting spaces, what the answers force, and pages.
+//! Plain, slow programs of interviews, each of which computes the definition of its name: queries,
+//! starts, compatible sets, spaces, fitting spaces, what the answers force, and pages.
 #![tactic(auto)]
 
 mod answers;

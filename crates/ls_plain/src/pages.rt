@@ -17,7 +17,8 @@ fn comes_after(s: ItemSet, last: &Option<ItemSet>) -> bool
     }
 }
 
-/// The first `count` of the sets that come after the given one, or of all. The given set need not be among them.
+/// The first `count` of the sets that come after the given one, or of all. The given set need not
+/// be among them.
 pub fn page(
     alloc: Global,
     sets: &[ItemSet],

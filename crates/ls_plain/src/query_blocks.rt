@@ -20,7 +20,8 @@ fn of_size(alloc: Global, sets: &[ItemSet], size: u32) -> Result<Vec<ItemSet>, A
 
 // The sets of each size in turn.
 fn of_sizes(alloc: Global, sets: &[ItemSet], sizes: &[u32]) -> Result<Vec<ItemSet>, AllocError>
-    ensures { IfOk result (λ v. v.items ≡ flat_map (λ size. filter (λ a. len a == size) sets.now) sizes.now) }
+    ensures { IfOk result (λ v. v.items ≡
+        flat_map (λ size. filter (λ a. len a == size) sets.now) sizes.now) }
 {
     let Some((size, others)) = sizes.split_first() else {
         return Ok(Vec::new(alloc));
@@ -52,7 +53,8 @@ fn with_each(alloc: Global, a: ItemSet, numbers: &[u32]) -> Result<Vec<Query>, A
 
 // The queries with each set in turn and each of the numbers.
 fn with_all(alloc: Global, sets: &[ItemSet], numbers: &[u32]) -> Result<Vec<Query>, AllocError>
-    ensures { IfOk result (λ v. v.items ≡ flat_map (λ a. map (λ q. record { a = a; q = q }) numbers.now) sets.now) }
+    ensures { IfOk result (λ v. v.items ≡
+        flat_map (λ a. map (λ q. record { a = a; q = q }) numbers.now) sets.now) }
 {
     let Some((a, others)) = sets.split_first() else {
         return Ok(Vec::new(alloc));

@@ -18,7 +18,8 @@ fn is_lex_before(a: ItemSet, b: ItemSet) -> bool
     }
 }
 
-/// Whether the set comes before the other in the blocks: by size, then by their ascending lists, lexicographically.
+/// Whether the set comes before the other in the blocks: by size, then by their ascending lists,
+/// lexicographically.
 #[tactic(auto, unfolding(ls_theory::specs::Queries::block_before))]
 pub fn block_before(a: ItemSet, b: ItemSet) -> bool
     ensures { result ≡ block_before a b }

@@ -28,8 +28,8 @@ pub fn is_union_closed(f: &[ItemSet]) -> bool
     f.iter().all(|k| joins_all(f, *k))
 }
 
-/// Whether the family is a space on the items of `whole`: it holds the empty set and `whole`, and is closed under
-/// union.
+/// Whether the family is a space on the items of `whole`: it holds the empty set and `whole`, and
+/// is closed under union.
 pub fn is_space(whole: ItemSet, f: &[ItemSet]) -> bool
     ensures { result ≡ is_space whole f.now }
 {
@@ -48,7 +48,8 @@ pub fn interior(f: &[ItemSet], s: ItemSet) -> ItemSet
     }
 }
 
-/// The closure of the set among the items of `whole`: the complement of the interior of its complement.
+/// The closure of the set among the items of `whole`: the complement of the interior of its
+/// complement.
 pub fn closure(whole: ItemSet, f: &[ItemSet], s: ItemSet) -> ItemSet
     ensures { result ≡ closure whole f.now s }
 {

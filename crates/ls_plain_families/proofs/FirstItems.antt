@@ -3,6 +3,7 @@ use Rattle.std.proofs.Common.{ℕ, zero, suc, ◌≡◌, ◌-◌, Bool, true, fa
 use Rattle.std.specs.List.{All, flat_map}
 use Rattle.std.proofs.lemmas.List.{append_assoc}
 use Rattle.std.proofs.lemmas.List.Elements.{All-nil, All-cons, All-append, All-map}
+use Rattle.std.proofs.lemmas.Bool.{and_parts}
 use Rattle.ls_set.specs.ItemSet.{Items, has, items, without}
 use Rattle.ls_set.proofs.Sets.{has-without}
 use Rattle.ls_set.proofs.Firsts.{listed-has}
@@ -28,10 +29,6 @@ in_each : {X : Type 0} (P : X → Type 0) (g : ℕ → List X) (s : Items) (befo
 in_each P g s before [] h each = All-nil P
 in_each P g s before (i ∷ is) h each = All-append P (g i) (flat_map g is) (each i (listed-has s before i is h)) (in_each P g s (before ++ i ∷ []) is (append_assoc before (i ∷ []) is ∙ h) each)
 
-and_left : (a b : Bool) → (a && b) ≡ true → a ≡ true
-and_left true b h = refl
-and_left false b h = h
-
 -- each order has m elements, and each of them is in s
 abbrev pub AreItems : ℕ → Items → List ℕ → Type 0
 AreItems m s order = All (λ i. has s i ≡ true) order × (length order ≡ m)
@@ -43,9 +40,4 @@ orders_hold (suc m) s =
     in_each (AreItems (suc m) s) (λ i. map (λ rest. i ∷ rest) (orders_of m (without s i))) s [] (items s) refl
     (λ i h. All-map (AreItems (suc m) s) (λ rest. i ∷ rest) (orders_of m (without s i)) (λ k d lt.
     let o = orders_hold m (without s i) k d lt in
-    (All-cons (λ j. has s j ≡ true) i _ h (λ j e l. and_left (has s _) (not (eqb _ i)) (sym (has-without s i _) ∙ o.0 j e l)), ap suc o.1)))
-
--- what holds of each mapped element
-pub All-unmap : {X Y : Type 0} (P : X → Type 0) (f : Y → X) (ys : List Y) → All P (map f ys) → All (λ y. P (f y)) ys
-All-unmap P f [] h = All-nil (λ y. P (f y))
-All-unmap P f (y ∷ ys) h = All-cons (λ y. P (f y)) y ys (h 0 (f y) (omega arith)) (All-unmap P f ys (λ k d lt. h (suc k) d (omega arith)))
+    (All-cons (λ j. has s j ≡ true) i _ h (λ j e l. (and_parts (has s _) (not (eqb _ i)) (sym (has-without s i _) ∙ o.0 j e l)).0), ap suc o.1)))

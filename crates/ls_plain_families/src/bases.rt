@@ -23,7 +23,8 @@ fn has_less(f: &[ItemSet], q: u32, k: ItemSet) -> bool
     f.iter().any(|l| is_less_at(*l, q, k))
 }
 
-/// Whether the set is an atom at the item: it has the item, and no proper subset of it in the family has the item.
+/// Whether the set is an atom at the item: it has the item, and no proper subset of it in the
+/// family has the item.
 pub fn is_atom_at(f: &[ItemSet], q: u32, k: ItemSet) -> bool
     ensures { result ≡ is_atom_at f.now q k }
 {

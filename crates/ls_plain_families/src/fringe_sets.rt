@@ -64,7 +64,8 @@ pub fn fringes_of(n: u32, f: &[ItemSet], k: ItemSet) -> FringePair
 #[tactic(auto, unfolding(ls_set::specs::ItemSet::is_same))]
 fn has_fringes(n: u32, f: &[ItemSet], k: ItemSet, inner: ItemSet, outer: ItemSet) -> bool
     requires { n ≤ PLACES }
-    ensures { result ≡ (is_same (inner_fringe f.now k) inner && is_same (outer_fringe n f.now k) outer) }
+    ensures { result ≡
+        (is_same (inner_fringe f.now k) inner && is_same (outer_fringe n f.now k) outer) }
 {
     inner_fringe(f, k) == inner && outer_fringe(n, f, k) == outer
 }

@@ -17,7 +17,8 @@ pub fn distance(k: ItemSet, l: ItemSet) -> u32
     k.minus(l).union(l.minus(k)).len()
 }
 
-/// Whether a list of members leads from `k` to `l` in `steps` steps, each to a member that differs in one item.
+/// Whether a list of members leads from `k` to `l` in `steps` steps, each to a member that differs
+/// in one item.
 #[tactic(auto, unfolding(ls_theory::specs::Verdict::is_joined, ls_set::specs::ItemSet::is_same))]
 pub fn is_joined(f: &[ItemSet], steps: u32, k: ItemSet, l: ItemSet) -> bool
     ensures { result ≡ is_joined f.now steps k l }
@@ -33,15 +34,16 @@ pub fn is_joined(f: &[ItemSet], steps: u32, k: ItemSet, l: ItemSet) -> bool
     false
 }
 
-// Whether the set is joined to each member in as many steps as there are items in exactly one of the two.
+// Whether the set is joined to each member in as many steps as there are items in exactly one of
+// the two.
 fn is_joined_to_all(f: &[ItemSet], k: ItemSet) -> bool
     ensures { result ≡ list_all (λ l. is_joined f.now (len (differing k l)) k l) f.now }
 {
     f.iter().all(|l| is_joined(f, distance(k, *l), k, *l))
 }
 
-/// Whether the family is well graded: any two members are joined in as many steps as there are items in exactly one of
-/// them.
+/// Whether the family is well graded: any two members are joined in as many steps as there are
+/// items in exactly one of them.
 #[tactic(auto, unfolding(ls_theory::specs::Verdict::is_well_graded))]
 pub fn is_well_graded(f: &[ItemSet]) -> bool
     ensures { result ≡ is_well_graded f.now }

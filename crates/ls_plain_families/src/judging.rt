@@ -56,7 +56,8 @@ fn set_list(alloc: Global, sets: &[ItemSet]) -> Result<SetList, AllocError>
     Ok(list)
 }
 
-// A learning space with its base, or else a base set with the two least items at which it is an atom.
+// A learning space with its base, or else a base set with the two least items at which it is an
+// atom.
 fn graded_verdict(alloc: Global, f: &[ItemSet]) -> Result<Verdict, AllocError>
     ensures { IfOk result (λ v. v ≡ graded_verdict f.now) }
 {

@@ -1,5 +1,5 @@
-//! Plain, slow programs on families, each of which computes the definition of its name: bases and peaks, gradation and
-//! the verdict, fringes, projections, orders and learning paths.
+//! Plain, slow programs on families, each of which computes the definition of its name: bases and
+//! peaks, gradation and the verdict, fringes, projections, orders and learning paths.
 #![tactic(auto)]
 
 mod bases;

@@ -58,7 +58,8 @@ fn headed(alloc: Global, first: u32, others: &[u32]) -> Result<Vec<u32>, AllocEr
 
 // The orders, each behind the item.
 fn all_headed(alloc: Global, first: u32, orders: &[Vec<u32>]) -> Result<Vec<Vec<u32>>, AllocError>
-    ensures { IfOk result (λ v. map (λ o. o.items) v.items ≡ map (λ o. first ∷ o.items) orders.now) }
+    ensures { IfOk result (λ v.
+        map (λ o. o.items) v.items ≡ map (λ o. first ∷ o.items) orders.now) }
 {
     let mut all = Vec::new(alloc);
     for o in orders {
@@ -96,7 +97,8 @@ fn those_paths(
 ) -> Result<Vec<Vec<u32>>, AllocError>
     requires items { All (λ o. All (λ i. i < PLACES) o.items) orders.items }
     requires few { All (λ o. length o.items < 2 ^ 31) orders.items }
-    ensures { IfOk result (λ v. map (λ o. o.items) v.items ≡ filter (is_path f.now) (map (λ o. o.items) orders.items)) }
+    ensures { IfOk result (λ v.
+        map (λ o. o.items) v.items ≡ filter (is_path f.now) (map (λ o. o.items) orders.items)) }
 {
     let mut paths = Vec::new(alloc);
     for order in orders {

@@ -36,7 +36,8 @@ fn first_past(
     counts: &[u32],
 ) -> Result<Option<u32>, AllocError>
     requires { n ≤ PLACES }
-    ensures { IfOk result (λ o. o ≡ find (λ j. nat_lt limit (base_size n (start_of start.now) yeses.now j)) counts.now) }
+    ensures { IfOk result (λ o. o ≡
+        find (λ j. nat_lt limit (base_size n (start_of start.now) yeses.now j)) counts.now) }
 {
     let Some((count, others)) = counts.split_first() else {
         return Ok(None);
@@ -49,8 +50,8 @@ fn first_past(
     }
 }
 
-/// The peak: the least number of first Yes answers under which the base has more sets than the limit, with the size of
-/// that base.
+/// The peak: the least number of first Yes answers under which the base has more sets than the
+/// limit, with the size of that base.
 #[tactic(auto, unfolding(ls_theory::specs::Bases::peak))]
 pub fn peak(
     alloc: Global,
@@ -61,7 +62,8 @@ pub fn peak(
 ) -> Result<Option<(u32, usize)>, AllocError>
     requires items { n ≤ PLACES }
     requires answers { length yeses.now < 2 ^ 31 }
-    ensures { IfOk result (λ o. option_map (λ p. record { position = p.0; count = p.1 }) o ≡ peak limit n (start_of start.now) yeses.now) }
+    ensures { IfOk result (λ o. option_map (λ p. record { position = p.0; count = p.1 }) o ≡
+        peak limit n (start_of start.now) yeses.now) }
 {
     let counts = numbers_from(alloc, 0, yeses.len() as u32 + 1)?;
     match first_past(alloc, limit, n, start, yeses, &counts)? {

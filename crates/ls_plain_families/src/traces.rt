@@ -16,7 +16,8 @@ fn is_trace(p: ItemSet, f: &[ItemSet], s: ItemSet) -> bool
     f.iter().any(|k| s == p.meet(*k))
 }
 
-/// The projection on `p` of a family on `n` items: the sets that are the meet of `p` with some member, in the order.
+/// The projection on `p` of a family on `n` items: the sets that are the meet of `p` with some
+/// member, in the order.
 pub fn projection(
     alloc: Global,
     n: u32,

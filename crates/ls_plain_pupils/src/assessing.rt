@@ -26,7 +26,8 @@ pub fn imbalance(odds: &[Odds], replies: &[Reply], f: &[ItemSet], q: u32) -> u12
 fn is_least(odds: &[Odds], replies: &[Reply], f: &[ItemSet], q: u32) -> bool
     requires few { length odds.now ≤ PLACES }
     requires fits { 2 * total odds.now replies.now f.now < 2 ^ 128 }
-    ensures { result ≡ list_all (λ r. nat_le (imbalance odds.now replies.now f.now q) (imbalance odds.now replies.now f.now r)) (numbers_from 0 (length odds.now)) }
+    ensures { let tilt = imbalance odds.now replies.now f.now in
+        result ≡ list_all (λ r. nat_le (tilt q) (tilt r)) (numbers_from 0 (length odds.now)) }
 {
     for r in 0..odds.len() as u32 {
         if imbalance(odds, replies, f, q) > imbalance(odds, replies, f, r) {
@@ -55,7 +56,8 @@ pub fn half_split(odds: &[Odds], replies: &[Reply], f: &[ItemSet]) -> u32
 fn is_greatest(odds: &[Odds], replies: &[Reply], f: &[ItemSet], k: ItemSet) -> bool
     requires own { weight odds.now replies.now k < 2 ^ 128 }
     requires each { All (λ l. weight odds.now replies.now l < 2 ^ 128) f.now }
-    ensures { result ≡ list_all (λ l. nat_le (weight odds.now replies.now l) (weight odds.now replies.now k)) f.now }
+    ensures { let weighs = weight odds.now replies.now in
+        result ≡ list_all (λ l. nat_le (weighs l) (weighs k)) f.now }
 {
     f.iter()
         .all(|l| weight(odds, replies, *l) <= weight(odds, replies, k))

@@ -13,7 +13,7 @@ use ls_theory::{ListedSettings, Odds, Reply};
 /// The weight of the set, or `None` where it has more than 128 bits.
 #[tactic(auto, unfolding(ls_theory::specs::Weights::weight))]
 pub fn checked_weight(odds: &[Odds], replies: &[Reply], k: ItemSet) -> Option<u128>
-    ensures { SomeIff result (weight odds.now replies.now k < 2 ^ 128) (weight odds.now replies.now k) }
+    ensures { let sum = weight odds.now replies.now k in SomeIff result (sum < 2 ^ 128) sum }
 {
     match replies.split_first() {
         None => Some(1),
@@ -29,7 +29,7 @@ pub fn checked_weight(odds: &[Odds], replies: &[Reply], k: ItemSet) -> Option<u1
 
 /// The total, or `None` where it has more than 128 bits.
 pub fn checked_total(odds: &[Odds], replies: &[Reply], f: &[ItemSet]) -> Option<u128>
-    ensures { SomeIff result (total odds.now replies.now f.now < 2 ^ 128) (total odds.now replies.now f.now) }
+    ensures { let sum = total odds.now replies.now f.now in SomeIff result (sum < 2 ^ 128) sum }
 {
     match f.split_first() {
         None => Some(0),

@@ -18,7 +18,9 @@ fn pupil_result(
 ) -> Result<ListedResult, AllocError>
     requires few { length s.now.odds.items ≤ PLACES }
     requires fits { FitsFor s.now.budget (settings_of s.now) f.now row.now.right [] }
-    ensures { IfOk result (λ r. let row = row_of row.now in result_of r ≡ result_from (settings_of s.now) f.now row.name (replies_in s.now.budget (settings_of s.now) f.now row.right [])) }
+    ensures { IfOk result (λ r. let row = row_of row.now in let settings = settings_of s.now in
+        result_of r ≡ result_from settings f.now row.name
+        (replies_in s.now.budget settings f.now row.right [])) }
 {
     let name = row.name.as_str().to_owned(alloc)?;
     let replay = replay_of(alloc, s, f, row.right)?;
@@ -30,8 +32,9 @@ fn pupil_result(
     })
 }
 
-/// The results of a class: a line for each row of the table, in its order. Fails only where memory runs out. For each
-/// row `fits_for` tests what is required, from no replies and with the budget's turns.
+/// The results of a class: a line for each row of the table, in its order. Fails only where memory
+/// runs out. For each row `fits_for` tests what is required, from no replies and with the budget's
+/// turns.
 #[tactic(auto, unfolding(ls_theory::specs::Classes::class_results))]
 pub fn class_results(
     alloc: Global,
@@ -40,8 +43,10 @@ pub fn class_results(
     table: &[ListedRow],
 ) -> Result<Vec<ListedResult>, AllocError>
     requires few { length s.now.odds.items ≤ PLACES }
-    requires fits { All (λ row. FitsFor s.now.budget (settings_of s.now) f.now row.right []) table.now }
-    ensures { IfOk result (λ v. map result_of v.items ≡ class_results (settings_of s.now) f.now (map row_of table.now)) }
+    requires fits { All (λ row.
+        FitsFor s.now.budget (settings_of s.now) f.now row.right []) table.now }
+    ensures { IfOk result (λ v. map result_of v.items ≡
+        class_results (settings_of s.now) f.now (map row_of table.now)) }
 {
     let mut results = Vec::new(alloc);
     for row in table {

@@ -26,7 +26,8 @@ fn turn(right: ItemSet, asked: Asked, mut replies: Vec<Reply>) -> Result<Vec<Rep
     Ok(replies)
 }
 
-/// The replies after `turns` more turns, in which the table answers right exactly for the items of `right`.
+/// The replies after `turns` more turns, in which the table answers right exactly for the items of
+/// `right`.
 #[tactic(auto, unfolding(ls_theory::specs::Classes::replies_in, ls_theory::specs::Bounds::FitsFor))]
 pub fn replies_in(
     turns: u64,
@@ -37,7 +38,8 @@ pub fn replies_in(
 ) -> Result<Vec<Reply>, AllocError>
     requires few { length s.now.odds.items ≤ PLACES }
     requires fits { FitsFor turns (settings_of s.now) f.now right replies.items }
-    ensures { IfOk result (λ v. v.items ≡ replies_in turns (settings_of s.now) f.now right replies.items) }
+    ensures { IfOk result (λ v.
+        v.items ≡ replies_in turns (settings_of s.now) f.now right replies.items) }
 {
     if turns == 0 {
         return Ok(replies);
@@ -47,7 +49,8 @@ pub fn replies_in(
     replies_in(turns - 1, s, f, right, after)
 }
 
-/// Whether the numbers of the assessment have at most 128 bits, now and after each of `turns` more turns.
+/// Whether the numbers of the assessment have at most 128 bits, now and after each of `turns` more
+/// turns.
 #[tactic(auto, unfolding(ls_theory::specs::Bounds::FitsFor), using(crate::proofs::Turns::fits_turn))]
 pub fn fits_for(
     turns: u64,
@@ -57,7 +60,8 @@ pub fn fits_for(
     replies: Vec<Reply>,
 ) -> Result<bool, AllocError>
     requires { length s.now.odds.items ≤ PLACES }
-    ensures { IfOk result (λ b. IsTrue b ↔ FitsFor turns (settings_of s.now) f.now right replies.items) }
+    ensures { IfOk result (λ b.
+        IsTrue b ↔ FitsFor turns (settings_of s.now) f.now right replies.items) }
 {
     if !fits_now(s, f, &replies) {
         return Ok(false);
@@ -74,7 +78,8 @@ pub fn fits_for(
 // Why an assessment is over: by share, or else by budget.
 fn reason_of(s: &ListedSettings, f: &[ItemSet], replies: &[Reply]) -> Reason
     requires { FitsNow (settings_of s.now) f.now replies.now }
-    ensures { result ≡ (if has_share (settings_of s.now) f.now replies.now then Reason.Share else Reason.Budget) }
+    ensures { result ≡
+        (if has_share (settings_of s.now) f.now replies.now then Reason.Share else Reason.Budget) }
 {
     if has_share(s, f, replies) {
         Reason::Share
@@ -83,7 +88,8 @@ fn reason_of(s: &ListedSettings, f: &[ItemSet], replies: &[Reply]) -> Reason
     }
 }
 
-/// How the assessment ends of a pupil whose questions the table answers, right exactly for the items of `right`.
+/// How the assessment ends of a pupil whose questions the table answers, right exactly for the
+/// items of `right`.
 #[tactic(auto, using(crate::proofs::Turns::fits_at_end))]
 pub fn replay_of(
     alloc: Global,
@@ -93,7 +99,9 @@ pub fn replay_of(
 ) -> Result<Replay, AllocError>
     requires few { length s.now.odds.items ≤ PLACES }
     requires fits { FitsFor s.now.budget (settings_of s.now) f.now right [] }
-    ensures { IfOk result (λ r. (name : List ℕ) → result_from (settings_of s.now) f.now name (replies_in s.now.budget (settings_of s.now) f.now right []) ≡ record { name = name; replies = r.replies; reason = r.reason; state = r.state }) }
+    ensures { IfOk result (λ r. (name : List ℕ) → let settings = settings_of s.now in
+        result_from settings f.now name (replies_in s.now.budget settings f.now right []) ≡
+        record { name = name; replies = r.replies; reason = r.reason; state = r.state }) }
 {
     let replies = replies_in(s.budget, s, f, right, Vec::new(alloc))?;
     Ok(Replay {

@@ -1,4 +1,5 @@
-//! Plain, slow programs of assessments and classes, each of which computes the definition of its name.
+//! Plain, slow programs of assessments and classes, each of which computes the definition of its
+//! name.
 #![tactic(auto)]
 
 mod assessing;

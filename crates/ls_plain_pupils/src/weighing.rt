@@ -13,7 +13,8 @@ pub(crate) fn has(k: ItemSet, q: u32) -> bool
     k.items().any(|i| i == q)
 }
 
-/// Whether the set agrees with the reply: it has the item of a right one, and lacks the item of a wrong one.
+/// Whether the set agrees with the reply: it has the item of a right one, and lacks the item of a
+/// wrong one.
 pub fn agrees(k: ItemSet, r: Reply) -> bool
     ensures { result ≡ agrees k r }
 {

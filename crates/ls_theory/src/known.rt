@@ -1,6 +1,7 @@
 // What the standing answers tell of a query.
 
-/// What the standing answers tell of a query: that it is Yes, that it is No by the answer with the number `by`, or neither.
+/// What the standing answers tell of a query: that it is Yes, that it is No by the answer with the
+/// number `by`, or neither.
 #[derive(Clone, Copy, Debug, PartialEq, Eq)]
 pub enum Known {
     Yes,

@@ -1,4 +1,5 @@
-//! The definitions of the theory, over explicit lists of sets, in specs/; and the data types of which they speak.
+//! The definitions of the theory, over explicit lists of sets, in specs/; and the data types of
+//! which they speak.
 #![tactic(auto)]
 
 mod answer;

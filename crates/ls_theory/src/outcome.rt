@@ -1,7 +1,8 @@
 // What an assessment tells.
 use ls_set::ItemSet;
 
-/// The first state of greatest weight, its weight, the weight of all states, and the number of replies.
+/// The first state of greatest weight, its weight, the weight of all states, and the number of
+/// replies.
 #[derive(Clone, Copy, Debug, PartialEq, Eq)]
 pub struct Outcome {
     pub state: ItemSet,

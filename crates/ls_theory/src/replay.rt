@@ -2,7 +2,8 @@
 use crate::reason::Reason;
 use ls_set::ItemSet;
 
-/// How an assessment ended: the number of replies, why it was over, and the first state of greatest weight.
+/// How an assessment ended: the number of replies, why it was over, and the first state of greatest
+/// weight.
 #[derive(Clone, Copy, Debug, PartialEq, Eq)]
 pub struct Replay {
     pub replies: u64,

@@ -1,9 +1,10 @@
 use Rattle.std.proofs.Common.{◌≡◌, ◌<◌, true, slice_index_or, ◌∙◌, Vec, Global, ℕ, List, map, arith, ap, sym, subst, ltb-true}
 use Rattle.std.specs.List.{All}
+use Rattle.ls_lists.proofs.Every.{All-unmap}
 use Rattle.ls_set.specs.ItemSet.{has, full}
 use Rattle.ls_set.proofs.Sets.{has-full}
 use Rattle.ls_theory.specs.Paths.{orders_of}
-use Rattle.ls_plain_families.proofs.FirstItems.{AreItems, orders_hold, All-unmap}
+use Rattle.ls_plain_families.proofs.FirstItems.{AreItems, orders_hold}
 use Rattle.ls_plain_families.proofs.orders.paths.Goals as goal
 
 -- each order has n elements, each of them an item
