@@ -1,16 +1,8 @@
 -- Lists in an order, and the numbers from one on.
-use Rattle.std.proofs.Common.{ℕ, zero, suc, ◌+◌, ◌<◌, ◌≤◌, ◌≡◌, ◌⊎◌, inl, inr, Bool, true, ltb, List, [], ◌∷◌, slice_get, Some, sym, ap, ◌∙◌, arith, lt-ltb}
-use Rattle.std.proofs.lemmas.Bool.{cases_lt}
+use Rattle.std.proofs.Common.{ℕ, zero, suc, ◌≡◌, ◌⊎◌, inl, inr, Bool, true, ltb, List, [], ◌∷◌, slice_get, Some, sym, ap, ◌∙◌, arith, lt-ltb}
 use Rattle.ls_lists.specs.Lists.{IsIn, IsSorted}
 use Rattle.ls_set.specs.ItemSet.{numbers_from}
-
-pub in-numbers : (i m k : ℕ) → i ≤ k → k < i + m → IsIn k (numbers_from i m)
-in-numbers i zero k a b = absurd (omega arith)
-in-numbers i (suc m) k a b = elim (cases_lt i k) [ inr l ↦ inl (omega arith) | inl l ↦ inr (in-numbers (suc i) m k (omega arith) (omega arith)) ]
-
-pub numbers-in : (i m k : ℕ) → IsIn k (numbers_from i m) → (i ≤ k) × (k < i + m)
-numbers-in i zero k c = absurd c
-numbers-in i (suc m) k c = elim c [ inl e ↦ (omega arith, omega arith) | inr a ↦ let r = numbers-in (suc i) m k a in let l = r.0 in let h = r.1 in (omega arith, omega arith) ]
+use Rattle.ls_laws.proofs.Blocks.{numbers-in}
 
 pub sorted-numbers : (i m : ℕ) → IsSorted ltb (numbers_from i m)
 sorted-numbers i zero = tt
