@@ -21,7 +21,8 @@ use Rattle.ls_laws.proofs.Interiors.{interior-member}
 use Rattle.ls_laws.proofs.Breaks.{good-to}
 use Rattle.ls_laws.proofs.Compat.{among-compat}
 use Rattle.ls_laws.proofs.Answering.{no_question}
-use Rattle.ls_query.proofs.Sorted.{IsIn, filter-in}
+use Rattle.ls_lists.specs.Lists.{IsIn}
+use Rattle.ls_lists.proofs.Elements.{filter-in}
 use Rattle.ls_query.proofs.QuerySets.{queries-in}
 use Rattle.ls_infer.specs.Tables.{TableState, table_of}
 use Rattle.ls_expert.specs.declared.start.Start.{Start}

@@ -4,6 +4,9 @@ use Rattle.std.proofs.Math.ListN.{set}
 use Rattle.std.specs.List.{list_all}
 use Rattle.std.proofs.lemmas.Bool.{and_parts, and_from}
 use Rattle.std.proofs.lemmas.List.Folds.{list_all-map}
+use Rattle.ls_lists.proofs.Every.{All-filter, All-list_all, list_all-All, list_all-set}
+use Rattle.ls_lists.proofs.Overwriting.{images-at, images-next, all-at}
+use Rattle.ls_lists.specs.Lists.{IsIn, images}
 use Rattle.ls_set.specs.ItemSet.{Items, has, full, is_within, IsWithin}
 use Rattle.ls_set.specs.Query.{is_good}
 use Rattle.ls_set.specs.declared.query.Query.{Query}
@@ -15,14 +18,10 @@ use Rattle.ls_laws.specs.Spans.{left_by}
 use Rattle.ls_laws.proofs.Breaks.{good-from}
 use Rattle.ls_laws.proofs.ClosureChanges.{closure_after_yes, closure_before_yes}
 use Rattle.ls_laws.proofs.Families.{family_sets}
-use Rattle.ls_laws.proofs.Lists.{All-filter}
-use Rattle.ls_laws.proofs.Search.{All-list_all, list_all-All}
 use Rattle.ls_query.specs.Blocks.{sets_of}
-use Rattle.ls_query.proofs.Sorted.{IsIn}
 use Rattle.ls_query.proofs.BlockSets.{blocks-in}
 use Rattle.ls_infer.specs.declared.standing_no.StandingNo.{StandingNo}
 use Rattle.ls_infer.specs.Tables.{TableState, standing, closed_after, table_of}
-use Rattle.ls_infer.proofs.Overwriting.{images, images-at, images-next, all-at, all-set}
 
 -- the table of a family, by its parts
 pub table_is : (t : TableState) (f : List Items) (nos : List No) → t.closures ≡ map (closure (full t.blocks.item_count) f) (sets_of t.blocks) → t.standing ≡ map (standing t.blocks.item_count f) nos → t ≡ table_of t.blocks f nos
@@ -113,7 +112,7 @@ set_closed n f sets cs r i s x y family good at here made before =
 pub set_within : (n : ℕ) (f cs : List Items) (i : ℕ) (b : Bool) (s x y : Items) → list_all (λ c. is_within c (full n)) cs ≡ true → i < length cs → x ≡ get_or cs i x → y ≡ cond b (closure (full n) f s) x
     → list_all (λ c. is_within c (full n)) (set cs i y) ≡ true
 set_within n f cs i b s x y h l here made =
-    all-set (λ c. is_within c (full n)) cs i y h (ap (λ c. is_within c (full n)) made ∙ chosen-within n b f s x (all-at (λ c. is_within c (full n)) cs i x h l here))
+    list_all-set (λ c. is_within c (full n)) cs i y h (ap (λ c. is_within c (full n)) made ∙ chosen-within n b f s x (all-at (λ c. is_within c (full n)) cs i x h l here))
 
 pub yes_removed-table : (t : TableState) (n : ℕ) (f : List Items) (r : Query) (nos : List No) (cs : List Items) (ss : List StandingNo) → n ≡ t.blocks.item_count
     → t ≡ table_of t.blocks (left_by r f) nos → (t.closures ≡ map (closure (full n) (left_by r f)) (sets_of t.blocks) → cs ≡ map (closure (full n) f) (sets_of t.blocks)) → ss ≡ map (λ s. standing n f s.no) t.standing

@@ -4,6 +4,7 @@ use Rattle.std.specs.List.{list_any}
 use Rattle.std.proofs.lemmas.List.{drop_more}
 use Rattle.std.proofs.lemmas.Bool.{or_cases}
 use Rattle.std.proofs.lemmas.Bool.Decides.{nat_tests}
+use Rattle.ls_lists.proofs.Places.{drop-next}
 use Rattle.ls_set.specs.ItemSet.{Items, has, full, with, is_within, IsWithin}
 use Rattle.ls_set.proofs.Sets.{has-with, has-full}
 use Rattle.ls_set.proofs.Cursors.{has-set_of-filter}
@@ -31,16 +32,9 @@ left k i q h = grind (arith, nat_tests)
 
 -- ---- the items that are forced
 
-pub or_next : (a b c : Bool) → ((a || b) || c) ≡ (a || (b || c))
-or_next true b c = refl
-or_next false b c = refl
-
-left_next : {X : Type 0} (xs : List X) (i : ℕ) (x : X) → i < length xs → x ≡ get_or xs i x → drop i xs ≡ x ∷ drop (i + 1) xs
-left_next xs i x l e = drop_more xs i x l ∙ ap (λ y. y ∷ drop (i + 1) xs) (sym e)
-
 -- what the next answer adds, where it is told whether A is within its closure
 pub forced-next : (ss : List StandingNo) (i : ℕ) (s : StandingNo) (a : Items) (q : ℕ) (f w : Bool) → i < length ss → s ≡ get_or ss i s → is_within a s.closed ≡ w
     → (f || list_any (forces (record { a = a; q = q })) (drop i ss)) ≡ (f || ((w && has s.enough q) || list_any (forces (record { a = a; q = q })) (drop (i + 1) ss)))
 forced-next ss i s a q f w l e h =
-    ap (λ xs. f || list_any (forces (record { a = a; q = q })) xs) (left_next ss i s l e)
+    ap (λ xs. f || list_any (forces (record { a = a; q = q })) xs) (drop-next ss i s l e)
     ∙ ap (λ b. f || ((b && has s.enough q) || list_any (forces (record { a = a; q = q })) (drop (i + 1) ss))) h

@@ -6,9 +6,9 @@ use Rattle.std.specs.List.Sorted.{IsStrictlyIncreasing}
 use Rattle.std.specs.Option.{option_map_or}
 use Rattle.std.proofs.lemmas.Bool.{cases_Bool, and_parts, and_from, or_left, or_right, le-leb}
 use Rattle.std.proofs.lemmas.Bool.Decides.{nat_tests}
+use Rattle.ls_lists.proofs.Sorted.{tail-increasing}
 use Rattle.ls_theory.specs.declared.no.No.{No}
 use Rattle.ls_theory.specs.Words.{first_least}
-use Rattle.ls_laws.proofs.Numbered.{tail-increasing}
 use Rattle.ls_laws.proofs.Least.{first_is_least}
 
 -- the least of the numbers, and of the one that is found before them
@@ -51,9 +51,13 @@ pub least_with-parts : {X : Type 0} (value : X → ℕ) (xs : List X) (m : ℕ)
 least_with-parts value [] m = (m, refl, omega arith, refl, or_left (eqb m m) false (eq-eqb m m refl))
 least_with-parts value (x ∷ xs) m =
     let rest = least_with-parts value xs (min (value x) m) in
-    let k = rest.0 in
-    (k, rest.1, omega (arith, rest.2), and_from (leb k (value x)) (list_all (λ y. leb k (value y)) xs) (le-leb k (value x) (omega (arith, rest.2))) rest.3,
-      grind (arith, nat_tests, rest.4))
+    let k = rest.0 in (
+      k,
+      rest.1,
+      omega (arith, rest.2),
+      and_from (leb k (value x)) (list_all (λ y. leb k (value y)) xs) (le-leb k (value x) (omega (arith, rest.2))) rest.3,
+      grind (arith, nat_tests, rest.4),
+    )
 
 pub least_with-first : {X : Type 0} (value : X → ℕ) (xs : List X) → least_with None (map value xs) ≡ option_map value (first_least value xs)
 least_with-first value [] = refl

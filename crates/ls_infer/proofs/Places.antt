@@ -1,34 +1,12 @@
 -- Places in lists and in blocks.
 use Rattle.std.proofs.Common.{ℕ, zero, suc, ◌+◌, ◌≡◌, List, [], ◌∷◌, ◌++◌, map, take, find, slice_get, Some, None, refl, sym, ap, ◌∙◌, add-one}
+use Rattle.ls_lists.proofs.Elements.{get-in}
+use Rattle.ls_lists.proofs.Finds.{find-any}
+use Rattle.ls_lists.proofs.Sorted.{find-next}
 use Rattle.ls_set.specs.ItemSet.{Items, empty, full, IsWithin}
 use Rattle.ls_theory.specs.Queries.{blocks, block_before}
-use Rattle.ls_query.proofs.Sorted.{find-next, find-any, get-in}
 use Rattle.ls_query.proofs.BlockOrder.{before-asymmetric}
 use Rattle.ls_query.proofs.BlockSets.{sorted-blocks, blocks-in, first-blocks}
-
-pub get-map : {X Y : Type 0} (h : X → Y) (xs : List X) (i : ℕ) (x : X) → slice_get xs i ≡ Some x → slice_get (map h xs) i ≡ Some (h x)
-get-map h [] i x e = cc
-get-map h (y ∷ xs) zero x e = let same : y ≡ x = cc in ap (λ z. Some (h z)) same
-get-map h (y ∷ xs) (suc i) x e = get-map h xs i x e
-
-pub take-next : {X : Type 0} (xs : List X) (i : ℕ) (x : X) → slice_get xs i ≡ Some x → take (suc i) xs ≡ take i xs ++ x ∷ []
-take-next [] i x e = cc
-take-next (y ∷ xs) zero x e = let same : y ≡ x = cc in rw same refl
-take-next (y ∷ xs) (suc i) x e = ap (λ l. y ∷ l) (take-next xs i x e)
-
-pub take-none : {X : Type 0} (xs : List X) (i : ℕ) → slice_get xs i ≡ None → take i xs ≡ xs
-take-none [] zero e = refl
-take-none [] (suc i) e = refl
-take-none (y ∷ xs) zero e = cc
-take-none (y ∷ xs) (suc i) e = ap (λ l. y ∷ l) (take-none xs i e)
-
-map-last : {X Y : Type 0} (h : X → Y) (xs : List X) (x : X) → map h (xs ++ x ∷ []) ≡ map h xs ++ h x ∷ []
-map-last h [] x = refl
-map-last h (y ∷ xs) x = ap (λ l. h y ∷ l) (map-last h xs x)
-
--- the image of one more
-pub mapped-next : {X Y : Type 0} (h : X → Y) (xs : List X) (i : ℕ) (x : X) → slice_get xs i ≡ Some x → map h (take i xs) ++ h x ∷ [] ≡ map h (take (i + 1) xs)
-mapped-next h xs i x e = sym (map-last h (take i xs) x) ∙ ap (map h) (sym (take-next xs i x e) ∙ ap (λ j. take j xs) (sym (add-one i)))
 
 -- ---- blocks
 

@@ -1,6 +1,9 @@
 -- The first query that is open by the table is the next question.
 use Rattle.std.proofs.Common.{ℕ, ◌<◌, ◌≡◌, true, not, ◌&&◌, ◌||◌, List, [], ◌∷◌, map, filter, find, Option, refl, sym, ap, ap₂, ◌∙◌}
 use Rattle.std.specs.List.{list_any}
+use Rattle.ls_lists.proofs.Elements.{filter-in}
+use Rattle.ls_lists.proofs.Sorted.{find-same}
+use Rattle.ls_lists.specs.Lists.{IsIn}
 use Rattle.ls_set.specs.ItemSet.{Items, has, full}
 use Rattle.ls_set.specs.Query.{is_good}
 use Rattle.ls_set.specs.declared.query.Query.{Query}
@@ -17,7 +20,6 @@ use Rattle.ls_laws.specs.Forced.{IsSound, is_forced_by_closures}
 use Rattle.ls_laws.proofs.Breaks.{good-to}
 use Rattle.ls_laws.proofs.Answering.{forced_yes_is, forced_no_by}
 use Rattle.ls_query.specs.Blocks.{queries_of}
-use Rattle.ls_query.proofs.Sorted.{IsIn, filter-in, find-same}
 use Rattle.ls_query.proofs.QuerySets.{queries-in}
 use Rattle.ls_infer.specs.Tables.{TableState, standing, forces, is_open_in, table_of}
 use Rattle.ls_infer.proofs.Told.{forces-standing, closed_of-table}

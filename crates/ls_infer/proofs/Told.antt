@@ -2,6 +2,7 @@
 use Rattle.std.proofs.Common.{ℕ, ◌<◌, ◌≡◌, Bool, true, false, cond, ◌&&◌, List, [], ◌∷◌, map, filter, Option, Some, None, refl, sym, ap, ap₂, ◌∙◌, lt-ltb}
 use Rattle.std.specs.List.{position}
 use Rattle.std.specs.Option.{option_map, option_map_or}
+use Rattle.ls_lists.proofs.Places.{get-map}
 use Rattle.ls_set.specs.ItemSet.{Items, has, full, with, is_same, is_within}
 use Rattle.ls_set.specs.Query.{is_good}
 use Rattle.ls_set.specs.declared.query.Query.{Query}
@@ -20,7 +21,6 @@ use Rattle.ls_laws.proofs.Numbered.{nos-increasing}
 use Rattle.ls_query.specs.Blocks.{sets_of}
 use Rattle.ls_query.proofs.Placed.{position-get}
 use Rattle.ls_infer.specs.Tables.{TableState, standing, forces, closed_of, table_of, told}
-use Rattle.ls_infer.proofs.Places.{get-map}
 use Rattle.ls_infer.proofs.Kept.{has-enough}
 use Rattle.ls_infer.proofs.Least.{least_with, least_with-first, least_in_order}
 

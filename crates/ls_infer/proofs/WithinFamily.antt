@@ -5,10 +5,11 @@ use Rattle.std.specs.List.{AllByRecursion, list_any, list_all}
 use Rattle.std.specs.Option.{option_map_or}
 use Rattle.std.proofs.lemmas.Bool.{cases_Bool, and_parts, and_from, false_from_ne_true, not-true, not_from_false}
 use Rattle.std.proofs.lemmas.List.Folds.{list_all-map}
+use Rattle.ls_lists.proofs.Bools.{same_truth}
+use Rattle.ls_lists.proofs.Every.{All-list_all, list_all-All, list_all-filter, list_any-map}
 use Rattle.ls_set.specs.ItemSet.{Items, full, has, is_among, IsInOrder}
 use Rattle.ls_set.specs.Query.{is_good}
 use Rattle.ls_set.specs.declared.query.Query.{Query}
-use Rattle.ls_set.proofs.Sets.{both_ways}
 use Rattle.ls_theory.specs.declared.no.No.{No}
 use Rattle.ls_theory.specs.declared.known.Known.{Known}
 use Rattle.ls_theory.specs.Words.{first_least, sublists}
@@ -22,7 +23,7 @@ use Rattle.ls_laws.proofs.Families.{family_sets}
 use Rattle.ls_laws.proofs.Breaks.{IsGood, good-from}
 use Rattle.ls_laws.proofs.Closures.{has-closure, kept_is}
 use Rattle.ls_laws.proofs.Fit.{Fits, IsForcedYes, IsForcedNo, forced_yes, forced_no}
-use Rattle.ls_laws.proofs.Search.{sublists-each, all_sublists-each, All-list_all, list_all-All}
+use Rattle.ls_laws.proofs.Search.{sublists-each, all_sublists-each}
 use Rattle.ls_infer.specs.Tables.{told}
 use Rattle.ls_infer.specs.Forced.{FitsNos, spaces_within}
 use Rattle.ls_infer.proofs.Least.{least_with, least_with-parts, least_with-first}
@@ -35,13 +36,6 @@ abbrev Within : ℕ → List Items → List No → List Items → Type 0
 Within n f nos g = Fits n f (map query_of nos) g
 
 -- ---- the search through the sublists
-
-list_all-filter : {X : Type 0} (p q : X → Bool) (xs : List X) → list_all p (filter q xs) ≡ list_all (λ x. not (q x) || p x) xs
-list_all-filter p q [] = refl
-list_all-filter p q (x ∷ xs) = elim (q x) as (λ b. list_all p (cond b (x ∷ filter q xs) (filter q xs)) ≡ ((not b || p x) && list_all (λ x. not (q x) || p x) xs)) [
-  | true ↦ ap (λ b. p x && b) (list_all-filter p q xs)
-  | false ↦ list_all-filter p q xs
-]
 
 either : (a b : Bool) → (a ≡ true → b ≡ true) → (not a || b) ≡ true
 either true b h = h refl
@@ -73,7 +67,7 @@ all_within p n f nos fits = (
       ∙ all_sublists-each (λ g. not (passes n nos g) || p g) f fits.is_family.in_order (sym (list_all-filter p (passes n nos) (sublists f)) ∙ h) g a.in_order a.compatible,
   λ h. list_all-filter p (passes n nos) (sublists f)
       ∙ All-list_all (λ g. not (passes n nos g) || p g) (sublists f)
-        (sublists-each (λ g. (not (passes n nos g) || p g) ≡ true) f fits.is_family.in_order (λ g order part. either (passes n nos g) (p g) (λ e. h g (within-from n f nos g fits order part e)))),
+      (sublists-each (λ g. (not (passes n nos g) || p g) ≡ true) f fits.is_family.in_order (λ g order part. either (passes n nos g) (p g) (λ e. h g (within-from n f nos g fits order part e)))),
 )
 
 -- the family is one of them
@@ -93,21 +87,17 @@ yes_is n f nos r fits good =
     let family = family_sets n f fits.is_family in
     let search = all_within (λ g. not (some_breaks g r)) n f nos fits in
     let same = forced_yes n f (map query_of nos) r f fits.is_family.in_order family (itself n f nos fits) in
-    both_ways (is_forced_yes (spaces_within n f nos) r) (not (some_breaks f r))
+    same_truth (is_forced_yes (spaces_within n f nos) r) (not (some_breaks f r))
     (λ h. not_from_false (some_breaks f r) (same.0 (λ g a. not-true (some_breaks g r) (search.0 h g a))))
     (λ h. search.1 (λ g a. not_from_false (some_breaks g r) (same.1 (not-true (some_breaks f r) h) g a)))
     ∙ sym (has-closure n f r family.small (good-from n r good).item)
-
-any-query : (p : Query → Bool) (nos : List No) → list_any p (map query_of nos) ≡ list_any (λ a. p a.query) nos
-any-query p [] = refl
-any-query p (s ∷ nos) = ap (λ b. p s.query || b) (any-query p nos)
 
 no_is : (n : ℕ) (f : List Items) (nos : List No) (r : Query) → FitsNos n f nos → is_good n r ≡ true → is_forced_no (spaces_within n f nos) r ≡ list_any (λ a. is_forced_by f r a.query) nos
 no_is n f nos r fits good =
     let search = all_within (λ g. some_breaks g r) n f nos fits in
     let same = forced_no n f (map query_of nos) r fits.is_family.in_order (family_sets n f fits.is_family) fits.holds_full (good-from n r good) in
-    both_ways (is_forced_no (spaces_within n f nos) r) (list_any (is_forced_by f r) (map query_of nos)) (λ h. same.0 (search.0 h)) (λ h. search.1 (same.1 h))
-    ∙ any-query (is_forced_by f r) nos
+    same_truth (is_forced_no (spaces_within n f nos) r) (list_any (is_forced_by f r) (map query_of nos)) (λ h. same.0 (search.0 h)) (λ h. search.1 (same.1 h))
+    ∙ sym (list_any-map query_of (is_forced_by f r) nos)
 
 not_both : (n : ℕ) (f : List Items) (nos : List No) (r : Query) → FitsNos n f nos → is_forced_no (spaces_within n f nos) r ≡ true → is_forced_yes (spaces_within n f nos) r ≡ false
 not_both n f nos r fits h = false_from_ne_true (is_forced_yes (spaces_within n f nos) r) (λ a.

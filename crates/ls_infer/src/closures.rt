@@ -24,7 +24,8 @@ pub fn closures_of<I: Interior, L: Ledger>(
     steps: &mut Steps<L>,
 ) -> Result<Vec<ItemSet>, AllocError>
     requires { I.item_count f.now ≡ blocks.item_count }
-    ensures list { IfOk result (λ v. v.items ≡ map (closure (full (I.item_count f.now)) (I.members f.now)) (sets_of blocks)) }
+    ensures list { IfOk result (λ v. v.items
+        ≡ map (closure (full (I.item_count f.now)) (I.members f.now)) (sets_of blocks)) }
     ensures cost { steps.new ≤ steps.old + length (sets_of blocks) }
     ensures few { length (sets_of blocks) ≤ MOST_SETS }
 {
@@ -49,7 +50,8 @@ pub fn standing_of<I: Interior, L: Ledger>(
     steps: &mut Steps<L>,
 ) -> Result<Vec<StandingNo>, AllocError>
     requires { list_all (λ a. is_good (I.item_count f.now) a.query) answers.now ≡ true }
-    ensures list { IfOk result (λ v. v.items ≡ map (standing (I.item_count f.now) (I.members f.now)) answers.now) }
+    ensures list { IfOk result (λ v. v.items
+        ≡ map (standing (I.item_count f.now) (I.members f.now)) answers.now) }
     ensures cost { steps.new ≤ steps.old + (I.item_count f.now + 1) * length answers.now }
 {
     let mut kept = Vec::new(alloc);
@@ -88,7 +90,8 @@ pub fn close_again<I: Interior, L: Ledger>(
 )
     requires within { list_all (λ c. is_within c (full (I.item_count f.now))) closures.old ≡ true }
     requires item { r.now.q < PLACES }
-    ensures each { closures.new ≡ map (closed_after (I.item_count f.now) (I.members f.now) r.now) closures.old }
+    ensures each { closures.new
+        ≡ map (closed_after (I.item_count f.now) (I.members f.now) r.now) closures.old }
     ensures cost { steps.new ≤ steps.old + count_by (λ c. is_within r.now.a c) closures.old }
 {
     for closed in closures.iter_mut() {
@@ -96,7 +99,8 @@ pub fn close_again<I: Interior, L: Ledger>(
     }
 }
 
-// The closure of a set without a Yes to `r`, in a step where the one with it has the items of its A.
+// The closure of a set without a Yes to `r`, in a step where the one with it has the items of its
+// A.
 fn closed_before<I: Interior, L: Ledger>(
     closed: ItemSet,
     set: ItemSet,
@@ -105,7 +109,8 @@ fn closed_before<I: Interior, L: Ledger>(
     steps: &mut Steps<L>,
 ) -> ItemSet
     requires within { IsWithin set (full (I.item_count f.now)) }
-    ensures value { result ≡ (if is_within r.now.a closed then closure (full (I.item_count f.now)) (I.members f.now) set else closed) }
+    ensures value { let again = closure (full (I.item_count f.now)) (I.members f.now) set in
+        result ≡ (if is_within r.now.a closed then again else closed) }
     ensures cost { steps.new ≤ steps.old + (if is_within r.now.a closed then 1 else 0) }
 {
     if r.a.is_within(closed) {
@@ -128,8 +133,9 @@ pub fn close_blocks<I: Interior, L: Ledger>(
     requires good { is_good (I.item_count f.now) r.now ≡ true }
     requires each { length closures.old ≡ length (sets_of blocks) }
     requires within { list_all (λ c. is_within c (full (I.item_count f.now))) closures.old ≡ true }
-    ensures each { closures.old ≡ map (closure (full (I.item_count f.now)) (left_by r.now (I.members f.now))) (sets_of blocks) →
-        closures.new ≡ map (closure (full (I.item_count f.now)) (I.members f.now)) (sets_of blocks) }
+    ensures each { let n = I.item_count f.now in
+        closures.old ≡ map (closure (full n) (left_by r.now (I.members f.now))) (sets_of blocks) →
+        closures.new ≡ map (closure (full n) (I.members f.now)) (sets_of blocks) }
     ensures within { list_all (λ c. is_within c (full (I.item_count f.now))) closures.new ≡ true }
     ensures cost { steps.new ≤ steps.old + count_by (λ c. is_within r.now.a c) closures.old }
 {

@@ -23,7 +23,8 @@ pub struct StandingNo {
     pub enough: ItemSet,
 }
 
-// The items `r` such that `q` is in the closure of the closed set with `r`, in a step for each item.
+// The items `r` such that `q` is in the closure of the closed set with `r`, in a step for each
+// item.
 fn enough_for<I: Interior, L: Ledger>(
     f: &I,
     closed: ItemSet,
@@ -109,7 +110,8 @@ pub fn forced_items(standing: &[StandingNo], a: ItemSet) -> ItemSet
 /// Makes anew what is kept of each answer, in a step for each item and one more for each answer.
 pub fn make_anew<I: Interior, L: Ledger>(kept: &mut [StandingNo], f: &I, steps: &mut Steps<L>)
     requires { list_all (λ s. is_good (I.item_count f.now) s.no.query) kept.old ≡ true }
-    ensures each { kept.new ≡ map (λ s. standing (I.item_count f.now) (I.members f.now) s.no) kept.old }
+    ensures each { kept.new
+        ≡ map (λ s. standing (I.item_count f.now) (I.members f.now) s.no) kept.old }
     ensures cost { steps.new ≡ steps.old + (I.item_count f.now + 1) * length kept.old }
 {
     for s in kept.iter_mut() {

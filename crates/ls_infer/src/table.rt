@@ -25,9 +25,9 @@ use std::alloc::{AllocError, Global};
 use std::marker::Model;
 use std::sync::ledger::Ledger;
 
-/// The closures of the block sets in a family, and what is kept of the standing answers that are No.
-/// With them queries are answered by at most one interior, and block queries by none. Contracts see
-/// them as a table, and `spare`, the number of standing Nos for which there is room.
+/// The closures of the block sets in a family, and what is kept of the standing answers that are
+/// No. With them queries are answered by at most one interior, and block queries by none. Contracts
+/// see them as a table, and `spare`, the number of standing Nos for which there is room.
 #[derive(Drop)]
 pub struct Table {
     n: u32,
@@ -43,11 +43,19 @@ impl Model for Table {
     ghost Value = { TableRoom };
 
     ghost view = { λ t. record {
-      table = record { blocks = t.blocks; closures = t.closures.items; standing = t.standing.items };
+      table = record {
+        blocks = t.blocks;
+        closures = t.closures.items;
+        standing = t.standing.items;
+      };
       spare = vec_capacity t.standing - vec_len t.standing;
     } };
 
-    ghost invariant = { λ t. IsTable t.n (record { blocks = t.blocks; closures = t.closures.items; standing = t.standing.items }) };
+    ghost invariant = { λ t. IsTable t.n (record {
+      blocks = t.blocks;
+      closures = t.closures.items;
+      standing = t.standing.items;
+    }) };
 }
 
 // The closure at a place of the list.
@@ -74,7 +82,8 @@ impl Table {
         requires items { I.item_count f.now ≡ blocks.item_count }
         requires good { list_all (λ a. is_good (I.item_count f.now) a.query) answers.now ≡ true }
         ensures built { IfOk result (λ t. t.table ≡ table_of blocks (I.members f.now) answers.now) }
-        ensures cost { steps.new ≤ steps.old + (length (sets_of blocks) + (I.item_count f.now + 1) * length answers.now) }
+        ensures cost { steps.new ≤ steps.old
+            + (length (sets_of blocks) + (I.item_count f.now + 1) * length answers.now) }
     {
         let closures = closures_of(alloc, blocks, f, steps)?;
         let standing = standing_of(alloc, f, answers, steps)?;
@@ -93,9 +102,9 @@ impl Table {
         self.blocks
     }
 
-    /// Keeps the table under a Yes to the good query `r`, of which `f` is the family that is left. It
-    /// takes no memory, and at most a step for each block set whose closure before the change has the
-    /// items of `r`'s A, and for each standing No a step for each item and one more.
+    /// Keeps the table under a Yes to the good query `r`, of which `f` is the family that is left.
+    /// It takes no memory, and at most a step for each block set whose closure before the change
+    /// has the items of `r`'s A, and for each standing No a step for each item and one more.
     pub fn yes_added<I: Interior, L: Ledger>(&mut self, f: &I, r: &Query, steps: &mut Steps<L>)
         requires items { I.item_count f.now ≡ self.old.table.blocks.item_count }
         requires good { is_good self.old.table.blocks.item_count r.now ≡ true }
@@ -114,8 +123,9 @@ impl Table {
     }
 
     /// Keeps the table where a Yes to the good query `r` is taken back, of which `f` is the family
-    /// without it. It takes no memory, and at most a step for each block set whose closure before the
-    /// change has the items of `r`'s A, and for each standing No a step for each item and one more.
+    /// without it. It takes no memory, and at most a step for each block set whose closure before
+    /// the change has the items of `r`'s A, and for each standing No a step for each item and one
+    /// more.
     pub fn yes_removed<I: Interior, L: Ledger>(&mut self, f: &I, r: &Query, steps: &mut Steps<L>)
         requires items { I.item_count f.now ≡ self.old.table.blocks.item_count }
         requires good { is_good self.old.table.blocks.item_count r.now ≡ true }
@@ -139,8 +149,8 @@ impl Table {
         self.standing.reserve(1)
     }
 
-    /// Keeps a No that now stands, the last of them, in the room that was made. `f` is the family of
-    /// the table. It takes no memory, and a step for each item and one more.
+    /// Keeps a No that now stands, the last of them, in the room that was made. `f` is the family
+    /// of the table. It takes no memory, and a step for each item and one more.
     pub fn no_added<I: Interior, L: Ledger>(&mut self, f: &I, x: No, steps: &mut Steps<L>)
         requires items { I.item_count f.now ≡ self.old.table.blocks.item_count }
         requires room { 0 < self.old.spare }
@@ -149,7 +159,8 @@ impl Table {
             self.old.table ≡ table_of self.old.table.blocks (I.members f.now) nos →
             self.new.table ≡ table_of self.old.table.blocks (I.members f.now) (nos ++ x ∷ []) }
         ensures last { let n = self.old.table.blocks.item_count in
-            self.new.table.standing ≡ self.old.table.standing ++ standing n (I.members f.now) x ∷ [] }
+            self.new.table.standing
+            ≡ self.old.table.standing ++ standing n (I.members f.now) x ∷ [] }
         ensures closures { self.new.table.closures ≡ self.old.table.closures }
         ensures blocks { self.new.table.blocks ≡ self.old.table.blocks }
         ensures cost { steps.new ≡ steps.old + (self.old.table.blocks.item_count + 1) }
@@ -175,7 +186,9 @@ impl Table {
     fn closure_in<I: Interior, L: Ledger>(&self, f: &I, a: ItemSet, steps: &mut Steps<L>) -> ItemSet
         requires count { I.item_count f.now ≡ self.now.table.blocks.item_count }
         requires within { IsWithin a (full self.now.table.blocks.item_count) }
-        ensures value { result ≡ option_map_or (λ i. closed_of self.now.table a) (position (is_same a) (sets_of self.now.table.blocks)) (closure (full (I.item_count f.now)) (I.members f.now) a) }
+        ensures value { let place = position (is_same a) (sets_of self.now.table.blocks) in
+            let found = closure (full (I.item_count f.now)) (I.members f.now) a in
+            result ≡ option_map_or (λ i. closed_of self.now.table a) place found }
         ensures cost { steps.new ≤ steps.old + 1 }
         ensures few { self.now.table.blocks.item_count ≤ PLACES }
     {
@@ -185,9 +198,10 @@ impl Table {
         }
     }
 
-    /// What the standing answers tell of the good query `q`, in at most one step and without memory.
-    /// `f` is the family of the table. Where several answers force the query No, the least number is
-    /// named. That this is what all spaces within the family force is the law `told_is_forced`.
+    /// What the standing answers tell of the good query `q`, in at most one step and without
+    /// memory. `f` is the family of the table. Where several answers force the query No, the least
+    /// number is named. That this is what all spaces within the family force is the law
+    /// `told_is_forced`.
     pub fn answer_of<I: Interior, L: Ledger>(&self, f: &I, q: &Query, steps: &mut Steps<L>) -> Known
         requires count { I.item_count f.now ≡ self.now.table.blocks.item_count }
         requires good { is_good self.now.table.blocks.item_count q.now ≡ true }
@@ -214,7 +228,9 @@ impl Table {
     // The items q for which the query (a, q) is open, where `a` is the block set at a place.
     fn open_items(&self, place: u32, a: ItemSet) -> ItemSet
         requires { slice_get (sets_of self.now.table.blocks) place ≡ Some a }
-        ensures { (q : ℕ) → has result q ≡ (is_good self.now.table.blocks.item_count (record { a = a; q = q }) && is_open_in self.now.table (record { a = a; q = q })) }
+        ensures { (q : ℕ) → has result q
+            ≡ (is_good self.now.table.blocks.item_count (record { a = a; q = q })
+            && is_open_in self.now.table (record { a = a; q = q })) }
     {
         let closed = closure_at(&self.closures, place);
         ItemSet::full(self.n)
@@ -226,8 +242,10 @@ impl Table {
     // The first open query from the place on, where `last` is the set before it.
     fn open_from(&self, start: u32, last: ItemSet) -> Option<Query>
         requires within { IsWithin last (full self.now.table.blocks.item_count) }
-        requires place { find (block_before last) (sets_of self.now.table.blocks) ≡ slice_get (sets_of self.now.table.blocks) start }
-        ensures { result ≡ find (λ s. block_before last s.a && is_open_in self.now.table s) (queries_of self.now.table.blocks) }
+        requires place { find (block_before last) (sets_of self.now.table.blocks)
+            ≡ slice_get (sets_of self.now.table.blocks) start }
+        ensures { result ≡ find (λ s. block_before last s.a && is_open_in self.now.table s)
+            (queries_of self.now.table.blocks) }
     {
         let mut last = last;
         for place in start..self.blocks.count() {
@@ -243,7 +261,9 @@ impl Table {
     // The first query after the given one, or of all, that is open by the table.
     fn first_open(&self, after: Option<&Query>) -> Option<Query>
         requires { ForSome after (λ r. is_good self.now.table.blocks.item_count r.now ≡ true) }
-        ensures { result ≡ find (is_open_in self.now.table) (filter (comes_after query_before (option_map (λ r. r.now) after.entry)) (queries_of self.now.table.blocks)) }
+        ensures { let last = option_map (λ r. r.now) after.entry in
+            result ≡ find (is_open_in self.now.table)
+            (filter (comes_after query_before last) (queries_of self.now.table.blocks)) }
     {
         let Some(r) = after else {
             return self.open_from(0, ItemSet::empty());
@@ -255,8 +275,8 @@ impl Table {
         }
     }
 
-    /// The first open query of the blocks that comes after the given good one, or the first of all: no
-    /// closure decides it and no standing answer forces it No. The given one need not be of the
+    /// The first open query of the blocks that comes after the given good one, or the first of all:
+    /// no closure decides it and no standing answer forces it No. The given one need not be of the
     /// blocks. It takes no memory and no step.
     pub fn next_unsettled(&self, after: Option<&Query>) -> Option<Query>
         requires { ForSome after (λ r. is_good self.now.table.blocks.item_count r.now ≡ true) }

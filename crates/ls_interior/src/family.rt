@@ -11,8 +11,8 @@ use std::sync::ledger::Ledger;
 /// A family on items: a list of sets of them in the order, which holds the empty set and is closed
 /// under union. It is known by its interiors.
 ///
-/// That an interior is a member, lies within the set, grows with it and is its own interior, follows
-/// from `is_family` (`interiors_are_greatest` and `interiors_grow` of ls_laws).
+/// That an interior is a member, lies within the set, grows with it and is its own interior,
+/// follows from `is_family` (`interiors_are_greatest` and `interiors_grow` of ls_laws).
 pub trait Inside {
     /// How many items there are.
     ghost item_count: { Self → ℕ };

@@ -2,8 +2,9 @@
 use Rattle.std.proofs.Common.{ℕ, zero, suc, ◌<◌, ◌≡◌, ◌≢◌, ◌⊎◌, inl, inr, true, false, not, ◌&&◌, eqb, List, [], ◌∷◌, length, Some, None, refl, sym, ap, ◌∙◌, arith, true≢false, lt-ltb, le-ltb, eq-eqb, ne_eqb}
 use Rattle.std.proofs.lemmas.Bool.{cases_Bool, cases_order}
 use Rattle.std.proofs.lemmas.Bool.Decides.{nat_tests}
+use Rattle.ls_lists.proofs.Bools.{same_truth}
 use Rattle.ls_set.specs.ItemSet.{Items, has, without, items, len, least, comes_before}
-use Rattle.ls_set.proofs.Sets.{members, has-without, both_ways, without-within}
+use Rattle.ls_set.proofs.Sets.{members, has-without, without-within}
 use Rattle.ls_set.proofs.Ascending.{least-cases}
 use Rattle.ls_set.proofs.Firsts.{items-least, items-none}
 use Rattle.ls_set.proofs.Order.{comes_before-at, comes_before-transitive, differs_first, comes_before-irreflexive, comes_before-asymmetric}
@@ -21,7 +22,7 @@ len-is s = refl
 
 -- the order is that of what is left without an item of both
 without_shared : (a b : Items) (x : ℕ) → has a x ≡ true → has b x ≡ true → comes_before (without a x) (without b x) ≡ comes_before a b
-without_shared a b x in_a in_b = both_ways (comes_before (without a x) (without b x)) (comes_before a b)
+without_shared a b x in_a in_b = same_truth (comes_before (without a x) (without b x)) (comes_before a b)
     (λ h.
     let r = differs_first (without a x) (without b x) h in
     let d = r.1 in

@@ -1,23 +1,19 @@
 -- The sets of the blocks: which they are, and that they stand in the order.
-use Rattle.std.proofs.Common.{ℕ, ◌<◌, ◌≤◌, ◌≡◌, inl, inr, true, eqb, ltb, List, [], ◌∷◌, find, None, refl, sym, ◌∙◌, arith, true≢false, ltb-true, eqb-true, eq-eqb}
-use Rattle.ls_set.specs.ItemSet.{Items, empty, full, len, numbers_from, subsets, is_among, comes_before, IsWithin, IsInOrder}
+use Rattle.std.proofs.Common.{ℕ, ◌<◌, ◌≤◌, ◌≡◌, true, eqb, ltb, List, [], ◌∷◌, find, None, sym, ◌∙◌, arith, ltb-true, eqb-true}
+use Rattle.ls_lists.proofs.Elements.{each-in, filter-in, flat_map-in}
+use Rattle.ls_lists.proofs.Sorted.{sorted-as, sorted-filter, sorted-flat_map, find-same}
+use Rattle.ls_lists.specs.Lists.{IsIn, IsSorted}
+use Rattle.ls_set.specs.ItemSet.{Items, empty, full, len, numbers_from, subsets, comes_before, IsWithin, IsInOrder}
 use Rattle.ls_set.proofs.Sets.{IsWithin-from, is_within-from}
-use Rattle.ls_set.proofs.Members.{among-here, among-there, among-cases}
 use Rattle.ls_set.proofs.Order.{among-subsets, subsets_from-in_order}
 use Rattle.ls_theory.specs.Queries.{blocks, block_before}
 use Rattle.ls_theory.specs.Pages.{comes_after}
 use Rattle.ls_laws.proofs.Counts.{len-empty}
-use Rattle.ls_query.proofs.Sorted.{IsIn, IsSorted, each-in, in-filter, filter-in, in-flat_map, flat_map-in, in-numbers, numbers-in, sorted-as, sorted-filter, sorted-flat_map, sorted-numbers, find-same}
+use Rattle.ls_laws.proofs.Blocks as laws
+use Rattle.ls_laws.proofs.Blocks.{numbers-in, among-in}
+use Rattle.ls_query.proofs.Sorted.{sorted-numbers}
 use Rattle.ls_query.proofs.BySize.{of_size}
 use Rattle.ls_query.proofs.BlockOrder.{before-smaller, before-same}
-
-in-among : (ss : List Items) (s : Items) → is_among ss s ≡ true → IsIn s ss
-in-among [] s c = absurd (true≢false (sym c))
-in-among (t ∷ ss) s c = elim (among-cases s t ss c) [ inl e ↦ inl e | inr a ↦ inr (in-among ss s a) ]
-
-among-in : (ss : List Items) (s : Items) → IsIn s ss → is_among ss s ≡ true
-among-in [] s c = absurd c
-among-in (t ∷ ss) s c = elim c [ inl e ↦ among-here s t ss e | inr a ↦ among-there s t ss (among-in ss s a) ]
 
 -- a set of 1 to k of n items
 pub record IsOfBlocks (n k : ℕ) (a : Items) : Type 0 where
@@ -26,12 +22,7 @@ pub record IsOfBlocks (n k : ℕ) (a : Items) : Type 0 where
   pub few : len a ≤ k
 
 pub in-blocks : (n k : ℕ) (a : Items) → IsOfBlocks n k a → IsIn a (blocks n k)
-unfolding blocks
-in-blocks n k a h =
-    let l = h.some in
-    let m = h.few in
-    in-flat_map (of_size 0 n) (numbers_from 1 k) (len a) a (in-numbers 1 k (len a) (omega arith) (omega arith))
-    (in-filter (λ s. eqb (len s) (len a)) (subsets n) a (in-among (subsets n) a (among-subsets n a ∙ is_within-from a (full n) h.within)) (eq-eqb (len a) (len a) refl))
+in-blocks n k a h = laws.in-blocks n k a (is_within-from a (full n) h.within) h.some h.few
 
 pub blocks-in : (n k : ℕ) (a : Items) → IsIn a (blocks n k) → IsOfBlocks n k a
 unfolding blocks

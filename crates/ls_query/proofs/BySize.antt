@@ -1,11 +1,12 @@
 -- The sets of one size: how many there are, and so how many the blocks have.
-use Rattle.std.proofs.Common.{ℕ, zero, suc, ◌+◌, ◌-◌, ◌<◌, ◌≤◌, ◌≡◌, Bool, true, false, cond, ◌||◌, eqb, List, [], ◌∷◌, ◌++◌, map, filter, length, refl, sym, ap, ap₂, ◌∙◌, arith, length-append, append-nil, ne_eqb, le-ltb}
-use Rattle.std.specs.List.{AllByRecursion, flat_map}
+use Rattle.std.proofs.Common.{ℕ, zero, suc, ◌+◌, ◌-◌, ◌<◌, ◌≤◌, ◌≡◌, false, ◌||◌, eqb, List, [], ◌∷◌, ◌++◌, map, filter, length, refl, sym, ap, ap₂, ◌∙◌, arith, length-append, append-nil, ne_eqb, le-ltb}
+use Rattle.std.specs.List.{flat_map}
 use Rattle.std.proofs.lemmas.Bool.{false_from_ne_true}
 use Rattle.std.proofs.lemmas.Bool.Decides.{nat_tests}
 use Rattle.std.proofs.lemmas.Grind.{flat_map-append}
 use Rattle.std.proofs.lemmas.List.Elements.{filter-append}
 use Rattle.std.proofs.lemmas.List.{length-map}
+use Rattle.ls_lists.proofs.Filters.{filter-map, filter-agree, filter-nothing}
 use Rattle.ls_set.specs.ItemSet.{Items, has, empty, full, with, single, minus, len, numbers_from, subsets_from}
 use Rattle.ls_set.proofs.Sets.{members, same_set, has-with, has-single, has-full}
 use Rattle.ls_set.proofs.Order.{IsBetween, Each-weaker, subsets_from-between}
@@ -32,23 +33,6 @@ pub len-range : (x y : ℕ) → x ≤ y → len (minus (full y) (full x)) ≡ y 
 len-range x y l =
     let e : len (full y) ≡ len (full x) + len (minus (full y) (full x)) = len-parts (full x) (minus (full y) (full x)) (full y) (λ j. grind (arith, members, nat_tests)) (λ j. grind (arith, members, nat_tests)) in
     omega (arith, e, len-full x, len-full y)
-
--- ---- filters
-
-filter-map : {X : Type 0} (p : X → Bool) (f : X → X) (xs : List X) → filter p (map f xs) ≡ map f (filter (λ x. p (f x)) xs)
-filter-map p f [] = refl
-filter-map p f (x ∷ xs) = elim (p (f x)) as (λ b. cond b (f x ∷ filter p (map f xs)) (filter p (map f xs)) ≡ map f (cond b (x ∷ filter (λ x. p (f x)) xs) (filter (λ x. p (f x)) xs))) [
-  | true ↦ ap (λ l. f x ∷ l) (filter-map p f xs)
-  | false ↦ filter-map p f xs
-]
-
-filter-agree : {X : Type 0} (p q : X → Bool) (xs : List X) → AllByRecursion (λ x. p x ≡ q x) xs → filter p xs ≡ filter q xs
-filter-agree p q [] h = refl
-filter-agree p q (x ∷ xs) h = ap₂ (λ b l. cond b (x ∷ l) l) h.0 (filter-agree p q xs h.1)
-
-filter-nothing : {X : Type 0} (xs : List X) → filter (λ x. false) xs ≡ []
-filter-nothing [] = refl
-filter-nothing (x ∷ xs) = filter-nothing xs
 
 -- ---- the sets of one size
 

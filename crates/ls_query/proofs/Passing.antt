@@ -1,21 +1,26 @@
 -- The first query of the blocks that passes a test, set by set.
-use Rattle.std.proofs.Common.{ℕ, zero, suc, ◌<◌, ◌≤◌, ◌≡◌, ◌⊎◌, inl, inr, Bool, true, false, not, ◌&&◌, ltb, List, [], ◌∷◌, filter, find, Some, None, refl, sym, ap, ap₂, ◌∙◌, arith, true≢false, lt-ltb}
+use Rattle.std.proofs.Common.{ℕ, ◌<◌, ◌≤◌, ◌≡◌, inl, inr, Bool, true, false, not, ◌&&◌, ltb, List, filter, find, Some, None, refl, sym, ap, ap₂, ◌∙◌, arith, true≢false, lt-ltb}
 use Rattle.std.specs.List.{position}
-use Rattle.std.proofs.lemmas.Bool.{cases_lt, and_parts, and_from, false_from_ne_true}
-use Rattle.ls_set.specs.ItemSet.{Items, has, empty, full, minus, len, least, next_item, is_same, is_within, IsWithin}
+use Rattle.std.proofs.lemmas.Bool.{cases_lt, and_parts, and_from, false_from_ne_true, and_left, and_right}
+use Rattle.ls_lists.proofs.Bools.{same_truth}
+use Rattle.ls_lists.proofs.Finds.{find-filter}
+use Rattle.ls_lists.proofs.Sorted.{find-same, find-first, find-is, find-none_is, find-no_element}
+use Rattle.ls_lists.specs.Lists.{IsIn}
+use Rattle.ls_set.specs.ItemSet.{Items, has, empty, full, minus, len, least, next_item, is_same, IsWithin}
 use Rattle.ls_set.specs.Query.{is_good}
 use Rattle.ls_set.specs.declared.query.Query.{Query}
-use Rattle.ls_set.proofs.Sets.{members, both_ways, has-full, has-minus, and-true, Decides-is_same, is_within-from}
+use Rattle.ls_set.proofs.Sets.{members, has-full, has-minus, and-true, Decides-is_same, is_within-from}
 use Rattle.ls_set.proofs.Sizes.{len-less}
-use Rattle.ls_set.proofs.Ascending.{find-filter, least-cases}
+use Rattle.ls_set.proofs.Ascending.{least-cases}
 use Rattle.ls_theory.specs.Queries.{blocks, block_before, queries, query_before}
 use Rattle.ls_theory.specs.Pages.{comes_after}
+use Rattle.ls_laws.proofs.Blocks.{in-queries}
 use Rattle.ls_laws.proofs.Breaks.{IsGood, good-from, good-to}
 use Rattle.ls_laws.proofs.Counts.{len-empty}
-use Rattle.ls_query.proofs.Sorted.{IsIn, sorted-cases, find-same, find-first, find-is, find-none_is, find-no_element}
+use Rattle.ls_query.proofs.Sorted.{sorted-cases}
 use Rattle.ls_query.proofs.BlockOrder.{before-smaller, before-transitive, before-asymmetric}
 use Rattle.ls_query.proofs.BlockSets.{IsOfBlocks, in-blocks, blocks-in, sorted-blocks}
-use Rattle.ls_query.proofs.QuerySets.{next_item-cases, next_item-none_left, least-none_left, asked_of, some_items, in-queries, queries-in, sorted-queries, never_before, before-by_set, before-by_item, query_before-cases, query_before-asymmetric, find-larger}
+use Rattle.ls_query.proofs.QuerySets.{next_item-cases, next_item-none_left, least-none_left, asked_of, some_items, queries-in, sorted-queries, never_before, before-by_set, before-by_item, query_before-cases, query_before-asymmetric, find-larger}
 use Rattle.ls_query.proofs.Placed.{block_place}
 
 -- those items q of a set A for which (A, q) is a good query that passes
@@ -26,13 +31,6 @@ ArePassing n p a those = (q : ℕ) → has those q ≡ (is_good n (asked_of a q)
 not_passing : (n : ℕ) (p : Query → Bool) (a those : Items) (c : Query) → ArePassing n p a those → IsGood n c → c.a ≡ a → has those c.q ≡ false → p c ≡ false
 not_passing n p a those c opens good e h = false_from_ne_true (p c) (λ g.
     true≢false (sym (opens c.q ∙ ap (λ b. is_good n (asked_of b c.q) && p (asked_of b c.q)) (sym e) ∙ and_from (is_good n c) (p c) (good-to n c good) g) ∙ h))
-
-left_false : (b c : Bool) → b ≡ false → (b && c) ≡ false
-left_false b c h = ap (λ x. x && c) h
-
-right_false : (b c : Bool) → c ≡ false → (b && c) ≡ false
-right_false true c h = h
-right_false false c h = refl
 
 -- the first of those of the first set after the last
 pub first-passing : (n k : ℕ) (p : Query → Bool) (last a those : Items) (q : ℕ) → find (block_before last) (blocks n k) ≡ Some a → ArePassing n p a those → least those ≡ Some q
@@ -48,8 +46,8 @@ first-passing n k p last a those q e opens l =
     (λ c in_queries b.
     let d = queries-in n k c in_queries in
     elim (query_before-cases c (asked_of a q) b) [
-      | inl z ↦ left_false (block_before last c.a) (p c) (h.2 c.a d.1 z)
-      | inr z ↦ right_false (block_before last c.a) (p c) (not_passing n p a those c opens d.0 z.0 (y.1 c.q z.1))
+      | inl z ↦ and_left (block_before last c.a) (p c) (h.2 c.a d.1 z)
+      | inr z ↦ and_right (block_before last c.a) (p c) (not_passing n p a those c opens d.0 z.0 (y.1 c.q z.1))
     ])
 
 -- a set with none is passed over
@@ -59,7 +57,7 @@ none-passing n k p last a those e opens l =
     let h = find-is block_before (block_before last) (blocks n k) a (sorted-blocks n k) before-asymmetric e in
     find-same (λ s. block_before last s.a && p s) (λ s. block_before a s.a && p s) (queries n k) (λ c in_queries.
     let d = queries-in n k c in_queries in
-    both_ways (block_before last c.a && p c) (block_before a c.a && p c)
+    same_truth (block_before last c.a && p c) (block_before a c.a && p c)
     (λ g.
     let x = and_parts (block_before last c.a) (p c) g in
     elim (sorted-cases block_before (blocks n k) a c.a (sorted-blocks n k) h.0 d.1) [
@@ -75,7 +73,7 @@ none-passing n k p last a those e opens l =
 pub passing-end : (n k : ℕ) (p : Query → Bool) (last : Items) → find (block_before last) (blocks n k) ≡ None → find (λ s. block_before last s.a && p s) (queries n k) ≡ None
 passing-end n k p last e =
     find-no_element (λ s. block_before last s.a && p s) (queries n k) (λ c in_queries.
-    left_false (block_before last c.a) (p c) (find-none_is (block_before last) (blocks n k) e c.a (queries-in n k c in_queries).1))
+    and_left (block_before last c.a) (p c) (find-none_is (block_before last) (blocks n k) e c.a (queries-in n k c in_queries).1))
 
 -- ---- after a query
 
@@ -106,7 +104,7 @@ pub passing-later : (n k : ℕ) (p : Query → Bool) (r : Query) (those : Items)
 passing-later n k p r those opens e =
     find-same (λ s. block_before r.a s.a && p s) (λ s. query_before r s && p s) (queries n k) (λ c in_queries.
     let d = queries-in n k c in_queries in
-    both_ways (block_before r.a c.a && p c) (query_before r c && p c)
+    same_truth (block_before r.a c.a && p c) (query_before r c && p c)
     (λ g. let x = and_parts (block_before r.a c.a) (p c) g in and_from (query_before r c) (p c) (before-by_set r c x.0) x.1)
     (λ g.
     let x = and_parts (query_before r c) (p c) g in
@@ -127,7 +125,7 @@ passing-outside n k p r good e =
     ] in
     find-filter (comes_after query_before (Some r)) p (queries n k)
     ∙ find-no_element (λ s. query_before r s && p s) (queries n k) (λ c in_queries.
-    left_false (query_before r c) (p c) (find-none_is (query_before r) (queries n k) (find-larger n k r many) c in_queries))
+    and_left (query_before r c) (p c) (find-none_is (query_before r) (queries n k) (find-larger n k r many) c in_queries))
 
 -- all of them come behind the empty set
 pub passing-all : (n k : ℕ) (p : Query → Bool) → find (λ s. block_before empty s.a && p s) (queries n k) ≡ find p (filter (comes_after query_before None) (queries n k))

@@ -6,6 +6,9 @@ use Rattle.std.proofs.lemmas.Bool.Decides.{nat_tests}
 use Rattle.std.proofs.lemmas.Option.{slice_get_within, slice_get-get_or}
 use Rattle.std.proofs.lemmas.List.Quantifiers.{position-Some}
 use Rattle.std.proofs.lemmas.List.{length-map}
+use Rattle.ls_lists.proofs.Places.{get-map}
+use Rattle.ls_lists.proofs.Elements.{get-in}
+use Rattle.ls_lists.specs.Lists.{IsIn, IsSorted}
 use Rattle.ls_set.specs.ItemSet.{Items, has, empty, with, without, len, is_same}
 use Rattle.ls_set.proofs.Sets.{members, same_set, has-empty, has-without, has-full, Decides-is_same}
 use Rattle.ls_set.proofs.Order.{IsBetween}
@@ -14,7 +17,7 @@ use Rattle.ls_theory.specs.Blocks.{most_sets}
 use Rattle.ls_laws.proofs.Counts.{len-empty}
 use Rattle.ls_query.specs.Blocks.{choose}
 use Rattle.ls_query.specs.Places.{with_first, place_from}
-use Rattle.ls_query.proofs.Sorted.{IsIn, IsSorted, get-in, in-get}
+use Rattle.ls_query.proofs.Sorted.{in-get}
 use Rattle.ls_query.proofs.Binomials.{choose-grows}
 use Rattle.ls_query.proofs.BySize.{of_size, of_size-more, of_size-none, length-of_size, len-with, blocks-more, length-blocks_shorter}
 use Rattle.ls_query.proofs.BlockOrder.{before-asymmetric}
@@ -32,11 +35,6 @@ module _ {X : Type 0} where
   pub get-append_right : (xs ys : List X) (i : ℕ) (x : X) → slice_get ys i ≡ Some x → slice_get (xs ++ ys) (length xs + i) ≡ Some x
   get-append_right [] ys i x e = rw (let z : 0 + i ≡ i = omega arith in z) e
   get-append_right (z ∷ xs) ys i x e = rw (let s : suc (length xs) + i ≡ suc (length xs + i) = omega arith in s) (get-append_right xs ys i x e)
-
-  pub get-map : (f : X → X) (xs : List X) (i : ℕ) (x : X) → slice_get xs i ≡ Some x → slice_get (map f xs) i ≡ Some (f x)
-  get-map f [] i x e = cc
-  get-map f (z ∷ xs) zero x e = let same : z ≡ x = cc in ap (λ y. Some (f y)) same
-  get-map f (z ∷ xs) (suc i) x e = get-map f xs i x e
 
 -- ---- the position of a set in a sorted list
 

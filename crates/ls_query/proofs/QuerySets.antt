@@ -1,20 +1,23 @@
 -- The good queries of the blocks: which they are, that they stand in the order, and the next of them.
-use Rattle.std.proofs.Common.{ℕ, zero, suc, ◌<◌, ◌≤◌, ◌≡◌, ◌⊎◌, inl, inr, true, false, not, ◌&&◌, ltb, map, find, None, Some, refl, sym, ap, ◌∙◌, subst, arith, true≢false, lt-ltb, ltb-true}
+use Rattle.std.proofs.Common.{ℕ, zero, suc, ◌<◌, ◌≡◌, ◌⊎◌, inl, inr, true, false, ◌&&◌, ltb, map, find, None, Some, refl, sym, ap, ◌∙◌, subst, arith, true≢false, lt-ltb, ltb-true}
 use Rattle.std.specs.List.{flat_map}
 use Rattle.std.proofs.lemmas.Bool.{and_parts, and_from, or_cases, or_left, or_right, false_from_ne_true}
-use Rattle.ls_set.specs.ItemSet.{Items, has, empty, full, minus, len, least, next_item, items, bound, is_same, numbers_from, IsWithin}
+use Rattle.ls_lists.proofs.Elements.{filter-in, flat_map-in, map-in}
+use Rattle.ls_lists.proofs.Finds.{slice_get-filter, find-filter}
+use Rattle.ls_lists.proofs.Sorted.{sorted-map, sorted-filter, sorted-flat_map, find-none_is, find-no_element}
+use Rattle.ls_lists.specs.Lists.{IsIn, IsSorted}
+use Rattle.ls_set.specs.ItemSet.{Items, has, empty, len, least, next_item, items, bound, is_same, numbers_from}
 use Rattle.ls_set.specs.Query.{is_good}
 use Rattle.ls_set.specs.declared.query.Query.{Query}
-use Rattle.ls_set.proofs.Sets.{members, has-full, has-minus, Decides-is_same, or-false}
-use Rattle.ls_set.proofs.Sizes.{len-less}
-use Rattle.ls_set.proofs.Ascending.{slice_get-filter, find-filter, find_some, bound-has, least-cases}
+use Rattle.ls_set.proofs.Sets.{Decides-is_same}
+use Rattle.ls_set.proofs.Ascending.{find_some, bound-has}
 use Rattle.ls_theory.specs.Queries.{blocks, block_before, queries, query_before}
-use Rattle.ls_theory.specs.Pages.{comes_after}
-use Rattle.ls_laws.proofs.Breaks.{IsGood, good-from, good-to}
-use Rattle.ls_laws.proofs.Counts.{len-zero, len-empty}
-use Rattle.ls_query.proofs.Sorted.{IsIn, IsSorted, in-filter, filter-in, in-flat_map, flat_map-in, in-map, map-in, in-numbers, sorted-map, sorted-filter, sorted-flat_map, sorted-numbers, find-same, find-first, find-is, find-none_is, find-no_element}
-use Rattle.ls_query.proofs.BlockOrder.{before-smaller, before-cases, before-asymmetric}
-use Rattle.ls_query.proofs.BlockSets.{in-blocks, blocks-in, sorted-blocks}
+use Rattle.ls_laws.proofs.Blocks.{in-numbers}
+use Rattle.ls_laws.proofs.Breaks.{IsGood, good-from}
+use Rattle.ls_laws.proofs.Counts.{len-zero}
+use Rattle.ls_query.proofs.Sorted.{sorted-numbers}
+use Rattle.ls_query.proofs.BlockOrder.{before-cases, before-asymmetric}
+use Rattle.ls_query.proofs.BlockSets.{blocks-in, sorted-blocks}
 
 -- ---- items of a set
 
@@ -55,15 +58,6 @@ some_items n r good = elim (cases_size (len r.a)) [
     cases_size : (m : ℕ) → (m ≡ 0) ⊎ (0 < m)
     cases_size zero = inl refl
     cases_size (suc m) = inr (omega arith)
-
-pub in-queries : (n k : ℕ) (r : Query) → IsGood n r → len r.a ≤ k → IsIn r (queries n k)
-unfolding queries
-in-queries n k r good few =
-    let item = good.item in
-    in-filter (is_good n) (flat_map (λ a. map (asked_of a) (numbers_from 0 n)) (blocks n k)) r
-    (in-flat_map (λ a. map (asked_of a) (numbers_from 0 n)) (blocks n k) r.a r (in-blocks n k r.a (record { within = good.small; some = some_items n r good; few = few }))
-    (in-map (asked_of r.a) (numbers_from 0 n) r.q (in-numbers 0 n r.q (omega arith) (omega arith))))
-    (good-to n r good)
 
 pub queries-in : (n k : ℕ) (r : Query) → IsIn r (queries n k) → IsGood n r × IsIn r.a (blocks n k)
 unfolding queries

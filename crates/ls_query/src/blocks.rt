@@ -44,9 +44,9 @@ impl Blocks {
     ghost use Rattle.ls_theory.specs.declared.block_fault.BlockFault.TheVariants.{Memory};
     ghost use Rattle.ls_query.specs.Blocks.{sets_of, queries_of};
 
-    /// The sets of 1 to `k` of `n` items. `BadBlock` comes exactly where `k` is 0, or above both 1 and
-    /// `n - 1`; then `TooWide` exactly where they are more than [`MOST_SETS`], with the least size up
-    /// to which they are.
+    /// The sets of 1 to `k` of `n` items. `BadBlock` comes exactly where `k` is 0, or above both 1
+    /// and `n - 1`; then `TooWide` exactly where they are more than [`MOST_SETS`], with the least
+    /// size up to which they are.
     pub fn new(n: u32, k: u32) -> Result<Blocks, BlockFault>
         requires some { 0 < n }
         requires items { n ≤ PLACES }
@@ -70,8 +70,8 @@ impl Blocks {
         count_sets(self.n, self.k).unwrap()
     }
 
-    /// The first set of the blocks that comes after the given one, or the first of all. The given one
-    /// need not be of the blocks.
+    /// The first set of the blocks that comes after the given one, or the first of all. The given
+    /// one need not be of the blocks.
     pub fn next_set(&self, after: Option<ItemSet>) -> Option<ItemSet>
         requires { ForSome after (λ a. IsWithin a (full self.now.item_count)) }
         ensures { result ≡ find (comes_after block_before after) (sets_of self.now) }
@@ -83,8 +83,8 @@ impl Blocks {
         }
     }
 
-    /// The place of a set among the sets of the blocks, counted from 0, or `None` where it is not one
-    /// of them.
+    /// The place of a set among the sets of the blocks, counted from 0, or `None` where it is not
+    /// one of them.
     pub fn place_of(&self, a: ItemSet) -> Option<u32>
         ensures { result ≡ position (is_same a) (sets_of self.now) }
     {
@@ -95,7 +95,8 @@ impl Blocks {
     /// given one need not be of the blocks.
     pub fn next_query(&self, after: Option<&Query>) -> Option<Query>
         requires { ForSome after (λ r. is_good self.now.item_count r.now ≡ true) }
-        ensures { result ≡ find (comes_after query_before (option_map (λ r. r.now) after.entry)) (queries_of self.now) }
+        ensures { let last = option_map (λ r. r.now) after.entry in
+            result ≡ find (comes_after query_before last) (queries_of self.now) }
     {
         match after {
             Some(r) => query_after(self.n, self.k, *r),

@@ -22,14 +22,16 @@ pub fn of_next_size(n: u32, size: u32, of_size: u32) -> u32
     of_size * n.saturating_sub(size) / (size + 1)
 }
 
-// How many sets of 1 to `k` of `n` items there are, or the least size up to which there are too many.
+// How many sets of 1 to `k` of `n` items there are, or the least size up to which there are too
+// many.
 pub fn count_sets(n: u32, k: u32) -> Result<u32, u32>
     requires items { n ≤ PLACES }
     requires sizes { k ≤ n }
     ensures sets { IfOk result (λ sets. sets ≡ length (blocks n k)) }
     ensures few { IfOk result (λ sets. sets ≤ MOST_SETS) }
     ensures all { OnOk result (find (is_too_wide n) (numbers_from 1 k) ≡ None) }
-    ensures past { (size : ℕ) → result ≡ Err size → find (is_too_wide n) (numbers_from 1 k) ≡ Some size }
+    ensures past { (size : ℕ) → result ≡ Err size →
+        find (is_too_wide n) (numbers_from 1 k) ≡ Some size }
 {
     let mut of_size = 1;
     let mut sets = 0;

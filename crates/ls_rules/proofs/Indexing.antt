@@ -5,6 +5,8 @@ use Rattle.std.proofs.lemmas.List.{map-append, take-map, drop-map, length-map, g
 use Rattle.std.proofs.lemmas.List.Elements.{All-cons, All-nil}
 use Rattle.std.proofs.lemmas.List.Folds.{list_all-append}
 use Rattle.std.proofs.lemmas.Bool.{and_parts, and_from, cases_lt, cases_eq}
+use Rattle.ls_lists.proofs.Every.{list_all-remove}
+use Rattle.ls_lists.proofs.Places.{map-remove, at_place}
 use Rattle.ls_set.specs.ItemSet.{Items, has, empty, without, IsWithin}
 use Rattle.ls_set.proofs.Sets.{has-empty, has-without, without-within, and-true, and-false}
 use Rattle.ls_set.specs.declared.query.Query.{Query}
@@ -53,15 +55,6 @@ places_from-remove p (k ∷ ks) (suc m) i h =
       | false ↦ rest
     ]
 
-map-remove : {X Y : Type 0} (f : X → Y) (xs : List X) (m : ℕ) → map f (remove xs m) ≡ remove (map f xs) m
-map-remove f xs m = map-append f (take m xs) (drop (suc m) xs) ∙ ap₂ (λ a b. a ++ b) (sym (take-map f m xs)) (sym (drop-map f (suc m) xs))
-
-list_all-remove : {X : Type 0} (p : X → Bool) (xs : List X) (m : ℕ) → list_all p xs ≡ true → list_all p (remove xs m) ≡ true
-list_all-remove p [] zero h = refl
-list_all-remove p [] (suc m) h = refl
-list_all-remove p (x ∷ xs) zero h = (and_parts (p x) (list_all p xs) h).1
-list_all-remove p (x ∷ xs) (suc m) h = let a = and_parts (p x) (list_all p xs) h in and_from (p x) (list_all p (remove xs m)) a.0 (list_all-remove p xs m a.1)
-
 -- ---- the rules at the places of an item
 
 places_from-small : (m p : ℕ) (ks : List Items) (i : ℕ) → p + length ks ≤ m → All (λ q. q < m) (places_from p ks i)
@@ -72,13 +65,6 @@ places_from-small m p (k ∷ ks) i h =
       | true ↦ All-cons (λ q. q < m) p (places_from (suc p) ks i) (omega arith) rest
       | false ↦ rest
     ]
-
--- what stands at a place, and after it
-at_place : {X : Type 0} (all : List X) (p : ℕ) (x : X) (rest : List X) → drop p all ≡ x ∷ rest → (slice_get all p ≡ Some x) × (drop (suc p) all ≡ rest)
-at_place [] zero x rest e = cc
-at_place [] (suc p) x rest e = cc
-at_place (y ∷ all) zero x rest e = (let q : y ≡ x = cc in ap Some q, let q : all ≡ rest = cc in q)
-at_place (y ∷ all) (suc p) x rest e = at_place all p x rest e
 
 rules_at-from : (all : List Query) (key : Query → Items) (i p : ℕ) (rest : List Query) → drop p all ≡ rest → rules_at all (places_from p (map key rest) i) ≡ filter (λ r. has (key r) i) rest
 rules_at-from all key i p [] e = refl
@@ -175,12 +161,6 @@ pub room_for : (n : ℕ) (starts wakes : List PlaceList) (m : ℕ) → 0 < spare
 room_for n starts wakes m h = let a = spare_within-parts n starts (spare_within n wakes m) h in let b = spare_within-parts n wakes m a.0 in (b.0, b.1, a.1)
 
 -- ---- one list of the many is changed
-
--- within the list no default is read
-pub no_default : {X : Type 0} (xs : List X) (i : ℕ) (x y : X) → i < length xs → get_or xs i x ≡ get_or xs i y
-no_default [] i x y h = absurd (omega arith)
-no_default (z ∷ xs) zero x y h = refl
-no_default (z ∷ xs) (suc i) x y h = no_default xs i x y (omega arith)
 
 -- a list with room is there
 pub room_within : (ls : List PlaceList) (i : ℕ) → 0 < spare_at ls i → i < length ls

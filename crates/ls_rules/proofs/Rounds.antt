@@ -3,6 +3,7 @@ use Rattle.std.proofs.Common.{ℕ, ◌+◌, ◌*◌, ◌<◌, ◌≤◌, ◌≡�
 use Rattle.std.specs.Option.{option_map_or}
 use Rattle.std.specs.List.{AllByRecursion, list_all}
 use Rattle.std.proofs.lemmas.Bool.{cases_Bool, cases_eq, and_parts, and_from, or_right, not-true, not_from_false, false_from_ne_true}
+use Rattle.ls_lists.proofs.Every.{list_all-All, All-passing, All-given}
 use Rattle.ls_set.specs.ItemSet.{Items, has, empty, full, meet, minus, single, with, without, is_same, len, least, IsWithin}
 use Rattle.ls_set.specs.Query.{is_good}
 use Rattle.ls_set.specs.declared.query.Query.{Query}
@@ -15,7 +16,6 @@ use Rattle.ls_set.proofs.Order.{Each-both}
 use Rattle.ls_theory.specs.Queries.{breaks, breaks_none}
 use Rattle.ls_laws.proofs.Breaks.{IsGood, Breaks-from, breaks-from, good-from}
 use Rattle.ls_laws.proofs.Counts.{len-single, len-parts, len-zero, some_item}
-use Rattle.ls_laws.proofs.Search.{list_all-All}
 use Rattle.std.proofs.lemmas.Option.{slice_get_read}
 use Rattle.ls_rules.specs.Places.{PlaceList, places_at, IsIndexOf}
 use Rattle.ls_rules.proofs.Indexing.{indexed_rules}
@@ -135,14 +135,6 @@ looks-break k s (r ∷ rs) w = (
   looks-break k (look s r) rs (λ i h. w i ((After-look s r).within i h)),
 )
 
-All-passing : {X : Type 0} (P : X → Type 0) (p : X → Bool) (xs : List X) → AllByRecursion P (filter p xs) → AllByRecursion (λ x. p x ≡ true → P x) xs
-All-passing P p [] h = tt
-All-passing P p (x ∷ xs) h =
-    elim (p x) as (λ b. p x ≡ b → AllByRecursion P (cond b (x ∷ filter p xs) (filter p xs)) → AllByRecursion (λ x. p x ≡ true → P x) (x ∷ xs)) [
-      | true ↦ λ _ h. (λ _. h.0, All-passing P p xs h.1)
-      | false ↦ λ e h. (λ a. absurd (true≢false (sym a ∙ e)), All-passing P p xs h)
-    ] refl h
-
 -- the rules with the item were looked at
 pub looks-break_at : (k : Items) (s : Round) (p : Query → Bool) (rules : List Query) → IsWithin s.kept k
     → AllByRecursion (λ r. p r ≡ true → breaks k r ≡ true → has (fold look s (filter p rules)).kept r.q ≡ false) rules
@@ -215,10 +207,6 @@ pub record Started (rules : List Query) (n : ℕ) (k left : Items) (s : Round) :
   pub after : After (begun k) s
   pub looked : AllByRecursion (λ r. (i : ℕ) → has (first_of r.a) i ≡ true → has (minus (full n) k) i ≡ true → has left i ≡ false → breaks k r ≡ true → has s.kept r.q ≡ false) rules
   pub greatest : (t : Items) → breaks_none rules t ≡ true → IsWithin t k → IsWithin t s.kept
-
-All-given : {X : Type 0} (P : X → Type 0) → ((x : X) → P x) → (xs : List X) → AllByRecursion P xs
-All-given P h [] = tt
-All-given P h (x ∷ xs) = (h x, All-given P h xs)
 
 pub Started-first : (rules : List Query) (n : ℕ) (k : Items) → Started rules n k (minus (full n) k) (begun k)
 Started-first rules n k = record {

@@ -17,7 +17,10 @@ impl Model for Places {
 
     ghost Value = { PlaceList };
 
-    ghost view = { λ a. record { places = a.list.items; spare = vec_capacity a.list - vec_len a.list } };
+    ghost view = { λ a. record {
+      places = a.list.items;
+      spare = vec_capacity a.list - vec_len a.list;
+    } };
 }
 
 // Takes out one place.

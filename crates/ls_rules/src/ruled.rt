@@ -12,8 +12,8 @@ use std::alloc::{AllocError, Global};
 use std::marker::Model;
 
 /// An inner family with a list of queries as its rules. Its members are the members of the inner
-/// family that break no rule. Contracts see the inner family, the rules in their order, and `spare`,
-/// the number of rules for which there is room.
+/// family that break no rule. Contracts see the inner family, the rules in their order, and
+/// `spare`, the number of rules for which there is room.
 #[derive(Drop)]
 pub struct Ruled<F: Inside> {
     inner: F,
@@ -36,7 +36,8 @@ impl<F: Inside> Model for Ruled<F> {
     ghost view = { λ r. record {
       inner = r.inner;
       rules = r.rules.items;
-      spare = spare_within (F.item_count r.inner) r.starts (spare_within (F.item_count r.inner) r.wakes (vec_capacity r.rules - vec_len r.rules));
+      spare = spare_within (F.item_count r.inner) r.starts
+          (spare_within (F.item_count r.inner) r.wakes (vec_capacity r.rules - vec_len r.rules));
     } };
 
     ghost invariant = { λ r. IsIndexed (F.item_count r.inner) r.rules.items r.wakes r.starts };

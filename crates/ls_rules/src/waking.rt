@@ -22,8 +22,8 @@ fn look_at(rules: &[Query], places: &[usize], round: Round) -> Round
     round
 }
 
-/// Looks at each rule whose set A begins with one of the `n` items outside the set. Of the set there
-/// is kept what no rule takes out, and what fell out wakes each rule that is still broken.
+/// Looks at each rule whose set A begins with one of the `n` items outside the set. Of the set
+/// there is kept what no rule takes out, and what fell out wakes each rule that is still broken.
 pub fn begin(rules: &[Query], starts: &Index, n: u32, set: ItemSet) -> Round
     requires few { n ≤ PLACES }
     requires good { list_all (is_good n) rules.now ≡ true }

@@ -2,10 +2,10 @@ use Rattle.std.proofs.Common.{◌+◌, cond, take, sym, ap, ◌∙◌, arith}
 use Rattle.std.specs.List.{count_by}
 use Rattle.std.proofs.Math.ListN.{set}
 use Rattle.std.proofs.lemmas.List.Edits.{map_over_more}
+use Rattle.ls_lists.proofs.Overwriting.{old-at, all-at, count-next}
 use Rattle.ls_set.specs.ItemSet.{full, is_within}
 use Rattle.ls_set.proofs.Sets.{IsWithin-from}
 use Rattle.ls_infer.specs.Tables.{closed_after}
-use Rattle.ls_infer.proofs.Overwriting.{old-at, all-at, count-next}
 use Rattle.ls_infer.proofs.closures.close_again.Goals as goal
 
 pub closed_after-requires-clause-within : goal.closed_after-requires-clause-within

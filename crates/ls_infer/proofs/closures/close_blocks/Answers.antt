@@ -1,13 +1,13 @@
 use Rattle.std.proofs.Common.{◌+◌, ◌≡◌, ◌≤◌, cond, take, length, slice_get, Some, refl, sym, ap, ◌∙◌, arith}
 use Rattle.std.specs.List.{count_by}
 use Rattle.std.proofs.lemmas.Option.{slice_get-get_or}
+use Rattle.ls_lists.proofs.Overwriting.{left-at, left-next, count-next, images-end}
 use Rattle.ls_set.specs.ItemSet.{full, is_within}
 use Rattle.ls_set.proofs.Sets.{empty-within}
 use Rattle.ls_theory.specs.Families.{closure}
 use Rattle.ls_laws.specs.Spans.{left_by}
 use Rattle.ls_query.specs.Blocks.{sets_of}
 use Rattle.ls_infer.proofs.Places.{first_place, next_place, place-within}
-use Rattle.ls_infer.proofs.Overwriting.{left-at, left-next, count-next, images-end}
 use Rattle.ls_infer.proofs.Changes.{set_closed, set_within}
 use Rattle.ls_infer.proofs.closures.close_blocks.Goals as goal
 

@@ -1,11 +1,11 @@
 use Rattle.std.proofs.Common.{◌≡◌, ◌+◌, ◌≤◌, true, map, take, drop, find, slice_get}
 use Rattle.std.specs.List.{list_all, count_by}
+use Rattle.ls_lists.specs.Lists.{images}
 use Rattle.ls_set.specs.ItemSet.{full, is_within, IsWithin}
 use Rattle.ls_theory.specs.Queries.{block_before}
 use Rattle.ls_theory.specs.Families.{closure}
 use Rattle.ls_laws.specs.Spans.{left_by}
 use Rattle.ls_query.specs.Blocks.{sets_of}
-use Rattle.ls_infer.proofs.Overwriting.{images}
 use Rattle.ls_infer.proofs.closures.close_blocks.Given as goal
 
 -- the set at the place is the first after the last; those so far are the closures without the Yes, those that are left are as they were

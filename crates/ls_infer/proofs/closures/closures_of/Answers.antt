@@ -1,9 +1,10 @@
 use Rattle.std.proofs.Common.{◌≡◌, ◌++◌, ◌∷◌, [], map, Some, None, slice_get, sym, ap, ap₂, ◌∙◌, arith}
+use Rattle.ls_lists.proofs.Places.{take-none, mapped-next}
 use Rattle.ls_set.specs.ItemSet.{full}
 use Rattle.ls_set.proofs.Sets.{empty-within}
 use Rattle.ls_theory.specs.Families.{closure}
 use Rattle.ls_query.specs.Blocks.{sets_of}
-use Rattle.ls_infer.proofs.Places.{first_place, next_place, place-within, take-none, mapped-next}
+use Rattle.ls_infer.proofs.Places.{first_place, next_place, place-within}
 use Rattle.ls_infer.proofs.closures.closures_of.Goals as goal
 
 pub loop-place-init : goal.loop-place-init

@@ -1,9 +1,10 @@
 use Rattle.std.proofs.Common.{true, false, ◌||◌, ◌+◌, drop, refl, sym, ap, ◌∙◌}
 use Rattle.std.specs.List.{list_any}
+use Rattle.std.proofs.Math.Bool.{or_assoc}
 use Rattle.ls_set.specs.ItemSet.{has}
 use Rattle.ls_set.proofs.Sets.{has-empty, has-union}
 use Rattle.ls_infer.specs.Tables.{forces}
-use Rattle.ls_infer.proofs.Kept.{or_next, forced-next}
+use Rattle.ls_infer.proofs.Kept.{forced-next}
 use Rattle.ls_infer.proofs.standing_no.forced_items.Goals as goal
 use Rattle.ls_infer.proofs.standing_no.forced_items.Goals.{then-is_within, else-is_within}
 
@@ -18,7 +19,7 @@ loop-s-preserved c = λ q.
     let rest = list_any (forces (record { a = c.args.a; q = q })) (drop (i + 1) ss) in
     elim c.if-is_within.branch [
       | then-is_within w ↦ rw (w.forced-is, w.union-forced.ensures)
-          (ap (λ b. b || rest) (has-union c.loop-s.forced s.enough q) ∙ or_next (has c.loop-s.forced q) (has s.enough q) rest
+          (ap (λ b. b || rest) (has-union c.loop-s.forced s.enough q) ∙ or_assoc (has c.loop-s.forced q) (has s.enough q) rest
           ∙ sym (forced-next ss i s c.args.a q (has c.loop-s.forced q) true c.loop-s-test.true c.s-item.is (sym c.is_within.ensures ∙ w.if-is_within.true)) ∙ c.loop-s.invariant q)
       | else-is_within w ↦ rw w.forced-is
           (sym (forced-next ss i s c.args.a q (has c.loop-s.forced q) false c.loop-s-test.true c.s-item.is (sym c.is_within.ensures ∙ w.if-is_within.false)) ∙ c.loop-s.invariant q)

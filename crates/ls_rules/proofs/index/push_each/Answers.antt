@@ -1,7 +1,8 @@
 use Rattle.std.proofs.Common.{◌++◌, ◌∷◌, [], sym, ap, ◌∙◌, length-set}
+use Rattle.std.proofs.lemmas.List.{get_or_default}
 use Rattle.ls_set.proofs.Ascending.{least-cases}
 use Rattle.ls_rules.specs.Places.{PlaceList, no_places}
-use Rattle.ls_rules.proofs.Indexing.{room_within, no_default, Pushing-more, Pushing-done}
+use Rattle.ls_rules.proofs.Indexing.{room_within, Pushing-more, Pushing-done}
 use Rattle.ls_rules.proofs.Rounds.{no_least, len-without}
 use Rattle.ls_rules.proofs.index.push_each.Goals as goal
 
@@ -15,7 +16,7 @@ push-requires c =
     let i = c.in-Some.i in
     let here = least-cases c.loop-i.left i (sym c.least.ensures.value ∙ c.in-Some.is) in
     let room = c.loop-i.invariant.pushing.room i here.0 in
-    rw (no_default c.loop-i.lists i c.index-lists-i.result no_places (room_within c.loop-i.lists i room)) room
+    rw (get_or_default c.loop-i.lists i c.index-lists-i.result no_places (room_within c.loop-i.lists i room)) room
 
 pub loop-i-smaller : goal.loop-i-smaller
 loop-i-smaller c =
@@ -29,7 +30,7 @@ loop-i-preserved c =
     let pushing = c.loop-i.invariant.pushing in
     let here = least-cases c.loop-i.left i (sym c.least.ensures.value ∙ c.in-Some.is) in
     let inside = room_within lists i (pushing.room i here.0) in
-    let put = c.push.ensures ∙ ap (λ (l : PlaceList). l.places ++ c.args.place ∷ []) (no_default lists i c.index-lists-i.result no_places inside) in
+    let put = c.push.ensures ∙ ap (λ (l : PlaceList). l.places ++ c.args.place ∷ []) (get_or_default lists i c.index-lists-i.result no_places inside) in
     rw c.without-left.ensures (record {
       pushing = Pushing-more c.args.lists.now lists c.args.set c.loop-i.left c.args.place i c.push.new.self here.0 put pushing;
       same_length = length-set lists i c.push.new.self ∙ c.loop-i.invariant.same_length;

@@ -1,11 +1,11 @@
 use Rattle.std.proofs.Common.{◌≡◌, ◌&&◌, find, slice_get, Some, None, sym, ap, ◌∙◌}
 use Rattle.std.specs.List.{position}
+use Rattle.ls_lists.proofs.Elements.{get-in}
 use Rattle.ls_set.specs.ItemSet.{full, is_same}
 use Rattle.ls_set.proofs.Sets.{empty-within}
 use Rattle.ls_theory.specs.Queries.{block_before}
 use Rattle.ls_laws.proofs.Breaks.{good-from}
 use Rattle.ls_query.specs.Blocks.{sets_of, queries_of}
-use Rattle.ls_query.proofs.Sorted.{get-in}
 use Rattle.ls_query.proofs.Placed.{position-get}
 use Rattle.ls_query.proofs.Passing.{passing-all, next-passing, passing-later, passing-outside}
 use Rattle.ls_infer.specs.Tables.{is_open_in}

@@ -1,20 +1,17 @@
 use Rattle.std.proofs.Common.{ℕ, ◌≡◌, Bool, true, false, not, ◌&&◌, Some, slice_get, refl, sym, ap, ap₂, ◌∙◌}
 use Rattle.std.specs.List.{list_any}
+use Rattle.std.proofs.Math.Bool.{and_assoc}
+use Rattle.ls_lists.proofs.Elements.{get-in}
 use Rattle.ls_set.specs.ItemSet.{Items, has, full, minus}
 use Rattle.ls_set.specs.Query.{is_good}
 use Rattle.ls_set.proofs.Sets.{has-minus}
 use Rattle.ls_theory.specs.Queries.{blocks}
-use Rattle.ls_query.proofs.Sorted.{get-in}
 use Rattle.ls_query.proofs.BlockSets.{blocks-in}
 use Rattle.ls_query.proofs.Placed.{position-at}
 use Rattle.ls_query.proofs.QuerySets.{asked_of}
 use Rattle.ls_query.proofs.Passing.{good_items}
 use Rattle.ls_infer.specs.Tables.{TableState, forces, closed_of, is_open_in}
 use Rattle.ls_infer.proofs.table.Table.open_items.Goals as goal
-
-and_next : (a b c : Bool) → ((a && b) && c) ≡ (a && (b && c))
-and_next true b c = refl
-and_next false b c = refl
 
 open_is : (t : TableState) (place : ℕ) (a closed forced : Items) (q : ℕ) → slice_get (blocks t.blocks.item_count t.blocks.largest) place ≡ Some a → slice_get t.closures place ≡ Some closed
     → has forced q ≡ list_any (forces (asked_of a q)) t.standing
@@ -27,7 +24,7 @@ open_is t place a closed forced q e c h =
     let closed_is : closed_of t a ≡ closed = rw (position-at n k a place e, c) refl in
     has-minus (minus (minus (full n) a) closed) forced q
     ∙ ap₂ (λ u v. u && not v) (has-minus (minus (full n) a) closed q ∙ ap (λ u. u && not (has closed q)) (good_items n a q x.within x.some)) h
-    ∙ and_next (is_good n (asked_of a q)) (not (has closed q)) (not rest)
+    ∙ and_assoc (is_good n (asked_of a q)) (not (has closed q)) (not rest)
     ∙ sym (ap (λ l. is_good n (asked_of a q) && (not (has l q) && not rest)) closed_is)
 
 pub returns : goal.returns
