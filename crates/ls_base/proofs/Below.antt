@@ -1,12 +1,12 @@
 -- The union of the sets of a list below a set, and the sets that are not such a union.
 use Rattle.std.proofs.Common.{◌≡◌, true, false, not, ◌&&◌, List, [], ◌∷◌, filter, refl, sym, ap, ◌∙◌}
 use Rattle.std.proofs.lemmas.Bool.{and_parts}
-use Rattle.ls_set.specs.ItemSet.{Items, has, empty, union, is_among, is_same, is_within, IsWithin}
+use Rattle.std.proofs.lemmas.List.Elements.{filter_agree}
+use Rattle.ls_set.specs.ItemSet.{Items, has, empty, union, is_among, is_same, is_within}
 use Rattle.ls_set.proofs.Sets.{same_within}
 use Rattle.ls_set.proofs.Members.{among-filter}
 use Rattle.ls_theory.specs.Families.{interior}
 use Rattle.ls_laws.specs.Spans.{is_proper, needed}
-use Rattle.ls_laws.proofs.Lists.{filter-same}
 use Rattle.ls_laws.proofs.Interiors.{from-interior, to-interior, interior-whole, interior-within}
 use Rattle.ls_base.specs.Unions.{union_below, is_union_in}
 use Rattle.ls_base.proofs.Turns.{Unites}
@@ -59,6 +59,6 @@ interior-same f g s e = same_within (interior f s) (interior g s)
 -- the sets of f that are needed, told by another list with the same sets
 pub needed-same : (f g : List Items) → ((k : Items) → is_among f k ≡ is_among g k) → filter (λ k. not (is_union_in g k)) f ≡ needed f
 unfolding needed
-needed-same f g e = filter-same (λ k. not (is_union_in g k)) (λ k. not (is_union_in f k)) f (λ k.
+needed-same f g e = filter_agree (λ k. not (is_union_in g k)) (λ k. not (is_union_in f k)) (λ k.
     let p = λ (l : Items). is_proper l k in
-    ap (λ u. not (is_same u k)) (interior-same (filter p g) (filter p f) k (λ l. among-filter p g l ∙ ap (λ b. b && p l) (sym (e l)) ∙ sym (among-filter p f l))))
+    ap (λ u. not (is_same u k)) (interior-same (filter p g) (filter p f) k (λ l. among-filter p g l ∙ ap (λ b. b && p l) (sym (e l)) ∙ sym (among-filter p f l)))) f

@@ -2,13 +2,16 @@
 use Rattle.std.proofs.Common.{ℕ, zero, suc, ◌<◌, ◌≡◌, inl, inr, Bool, true, false, cond, not, ◌&&◌, List, [], ◌∷◌, ◌++◌, map, filter, refl, sym, ap, ap₂, ◌∙◌, subst, arith, ltb-true, true≢false}
 use Rattle.std.specs.List.{list_any}
 use Rattle.std.proofs.lemmas.Bool.{cases_lt}
+use Rattle.std.proofs.Math.Bool.{and_comm}
+use Rattle.std.proofs.lemmas.List.Elements.{filter_agree}
+use Rattle.ls_lists.proofs.Filters.{filter-both}
 use Rattle.ls_set.specs.ItemSet.{Items, has, minus, is_among, is_same, is_within, IsInOrder}
 use Rattle.ls_set.specs.declared.query.Query.{Query}
 use Rattle.ls_set.proofs.Sets.{has-full, has-minus}
 use Rattle.ls_theory.specs.Queries.{breaks, some_breaks}
 use Rattle.ls_theory.specs.Bases.{base, is_atom_at, atoms_at}
 use Rattle.ls_laws.specs.Spans.{is_proper, spanned, left_by, joins}
-use Rattle.ls_laws.proofs.Lists.{filter-both, filter-same, IsInOrder-filter}
+use Rattle.ls_laws.proofs.Lists.{IsInOrder-filter}
 use Rattle.ls_laws.proofs.Interiors.{has-interior}
 use Rattle.ls_laws.proofs.Spans.{spanned-IsUnionFamily, spanned-in_order}
 use Rattle.ls_laws.proofs.Closures.{left-IsUnionFamily}
@@ -37,12 +40,6 @@ has-broken_in g k i =
     ∙ some-filter (λ l. is_proper l k) (λ l. is_within l k && has l i) g
     ∙ some-same (λ l. is_proper l k && (is_within l k && has l i)) (λ l. has l i && is_within l k && not (is_same l k)) g (λ l. regroup (is_within l k) (not (is_same l k)) (has l i)))
 
-and_turned : (x y : Bool) → (x && y) ≡ (y && x)
-and_turned true true = refl
-and_turned true false = refl
-and_turned false true = refl
-and_turned false false = refl
-
 map-cond : (x : Broken) (b : Bool) (xs : List Broken) → map (λ b. b.set) (cond b (x ∷ xs) xs) ≡ cond b (x.set ∷ map (λ b. b.set) xs) (map (λ b. b.set) xs)
 map-cond x true xs = refl
 map-cond x false xs = refl
@@ -56,7 +53,7 @@ broken_at-map g i (k ∷ ks) =
 -- the joins that are gained are least ones
 gained-least : (staying js : List Items) → filter (λ k. has_none_within staying k && not (list_any (λ l. is_proper l k) js)) js ≡ least_beside staying js
 gained-least staying js =
-    filter-same (λ k. has_none_within staying k && not (list_any (λ l. is_proper l k) js)) (λ k. not (list_any (λ l. is_proper l k) js) && has_none_within staying k) js (λ k. and_turned (has_none_within staying k) (not (list_any (λ l. is_proper l k) js)))
+    filter_agree (λ k. has_none_within staying k && not (list_any (λ l. is_proper l k) js)) (λ k. not (list_any (λ l. is_proper l k) js) && has_none_within staying k) (λ k. and_comm (has_none_within staying k) (not (list_any (λ l. is_proper l k) js))) js
     ∙ sym (filter-both (λ k. not (list_any (λ l. is_proper l k) js)) (has_none_within staying) js)
 
 -- the sets that break the query and are atoms at the item
@@ -64,7 +61,7 @@ broken_at-is : (g : List Items) (r : Query) (i : ℕ) → broken_at i (map (brok
 broken_at-is g r i =
     broken_at-map g i (filter (λ k. breaks k r) g)
     ∙ filter-both (λ k. breaks k r) (is_atom_at g i) g
-    ∙ filter-same (λ k. breaks k r && is_atom_at g i k) (λ k. is_atom_at g i k && breaks k r) g (λ k. and_turned (breaks k r) (is_atom_at g i k))
+    ∙ filter_agree (λ k. breaks k r && is_atom_at g i k) (λ k. is_atom_at g i k && breaks k r) (λ k. and_comm (breaks k r) (is_atom_at g i k)) g
     ∙ sym (filter-both (is_atom_at g i) (λ k. breaks k r) g)
 
 gained_at-is : (f : List Items) (r : Query) (gs : List Items) (i : ℕ) → IsInOrder f → gained_at (left_by r (base f)) (map (broken_in (base f)) (filter (λ k. breaks k r) (base f))) gs i ≡ gained f r gs i

@@ -1,19 +1,20 @@
 -- The sets that are given for a base: whether they have each item, and the base of what they span.
-use Rattle.std.proofs.Common.{ℕ, ◌≤◌, ◌≡◌, Bool, true, List, [], ◌∷◌, length, filter, Some, None, Option, Ok, Err, refl, ap, ap₂, ◌∙◌, sym, subst, lt-ltb, le-ltb}
+use Rattle.std.proofs.Common.{ℕ, ◌≤◌, ◌≡◌, Bool, true, List, length, filter, Some, None, Option, Ok, Err, refl, ap, ap₂, ◌∙◌, sym, subst, lt-ltb, le-ltb}
+use Rattle.ls_lists.proofs.Every.{list_all-All}
+use Rattle.ls_lists.proofs.Filters.{filter-all}
 use Rattle.ls_set.specs.ItemSet.{Items, full, is_among, is_within, minus, least}
 use Rattle.ls_set.proofs.Sets.{is_within-from}
-use Rattle.ls_set.proofs.Members.{among-here, among-there}
 use Rattle.ls_theory.specs.Families.{unions, interior}
 use Rattle.ls_theory.specs.Bases.{base, most_base_sets}
 use Rattle.ls_laws.specs.Spans.{IsOn, spanned}
+use Rattle.ls_laws.proofs.Lists.{every-from}
 use Rattle.ls_base.specs.Bases.{first_missing, limited, based, base_fault, IsFaultOf, IsPastOf}
 use Rattle.ls_base.specs.declared.fault.PastFault.{PastFault}
 use Rattle.ls_base.specs.declared.fault.PastFault.TheVariants as Limit
 use Rattle.ls_base.specs.declared.fault.BaseFault.TheVariants.{NotSpanning, Past}
 
 filter-each : (p : Items → Bool) (f : List Items) → ((k : Items) → is_among f k ≡ true → p k ≡ true) → filter p f ≡ f
-filter-each p [] h = refl
-filter-each p (t ∷ f) h = rw (h t (among-here t t f refl)) (ap (λ l. t ∷ l) (filter-each p f (λ k c. h k (among-there k t f c))))
+filter-each p f h = filter-all p f (list_all-All p f (every-from p f h))
 
 -- all of the sets lie within the items
 interior-full : (n : ℕ) (sets : List Items) → IsOn n sets → interior sets (full n) ≡ unions sets

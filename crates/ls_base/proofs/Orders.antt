@@ -1,10 +1,10 @@
 -- The order of sets compares any two sets; what is left of sets put in it, each once.
-use Rattle.std.proofs.Common.{ℕ, suc, ◌+◌, ◌<◌, ◌≡◌, ◌⊎◌, inl, inr, Bool, true, false, cond, not, ◌||◌, List, [], ◌∷◌, length, get_or, None, Some, refl, sym, ap, ◌∙◌, subst, arith, true≢false}
+use Rattle.std.proofs.Common.{ℕ, suc, ◌+◌, ◌<◌, ◌≡◌, ◌⊎◌, inl, inr, Bool, true, false, cond, ◌||◌, List, [], ◌∷◌, length, get_or, None, Some, refl, sym, ap, ◌∙◌, subst, arith, true≢false}
 use Rattle.std.specs.Cmp.{IsStrictWeakOrder}
 use Rattle.std.specs.List.{AllByRecursion, dedup, dedup_from}
 use Rattle.std.specs.List.Sorted.{IsSortedBy}
 use Rattle.std.proofs.lemmas.Bool.{false_from_ne_true}
-use mathlib.Core.Bool.{beq}
+use Rattle.ls_lists.proofs.Bools.{beq-same, beq-cases}
 use Rattle.ls_set.specs.ItemSet.{Items, has, differing, len, least, is_among, is_same, comes_before, IsInOrder}
 use Rattle.ls_set.proofs.Sets.{has-differing, has-empty, same_set, Decides-is_same}
 use Rattle.ls_set.proofs.Members.{among-here, among-there, among-cases}
@@ -13,22 +13,10 @@ use Rattle.ls_set.proofs.Firsts.{items-none}
 use Rattle.ls_set.proofs.Order.{comes_before-at, comes_before-asymmetric, comes_before-transitive}
 use Rattle.ls_laws.proofs.Counts.{len-zero}
 
-agree : (p q : Bool) → not (beq p q) ≡ false → p ≡ q
-agree true true e = refl
-agree true false e = absurd (true≢false e)
-agree false true e = absurd (true≢false e)
-agree false false e = refl
-
-differ : (p q : Bool) → not (beq p q) ≡ true → ((p ≡ true) × (q ≡ false)) ⊎ ((q ≡ true) × (p ≡ false))
-differ true true e = absurd (true≢false (sym e))
-differ true false e = inl (refl, refl)
-differ false true e = inr (refl, refl)
-differ false false e = absurd (true≢false (sym e))
-
 same_from_none : (s t : Items) → least (differing s t) ≡ None → s ≡ t
 unfolding len
 same_from_none s t e = same_set s t (λ i.
-    agree (has s i) (has t i) (sym (has-differing s t i) ∙ ap (λ u. has u i) (len-zero (differing s t) (ap length (items-none (differing s t) e))) ∙ has-empty i))
+    beq-same (has s i) (has t i) (sym (has-differing s t i) ∙ ap (λ u. has u i) (len-zero (differing s t) (ap length (items-none (differing s t) e))) ∙ has-empty i))
 
 -- of two sets one comes before the other, or they are one
 pub order_cases : (s t : Items) → (s ≡ t) ⊎ ((comes_before s t ≡ true) ⊎ (comes_before t s ≡ true))
@@ -36,8 +24,8 @@ order_cases s t = elim (least (differing s t)) as (λ o. least (differing s t) �
   | None ↦ λ e. inl (same_from_none s t e)
   | Some i ↦ λ e.
       let first = least-cases (differing s t) i e in
-      let below = λ (j : ℕ) (l : j < i). agree (has s j) (has t j) (sym (has-differing s t j) ∙ first.1 j l) in
-      inr (elim (differ (has s i) (has t i) (sym (has-differing s t i) ∙ first.0)) [
+      let below = λ (j : ℕ) (l : j < i). beq-same (has s j) (has t j) (sym (has-differing s t j) ∙ first.1 j l) in
+      inr (elim (beq-cases (has s i) (has t i) (sym (has-differing s t i) ∙ first.0)) [
         | inl a ↦ inl (comes_before-at s t i (record { in_first = a.0; not_in_second = a.1; same_below = below }))
         | inr a ↦ inr (comes_before-at t s i (record { in_first = a.0; not_in_second = a.1; same_below = λ j l. sym (below j l) }))
       ])

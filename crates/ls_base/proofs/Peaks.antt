@@ -2,6 +2,7 @@
 use Rattle.std.proofs.Common.{ℕ, zero, suc, ◌+◌, ◌<◌, ◌≤◌, ◌≡◌, Bool, true, false, cond, List, [], ◌∷◌, ◌++◌, length, take, find, ltb, le-ltb, Option, Some, None, refl, sym, ap, ◌∙◌, arith, length-append, option_map}
 use Rattle.std.proofs.lemmas.List.{take-append-le}
 use Rattle.std.proofs.Math.Seq.{take-length}
+use Rattle.ls_lists.proofs.Options.{none_from_map, map-cond}
 use Rattle.ls_set.specs.ItemSet.{numbers_from}
 use Rattle.ls_set.specs.declared.query.Query.{Query}
 use Rattle.ls_theory.specs.Starts.{Start}
@@ -28,16 +29,6 @@ find-last p q i (suc m) last at same e =
       | true ↦ λ a e. cc
       | false ↦ λ a e. rw (same i (omega arith) ∙ a) (find-last p q (suc i) m last (omega arith) same e)
     ] refl e
-
--- ---- options
-
-none_from_map : {X Y : Type 0} (f : X → Y) (o : Option X) → option_map f o ≡ None → o ≡ None
-none_from_map f None e = refl
-none_from_map f (Some x) e = cc
-
-map-cond : {X Y : Type 0} (f : X → Y) (b : Bool) (x : X) → option_map f (cond b (Some x) None) ≡ cond b (Some (f x)) None
-map-cond f true x = refl
-map-cond f false x = refl
 
 -- ---- peaks
 

@@ -3,9 +3,10 @@ use Rattle.std.proofs.Common.{ℕ, zero, suc, ◌+◌, ◌<◌, ◌≤◌, ◌�
 use Rattle.std.specs.List.{list_any, range_with_len}
 use Rattle.std.proofs.lemmas.List.FromFn.{length-map-range_with_len}
 use Rattle.std.proofs.lemmas.Bool.{cases_eq, and_parts, and_from, not_from_false, not-true, false_from_ne_true}
+use Rattle.ls_lists.proofs.Bools.{same_truth}
 use Rattle.ls_set.specs.ItemSet.{Items, has, empty, full, with, subsets, is_among, is_same, is_within, IsWithin, IsInOrder}
 use Rattle.ls_set.specs.declared.item_set.TheConstants.{PLACES}
-use Rattle.ls_set.proofs.Sets.{has-empty, has-full, has-with, same_within, both_ways, Decides-is_same, IsWithin-from, is_within-from}
+use Rattle.ls_set.proofs.Sets.{has-empty, has-full, has-with, same_within, Decides-is_same, IsWithin-from, is_within-from}
 use Rattle.ls_set.proofs.Members.{among-here, among-there, among-cases, among-filter}
 use Rattle.ls_set.proofs.Order.{among-subsets, subsets_from-in_order}
 use Rattle.ls_theory.specs.Families.{interior}
@@ -59,7 +60,7 @@ lesser q k l = has l q && is_within l k && not (is_same l k)
 
 -- the base tells which sets are atoms
 pub is_atom_at-base : (f : List Items) (q : ℕ) (k : Items) → is_atom_at (base f) q k ≡ is_atom_at f q k
-is_atom_at-base f q k = ap (λ b. has k q && not b) (both_ways (list_any (lesser q k) (base f)) (list_any (lesser q k) f)
+is_atom_at-base f q k = ap (λ b. has k q && not b) (same_truth (list_any (lesser q k) (base f)) (list_any (lesser q k) f)
     (λ h. let x = some-from (lesser q k) (base f) h in some-among (lesser q k) f x.0 (base-member f x.0 x.1) x.2)
     (λ h.
     let x = some-from (lesser q k) f h in

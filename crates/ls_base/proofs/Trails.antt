@@ -16,7 +16,7 @@ use Rattle.ls_base.specs.Followed.{IsFollowed, IsAskable}
 use Rattle.ls_base.specs.Trail.{IsEntry, IsTrail, EndsAt, AreAskable, last_entry, reached, is_begun, begins_at_none, cut, given_up}
 use Rattle.ls_base.specs.declared.followed.Followed.{Followed}
 use Rattle.ls_base.specs.declared.trail.Entry.{Entry}
-use Rattle.ls_laws.proofs.Search.{list_all-All}
+use Rattle.ls_lists.proofs.Every.{list_all-All}
 use Rattle.ls_base.proofs.Followings.{IsAskable-good}
 
 -- ---- the last entry

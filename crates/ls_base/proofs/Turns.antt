@@ -1,13 +1,9 @@
 -- Turns of loops over lists of sets.
-use Rattle.std.proofs.Common.{ℕ, ◌+◌, ◌<◌, ◌≤◌, ◌≡◌, Bool, true, false, List, [], ◌∷◌, length, drop, get_or, sym, ap, ap₂, ◌∙◌, subst, add-one}
-use Rattle.std.proofs.Math.Seq.{drop-cons}
+use Rattle.std.proofs.Common.{ℕ, ◌+◌, ◌<◌, ◌≤◌, ◌≡◌, Bool, true, false, List, [], ◌∷◌, length, drop, get_or, sym, ap, ap₂, ◌∙◌, subst}
 use Rattle.std.proofs.lemmas.List.{drop_all}
+use Rattle.ls_lists.proofs.Places.{drop-next}
 use Rattle.ls_set.specs.ItemSet.{Items, empty, union, IsWithin}
 use Rattle.ls_set.proofs.Sets.{union_assoc, union-empty_left, union-empty_right, union-left, union-within, same_within}
-
--- what is left of a list from a place on
-pub drop-next : (sets : List Items) (i : ℕ) (k : Items) → i < length sets → k ≡ get_or sets i k → drop i sets ≡ k ∷ drop (i + 1) sets
-drop-next sets i k l e = drop-cons sets i k l ∙ ap₂ (λ x n. x ∷ drop n sets) (sym e) (sym (add-one i))
 
 -- ---- a union of what each set of a list gives
 

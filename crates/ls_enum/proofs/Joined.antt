@@ -2,10 +2,10 @@
 use Rattle.std.proofs.Common.{ℕ, zero, suc, ◌+◌, ◌-◌, ◌<◌, ◌≤◌, ◌≡◌, length, arith, true, false, ltb, ltb-true, ltb-false, lt-ltb, List, [], ◌∷◌, ◌++◌, take, drop, sum, Option, Some, None, refl, sym, ap, ◌∙◌, find}
 use Rattle.std.specs.List.{last_or}
 use Rattle.std.proofs.Math.Seq.{take-add}
-use Rattle.std.proofs.lemmas.List.{length-drop}
+use Rattle.std.proofs.lemmas.List.{length-drop, take_all}
 use Rattle.std.proofs.lemmas.List.Sums.{sum_by-cons}
+use Rattle.ls_lists.proofs.Bools.{same_truth}
 use Rattle.ls_set.specs.ItemSet.{Items, comes_before, IsInOrder}
-use Rattle.ls_set.proofs.Sets.{both_ways}
 use Rattle.ls_theory.specs.Pages.{comes_after, page}
 use Rattle.ls_enum.specs.Listings.{left_after, joined_pages}
 use Rattle.ls_enum.proofs.Left.{left-first, left-none, left_after-none}
@@ -28,7 +28,7 @@ joined_pages-are f cursor (k ∷ sizes) o =
 
 -- the numbers behind `more`
 fewer : (d n j k : ℕ) → d ≡ n - j → ltb k d ≡ ltb (j + k) n
-fewer d n j k e = both_ways (ltb k d) (ltb (j + k) n)
+fewer d n j k e = same_truth (ltb k d) (ltb (j + k) n)
     (λ a. lt-ltb (j + k) n (let l : k < d = ltb-true k d a in omega arith))
     (λ a. lt-ltb k d (let l : j + k < n = ltb-true (j + k) n a in omega arith))
 
@@ -36,12 +36,6 @@ pub more-joined : (f : List Items) (cursor : Option Items) (j k : ℕ) → IsInO
 more-joined f cursor j k o =
     let rest = left_after cursor f in
     ap (λ l. ltb k (length l)) (left-last cursor f j o) ∙ fewer (length (drop j rest)) (length rest) j k (length-drop j rest)
-
-take-all : (n : ℕ) (f : List Items) → length f ≤ n → take n f ≡ f
-take-all zero [] h = refl
-take-all (suc n) [] h = refl
-take-all zero (x ∷ f) h = absurd (omega arith)
-take-all (suc n) (x ∷ f) h = ap (λ l. x ∷ l) (take-all n f (omega arith))
 
 -- a page from the start is the whole family exactly where no further set follows
 pub page-fits : (f : List Items) (k : ℕ) → (page comes_before f None k).more ≡ false → length f ≤ k
@@ -51,7 +45,7 @@ pub page-more : (f : List Items) (k : ℕ) → (page comes_before f None k).more
 page-more f k h = ltb-true k (length f) (sym (ap (λ l. ltb k (length l)) (left_after-none f)) ∙ h)
 
 pub page-whole : (f : List Items) (k : ℕ) → (page comes_before f None k).more ≡ false → (page comes_before f None k).members ≡ f
-page-whole f k h = ap (take k) (left_after-none f) ∙ take-all k f (page-fits f k h)
+page-whole f k h = ap (take k) (left_after-none f) ∙ take_all k f (page-fits f k h)
 
 pub joined_pages-whole : (f : List Items) (sizes : List ℕ) → IsInOrder f → (page comes_before f None (sum sizes)).more ≡ false → joined_pages f None sizes ≡ f
 joined_pages-whole f sizes o h = joined_pages-are f None sizes o ∙ page-whole f (sum sizes) h

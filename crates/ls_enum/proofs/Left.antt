@@ -1,9 +1,12 @@
 -- What is left after a cursor, and what is left of a page.
-use Rattle.std.proofs.Common.{ℕ, zero, suc, ◌+◌, ◌-◌, ◌*◌, ◌<◌, ◌≤◌, ◌≡◌, length, arith, Bool, true, false, cond, is_some, ltb, le-ltb, lt-ltb, ltb-true, List, [], ◌∷◌, ◌++◌, append_assoc, append-nil, filter, find, take, MatchOption, Option, Some, None, refl, sym, ap, ap₂, ◌∙◌, subst}
+use Rattle.std.proofs.Common.{ℕ, suc, ◌+◌, ◌-◌, ◌*◌, ◌<◌, ◌≤◌, ◌≡◌, length, arith, true, false, cond, is_some, ltb, le-ltb, lt-ltb, ltb-true, List, [], ◌∷◌, ◌++◌, append_assoc, append-nil, filter, find, take, MatchOption, Option, Some, None, refl, sym, ap, ap₂, ◌∙◌}
 use Rattle.std.proofs.lemmas.Bool.{and_parts}
+use Rattle.std.proofs.lemmas.List.{take_all}
 use Rattle.std.specs.List.{AllByRecursion}
+use Rattle.ls_lists.proofs.Bools.{same_truth}
+use Rattle.ls_lists.proofs.Filters.{filter-all}
+use Rattle.ls_lists.proofs.Finds.{found-holds}
 use Rattle.ls_set.specs.ItemSet.{Items, full, comes_before, is_among, IsWithin, IsInOrder}
-use Rattle.ls_set.proofs.Sets.{both_ways}
 use Rattle.ls_set.proofs.Order.{comes_before-irreflexive, comes_before-asymmetric, comes_before-transitive}
 use Rattle.ls_set.proofs.Members.{among-here, among-filter}
 use Rattle.ls_theory.specs.Pages.{comes_after}
@@ -11,10 +14,6 @@ use Rattle.ls_laws.specs.Families.{IsFamily}
 use Rattle.ls_enum.specs.Listings.{left_after}
 
 -- ---- the first that is left, and what is left behind it
-
-filter-all : {X : Type 0} (p : X → Bool) (xs : List X) → AllByRecursion (λ x. p x ≡ true) xs → filter p xs ≡ xs
-filter-all p [] h = refl
-filter-all p (x ∷ xs) h = rw h.0 (ap (λ l. x ∷ l) (filter-all p xs h.1))
 
 -- from the start all are left
 pub left_after-none : (f : List Items) → left_after None f ≡ f
@@ -28,11 +27,6 @@ later (Some last) x y h b = comes_before-transitive last x y h b
 each-later : (cursor : Option Items) (x : Items) (xs : List Items) → comes_after comes_before cursor x ≡ true → AllByRecursion (λ y. comes_before x y ≡ true) xs → AllByRecursion (λ y. comes_after comes_before cursor y ≡ true) xs
 each-later cursor x [] h _ = tt
 each-later cursor x (y ∷ ys) h a = (later cursor x y h a.0, each-later cursor x ys h a.1)
-
-found-holds : {X : Type 0} (P : X → Type 0) (p : X → Bool) (xs : List X) (k : X) → find p xs ≡ Some k → AllByRecursion P xs → P k
-found-holds P p [] k e h = cc
-found-holds P p (x ∷ xs) k e h =
-    elim (p x) as (λ b. cond b (Some x) (find p xs) ≡ Some k → P k) [ true ↦ λ e. let same : x ≡ k = cc in subst P same h.0 | false ↦ λ e. found-holds P p xs k e h.1 ] e
 
 behind : (x : Items) (xs : List Items) → AllByRecursion (λ y. comes_before x y ≡ true) xs → filter (comes_before x) (x ∷ xs) ≡ xs
 behind x xs h = rw (comes_before-irreflexive x) (filter-all (comes_before x) xs h)
@@ -84,17 +78,13 @@ given-left given rest next all k count done e l h =
 pub more-left : (rest next : List Items) (k : Items) (count done : ℕ) → rest ≡ k ∷ next → done < count → ltb (count - done) (length rest) ≡ ltb (count - (done + 1)) (length next)
 more-left rest next k count done e l =
     let n : length rest ≡ length next + 1 = ap length e ∙ (let q : length (k ∷ next) ≡ length next + 1 = omega arith in q) in
-    both_ways (ltb (count - done) (length rest)) (ltb (count - (done + 1)) (length next))
+    same_truth (ltb (count - done) (length rest)) (ltb (count - (done + 1)) (length next))
     (λ a. lt-ltb (count - (done + 1)) (length next) (let m : count - done < length rest = ltb-true (count - done) (length rest) a in omega arith))
     (λ a. lt-ltb (count - done) (length rest) (let m : count - (done + 1) < length next = ltb-true (count - (done + 1)) (length next) a in omega arith))
 
-take-none : (n : ℕ) → take n (let r : List Items = [] in r) ≡ []
-take-none zero = refl
-take-none (suc n) = refl
-
 -- nothing is left: the page is given, and no further set follows
 pub take-ended : (rest : List Items) (m : ℕ) → rest ≡ [] → take m rest ≡ []
-take-ended rest m e = ap (take m) e ∙ take-none m
+take-ended rest m e = ap (take m) e ∙ take_all m [] (omega arith)
 
 pub given-ended : (given rest all : List Items) (m : ℕ) → rest ≡ [] → given ++ take m rest ≡ all → given ≡ all
 given-ended given rest all m e h = sym (append-nil given) ∙ ap (λ l. given ++ l) (sym (take-ended rest m e)) ∙ h

@@ -1,5 +1,5 @@
 -- The successor rule: from the greatest item of the word down, the first interior that agrees with the word before an item is the next member.
-use Rattle.std.proofs.Common.{ℕ, ◌+◌, ◌<◌, ◌≤◌, ◌≡◌, ◌⊎◌, inl, inr, arith, Bool, true, false, not, ◌&&◌, ◌||◌, ltb, List, [], ◌∷◌, find, slice_get, Some, None, refl, sym, ap, ◌∙◌, subst, true≢false, lt-ltb, le-ltb, ltb-true, ltb-false}
+use Rattle.std.proofs.Common.{ℕ, ◌+◌, ◌<◌, ◌≤◌, ◌≡◌, ◌⊎◌, inl, inr, arith, Bool, true, false, not, ◌&&◌, ◌||◌, ltb, List, [], ◌∷◌, find, Some, None, refl, sym, ap, ◌∙◌, subst, true≢false, lt-ltb, le-ltb, ltb-true, ltb-false}
 use Rattle.std.proofs.lemmas.Bool.{cases_Bool, cases_eq, cases_order, false_from_ne_true, or_cases, or_left, or_right, and_parts, and_from, not-true}
 use Rattle.ls_set.specs.ItemSet.{Items, has, full, keep_before, is_among, is_within, IsWithin, comes_before, IsInOrder, DiffersFirstAt}
 use Rattle.ls_set.proofs.Sets.{has-full, has-union, has-minus, has-keep_before, is_within-from, union-within, minus-within, keep_before-within}
@@ -116,10 +116,6 @@ pub inside-small : (n : ℕ) (f : List Items) (word : Items) (i : ℕ) → IsWit
 inside-small n f word i small j h = reach-within n word i small j (interior-within f (reach n word i) j h)
 
 -- ---- the first member of all
-
-pub slice_get-find : {X : Type 0} (xs : List X) → slice_get xs 0 ≡ find (λ _. true) xs
-slice_get-find [] = refl
-slice_get-find (x ∷ xs) = refl
 
 pub first-is : (n : ℕ) (f : List Items) → IsFamily n f → find (λ _. true) f ≡ Some (interior f (full n))
 first-is n f family =

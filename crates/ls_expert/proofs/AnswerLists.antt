@@ -2,30 +2,26 @@
 --     yes_queries-.., nos-..      what becomes of the Yes queries and of the Nos of an interview
 use Rattle.std.proofs.Common.{ℕ, suc, ◌≤◌, ◌<◌, ◌≡◌, ◌⊎◌, inl, inr, Bool, true, false, cond, not, ◌&&◌, eqb, ltb, length, List, [], ◌∷◌, ◌++◌, map, filter, find, take, drop, remove, Some, None, refl, sym, ap, ◌∙◌, subst, arith, eq-eqb, ne_eqb, lt-ltb, le-ltb}
 use Rattle.std.specs.List.{AllByRecursion, list_all}
-use Rattle.std.proofs.Math.Bool.{and_assoc, and_comm}
+use Rattle.std.proofs.Math.Bool.{and_assoc, and_comm, and-false}
 use Rattle.std.proofs.lemmas.Bool.{cases_Bool, cases_eq, cases_lt, and_parts, and_from}
 use Rattle.std.proofs.lemmas.List.{length-map, take-append-le, take-take, length-take-le}
 use Rattle.std.proofs.lemmas.List.Folds.{list_all-map}
 use Rattle.std.proofs.lemmas.List.Sums.{length-filter, count_by-le-length}
+use Rattle.ls_lists.specs.Lists.{IsRising}
+use Rattle.ls_lists.proofs.Every.{All-filter, All-list_all, list_all-All}
+use Rattle.ls_lists.proofs.Filters.{filter-both}
+use Rattle.ls_lists.proofs.Sorted.{rising-from}
 use Rattle.ls_set.specs.declared.query.Query.{Query}
 use Rattle.ls_theory.specs.declared.answer.Answer.{Answer}
 use Rattle.ls_theory.specs.declared.no.No.{No}
 use Rattle.ls_theory.specs.Interviews.{Interview, accepted, retracted, yes_queries, nos}
 use Rattle.ls_theory.specs.Answering.{answer_with}
 use Rattle.ls_laws.specs.Forced.{IsNumbered}
-use Rattle.ls_laws.proofs.Lists.{filter-both}
-use Rattle.ls_laws.proofs.Numbered.{IsRising, rising-from}
 use Rattle.ls_expert.specs.Held.{rules_before}
 
 -- what holds of each answer holds of those that pass
 pub all-fewer : (q p : Answer → Bool) (answers : List Answer) → list_all q answers ≡ true → list_all q (filter p answers) ≡ true
-all-fewer q p [] h = refl
-all-fewer q p (x ∷ xs) h =
-    let b = and_parts (q x) (list_all q xs) h in
-    elim (p x) as (λ k. list_all q (cond k (x ∷ filter p xs) (filter p xs)) ≡ true) [
-      | true ↦ and_from (q x) (list_all q (filter p xs)) b.0 (all-fewer q p xs b.1)
-      | false ↦ all-fewer q p xs b.1
-    ]
+all-fewer q p answers h = All-list_all q (filter p answers) (All-filter (λ x. q x ≡ true) p answers (list_all-All q answers h))
 
 -- and of what these tell
 pub all-told : {X : Type 0} (q : X → Bool) (p : Answer → Bool) (g : Answer → X) (answers : List Answer) → list_all (λ a. q (g a)) answers ≡ true → list_all q (map g (filter p answers)) ≡ true
@@ -80,10 +76,6 @@ higher : (x m : ℕ) (xs : List Answer) → m ≤ x → AllAbove x xs → AllAbo
 higher x m [] l h = tt
 higher x m (y ∷ xs) l h = (let k = h.0 in omega arith, higher x m xs l h.1)
 
-and-none : (b : Bool) → (b && false) ≡ false
-and-none true = refl
-and-none false = refl
-
 -- the answer with the number is the first of the list, or stands further on
 first_or_later : (m : ℕ) (x a : Answer) (xs : List Answer) → AllAbove x.number xs → find (has_number m) (x ∷ xs) ≡ Some a
     → ((x.number ≡ m) × (x ≡ a) × AllAbove m xs) ⊎ ((x.number < m) × (find (has_number m) xs ≡ Some a))
@@ -111,7 +103,7 @@ module _ {X : Type 0} (p : Answer → Bool) (g : Answer → X) (m : ℕ) (a : An
 
   none_earlier : (xs : List Answer) → AllAbove m xs → earlier xs ≡ []
   none_earlier [] h = refl
-  none_earlier (x ∷ xs) h = rw (le-ltb x.number m (let l = h.0 in omega arith), and-none (p x)) (none_earlier xs h.1)
+  none_earlier (x ∷ xs) h = rw (le-ltb x.number m (let l = h.0 in omega arith), and-false (p x)) (none_earlier xs h.1)
 
   -- without an answer that passes, one fewer is told
   pub told-without : (answers : List Answer) → IsRising (map (λ x. x.number) answers) → find (has_number m) answers ≡ Some a → p a ≡ true → images (filter (is_other m) answers) ≡ remove (images answers) (length (earlier answers))

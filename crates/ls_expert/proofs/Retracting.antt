@@ -6,6 +6,8 @@ use Rattle.std.proofs.lemmas.Bool.{and_parts}
 use Rattle.std.proofs.lemmas.List.{length-map}
 use Rattle.std.proofs.lemmas.List.Recursion.{is_sum_by}
 use Rattle.std.proofs.lemmas.List.Sums.{length-filter, count_by-le-length, sum_by-cons}
+use Rattle.std.proofs.lemmas.List.Elements.{filter_agree}
+use Rattle.ls_lists.proofs.Filters.{filter-both}
 use Rattle.ls_set.specs.ItemSet.{Items, full, is_within, subsets}
 use Rattle.ls_set.specs.Query.{is_good}
 use Rattle.ls_set.specs.declared.query.Query.{Query}
@@ -19,7 +21,6 @@ use Rattle.ls_theory.specs.Compatible.{is_compatible, compat, compatible_sets}
 use Rattle.ls_theory.specs.Blocks.{BlockRange}
 use Rattle.ls_theory.specs.Answering.{answer_with, is_same_query}
 use Rattle.ls_laws.specs.Spans.{left_by}
-use Rattle.ls_laws.proofs.Lists.{filter-both, filter-same}
 use Rattle.ls_laws.proofs.Accepting.{taken_out}
 use Rattle.ls_laws.proofs.Numbered.{retracted-numbered}
 use Rattle.ls_infer.specs.Tables.{TableState, standing, table_of}
@@ -102,9 +103,9 @@ module _ (i : Interview) (a : Answer) (rules : List Query) (t new : TableState) 
   pub left-before : a.yes ≡ true → compatible_sets i ≡ left_by a.query (compatible_sets after)
   unfolding compat
   left-before y =
-      filter-same (is_compatible i.start (yes_queries i.answers)) (λ k. is_compatible i.start (yes_queries after.answers) k && not (breaks k a.query)) (subsets i.count) (λ k.
+      filter_agree (is_compatible i.start (yes_queries i.answers)) (λ k. is_compatible i.start (yes_queries after.answers) k && not (breaks k a.query)) (λ k.
       ap (λ b. meets i.start k && b) (told-all (λ x. x.yes) (λ x. x.query) a.number a (λ r. not (breaks k r)) i.answers (rising i a h.standing.numbered stands) stands y)
-      ∙ sym (and_assoc (meets i.start k) (breaks_none (yes_queries after.answers) k) (not (breaks k a.query))))
+      ∙ sym (and_assoc (meets i.start k) (breaks_none (yes_queries after.answers) k) (not (breaks k a.query)))) (subsets i.count)
       ∙ sym (filter-both (is_compatible i.start (yes_queries after.answers)) (λ k. not (breaks k a.query)) (subsets i.count))
 
   pub held-without_yes : (others : List Query) (k : List Items) → a.yes ≡ true → others ≡ remove rules (rules_before i.answers a.number) → k ≡ compat i.count i.start others

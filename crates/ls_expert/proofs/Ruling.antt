@@ -1,6 +1,9 @@
 -- The compatible sets as a family with rules, and the lists of an interview's answers.
 use Rattle.std.proofs.Common.{ℕ, ◌≡◌, inl, inr, Bool, true, false, cond, not, ◌&&◌, List, [], ◌∷◌, filter, find, Option, Some, None, IfSome, is_some, refl, sym, ap, ◌∙◌, true≢false}
 use Rattle.std.proofs.lemmas.Bool.{and_from, false_from_ne_true}
+use Rattle.std.proofs.lemmas.List.Elements.{filter_agree}
+use Rattle.ls_lists.proofs.Filters.{filter-both}
+use Rattle.ls_lists.proofs.Options.{nothing}
 use Rattle.ls_set.specs.ItemSet.{Items, full, is_within, subsets, IsWithin}
 use Rattle.ls_set.specs.Query.{is_good}
 use Rattle.ls_set.specs.declared.query.Query.{Query}
@@ -16,7 +19,6 @@ use Rattle.ls_theory.specs.Pages.{comes_after}
 use Rattle.ls_theory.specs.Families.{interior}
 use Rattle.ls_theory.specs.Bases.{base}
 use Rattle.ls_theory.specs.Blocks.{BlockRange}
-use Rattle.ls_laws.proofs.Lists.{filter-both, filter-same}
 use Rattle.ls_laws.proofs.Interiors.{interior-member}
 use Rattle.ls_laws.proofs.Breaks.{good-to}
 use Rattle.ls_laws.proofs.Compat.{among-compat}
@@ -35,7 +37,7 @@ pub ruled-compat : (n : ℕ) (start : theory.Start) (yeses : List Query) → fil
 unfolding compat
 ruled-compat n start yeses =
     filter-both (is_compatible start []) (breaks_none yeses) (subsets n)
-    ∙ filter-same (λ k. is_compatible start [] k && breaks_none yeses k) (is_compatible start yeses) (subsets n) (λ k. ap (λ b. b && breaks_none yeses k) (and-true (meets start k)))
+    ∙ filter_agree (λ k. is_compatible start [] k && breaks_none yeses k) (is_compatible start yeses) (λ k. ap (λ b. b && breaks_none yeses k) (and-true (meets start k))) (subsets n)
 
 all_pass : (f : List Items) → filter (λ k. true && true) f ≡ f
 all_pass [] = refl
@@ -63,10 +65,6 @@ found-in p (y ∷ ys) x e = elim (p y) as (λ b. cond b (Some y) (find p ys) ≡
   | true ↦ λ e. let same : y ≡ x = cc in inl (sym same)
   | false ↦ λ e. inr (found-in p ys x e)
 ] e
-
-nothing : {X : Type 0} (o : Option X) → is_some o ≡ false → o ≡ None
-nothing None h = refl
-nothing (Some x) h = absurd (true≢false h)
 
 -- the next question can be asked
 pub question-good : (i : Interview) (last : Option Query) → IfSome (next_question i last) (λ r. is_good i.count r ≡ true)

@@ -8,12 +8,15 @@ use Rattle.std.specs.List.Sorted.{IsStrictlyIncreasing, IsStrictlySortedBy}
 use Rattle.std.specs.Result.{IsErrAnd}
 use Rattle.std.specs.declared.alloc.AllocError.{AllocError}
 use Rattle.std.proofs.Math.Bool.{not-not}
-use Rattle.std.proofs.Math.Seq.{drop-cons}
 use Rattle.std.proofs.lemmas.Bool.{and_parts, and_from, not-true, not_from_false}
 use Rattle.std.proofs.lemmas.Bool.Decides.{nat_tests}
 use Rattle.std.proofs.lemmas.List.{take_all, length-drop}
 use Rattle.std.proofs.lemmas.Map.Keys.{IsStrictlyIncreasing-from_sorted}
 use Rattle.std.proofs.lemmas.Result.{err_from_is_err_and}
+use Rattle.ls_lists.specs.Lists.{IsRising}
+use Rattle.ls_lists.proofs.Every.{each, All-list_all, list_all-All}
+use Rattle.ls_lists.proofs.Places.{drop-next}
+use Rattle.ls_lists.proofs.Sorted.{rising-from}
 use Rattle.ls_set.specs.ItemSet.{Items, has, full, minus}
 use Rattle.ls_set.specs.Query.{is_good}
 use Rattle.ls_set.specs.declared.query.Query.{Query}
@@ -31,8 +34,7 @@ use Rattle.ls_laws.specs.Forced.{IsSound}
 use Rattle.ls_laws.proofs.Closures.{has-closure}
 use Rattle.ls_laws.proofs.Interiors.{space-from}
 use Rattle.ls_laws.proofs.Compat.{compat-IsUnionFamily, compat-in_order, start-space}
-use Rattle.ls_laws.proofs.Numbered.{IsRising, rising-from}
-use Rattle.ls_laws.proofs.Search.{fitting_some, All-list_all, list_all-All}
+use Rattle.ls_laws.proofs.Search.{fitting_some}
 use Rattle.ls_laws.proofs.Answering.{compatible_fit}
 use Rattle.ls_expert.specs.declared.standing_fault.StandingFault.{StandingFault}
 use Rattle.ls_expert.specs.declared.standing_fault.StandingFault.TheVariants.{Memory}
@@ -44,11 +46,6 @@ use Rattle.ls_expert.proofs.AnswerLists.{all-told}
 use Rattle.ls_expert.proofs.Ruling.{ruled-compat}
 use Rattle.ls_expert.proofs.Holding.{start-whole, range-of}
 
--- ---- what is left of a list
-
-drop-next : {X : Type 0} (xs : List X) (i : ℕ) (x : X) → i < length xs → x ≡ get_or xs i x → drop i xs ≡ x ∷ drop (i + 1) xs
-drop-next xs i x l e = drop-cons xs i x l ∙ ap (λ y. y ∷ drop (suc i) xs) (sym e) ∙ ap (λ k. x ∷ drop k xs) (let k : suc i ≡ i + 1 = omega arith in k)
-
 -- ---- numbers
 
 -- the numbers are at least `least`, each is above the one before it, and all are below `next`
@@ -58,10 +55,6 @@ rises least next (a ∷ answers) = not (ltb a.number least) && ltb a.number next
 
 abbrev numbers : List Answer → List ℕ
 numbers answers = map (λ a. a.number) answers
-
-each : {P Q : ℕ → Type 0} → ((y : ℕ) → P y → Q y) → (xs : List ℕ) → AllByRecursion P xs → AllByRecursion Q xs
-each f [] h = tt
-each f (x ∷ xs) h = (f x h.0, each f xs h.1)
 
 record First (least next number : ℕ) (rest : Bool) : Type 0 where
   pub at_least : least ≤ number

@@ -5,6 +5,8 @@ use Rattle.std.specs.Option.{option_map}
 use Rattle.std.proofs.lemmas.Bool.Decides.{nat_tests}
 use Rattle.std.proofs.lemmas.Bool.{and_from}
 use Rattle.std.proofs.lemmas.List.Folds.{list_all-append}
+use Rattle.ls_lists.proofs.Bools.{none_common}
+use Rattle.ls_lists.proofs.Options.{not_first}
 use Rattle.ls_set.specs.ItemSet.{Items, full}
 use Rattle.ls_set.specs.Query.{is_good}
 use Rattle.ls_set.specs.declared.query.Query.{Query}
@@ -67,14 +69,11 @@ unopposed_yes sure false k once e = refl
 unopposed_yes true true k once e = once refl
 unopposed_yes false true k once e = absurd (cc e)
 
-once_not : (sure never : Bool) → (sure && never) ≡ false → sure ≡ true → never ≡ false
-once_not sure never e h = sym (ap (λ b. b && never) h) ∙ e
-
 pub free-yes : (i : Interview) (r : Query) → SomeFits i → opposed (known i r) true ≡ None → is_forced_no (spaces_of i) r ≡ false
 unfolding known
 free-yes i r fits e =
     let spaces = spaces_of i in
-    unopposed_yes (is_forced_yes spaces r) (is_forced_no spaces r) _ (once_not (is_forced_yes spaces r) (is_forced_no spaces r) (not_both i r fits)) e
+    unopposed_yes (is_forced_yes spaces r) (is_forced_no spaces r) _ (none_common (is_forced_yes spaces r) (is_forced_no spaces r) (not_both i r fits)) e
 
 unopposed_no : (sure : Bool) (other : Known) → opposed (cond sure Known.Yes other) false ≡ None → sure ≡ false
 unopposed_no true other e = absurd (cc e)
@@ -88,10 +87,6 @@ free-no i r e = unopposed_no (is_forced_yes (spaces_of i) r) _ e
 
 all-last : (q : Answer → Bool) (answers : List Answer) (a : Answer) → list_all q answers ≡ true → q a ≡ true → list_all q (answers ++ a ∷ []) ≡ true
 all-last q answers a h e = list_all-append q answers (a ∷ []) ∙ and_from (list_all q answers) (q a && true) h (and-true (q a) ∙ e)
-
-not_first : {X : Type 0} (b : Bool) (x : X) (rest : Option X) → cond b (Some x) rest ≡ None → (b ≡ false) × (rest ≡ None)
-not_first true x rest e = absurd (cc e)
-not_first false x rest e = (refl, e)
 
 -- a query that was not answered is another than each that was
 other_queries : (answers : List Answer) (x : Query) (a : Answer) → AllByRecursion (λ y. is_same_query x y ≡ false) (map (λ a. a.query) answers) → is_same_query x a.query ≡ false

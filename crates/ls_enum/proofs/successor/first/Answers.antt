@@ -1,11 +1,12 @@
-use Rattle.std.proofs.Common.{◌∙◌}
+use Rattle.std.proofs.Common.{sym, ◌∙◌}
+use Rattle.ls_lists.proofs.Finds.{find-any}
 use Rattle.ls_laws.proofs.Interiors.{interior-within}
-use Rattle.ls_enum.proofs.Successors.{first-is, slice_get-find}
+use Rattle.ls_enum.proofs.Successors.{first-is}
 use Rattle.ls_enum.proofs.successor.first.Goals as goal
 
 pub returns-clause-first : goal.returns-clause-first
 returns-clause-first g c =
-    rw (c.interior.ensures.value, c.full.ensures, c.items.ensures.count) (slice_get-find _ ∙ first-is _ _ (g.met.I.Interior.is_family c.args.f.now))
+    rw (c.interior.ensures.value, c.full.ensures, c.items.ensures.count) (sym (find-any _) ∙ first-is _ _ (g.met.I.Interior.is_family c.args.f.now))
 
 pub returns-clause-small : goal.returns-clause-small
 returns-clause-small g c =
