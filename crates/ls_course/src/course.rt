@@ -42,7 +42,10 @@ impl Model for Course {
 
     ghost Value = { CourseState };
 
-    ghost view = { λ c. record { session = session_on c.texts c.inquiry; followed = trail_sets c.trail } };
+    ghost view = { λ c. record {
+      session = session_on c.texts c.inquiry;
+      followed = trail_sets c.trail;
+    } };
 
     ghost invariant = { λ c. IsCourse c.texts c.inquiry c.trail };
 }
@@ -96,8 +99,8 @@ impl Course {
         }
     }
 
-    /// Says what is shown of the interview. It is not made part of its callers, since the frame of a
-    /// listing is large, and most lines of a long script show nothing.
+    /// Says what is shown of the interview. It is not made part of its callers, since the frame of
+    /// a listing is large, and most lines of a long script show nothing.
     #[inline(never)]
     pub fn put<K: Sink, L: Ledger>(
         &self,

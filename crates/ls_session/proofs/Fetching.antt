@@ -3,6 +3,7 @@ use Rattle.std.proofs.Common.{◌≡◌, ℕ, Bool, true, false, cond, ltb, List
 use Rattle.std.specs.declared.alloc.AllocError.{AllocError}
 use Rattle.std.specs.declared.alloc.Global.{Global}
 use Rattle.std.specs.FinMap as map
+use Rattle.std.proofs.lemmas.Result.{on_ok_weaker, on_err_weaker}
 use Rattle.ls_edge.specs.Files.{longest_file, Folder, Fetches, FetchCause, FetchedFrom, GivesBytes, Stays}
 use Rattle.ls_edge.specs.declared.traits.FetchFault.{FetchFault}
 use Rattle.ls_edge.specs.declared.traits.FetchFault.TheVariants as fetch
@@ -96,14 +97,6 @@ pub seen_is : (old new : Option Folder) (r : Result (Vec ℕ Global) FetchFault)
 seen_is None new r name h = fetched_is r
 seen_is (Some m) new r name h = seen_from (map.get m name) r h.1
 
-OnOk_map : {T E P Q : Type 0} (r : Result T E) → (P → Q) → OnOk r P → OnOk r Q
-OnOk_map (Ok x) f h = f h
-OnOk_map (Err e) f h = tt
-
-OnErr_map : {T E P Q : Type 0} (r : Result T E) → (P → Q) → OnErr r P → OnErr r Q
-OnErr_map (Ok x) f h = tt
-OnErr_map (Err e) f h = f h
-
 stays : (old new : Option Folder) → Stays old new → (m : Folder) → old ≡ Some m → new ≡ Some m
 stays None new h m e = absurd (cc e)
 stays (Some k) new h m e = h ∙ e
@@ -131,11 +124,11 @@ decides_fetched {s} {new} {folder} {left} {before} {now} {fetched} name r none f
       calls = calls_seen folder fetched;
       sees = sees_fetched folder fetched before now cause;
       response = subst (λ (x : Effect). IfOk r (λ y. y ≡ x.response)) (sym same) h.response;
-      decided = OnOk_map r (λ at. record {
+      decided = on_ok_weaker r (λ at. record {
         session = at ∙ sym (ap (λ (x : Effect). x.session) same);
         files = stays folder left fetches.0;
       }) h.session;
-      undone = OnErr_map r (λ at. (at, stays folder left fetches.0)) h.undone;
+      undone = on_err_weaker r (λ at. (at, stays folder left fetches.0)) h.undone;
       alone = λ one. absurd (depends s name none one);
       later = cause.later;
     }

@@ -8,7 +8,7 @@ use Rattle.ls_edge.proofs.Known.{appends_none}
 use Rattle.ls_lines.specs.Lines.{lines}
 use Rattle.ls_reply.specs.Transcripts.{replies, world_after}
 use Rattle.ls_shell.specs.declared.run.Run.{Run}
-use Rattle.ls_shell.specs.Progress.{Answers, StopsAt}
+use Rattle.ls_shell.specs.Progress.{Answers, IsFresh, StopsAt}
 use Rattle.ls_shell.specs.Runs.{longest_script, AnswersWhole, TakesWhole, TakesAndAnswers, TakesAndStops}
 use Rattle.ls_shell.proofs.Past.{lines-first}
 use Rattle.ls_reply.proofs.Marks.{marked}
@@ -21,6 +21,15 @@ pub record HasRead (source source_now : Option (List ℕ)) (count : ℕ) (run : 
   pub consumed : Consumes source source_now taken
   pub counted : count ≡ length taken
   pub answered : (m : Folder) → folder ≡ Some m → Answers m (lines taken) [] run folder_now shelf_before shelf_now start now
+
+-- nothing was taken yet
+pub read_none : (source : Option (List ℕ)) (run : Run) (folder : Option Folder) (faults : ℕ) (start : Option (List ℕ)) → IsFresh run → HasRead source source 0 run folder folder faults faults start start
+read_none source run folder faults start fresh = record {
+  taken = [];
+  consumed = Consumes-nil source;
+  counted = refl;
+  answered = λ m told. subst (λ o. Answers m (lines []) [] run o faults faults start start) (sym told) (fresh m faults start);
+}
 
 -- what may still follow: what is left of a source, where it is told
 abbrev pub following : Option (List ℕ) → List ℕ

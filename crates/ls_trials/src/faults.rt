@@ -1,10 +1,8 @@
 // Runs in which each call of the source, or of the sink, fails in turn.
-use crate::trial::{Trial, answered, check, run};
+use crate::trial::{Trial, USAGE, answered, check, run};
 use ls_edge::{MemShelf, MemSink, MemSource, Source};
 use ls_shell::{Status, lspace};
 use std::test::Fail;
-
-const USAGE: &str = "usage: lspace [--script NAME | --drill N [--number S]]\n";
 
 const THREE_ITEMS: &str = "items a b c\nyes a : b\nstates\n";
 

@@ -1,9 +1,7 @@
 // How runs end.
-use crate::trial::{PLAIN, Trial, answered, check, run};
+use crate::trial::{PLAIN, Trial, USAGE, answered, check, run};
 use ls_shell::Status;
 use std::test::Fail;
-
-const USAGE: &str = "usage: lspace [--script NAME | --drill N [--number S]]\n";
 
 // The six states that a Yes leaves, in pieces of 12 bytes.
 const SIX_STATES: Trial = Trial {

@@ -5,6 +5,9 @@ use std::process::Abort;
 use std::test::Fail;
 use std::thread::Threads;
 
+/// The line that is written where the words of the command line aren't understood.
+pub const USAGE: &str = "usage: lspace [--script NAME | --drill N [--number S]]\n";
+
 /// What a run is given: the words after the program's name, the script, how many bytes one read and
 /// one write move at most, the files of the folder, and which reads, writes and calls on the folder
 /// fail, counted from 1. And what it is to write, and how it is to end.

@@ -1,17 +1,27 @@
-use Rattle.std.proofs.Common.{◌≡◌, ◌+◌, ◌<◌, ◌≤◌, ◌++◌, length, take, drop, refl, ap, sym, subst, arith, ◌∙◌, IsErrOf}
+use Rattle.std.proofs.Common.{◌≡◌, [], ◌+◌, ◌<◌, ◌≤◌, ◌++◌, length, take, drop, refl, ap, sym, subst, arith, ◌∙◌, IsErrOf}
 use Rattle.std.proofs.lemmas.List.{take-append-le}
 use Rattle.std.proofs.lemmas.Grind.{common_steps}
 use Rattle.std.specs.Io.KnownBytes.{Consumes}
-use Rattle.ls_edge.proofs.Known.{appends_more}
+use Rattle.ls_edge.proofs.Known.{appends_none, appends_more}
 use Rattle.ls_shell.specs.Faults.{run_fault}
 use Rattle.ls_session.specs.declared.step_fault.StepFault.TheVariants as fault
 use Rattle.ls_shell.specs.declared.run_fault.RunFault.TheVariants as run
 use Rattle.ls_shell.specs.Runs.{longest_script}
 use Rattle.ls_shell.proofs.Answered.{takes_if}
-use Rattle.ls_shell.proofs.Pieces.{stops_none, read_fails, read_end, stops_end, read_long, read_more, stops_more}
+use Rattle.ls_shell.proofs.Pieces.{read_none, read_fails, read_end, stops_end, read_long, read_more, stops_more}
 use Rattle.ls_shell.proofs.Faulting.{by_write, by_read}
 use Rattle.ls_shell.proofs.Moves.{rose_since}
 use Rattle.ls_shell.proofs.reading.answer_pieces.Goals as goal
+
+pub pieces-init : goal.pieces-init
+pieces-init g c = record {
+  read = read_none (g.S.Source.left c.args.src.now) c.args.run.now (g.H.Shelf.files c.args.shelf.now) (g.H.Shelf.faults c.args.shelf.now) (g.K.Sink.written c.args.out.now) c.requires;
+  few = omega arith;
+  shelf_later = omega arith;
+  kept = ([], appends_none (g.K.Sink.written c.args.out.now));
+  source_later = omega arith;
+  sink_later = omega arith;
+}
 
 pub returns-in-Err-clause-read : goal.returns-in-Err-clause-read
 returns-in-Err-clause-read g c = λ e.
@@ -22,7 +32,7 @@ returns-in-Err-clause-read g c = λ e.
     )
 
 pub returns-in_err-finish-clause-read : goal.returns-in_err-finish-clause-read
-returns-in_err-finish-clause-read g c = λ e. absurd (by_read c.from_residual-in_err-finish.result c.in_err-finish.field-0.0 c.from_residual-in_err-finish.ensures.1 e)
+returns-in_err-finish-clause-read g c = λ e. absurd (by_read c.from_residual.result c.in_err-finish.field-0.0 c.from_residual.ensures.1 e)
 
 pub returns-in_err-finish-clause-stopped : goal.returns-in_err-finish-clause-stopped
 returns-in_err-finish-clause-stopped g c = λ e err.
@@ -30,8 +40,8 @@ returns-in_err-finish-clause-stopped g c = λ e err.
     let some : 0 < length c.read.new.buf = grind (arith, common_steps) in
     takes_if _ _ _ _ _ _ _ _ _ _
     (λ w.
-    let failed : IsErrOf c.from_residual-in_err-finish.result run.Write = subst (λ k. IsErrOf c.from_residual-in_err-finish.result (run_fault k)) w err in
-    let wrote : IsErrOf c.finish.result fault.Write = by_write c.from_residual-in_err-finish.result c.finish.result c.in_err-finish.field-0.0 c.in_err-finish.was c.from_residual-in_err-finish.ensures.1 failed in
+    let failed : IsErrOf c.from_residual.result run.Write = subst (λ k. IsErrOf c.from_residual.result (run_fault k)) w err in
+    let wrote : IsErrOf c.finish.result fault.Write = by_write c.from_residual.result c.finish.result c.in_err-finish.field-0.0 c.in_err-finish.was c.from_residual.ensures.1 failed in
     sym c.in_err-finish.was ∙ wrote)
     (stops_end (g.S.Source.left c.args.src.now) (g.H.Shelf.files c.args.shelf.now) (g.H.Shelf.faults c.args.shelf.now) (g.K.Sink.written c.args.out.now) (g.S.Source.left c.pieces.src) (g.S.Source.left c.read.new.self) c.pieces.count c.pieces.run (g.H.Shelf.files c.pieces.shelf) (g.H.Shelf.files c.finish.new.shelf)
     (g.H.Shelf.faults c.pieces.shelf) (g.H.Shelf.faults c.finish.new.shelf) (g.K.Sink.written c.pieces.out) (g.K.Sink.written c.finish.new.out) before.read before.few

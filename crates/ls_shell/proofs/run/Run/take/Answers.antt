@@ -1,4 +1,4 @@
-use Rattle.std.proofs.Common.{[], ◌++◌, sym, subst, refl, arith, IsErrOf, ◌∙◌}
+use Rattle.std.proofs.Common.{[], ◌++◌, drop, sym, subst, refl, arith, IsErrOf, ◌∙◌}
 use Rattle.std.proofs.lemmas.Grind.{common_steps}
 use Rattle.ls_edge.proofs.Known.{appends_none, appends_more}
 use Rattle.ls_lines.specs.Lines.{lines}
@@ -40,7 +40,7 @@ loop-rest-preserved g c =
           let bytes = taken ++ c.args.piece.now in
           let b = before.answered m taken faults start few a in
           let taken_by = subst (λ o. IsTaken c.take-count.new.self b.pending rest c.take-count.result.0 o) c.in-Some.is (c.take-count.ensures.taken b.pending b.held (omega (arith, few, few_pending (bare_lines b.ended) b.pending rest bytes b.all_lines))) in
-          subst (λ r. Answers m (lines bytes) r c.answer.new.self (g.H.Shelf.files c.answer.new.shelf) faults (g.H.Shelf.faults c.answer.new.shelf) start (g.K.Sink.written c.answer.new.out)) (sym c.split_at.ensures.back)
+          subst (λ r. Answers m (lines bytes) r c.answer.new.self (g.H.Shelf.files c.answer.new.shelf) faults (g.H.Shelf.faults c.answer.new.shelf) start (g.K.Sink.written c.answer.new.out)) {x = drop c.take-count.result.0 rest} (sym c.split_at.ensures.back)
           (taken_more m bytes rest c.in-Some.ended c.loop-rest.self (record c.loop-rest.self { cutter = c.take-count.new.self }) c.answer.new.self (g.H.Shelf.files c.loop-rest.shelf) (g.H.Shelf.files c.answer.new.shelf) faults _ _ start _ _ refl refl b c.take-count.result.0 taken_by StepFault fault.Write
           c.in_ok-answer.ensures.answered);
       shelf_later = omega (arith, before.shelf_later, c.answer.ensures.later);
