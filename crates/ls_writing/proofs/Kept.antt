@@ -1,10 +1,9 @@
 -- Parts of bytes, which stay as they are where more bytes follow.
-use Rattle.std.proofs.Common.{◌≡◌, ℕ, suc, ◌-◌, ◌≤◌, List, [], ◌∷◌, ◌++◌, length, map, take, drop, refl, ap, ap₂, ◌∙◌, arith, length-drop, length-append}
+use Rattle.std.proofs.Common.{◌≡◌, ℕ, suc, ◌≤◌, List, [], ◌∷◌, ◌++◌, length, map, refl, ap₂, ◌∙◌, arith, length-append}
 use Rattle.std.specs.List.{slice_range, All}
-use Rattle.std.proofs.lemmas.List.{take-append-le, drop-append-le, map-append}
+use Rattle.std.proofs.lemmas.List.{map-append}
 use Rattle.std.proofs.lemmas.List.Elements.{All-push}
 use Rattle.ls_lists.proofs.Places.{part-kept, part-last}
-use Rattle.std.proofs.Math.Seq.{take-length, drop-append_seam}
 
 -- parts by their bounds
 module _ {X : Type 0} (start end : X → ℕ) (ordered : (p : X) → start p ≤ end p) where
