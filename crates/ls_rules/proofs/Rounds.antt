@@ -1,14 +1,14 @@
 -- Looking at rules: what stays, what falls out, and that at the end no rule is broken.
-use Rattle.std.proofs.Common.{ℕ, ◌+◌, ◌*◌, ◌<◌, ◌≤◌, ◌≡◌, inl, inr, Bool, true, false, cond, not, ◌&&◌, ◌||◌, eqb, Option, List, [], ◌∷◌, map, filter, fold, None, Some, refl, sym, ap, ◌∙◌, subst, arith, true≢false, eq-eqb, ne_eqb, length, ltb-true, get_or, drop, drop-cons, add-one, ap₂, slice_get}
+use Rattle.std.proofs.Common.{ℕ, ◌+◌, ◌*◌, ◌<◌, ◌≤◌, ◌≡◌, inl, inr, Bool, true, false, cond, not, Option, List, [], ◌∷◌, map, filter, fold, None, Some, refl, sym, ap, ◌∙◌, subst, arith, true≢false, length, get_or, drop, drop-cons, add-one, ap₂, slice_get}
 use Rattle.std.specs.Option.{option_map_or}
 use Rattle.std.specs.List.{AllByRecursion, list_all}
-use Rattle.std.proofs.lemmas.Bool.{cases_Bool, cases_eq, and_parts, and_from, or_right, not-true, not_from_false, false_from_ne_true}
+use Rattle.std.proofs.lemmas.Bool.{cases_Bool, cases_eq, and_parts, and_from, not-true, not_from_false, false_from_ne_true}
 use Rattle.ls_lists.proofs.Every.{list_all-All, All-passing, All-given, All-filter, All-list_all}
 use Rattle.ls_set.specs.ItemSet.{Items, has, empty, full, meet, minus, single, with, without, is_same, len, least, IsWithin}
 use Rattle.ls_set.specs.Query.{is_good}
 use Rattle.ls_set.specs.declared.query.Query.{Query}
 use Rattle.std.proofs.lemmas.Bool.Decides.{nat_tests}
-use Rattle.ls_set.proofs.Sets.{members, has-full, has-empty, has-meet, has-minus, has-single, has-with, has-without, without-within, or-false, same_set, Decides-is_same}
+use Rattle.ls_set.proofs.Sets.{members, has-empty, has-meet, has-minus, without-within, same_set, Decides-is_same}
 use Rattle.ls_set.proofs.Sizes.{len-less}
 use Rattle.ls_set.proofs.Firsts.{items-none}
 use Rattle.ls_set.proofs.Ascending.{least-cases}
