@@ -1,5 +1,5 @@
 -- What stays true of a table when it is built and changed.
-use Rattle.std.proofs.Common.{ℕ, ◌+◌, ◌<◌, ◌≡◌, inl, inr, Bool, true, false, cond, not, ◌&&◌, eqb, List, [], ◌∷◌, map, filter, length, get_or, slice_get, Some, refl, sym, ap, ap₂, ◌∙◌}
+use Rattle.std.proofs.Common.{ℕ, ◌+◌, ◌<◌, ◌≡◌, inl, inr, Bool, true, false, cond, not, ◌&&◌, eqb, List, [], ◌∷◌, map, filter, length, get_or, slice_get, Some, refl, sym, ap, ap₂, ◌∙◌, subst, arith}
 use Rattle.std.proofs.Math.ListN.{set}
 use Rattle.std.specs.List.{list_all}
 use Rattle.std.proofs.lemmas.Bool.{and_parts, and_from}
@@ -21,7 +21,7 @@ use Rattle.ls_laws.proofs.Families.{family_sets}
 use Rattle.ls_query.specs.Blocks.{sets_of}
 use Rattle.ls_query.proofs.BlockSets.{blocks-in}
 use Rattle.ls_infer.specs.declared.standing_no.StandingNo.{StandingNo}
-use Rattle.ls_infer.specs.Tables.{TableState, standing, closed_after, table_of}
+use Rattle.ls_infer.specs.Tables.{TableState, IsTable, standing, closed_after, table_of}
 
 -- the table of a family, by its parts
 pub table_is : (t : TableState) (f : List Items) (nos : List No) → t.closures ≡ map (closure (full t.blocks.item_count) f) (sets_of t.blocks) → t.standing ≡ map (standing t.blocks.item_count f) nos → t ≡ table_of t.blocks f nos
@@ -58,6 +58,18 @@ good-anew n m f ss h = list_all-map (λ s. is_good m s.no.query) (λ (s : Standi
 standing-anew : (n : ℕ) (f before : List Items) (nos : List No) → map (λ s. standing n f s.no) (map (standing n before) nos) ≡ map (standing n f) nos
 standing-anew n f before [] = refl
 standing-anew n f before (a ∷ nos) = ap (λ l. standing n f a ∷ l) (standing-anew n f before nos)
+
+-- a table whose closures are changed, and what is kept of its Nos made anew
+pub table-changed : (m n : ℕ) (f : List Items) (t : TableState) (cs : List Items) (ss : List StandingNo) → IsTable m t → n ≡ m → length cs ≡ length t.closures → list_all (λ c. is_within c (full n)) cs ≡ true
+    → ss ≡ map (λ s. standing n f s.no) t.standing → IsTable m (record { blocks = t.blocks; closures = cs; standing = ss })
+table-changed m n f t cs ss h same alike within anew = record {
+  items = h.items;
+  few = h.few;
+  each = alike ∙ h.each;
+  few_sets = omega (arith, alike, h.few_sets);
+  within = subst (λ j. list_all (λ c. is_within c (full j)) cs ≡ true) same within;
+  good = rw anew (good-anew n m f t.standing h.good);
+}
 
 -- a closure, or a set of items
 chosen-within : (n : ℕ) (b : Bool) (f : List Items) (s c : Items) → is_within c (full n) ≡ true → is_within (cond b (closure (full n) f s) c) (full n) ≡ true

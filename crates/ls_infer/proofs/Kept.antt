@@ -1,7 +1,6 @@
 -- What is kept of standing answers.
-use Rattle.std.proofs.Common.{ℕ, ◌+◌, ◌<◌, ◌≡◌, inl, inr, Bool, true, false, ◌&&◌, ◌||◌, eqb, ltb, List, ◌∷◌, drop, length, get_or, refl, sym, ap, ◌∙◌, arith, le-leb, lt-ltb, eqb-true, zero-add}
+use Rattle.std.proofs.Common.{ℕ, ◌+◌, ◌<◌, ◌≡◌, inl, inr, Bool, true, false, ◌&&◌, ◌||◌, eqb, ltb, List, drop, length, get_or, refl, sym, ap, ◌∙◌, arith, le-leb, lt-ltb, eqb-true, zero-add}
 use Rattle.std.specs.List.{list_any}
-use Rattle.std.proofs.lemmas.List.{drop_more}
 use Rattle.std.proofs.lemmas.Bool.{or_cases}
 use Rattle.std.proofs.lemmas.Bool.Decides.{nat_tests}
 use Rattle.ls_lists.proofs.Places.{drop-next}

@@ -1,11 +1,12 @@
 -- The least of some numbers, found one by one; and of numbers in order.
-use Rattle.std.proofs.Common.{ℕ, ◌≤◌, ◌≡◌, Bool, true, false, cond, not, ◌&&◌, ◌||◌, min, eqb, leb, List, [], ◌∷◌, map, filter, find, Option, Some, None, refl, sym, ap, ◌∙◌, subst, arith, true≢false, eq-eqb, eqb-true, leb-true}
+use Rattle.std.proofs.Common.{ℕ, ◌≤◌, ◌≡◌, Bool, true, false, cond, ◌||◌, min, eqb, leb, List, [], ◌∷◌, map, filter, find, Option, Some, None, refl, sym, ap, ◌∙◌, subst, arith, true≢false, eq-eqb, eqb-true, leb-true}
 use Rattle.std.specs.Prelude.{option_map}
 use Rattle.std.specs.List.{list_any, list_all}
 use Rattle.std.specs.List.Sorted.{IsStrictlyIncreasing}
 use Rattle.std.specs.Option.{option_map_or}
-use Rattle.std.proofs.lemmas.Bool.{cases_Bool, and_parts, and_from, or_left, or_right, le-leb}
+use Rattle.std.proofs.lemmas.Bool.{and_parts, and_from, or_left, or_right, le-leb}
 use Rattle.std.proofs.lemmas.Bool.Decides.{nat_tests}
+use Rattle.ls_lists.proofs.Every.{All-filter, All-list_all, list_all-All}
 use Rattle.ls_lists.proofs.Sorted.{tail-increasing}
 use Rattle.ls_theory.specs.declared.no.No.{No}
 use Rattle.ls_theory.specs.Words.{first_least}
@@ -68,13 +69,7 @@ least_with-first value (x ∷ xs) =
 -- ---- where the numbers ascend, the first that passes is the least that does
 
 all-kept : {X : Type 0} (p q : X → Bool) (xs : List X) → list_all q xs ≡ true → list_all q (filter p xs) ≡ true
-all-kept p q [] h = refl
-all-kept p q (x ∷ xs) h =
-    let a = and_parts (q x) (list_all q xs) h in
-    elim (p x) as (λ b. list_all q (cond b (x ∷ filter p xs) (filter p xs)) ≡ true) [
-      | true ↦ and_from (q x) (list_all q (filter p xs)) a.0 (all-kept p q xs a.1)
-      | false ↦ all-kept p q xs a.1
-    ]
+all-kept p q xs h = All-list_all q (filter p xs) (All-filter (λ x. q x ≡ true) p xs (list_all-All q xs h))
 
 pub least_in_order : (p : No → Bool) (ns : List No) → IsStrictlyIncreasing (map (λ a. a.number) ns) → first_least (λ a. a.number) (filter p ns) ≡ find p ns
 least_in_order p [] h = refl

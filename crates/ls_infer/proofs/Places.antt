@@ -1,5 +1,5 @@
 -- Places in lists and in blocks.
-use Rattle.std.proofs.Common.{ℕ, zero, suc, ◌+◌, ◌≡◌, List, [], ◌∷◌, ◌++◌, map, take, find, slice_get, Some, None, refl, sym, ap, ◌∙◌, add-one}
+use Rattle.std.proofs.Common.{ℕ, ◌+◌, ◌≡◌, find, slice_get, Some, sym, ap, ◌∙◌, add-one}
 use Rattle.ls_lists.proofs.Elements.{get-in}
 use Rattle.ls_lists.proofs.Finds.{find-any}
 use Rattle.ls_lists.proofs.Sorted.{find-next}

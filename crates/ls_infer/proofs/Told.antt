@@ -1,5 +1,5 @@
 -- What a table tells is what the answers tell.
-use Rattle.std.proofs.Common.{ℕ, ◌<◌, ◌≡◌, Bool, true, false, cond, ◌&&◌, List, [], ◌∷◌, map, filter, Option, Some, None, refl, sym, ap, ap₂, ◌∙◌, lt-ltb}
+use Rattle.std.proofs.Common.{ℕ, ◌<◌, ◌≡◌, true, false, cond, ◌&&◌, List, [], ◌∷◌, map, filter, Option, Some, None, refl, sym, ap, ap₂, ◌∙◌, lt-ltb}
 use Rattle.std.specs.List.{position}
 use Rattle.std.specs.Option.{option_map, option_map_or}
 use Rattle.ls_lists.proofs.Places.{get-map}
@@ -20,6 +20,7 @@ use Rattle.ls_laws.proofs.Answering.{known_is}
 use Rattle.ls_laws.proofs.Numbered.{nos-increasing}
 use Rattle.ls_query.specs.Blocks.{sets_of}
 use Rattle.ls_query.proofs.Placed.{position-get}
+use Rattle.ls_infer.specs.declared.standing_no.StandingNo.{StandingNo}
 use Rattle.ls_infer.specs.Tables.{TableState, standing, forces, closed_of, table_of, told}
 use Rattle.ls_infer.proofs.Kept.{has-enough}
 use Rattle.ls_infer.proofs.Least.{least_with, least_with-first, least_in_order}
@@ -69,7 +70,7 @@ number_of None = refl
 number_of (Some a) = refl
 
 -- what is told of the closure of a query's set and the least number is what the table tells
-pub told_is : (t : TableState) (n : ℕ) (f : List Items) (r : Query) (closed : Items) (ns : List No) → is_good t.blocks.item_count r ≡ true → n ≡ t.blocks.item_count
+told_is : (t : TableState) (n : ℕ) (f : List Items) (r : Query) (closed : Items) (ns : List No) → is_good t.blocks.item_count r ≡ true → n ≡ t.blocks.item_count
     → t ≡ table_of t.blocks f ns
     → closed ≡ option_map_or (λ j. closed_of t r.a) (position (is_same r.a) (sets_of t.blocks)) (closure (full n) f r.a)
     → cond (has closed r.q) Known.Yes (option_map_or (λ m. Known.No m) (option_map (λ s. s.no.number) (first_least (λ s. s.no.number) (filter (forces r) t.standing))) Known.Unsettled)
@@ -86,6 +87,24 @@ told_is t n f r closed ns good ne te h =
     ap₂ (λ c m. cond (has c r.q) Known.Yes (option_map_or (λ m. Known.No m) m Known.Unsettled)) closed_is number
     ∙ ap (cond (has (closure (full b.item_count) f r.a) r.q) Known.Yes) (number_of (first_least (λ a. a.number) (filter (λ a. is_forced_by_closures b.item_count f r a.query) ns)))
 
+-- where the closure tells
+pub told_yes : (t : TableState) (n : ℕ) (f : List Items) (r : Query) (closed : Items) → is_good t.blocks.item_count r ≡ true → n ≡ t.blocks.item_count
+    → closed ≡ option_map_or (λ j. closed_of t r.a) (position (is_same r.a) (sets_of t.blocks)) (closure (full n) f r.a) → has closed r.q ≡ true
+    → (ns : List No) → t ≡ table_of t.blocks f ns → Known.Yes ≡ told t.blocks.item_count f ns r
+told_yes t n f r closed good ne h here ns te =
+    ap (λ b. cond b Known.Yes (option_map_or (λ m. Known.No m) (option_map (λ s. s.no.number) (first_least (λ s. s.no.number) (filter (forces r) t.standing))) Known.Unsettled)) (sym here)
+    ∙ told_is t n f r closed ns good ne te h
+
+-- where the closure doesn't tell, the least number does
+pub told_number : (t : TableState) (n : ℕ) (f : List Items) (r : Query) (closed : Items) (ss : List StandingNo) (number o : Option ℕ) → is_good t.blocks.item_count r ≡ true → n ≡ t.blocks.item_count
+    → closed ≡ option_map_or (λ j. closed_of t r.a) (position (is_same r.a) (sets_of t.blocks)) (closure (full n) f r.a) → has closed r.q ≡ false
+    → number ≡ option_map (λ s. s.no.number) (first_least (λ s. s.no.number) (filter (forces r) ss)) → ss ≡ t.standing → number ≡ o
+    → (ns : List No) → t ≡ table_of t.blocks f ns → option_map_or (λ m. Known.No m) o Known.Unsettled ≡ told t.blocks.item_count f ns r
+told_number t n f r closed ss number o good ne h out least same is ns te =
+    ap₂ (λ b m. cond b Known.Yes (option_map_or (λ m. Known.No m) m Known.Unsettled)) (sym out)
+    (sym is ∙ least ∙ ap (λ us. option_map (λ s. s.no.number) (first_least (λ s. s.no.number) (filter (forces r) us))) same)
+    ∙ told_is t n f r closed ns good ne te h
+
 -- in an interview, that is what is known
 known-told : (i : Interview) (r : Query) → IsSound i → IsNumbered i → is_good i.count r ≡ true → told i.count (compatible_sets i) (nos i.answers) r ≡ known i r
 known-told i r sound numbered good =
@@ -99,6 +118,3 @@ known_from k t f r h good i sound numbered ce fe te =
     h (nos i.answers) (te ∙ ap (λ g. table_of t.blocks g (nos i.answers)) (sym fe))
     ∙ ap₂ (λ m g. told m g (nos i.answers) r) (sym ce) fe
     ∙ known-told i r sound numbered (ap (λ m. is_good m r) ce ∙ good)
-
-pub told_by : (k : Known) (b : Bool) (o : Option ℕ) (c : Bool) (m : Option ℕ) → b ≡ c → o ≡ m → cond b Known.Yes (option_map_or (λ m. Known.No m) o Known.Unsettled) ≡ k → cond c Known.Yes (option_map_or (λ m. Known.No m) m Known.Unsettled) ≡ k
-told_by k b o c m e g h = sym (ap₂ (λ x y. cond x Known.Yes (option_map_or (λ m. Known.No m) y Known.Unsettled)) e g) ∙ h

@@ -1,13 +1,13 @@
 -- What a table tells is what the spaces within its family force.
-use Rattle.std.proofs.Common.{ℕ, ◌≡◌, ◌↔◌, inl, inr, Bool, true, false, cond, not, ◌&&◌, ◌||◌, List, [], ◌∷◌, map, filter, Option, Some, None, refl, sym, ap, ap₂, ◌∙◌, subst, true≢false}
+use Rattle.std.proofs.Common.{ℕ, ◌≡◌, ◌↔◌, Bool, true, false, cond, not, ◌&&◌, ◌||◌, List, [], ◌∷◌, map, filter, Option, Some, None, refl, sym, ap, ap₂, ◌∙◌, subst, true≢false}
 use Rattle.std.specs.Prelude.{option_map, is_some}
-use Rattle.std.specs.List.{AllByRecursion, list_any, list_all}
+use Rattle.std.specs.List.{list_any, list_all}
 use Rattle.std.specs.Option.{option_map_or}
-use Rattle.std.proofs.lemmas.Bool.{cases_Bool, and_parts, and_from, false_from_ne_true, not-true, not_from_false}
+use Rattle.std.proofs.lemmas.Bool.{and_parts, and_from, false_from_ne_true, not-true, not_from_false}
 use Rattle.std.proofs.lemmas.List.Folds.{list_all-map}
 use Rattle.ls_lists.proofs.Bools.{same_truth}
 use Rattle.ls_lists.proofs.Every.{All-list_all, list_all-All, list_all-filter, list_any-map}
-use Rattle.ls_set.specs.ItemSet.{Items, full, has, is_among, IsInOrder}
+use Rattle.ls_set.specs.ItemSet.{Items, full, has, IsInOrder}
 use Rattle.ls_set.specs.Query.{is_good}
 use Rattle.ls_set.specs.declared.query.Query.{Query}
 use Rattle.ls_theory.specs.declared.no.No.{No}
@@ -22,7 +22,7 @@ use Rattle.ls_laws.proofs.Interiors.{IsUnionFamily, space-from, space-to, family
 use Rattle.ls_laws.proofs.Families.{family_sets}
 use Rattle.ls_laws.proofs.Breaks.{IsGood, good-from}
 use Rattle.ls_laws.proofs.Closures.{has-closure, kept_is}
-use Rattle.ls_laws.proofs.Fit.{Fits, IsForcedYes, IsForcedNo, forced_yes, forced_no}
+use Rattle.ls_laws.proofs.Fit.{Fits, forced_yes, forced_no}
 use Rattle.ls_laws.proofs.Search.{sublists-each, all_sublists-each}
 use Rattle.ls_infer.specs.Tables.{told}
 use Rattle.ls_infer.specs.Forced.{FitsNos, spaces_within}

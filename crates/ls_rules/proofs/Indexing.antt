@@ -1,10 +1,10 @@
 -- Places of sets by their items: after a push and a removal, and the rules at the places of an item.
-use Rattle.std.proofs.Common.{ℕ, zero, suc, ◌+◌, ◌-◌, ◌<◌, ◌≤◌, ◌≡◌, inl, inr, Bool, true, false, cond, not, List, [], ◌∷◌, ◌++◌, map, filter, length, take, drop, get_or, Some, refl, sym, ap, ap₂, ◌∙◌, arith, eq-eqb, ne_eqb, lt-ltb, le-ltb, All, slice_get, add-zero, set, ◌&&◌, ◌≢◌, true≢false, subst, zero-add}
+use Rattle.std.proofs.Common.{ℕ, zero, suc, ◌+◌, ◌-◌, ◌<◌, ◌≤◌, ◌≡◌, inl, inr, true, false, cond, not, List, [], ◌∷◌, ◌++◌, map, filter, length, drop, get_or, refl, sym, ap, ap₂, ◌∙◌, arith, eq-eqb, ne_eqb, lt-ltb, le-ltb, All, add-zero, set, ◌&&◌, ◌≢◌, true≢false, subst, zero-add}
 use Rattle.std.specs.List.{remove, list_all}
-use Rattle.std.proofs.lemmas.List.{map-append, take-map, drop-map, length-map, get_or_past, get_or-set_same, get_or-set_other}
+use Rattle.std.proofs.lemmas.List.{map-append, length-map, get_or_past, get_or-set_same, get_or-set_other}
 use Rattle.std.proofs.lemmas.List.Elements.{All-cons, All-nil}
 use Rattle.std.proofs.lemmas.List.Folds.{list_all-append}
-use Rattle.std.proofs.lemmas.Bool.{and_parts, and_from, cases_lt, cases_eq}
+use Rattle.std.proofs.lemmas.Bool.{and_from, cases_lt, cases_eq}
 use Rattle.ls_lists.proofs.Every.{list_all-remove}
 use Rattle.ls_lists.proofs.Places.{map-remove, at_place}
 use Rattle.ls_set.specs.ItemSet.{Items, has, empty, without, IsWithin}

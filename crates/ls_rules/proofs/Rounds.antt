@@ -1,14 +1,14 @@
 -- Looking at rules: what stays, what falls out, and that at the end no rule is broken.
-use Rattle.std.proofs.Common.{ℕ, ◌+◌, ◌*◌, ◌<◌, ◌≤◌, ◌≡◌, inl, inr, Bool, true, false, cond, not, ◌&&◌, ◌||◌, eqb, Option, List, [], ◌∷◌, map, filter, fold, None, Some, refl, sym, ap, ◌∙◌, subst, arith, true≢false, eq-eqb, ne_eqb, length, ltb-true, get_or, drop, drop-cons, add-one, ap₂, slice_get}
+use Rattle.std.proofs.Common.{ℕ, ◌+◌, ◌*◌, ◌<◌, ◌≤◌, ◌≡◌, inl, inr, Bool, true, false, cond, not, Option, List, [], ◌∷◌, map, filter, fold, None, Some, refl, sym, ap, ◌∙◌, subst, arith, true≢false, length, get_or, drop, drop-cons, add-one, ap₂, slice_get}
 use Rattle.std.specs.Option.{option_map_or}
 use Rattle.std.specs.List.{AllByRecursion, list_all}
-use Rattle.std.proofs.lemmas.Bool.{cases_Bool, cases_eq, and_parts, and_from, or_right, not-true, not_from_false, false_from_ne_true}
-use Rattle.ls_lists.proofs.Every.{list_all-All, All-passing, All-given}
+use Rattle.std.proofs.lemmas.Bool.{cases_Bool, cases_eq, and_parts, and_from, not-true, not_from_false, false_from_ne_true}
+use Rattle.ls_lists.proofs.Every.{list_all-All, All-passing, All-given, All-filter, All-list_all}
 use Rattle.ls_set.specs.ItemSet.{Items, has, empty, full, meet, minus, single, with, without, is_same, len, least, IsWithin}
 use Rattle.ls_set.specs.Query.{is_good}
 use Rattle.ls_set.specs.declared.query.Query.{Query}
 use Rattle.std.proofs.lemmas.Bool.Decides.{nat_tests}
-use Rattle.ls_set.proofs.Sets.{members, has-full, has-empty, has-meet, has-minus, has-single, has-with, has-without, without-within, or-false, same_set, Decides-is_same}
+use Rattle.ls_set.proofs.Sets.{members, has-empty, has-meet, has-minus, without-within, same_set, Decides-is_same}
 use Rattle.ls_set.proofs.Sizes.{len-less}
 use Rattle.ls_set.proofs.Firsts.{items-none}
 use Rattle.ls_set.proofs.Ascending.{least-cases}
@@ -50,6 +50,9 @@ len-with s i = elim (cases_Bool (has s i)) [
 
 pub len-without : (s : Items) (i : ℕ) → has s i ≡ true → len (without s i) < len s
 len-without s i h = len-less (without s i) s i (without-within s i) (taken s i) h
+
+pub len-without_least : (s : Items) (i : ℕ) → least s ≡ Some i → len (without s i) < len s
+len-without_least s i e = len-without s i (least-cases s i e).0
 
 -- ---- breaking a rule
 
@@ -141,13 +144,7 @@ pub looks-break_at : (k : Items) (s : Round) (p : Query → Bool) (rules : List 
 looks-break_at k s p rules w = All-passing (λ r. breaks k r ≡ true → has (fold look s (filter p rules)).kept r.q ≡ false) p rules (looks-break k s (filter p rules) w)
 
 pub none_of_part : (t : Items) (p : Query → Bool) (rules : List Query) → breaks_none rules t ≡ true → breaks_none (filter p rules) t ≡ true
-none_of_part t p [] h = refl
-none_of_part t p (r ∷ rules) h =
-    let a = and_parts (not (breaks t r)) (breaks_none rules t) h in
-    elim (p r) as (λ b. breaks_none (cond b (r ∷ filter p rules) (filter p rules)) t ≡ true) [
-      | true ↦ and_from (not (breaks t r)) (breaks_none (filter p rules) t) a.0 (none_of_part t p rules a.1)
-      | false ↦ none_of_part t p rules a.1
-    ]
+none_of_part t p rules h = All-list_all (λ r. not (breaks t r)) (filter p rules) (All-filter (λ r. not (breaks t r) ≡ true) p rules (list_all-All (λ r. not (breaks t r)) rules h))
 
 -- ---- going on from the items that fell out
 

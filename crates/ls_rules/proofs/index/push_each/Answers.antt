@@ -3,7 +3,7 @@ use Rattle.std.proofs.lemmas.List.{get_or_default}
 use Rattle.ls_set.proofs.Ascending.{least-cases}
 use Rattle.ls_rules.specs.Places.{PlaceList, no_places}
 use Rattle.ls_rules.proofs.Indexing.{room_within, Pushing-more, Pushing-done}
-use Rattle.ls_rules.proofs.Rounds.{no_least, len-without}
+use Rattle.ls_rules.proofs.Rounds.{no_least, len-without_least}
 use Rattle.ls_rules.proofs.index.push_each.Goals as goal
 
 pub bounds-lists-i : goal.bounds-lists-i
@@ -19,9 +19,7 @@ push-requires c =
     rw (get_or_default c.loop-i.lists i c.index-lists-i.result no_places (room_within c.loop-i.lists i room)) room
 
 pub loop-i-smaller : goal.loop-i-smaller
-loop-i-smaller c =
-    let here = least-cases c.loop-i.left c.in-Some.i (sym c.least.ensures.value ∙ c.in-Some.is) in
-    rw c.without-left.ensures (len-without c.loop-i.left c.in-Some.i here.0)
+loop-i-smaller c = rw c.without-left.ensures (len-without_least c.loop-i.left c.in-Some.i (sym c.least.ensures.value ∙ c.in-Some.is))
 
 pub loop-i-preserved : goal.loop-i-preserved
 loop-i-preserved c =

@@ -1,8 +1,7 @@
 use Rattle.std.proofs.Common.{sym, ◌∙◌}
-use Rattle.ls_set.proofs.Ascending.{least-cases}
 use Rattle.ls_rules.specs.Waking.{first_of}
 use Rattle.ls_rules.proofs.Indexing.{indexed_small}
-use Rattle.ls_rules.proofs.Rounds.{turned, len-without, Started-first, Started-more, Started-done}
+use Rattle.ls_rules.proofs.Rounds.{turned, len-without_least, Started-first, Started-more, Started-done}
 use Rattle.ls_rules.proofs.waking.begin.Goals as goal
 
 pub loop-i-init : goal.loop-i-init
@@ -13,9 +12,7 @@ pub look_at-round-requires-clause-places : goal.look_at-round-requires-clause-pl
 look_at-round-requires-clause-places c = indexed_small c.args.rules.now (λ r. first_of r.a) c.args.starts.now c.in-Some.i c.of.result.now c.requires.starts c.of.ensures
 
 pub loop-i-smaller : goal.loop-i-smaller
-loop-i-smaller c =
-    let here = least-cases c.loop-i.left c.in-Some.i (sym c.least.ensures.value ∙ c.in-Some.is) in
-    rw c.without-left.ensures (len-without c.loop-i.left c.in-Some.i here.0)
+loop-i-smaller c = rw c.without-left.ensures (len-without_least c.loop-i.left c.in-Some.i (sym c.least.ensures.value ∙ c.in-Some.is))
 
 pub loop-i-preserved : goal.loop-i-preserved
 loop-i-preserved c =
