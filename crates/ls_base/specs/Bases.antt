@@ -2,8 +2,7 @@
 use Rattle.std.specs.Prelude.{ℕ, ◌≡◌, ◌<◌, ◌≤◌, nat_lt, if◌then◌else◌, List, map, length, Option, Result, Ok, Err, ⊤}
 use Rattle.std.specs.List.{range_with_len}
 use Rattle.std.specs.Option.{option_map_or}
-use Rattle.ls_set.specs.ItemSet.{Items, empty, full, with, minus, least}
-use Rattle.ls_set.specs.declared.item_set.TheConstants.{PLACES}
+use Rattle.ls_set.specs.ItemSet.{Items, empty, full, with, minus, least, most_items}
 use Rattle.ls_theory.specs.Families.{unions}
 use Rattle.ls_theory.specs.Bases.{base, most_base_sets}
 use Rattle.ls_laws.specs.Spans.{spanned}
@@ -23,7 +22,7 @@ family b = spanned b.item_count b.sets
 
 -- the sets are the base of the family of their unions, and there are not too many
 pub record IsBase (b : BaseState) : Type 0 where
-  pub few_items : b.item_count ≤ PLACES
+  pub few_items : b.item_count ≤ most_items
   pub is_base : base (family b) ≡ b.sets
   pub few : length b.sets ≤ most_base_sets
 

@@ -3,7 +3,7 @@ use Rattle.std.specs.Prelude.{◌≡◌, ◌<◌, ◌≤◌, ℕ, ◌+◌, Bool,
 use Rattle.std.specs.List.{IsDistinct, list_all}
 use Rattle.std.specs.Option.{option_map_or}
 use Rattle.csv.specs.Reading.{default_config, records, strip_bom}
-use Rattle.ls_set.specs.declared.item_set.TheConstants.{PLACES}
+use Rattle.ls_set.specs.ItemSet.{most_items}
 use Rattle.ls_lines.specs.Lines.{Text}
 use Rattle.ls_lines.specs.Kinds.{is_of}
 use Rattle.ls_lines.specs.declared.kind.Kind.TheVariants.{Name}
@@ -17,7 +17,7 @@ is_name w = is_of Name w
 
 -- names of which no two are the same, at most as many as there are places
 pub record AreNames (names : List Text) : Type 0 where
-  pub few : length names ≤ PLACES
+  pub few : length names ≤ most_items
   pub named : list_all is_name names ≡ true
   pub distinct : IsDistinct bytes_eq names
 
@@ -38,7 +38,7 @@ abbrev pub name_fault : List Text → Text → Option DomainFault
 name_fault earlier w =
     if not (is_name w) then Some (BadName (length earlier + 1))
     else if is_named earlier w then Some (Repeat (length earlier + 1) (item_of earlier w + 1))
-    else if nat_le PLACES (length earlier) then Some TooMany
+    else if nat_le most_items (length earlier) then Some TooMany
     else None
 
 -- the earlier names and then those of the rows, or the fault of the first row that has one

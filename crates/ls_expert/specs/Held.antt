@@ -1,7 +1,7 @@
 -- What an inquiry keeps true of its parts.
 use Rattle.std.specs.Prelude.{◌≡◌, ℕ, ◌+◌, ◌<◌, ◌≤◌, true, ◌&&◌, nat_lt, List, map, length, count_by}
 use Rattle.std.specs.List.{list_all, IsDistinct}
-use Rattle.ls_set.specs.declared.item_set.TheConstants.{PLACES}
+use Rattle.ls_set.specs.ItemSet.{most_items}
 use Rattle.ls_set.specs.declared.query.Query.{Query}
 use Rattle.ls_set.specs.Query.{is_good}
 use Rattle.ls_theory.specs.declared.answer.Answer.{Answer}
@@ -48,7 +48,7 @@ rules_before answers number = count_by (λ a. a.yes && nat_lt a.number number) a
 -- The answers stand, the rules are the Yes answers, and the table is that of what stands.
 pub record IsHeld (i : Interview) (rules : List Query) (table : TableState) : Type 0 where
   pub some_items : 0 < i.count
-  pub few_items : i.count ≤ PLACES
+  pub few_items : i.count ≤ most_items
   pub ruled : rules ≡ yes_queries i.answers
   pub tabled : table ≡ closures_of i
   pub standing : IsStanding i

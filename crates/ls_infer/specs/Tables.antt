@@ -6,8 +6,7 @@
 use Rattle.std.specs.Prelude.{ℕ, Bool, true, not, ◌&&◌, if◌then◌else◌, ◌≤◌, ◌≡◌, List, map, length, filter, slice_get, unwrap_or}
 use Rattle.std.specs.List.{list_all, list_any, position}
 use Rattle.std.specs.Option.{option_map_or}
-use Rattle.ls_set.specs.ItemSet.{Items, has, empty, full, with, is_same, is_within, set_of, numbers_from}
-use Rattle.ls_set.specs.declared.item_set.TheConstants.{PLACES}
+use Rattle.ls_set.specs.ItemSet.{Items, has, empty, full, with, is_same, is_within, set_of, numbers_from, most_items}
 use Rattle.ls_set.specs.Query.{is_good}
 use Rattle.ls_set.specs.declared.query.Query.{Query}
 use Rattle.ls_theory.specs.declared.no.No.{No}
@@ -74,7 +73,7 @@ told n f nos r =
 -- the number of items; for each block set, of which there are not too many, a closure of items alone; and standing Nos of good queries
 pub record IsTable (n : ℕ) (t : TableState) : Type 0 where
   pub items : n ≡ t.blocks.item_count
-  pub few : n ≤ PLACES
+  pub few : n ≤ most_items
   pub each : length t.closures ≡ length (sets_of t.blocks)
   pub few_sets : length t.closures ≤ most_sets
   pub within : list_all (λ c. is_within c (full n)) t.closures ≡ true

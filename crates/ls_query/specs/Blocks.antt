@@ -2,8 +2,7 @@
 --     choose m k      how many sets of k items m items have
 --     sets_of b, queries_of b      the sets of the blocks, and their good queries, in the order of queries
 use Rattle.std.specs.Prelude.{ℕ, zero, suc, ◌+◌, ◌<◌, ◌≤◌, List, length}
-use Rattle.ls_set.specs.ItemSet.{Items}
-use Rattle.ls_set.specs.declared.item_set.TheConstants.{PLACES}
+use Rattle.ls_set.specs.ItemSet.{Items, most_items}
 use Rattle.ls_set.specs.declared.query.Query.{Query}
 use Rattle.ls_theory.specs.Queries.{blocks, queries}
 use Rattle.ls_theory.specs.Blocks.{BlockRange, most_sets}
@@ -23,7 +22,7 @@ queries_of b = queries b.item_count b.largest
 
 -- blocks of some sets, and not too many
 pub record AreBounded (b : BlockRange) : Type 0 where
-  pub few_items : b.item_count ≤ PLACES
+  pub few_items : b.item_count ≤ most_items
   pub some_sizes : 0 < b.largest
   pub few_sizes : b.largest ≤ b.item_count
   pub few_sets : length (sets_of b) ≤ most_sets

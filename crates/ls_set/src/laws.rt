@@ -1,7 +1,9 @@
 // The laws of sets: what the words that contracts cite mean.
 ghost use Rattle.std.specs.Prelude.{◌≡◌, ◌≢◌, ◌<◌, ◌↔◌, ◌==◌, ◌&&◌, ◌||◌, not, nat_lt, ℕ, true, false, Contains, Some, length};
 ghost use Rattle.std.specs.List.Sorted.{IsStrictlyIncreasing};
-ghost use Rattle.ls_set.specs.ItemSet.{Items, has, empty, full, with, without, union, meet, minus, keep_before, is_same, is_within, IsWithin, items, len, least, next_item, comes_before, DiffersFirstAt, subsets, IsInOrder, is_among};
+ghost use Rattle.ls_set.specs.ItemSet.{Items, has, empty, full, with, without, union, meet, minus, keep_before, is_same, is_within, IsWithin, items, len, least, next_item, comes_before, DiffersFirstAt, subsets, IsInOrder, is_among, most_items};
+
+use crate::item_set::PLACES;
 
 /// A set is told by its items: two sets with the same items are one, and each operation has the
 /// items that its name says. It does nothing when it runs, as the other laws.
@@ -47,4 +49,9 @@ pub fn sets_are_ordered()
 pub fn subsets_are_listed()
     ensures in_order { (n : ℕ) → IsInOrder (subsets n) }
     ensures each { (n : ℕ) (s : Items) → is_among (subsets n) s ≡ is_within s (full n) }
+{}
+
+/// A set has as many places as a domain may have items.
+pub fn places_are_for_items()
+    ensures { PLACES ≡ most_items }
 {}
