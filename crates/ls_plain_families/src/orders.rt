@@ -70,7 +70,7 @@ fn all_headed(alloc: Global, first: u32, orders: &[Vec<u32>]) -> Result<Vec<Vec<
 }
 
 /// The lists of `m` items of the set, each once, in lexicographic order.
-#[tactic(auto, unfolding(ls_theory::specs::Paths::orders_of), using(ls_set::proofs::Firsts::items_facts))]
+#[tactic(auto, unfolding(ls_theory::specs::Paths::orders_of), using(crate::proofs::Steps::listed))]
 pub fn orders_of(alloc: Global, m: u32, s: ItemSet) -> Result<Vec<Vec<u32>>, AllocError>
     ensures { IfOk result (λ v. map (λ o. o.items) v.items ≡ orders_of m s) }
 {

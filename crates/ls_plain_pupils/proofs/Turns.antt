@@ -34,4 +34,4 @@ fits_later (suc m) s f right replies h all =
     let e : suc m - 1 ≡ m = omega arith in
     rw e (all.1)
 
-pub ruleset fits_turn = (fits_more, fits_first, fits_later)
+pub ruleset fitting = (fits_more, fits_first, fits_later)

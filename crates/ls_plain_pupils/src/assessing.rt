@@ -12,7 +12,7 @@ use ls_set::{ItemSet, PLACES};
 use ls_theory::{Asked, ListedSettings, Odds, Outcome, Reason, Reply};
 
 /// The distance between twice the mass of the item and the total.
-#[tactic(auto, unfolding(ls_theory::specs::Assessment::imbalance), using(crate::proofs::Totals::mass_facts))]
+#[tactic(auto, using(crate::proofs::Totals::mass_facts))]
 pub fn imbalance(odds: &[Odds], replies: &[Reply], f: &[ItemSet], q: u32) -> u128
     requires { 2 * total odds.now replies.now f.now < 2 ^ 128 }
     ensures { result ≡ imbalance odds.now replies.now f.now q }
@@ -38,7 +38,7 @@ fn is_least(odds: &[Odds], replies: &[Reply], f: &[ItemSet], q: u32) -> bool
 }
 
 /// The half-split question: the least item of which twice the mass is nearest to the total.
-#[tactic(auto, unfolding(ls_theory::specs::Assessment::half_split), using(ls_theory::proofs::Numbers::numbers_left))]
+#[tactic(auto, using(ls_theory::proofs::Numbers::numbers_left))]
 pub fn half_split(odds: &[Odds], replies: &[Reply], f: &[ItemSet]) -> u32
     requires few { length odds.now ≤ PLACES }
     requires fits { 2 * total odds.now replies.now f.now < 2 ^ 128 }
@@ -74,7 +74,7 @@ fn greatest_of(odds: &[Odds], replies: &[Reply], f: &[ItemSet]) -> Option<ItemSe
 }
 
 /// The leader: the first member of greatest weight, or the empty set where there is no member.
-#[tactic(auto, unfolding(ls_theory::specs::Assessment::leader), using(crate::proofs::Totals::weights_below))]
+#[tactic(auto, using(crate::proofs::Totals::leader_facts))]
 pub fn leader(odds: &[Odds], replies: &[Reply], f: &[ItemSet]) -> ItemSet
     requires { total odds.now replies.now f.now < 2 ^ 128 }
     ensures { result ≡ leader odds.now replies.now f.now }

@@ -51,7 +51,7 @@ pub fn replies_in(
 
 /// Whether the numbers of the assessment have at most 128 bits, now and after each of `turns` more
 /// turns.
-#[tactic(auto, unfolding(ls_theory::specs::Bounds::FitsFor), using(crate::proofs::Turns::fits_turn))]
+#[tactic(auto, unfolding(ls_theory::specs::Bounds::FitsFor), using(crate::proofs::Turns::fitting))]
 pub fn fits_for(
     turns: u64,
     s: &ListedSettings,
