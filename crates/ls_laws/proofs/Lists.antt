@@ -2,13 +2,11 @@
 use Rattle.std.proofs.Common.{◌&&◌, ◌≡◌, ◌||◌, ap₂, cond, inl, inr, Bool, true, false, List, [], ◌∷◌, filter, find, Some, None, refl, sym, ap, ◌∙◌, subst, true≢false}
 use Rattle.std.specs.List.{AllByRecursion, list_all, list_any}
 use Rattle.std.proofs.lemmas.Bool.{cases_Bool, and_parts, and_from, or_cases, or_left, or_right}
-use Rattle.std.proofs.lemmas.List.Elements.{filter_agree}
+use Rattle.ls_lists.proofs.Every.{All-filter}
 use Rattle.ls_set.specs.ItemSet.{Items, is_among, IsInOrder, comes_before}
 use Rattle.ls_set.proofs.Members.{among-here, among-there, among-cases, Each-among}
 use Rattle.ls_set.proofs.Order.{comes_before-irreflexive, comes_before-asymmetric}
 use Rattle.ls_laws.specs.Spans.{IsPart}
-pub use Rattle.ls_lists.proofs.Filters.{filter-both}
-pub use Rattle.ls_lists.proofs.Every.{All-filter}
 
 -- ---- all and some of a list
 
@@ -47,9 +45,6 @@ some-same p q [] h = refl
 some-same p q (x ∷ xs) h = ap₂ (λ a b. a || b) (h x) (some-same p q xs h)
 
 -- ---- filters and searches
-
-pub filter-same : {X : Type 0} (p q : X → Bool) (xs : List X) → ((x : X) → p x ≡ q x) → filter p xs ≡ filter q xs
-filter-same p q xs h = filter_agree p q h xs
 
 pub find-none : (p : Items → Bool) (f : List Items) → ((l : Items) → is_among f l ≡ true → p l ≡ false) → find p f ≡ None
 find-none p [] h = refl

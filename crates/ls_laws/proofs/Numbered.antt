@@ -3,15 +3,14 @@ use Rattle.std.proofs.Common.{ℕ, ◌+◌, ◌<◌, ◌≤◌, ◌≡◌, Bool,
 use Rattle.std.specs.List.{AllByRecursion, list_all}
 use Rattle.std.specs.List.Sorted.{IsStrictlyIncreasing}
 use Rattle.std.proofs.lemmas.Bool.{and_parts, and_from}
-use Rattle.ls_lists.proofs.Sorted.{increasing-from}
+use Rattle.ls_lists.proofs.Sorted.{increasing-from, rising-from}
+use Rattle.ls_lists.specs.Lists.{IsRising}
 use Rattle.ls_set.specs.declared.query.Query.{Query}
 use Rattle.ls_theory.specs.declared.answer.Answer.{Answer}
 use Rattle.ls_theory.specs.declared.no.No.{No}
 use Rattle.ls_theory.specs.Starts.{Start}
 use Rattle.ls_theory.specs.Interviews.{Interview, begun, accepted, retracted, nos}
 use Rattle.ls_laws.specs.Forced.{IsNumbered}
-pub use Rattle.ls_lists.specs.Lists.{IsRising}
-pub use Rattle.ls_lists.proofs.Sorted.{rising-from}
 
 abbrev number_of : Answer → ℕ
 number_of a = a.number

@@ -3,7 +3,7 @@ use Rattle.std.proofs.Common.{ℕ, ◌≡◌, ◌≢◌, ◌↔◌, inl, inr, Bo
 use Rattle.std.specs.List.{AllByRecursion, list_all}
 use Rattle.std.proofs.lemmas.List.Folds.{list_all-append, list_all-map}
 use Rattle.std.proofs.lemmas.Bool.{and_parts, and_from}
-use Rattle.ls_lists.proofs.Every.{All-append, All-kept, All-map, All-to, list_all-filter}
+use Rattle.ls_lists.proofs.Every.{All-append, All-kept, All-map, All-to, list_all-filter, All-list_all, list_all-All}
 use Rattle.ls_set.specs.ItemSet.{Items, full, is_within, is_among, IsInOrder, comes_before, subsets}
 use Rattle.ls_set.specs.declared.query.Query.{Query}
 use Rattle.ls_set.proofs.Sets.{IsWithin-from, is_within-from}
@@ -20,7 +20,6 @@ use Rattle.ls_laws.proofs.Lists.{every-among, every-from, not_among, tail_part}
 use Rattle.ls_laws.proofs.Interiors.{space-from, space-to, family-from}
 use Rattle.ls_laws.proofs.Compat.{among-compat}
 use Rattle.ls_laws.proofs.Fit.{Fits}
-pub use Rattle.ls_lists.proofs.Every.{All-list_all, list_all-All}
 
 AllByRecursion-from : (P : Items → Type 0) (f : List Items) → ((k : Items) → is_among f k ≡ true → P k) → AllByRecursion P f
 AllByRecursion-from P [] h = tt
