@@ -14,8 +14,8 @@ use ls_set::{ItemSet, PLACES};
 use std::alloc::{AllocError, Global};
 use std::marker::Model;
 
-/// The names of the items. Item `i` has the name at index `i`. Contracts see it as the list of names,
-/// each as its bytes.
+/// The names of the items. Item `i` has the name at index `i`. Contracts see it as the list of
+/// names, each as its bytes.
 #[derive(Drop)]
 pub struct Domain {
     names: Names,
@@ -32,9 +32,9 @@ impl Model for Domain {
 }
 
 impl Domain {
-    /// The domain whose names are the words, in their order. Each word is a row. The error is that of
-    /// the first row that has one: it is no name, or it is that of an earlier row, or there are too
-    /// many; or memory ran out.
+    /// The domain whose names are the words, in their order. Each word is a row. The error is that
+    /// of the first row that has one: it is no name, or it is that of an earlier row, or there are
+    /// too many; or memory ran out.
     pub fn from_names(alloc: Global, names: &WordList) -> Result<Domain, DomainFault>
         ensures read { IfOk result (λ d. names_of_words names.now ≡ Ok d) }
         ensures fault { IfErr result (IsFaultOf (names_of_words names.now)) }
@@ -49,10 +49,10 @@ impl Domain {
         Ok(Domain { names: list })
     }
 
-    /// The domain whose names are the first fields of a table's records, in their order. The table has
-    /// no header row, and one byte order mark at its front is passed over. The error is that of the
-    /// first record that has one: it has another number of fields than the first, or its first field is
-    /// no name, or is that of an earlier record, or there are too many; or memory ran out.
+    /// The domain whose names are the first fields of a table's records, in their order. The table
+    /// has no header row, and one byte order mark at its front is passed over. The error is that of
+    /// the first record that has one: it has another number of fields than the first, or its first
+    /// field is no name, or is that of an earlier record, or there are too many; or memory ran out.
     pub fn from_csv(alloc: Global, bytes: &[u8]) -> Result<Domain, DomainFault>
         ensures read { IfOk result (λ d. names_of_table bytes.now ≡ Ok d) }
         ensures fault { IfErr result (IsFaultOf (names_of_table bytes.now)) }
@@ -141,8 +141,8 @@ impl Domain {
         pushed
     }
 
-    /// Appends the set: the names of its items within braces, as `push_names` does. Where memory runs
-    /// out the bytes are as they were.
+    /// Appends the set: the names of its items within braces, as `push_names` does. Where memory
+    /// runs out the bytes are as they were.
     pub fn print_set(&self, s: ItemSet, out: &mut Vec<u8>) -> Result<(), AllocError>
         requires { IsWithin s (full (length self.now)) }
         ensures ok { OnOk result (out.new.items ≡ out.old.items ++ set_text self.now s) }

@@ -43,7 +43,7 @@ fn tables_are_read(rt: HostRuntime) -> Result<(), Fail> {
         (b"add,\xff\nsub,\xfe", " add sub"),
         (b"", "no items"),
         (b"\xef\xbb\xbf", "no items"),
-        // A record of more fields or of fewer than the first is told as such, and not as want of memory.
+        // A record of more fields or of fewer than the first is told as such, not as no memory.
         (b"add\nsub,1\nadd", "csv 2"),
         (b"add,1\nsub,2\nmul\n", "csv 3"),
         (b"add\na b\n", "name 2"),

@@ -1,5 +1,5 @@
 -- The command is that of the first form that has the line.
-use Rattle.std.proofs.Common.{ℕ, zero, suc, ◌≡◌, refl, sym, ap, subst, ◌∙◌, Bool, true, false, cond, List, [], ◌∷◌, None, Some, option_map, is_some}
+use Rattle.std.proofs.Common.{ℕ, zero, suc, ◌≡◌, refl, sym, ap, ◌∙◌, Bool, true, false, cond, List, [], ◌∷◌, None, Some, option_map, is_some}
 use Rattle.std.specs.List.{filter_map, cons_option, find, slice_get}
 use Rattle.std.proofs.lemmas.Option.{same_Some, none-some}
 use Rattle.ls_lines.specs.Lines.{Text}

@@ -1,11 +1,11 @@
 -- Examples: words, commands and the places of faults.
-use Rattle.std.proofs.Common.{ℕ, ◌≡◌, refl, List, [], ◌∷◌, ◌++◌, Some, codes, replicate, None}
+use Rattle.std.proofs.Common.{ℕ, ◌≡◌, refl, true, false, List, [], ◌∷◌, ◌++◌, Some, codes, replicate, None}
 use Rattle.std.specs.Fmt.{digits}
 use Rattle.ls_lines.specs.Lines.{words}
 use Rattle.ls_lines.specs.Kinds.{is_of}
 use Rattle.ls_lines.specs.Forms.{spelling, parts, command, forms}
 use Rattle.ls_lines.specs.Commands.{cut, is_begun, command_of, fault_place}
-use Rattle.ls_lines.specs.Printing.{form_of, operands, laid_out, spelled, words_joined}
+use Rattle.ls_lines.specs.Printing.{form_of, operands, laid_out, spelled, words_joined, is_plain}
 use Rattle.ls_lines.specs.declared.command.Command.{Command}
 use Rattle.ls_lines.specs.declared.command.Command.TheVariants as commands
 
@@ -61,6 +61,35 @@ printed_state = refl
 printed_nothing : printed commands.Nothing ≡ []
 unfolding spelled laid_out form_of operands parts
 printed_nothing = refl
+
+-- commands that are read back as they are printed, and some that aren't
+plain_query : is_plain (commands.Yes (codes "a" ∷ codes "b" ∷ []) (codes "c")) ≡ true
+unfolding is_plain form_of operands parts is_of
+plain_query = refl
+
+plain_page : is_plain (commands.Project 65536 (Some (codes "3f")) (codes "a" ∷ [])) ≡ true
+unfolding is_plain form_of operands parts is_of
+plain_page = refl
+
+plain_odds : is_plain (commands.OddsItem (codes "a") 999999999 0) ≡ true
+unfolding is_plain form_of operands parts is_of
+plain_odds = refl
+
+plain_reply : is_plain (commands.Reply (codes "ann") (codes "a") false) ≡ true
+unfolding is_plain form_of operands parts is_of
+plain_reply = refl
+
+plain_file : is_plain (commands.Save (codes "f.")) ≡ true
+unfolding is_plain form_of operands parts is_of
+plain_file = refl
+
+great_count : is_plain (commands.States 65537 None) ≡ false
+unfolding is_plain form_of operands parts is_of
+great_count = refl
+
+hidden_file : is_plain (commands.Save (codes ".f")) ≡ false
+unfolding is_plain form_of operands parts is_of
+hidden_file = refl
 
 -- the place of the fault in a line
 abbrev place : List ℕ → ℕ

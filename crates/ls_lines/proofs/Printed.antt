@@ -1,8 +1,8 @@
 -- The line of a command: its words, joined by single spaces.
 use Rattle.std.proofs.Common.{ℕ, ◌+◌, ◌-◌, ◌<◌, ◌≤◌, ◌≡◌, ◌∙◌, refl, sym, ap, arith, List, [], ◌∷◌, ◌++◌, length, take, drop, get_or, flat_map, map}
-use Rattle.std.proofs.lemmas.List.{append-nil, append_assoc, drop_more, drop_all, length-append}
+use Rattle.std.proofs.lemmas.List.{append-nil, append_assoc, drop_more, drop_all}
 use Rattle.std.proofs.lemmas.List.Concat.{flat_map-append}
-use Rattle.std.proofs.Math.Seq.{take-append_seam, take-nil}
+use Rattle.std.proofs.Math.Seq.{take-nil}
 use Rattle.ls_lists.proofs.Places.{without_last}
 use Rattle.ls_lines.specs.Lines.{Text}
 use Rattle.ls_lines.specs.Forms.{spelling}

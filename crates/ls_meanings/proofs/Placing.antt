@@ -1,14 +1,12 @@
 -- The place of the first word that names no item.
-use Rattle.std.proofs.Common.{◌≡◌, ℕ, suc, ◌+◌, ◌<◌, inl, inr, Bool, true, false, cond, not, lt-ltb, le-ltb, List, [], ◌∷◌, ◌++◌, length, map, filter, Some, None, Result, Ok, Err, IfErr, IsOk, is_some, option_map, slice_get, refl, sym, ap, ◌∙◌, arith}
+use Rattle.std.proofs.Common.{◌≡◌, ℕ, suc, ◌+◌, ◌<◌, inl, inr, Bool, true, cond, not, List, [], ◌∷◌, ◌++◌, length, map, filter, Some, None, is_some, option_map, slice_get, refl, sym, ap, ◌∙◌, arith}
 use Rattle.std.specs.declared.option.Option.{Option}
-use Rattle.std.specs.List.{position, position_or_len}
-use Rattle.std.proofs.lemmas.Bool.{cases_Bool, cases_lt}
+use Rattle.std.proofs.lemmas.Bool.{cases_Bool}
 use Rattle.std.proofs.lemmas.List.{map-append}
 use Rattle.std.proofs.lemmas.List.Elements.{filter-append}
 use Rattle.ls_lists.proofs.Places.{first-front, first-rest, position-lt, position-here, position-later, is_some-position}
 use Rattle.ls_lines.specs.Lines.{Text}
 use Rattle.ls_domain.specs.Meanings.{is_named, number_of, first_unnamed}
-use Rattle.ls_domain.specs.declared.unknown_at.UnknownAt.{UnknownAt}
 use Rattle.ls_reply.specs.Meanings.{placed, query_words, unnamed}
 
 next_place : (n : ℕ) (o : Option ℕ) → option_map (λ i. suc n + i) o ≡ option_map (λ i. n + i) (option_map (λ i. 1 + i) o)

@@ -1,7 +1,7 @@
 // Words that name no item.
 
-/// The place of the first word that must name an item and doesn't, counted from 1 in the words of the
-/// line.
+/// The place of the first word that must name an item and doesn't, counted from 1 in the words of
+/// the line.
 #[derive(Clone, Copy, Debug)]
 pub struct Unnamed {
     pub place: usize,

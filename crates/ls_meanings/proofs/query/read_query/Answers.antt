@@ -1,5 +1,5 @@
-use Rattle.std.proofs.Common.{◌+◌, ℕ, Bool, None, Some, cond, length, is_some, refl, sym, ap, ◌∙◌}
-use Rattle.std.specs.Prelude.{slice_get, []}
+use Rattle.std.proofs.Common.{◌+◌, None, Some, length, is_some, sym, ap, ◌∙◌}
+use Rattle.std.specs.Prelude.{slice_get}
 use Rattle.ls_domain.specs.Meanings.{number_of}
 use Rattle.ls_meanings.proofs.Placing.{query-first, query-item, query-named}
 use Rattle.ls_meanings.proofs.query.read_query.Goals as goal
