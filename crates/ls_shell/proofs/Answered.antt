@@ -20,7 +20,7 @@ use Rattle.ls_reply.specs.Replies.{command_effect, line_effect, reply_of, is_ref
 use Rattle.ls_reply.specs.declared.response.Response.TheVariants.{Silence}
 use Rattle.ls_reply.specs.Transcripts.{World, Marked, folder_with, begun_over, bare_lines, effect_at, reply_at, world_next, replies, world_after, refuses}
 use Rattle.ls_shell.specs.declared.run.Run.{Run}
-use Rattle.ls_shell.specs.Progress.{HasAnswered, Answers, StopsAt, IsAnswered, IsBegun}
+use Rattle.ls_shell.specs.Progress.{HasAnswered, Answers, LeavesFiles, StopsAt, IsAnswered, IsBegun}
 use Rattle.ls_shell.specs.Runs.{AnswersWhole, AnswersEnded, TakesAndStops}
 use Rattle.ls_shell.proofs.Past.{past_place}
 use Rattle.ls_reply.proofs.Marks.{world_after-snoc, replies-snoc, refuses-snoc, bare_lines-append, marked}
@@ -72,31 +72,29 @@ module _ (m : Folder) where
           };
         }
 
+    front_written : (W : Type 0) → IsBegun W seen (marked line failed) left before after
+        → (front : ℕ) × Appends start after (replies before_all ended ++ take front (reply_at place (marked line failed))) × LeavesFiles W place (marked line failed) left front
+    front_written W (inl h) = (0, subst (Appends start after) (sym (append-nil (replies before_all ended))) (appends_keep start before after _ c.answered.written h.1), inl (h.0, refl, h.2))
+    front_written W (inr h) =
+        let at = marked line failed in (
+          h.1.0,
+          appends_more start before after _ _ c.answered.written (subst (λ (w : World). Appends before after (take h.1.0 (reply_at w at))) same_place h.1.2),
+          inr (subst (λ (w : World). left ≡ Some (world_next w at).folder) same_place h.0),
+        )
+
     -- the run stops at the line
     pub line_stops : (W : Type 0) (all others : List (List ℕ)) → bare_lines ended ++ line ∷ others ≡ all → IsBegun W seen (marked line failed) left before after → StopsAt W m all left shelf_before shelf_now start after
-    line_stops W all others e (inl h) =
-        let at = marked line failed in
+    line_stops W all others e h =
+        let f = front_written W h in
         record {
           ended = ended;
-          at = at;
+          at = marked line failed;
           others = others;
           all_lines = e;
-          front = 0;
-          written = subst (Appends start after) (sym (append-nil (replies before_all ended))) (appends_keep start before after _ c.answered.written h.1);
-          files = inl (h.0, refl, h.2);
-          few = few-snoc ended at shelf_before shelf_then shelf_now later cause c.answered.few;
-        }
-    line_stops W all others e (inr h) =
-        let at = marked line failed in
-        record {
-          ended = ended;
-          at = at;
-          others = others;
-          all_lines = e;
-          front = h.1.0;
-          written = appends_more start before after _ _ c.answered.written (subst (λ (w : World). Appends before after (take h.1.0 (reply_at w at))) same_place h.1.2);
-          files = inr (subst (λ (w : World). left ≡ Some (world_next w at).folder) same_place h.0);
-          few = few-snoc ended at shelf_before shelf_then shelf_now later cause c.answered.few;
+          front = f.0;
+          written = f.1;
+          files = f.2;
+          few = few-snoc ended (marked line failed) shelf_before shelf_then shelf_now later cause c.answered.few;
         }
 
   -- ---- a run

@@ -1,5 +1,5 @@
 -- How a run ended, by the fault of its step.
-use Rattle.std.proofs.Common.{◌≡◌, Result, Ok, Err, IsErrOf, refl, sym, ◌∙◌, ap}
+use Rattle.std.proofs.Common.{◌≡◌, Result, Ok, Err, IsErrOf, refl, sym, ◌∙◌, subst}
 use Rattle.std.specs.Prelude.{IsErrAnd}
 use Rattle.ls_session.specs.declared.step_fault.StepFault.{StepFault}
 use Rattle.ls_session.specs.declared.step_fault.StepFault.TheVariants as fault
@@ -20,8 +20,8 @@ read_never fault.Write e = cc e
 read_never (fault.Memory x) e = cc e
 
 -- a run that a step ended ended with a fault of writing only where the step did, and never with one of reading
-pub by_write : {T U : Type 0} (r : Result T RunFault) (s : Result U StepFault) (f : StepFault) → s ≡ Err f → IsErrAnd r (λ x. x ≡ run_fault f) → IsErrOf r run.Write → IsErrOf s fault.Write
-by_write r s f was h e = was ∙ ap Err (write_only f (told r f run.Write h e))
+pub by_write : {T : Type 0} (r : Result T RunFault) (f e : StepFault) → IsErrAnd r (λ x. x ≡ run_fault f) → IsErrOf r (run_fault e) → e ≡ fault.Write → f ≡ fault.Write
+by_write r f e h err w = write_only f (told r f run.Write h (subst (λ k. IsErrOf r (run_fault k)) w err))
 
 pub by_read : {T : Type 0} (r : Result T RunFault) (f : StepFault) → IsErrAnd r (λ x. x ≡ run_fault f) → IsErrOf r run.Read → ⊥
 by_read r f h e = read_never f (told r f run.Read h e)

@@ -1,14 +1,19 @@
 -- Counts that rise, and what is done to a sink in several steps.
-use Rattle.std.proofs.Common.{ℕ, ◌≤◌, List, Result, IsErrOf, arith}
+use Rattle.std.proofs.Common.{ℕ, ◌≤◌, List, ◌++◌, Result, IsErrOf, arith}
 use Rattle.std.specs.declared.option.Option.{Option}
 use Rattle.std.specs.Io.KnownBytes.{Appends}
 use Rattle.ls_edge.specs.Causes.{Rose}
 use Rattle.ls_edge.proofs.Known.{appends_more}
 use Rattle.ls_session.specs.Follows.{MovesSink}
+use Rattle.ls_shell.specs.Runs.{IsExtended}
 
 -- a count that rose since later rose since before
 pub rose_since : (a b c : ℕ) → a ≤ b → Rose b c → Rose a c
 rose_since a b c l h = omega arith
+
+-- bytes were appended, and then more
+pub extended : (a b c : Option (List ℕ)) → IsExtended a b → IsExtended b c → IsExtended a c
+extended a b c h k = (h.0 ++ k.0, appends_more a b c h.0 k.0 h.1 k.1)
 
 module _ {E : Type 0} (write : E) where
   -- bytes were written, and then more was done

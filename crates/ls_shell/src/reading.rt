@@ -56,9 +56,9 @@ pub fn answer_source<R: Threads + Sync, S: Source, K: Sink, H: Shelf>(
     answer_pieces(rt, &mut run, src, out, shelf)
 }
 
-// Does so by a run that has answered nothing: the lines that have ended are answered before the next
-// read. A read offers room for as many bytes as a script may still have, or for one byte where it
-// has as many as it may.
+// Does so by a run that has answered nothing. The lines that have ended are answered before the
+// next read. A read offers room for as many bytes as a script may still have, or for one byte where
+// it has as many as it may.
 fn answer_pieces<R: Threads + Sync, S: Source, K: Sink, H: Shelf>(
     rt: &R,
     run: &mut Run,

@@ -1,16 +1,22 @@
 // Runs in which each call of the source, or of the sink, fails in turn.
-use crate::trial::{Trial, USAGE, answered, check, run};
-use ls_edge::{MemShelf, MemSink, MemSource, Source};
-use ls_shell::{Status, lspace};
+use crate::trial::{Trial, answered, check, run};
+use ls_shell::Status;
+use std::process::Abort;
 use std::test::Fail;
+use std::thread::Threads;
 
 const THREE_ITEMS: &str = "items a b c\nyes a : b\nstates\n";
 
-// The reply to each of its lines.
-const REPLIES: [&str; 3] = [
-    "ok 3\n",
-    "ok 1\n",
-    "set e {a b c}\nset c {a b}\nset a {a c}\nset 8 {a}\nset 2 {c}\nset 0 {}\nmore no\n",
+// Where each of its lines ends, and the replies to the lines before and to it.
+const ENDS: [(usize, &str); 4] = [
+    (0, ""),
+    (12, "ok 3\n"),
+    (22, "ok 3\nok 1\n"),
+    (
+        29,
+        "ok 3\nok 1\nset e {a b c}\nset c {a b}\nset a {a c}\nset 8 {a}\nset 2 {c}\nset 0 {}\n\
+         more no\n",
+    ),
 ];
 
 // A script, how many bytes a call of the sink takes at most, and how many calls a run makes.
@@ -26,90 +32,96 @@ const WRITES: [(&str, usize, u64); 7] = [
     ("items a b c d e f g h i j k l\nstates\n", 16_384, 7),
 ];
 
-// The last call of the source finds the script's end. The lines that ended within the bytes that
-// were taken are answered.
-#[test]
-fn each_read_fails_in_turn(rt: HostRuntime) -> Result<(), Fail> {
-    for (piece, calls) in [(1, 30), (2, 16), (12, 4)] {
-        let mut replies = String::new(rt.alloc());
-        for call in 1..=calls + 1 {
-            let taken = THREE_ITEMS.bytes().take((call - 1) * piece);
-            let ended = taken.filter(|b| *b == b'\n').count();
-            replies.clear();
-            for reply in REPLIES.iter().take(ended) {
-                replies.push_str(reply)?;
-            }
-            let status = if call <= calls {
-                Status::ReadFault
-            } else {
-                Status::Done
-            };
-            let trial = Trial {
-                piece,
-                failing_reads: &[call as u64],
-                status,
-                ..answered(THREE_ITEMS, &replies)
-            };
-            check(&rt, &trial)?;
+// The replies to the lines that end within so many bytes.
+fn replies_within(taken: usize) -> &'static str {
+    let mut found = "";
+    for (end, replies) in &ENDS {
+        if *end <= taken {
+            found = *replies;
         }
     }
-    Ok(())
+    found
+}
+
+// The last call of the source finds the script's end. The lines that ended within the bytes that
+// were taken are answered.
+fn check_reads<R: Threads + Sync + AllocGlobal + Abort>(
+    rt: &R,
+    piece: usize,
+    calls: u64,
+) -> Result<(), Fail> {
+    let mut taken = 0;
+    for call in 1..=calls {
+        let trial = Trial {
+            piece,
+            failing_reads: &[call],
+            status: Status::ReadFault,
+            ..answered(THREE_ITEMS, replies_within(taken))
+        };
+        check(rt, &trial)?;
+        taken = piece.saturating_add(taken);
+    }
+    let trial = Trial {
+        piece,
+        failing_reads: &[calls.saturating_add(1)],
+        ..answered(THREE_ITEMS, replies_within(taken))
+    };
+    check(rt, &trial)
+}
+
+#[test]
+fn each_read_fails_in_turn(rt: HostRuntime) -> Result<(), Fail> {
+    check_reads(&rt, 1, 30)?;
+    check_reads(&rt, 2, 16)?;
+    check_reads(&rt, 12, 4)
 }
 
 // What is written is a front of what the whole run writes.
-#[test]
-fn each_write_fails_in_turn(rt: HostRuntime) -> Result<(), Fail> {
-    for (script, piece, calls) in WRITES {
-        let plain = Trial {
-            piece,
+fn check_writes<R: Threads + Sync + AllocGlobal + Abort>(
+    rt: &R,
+    trial: &Trial,
+    calls: u64,
+) -> Result<(), Fail> {
+    let whole = run(rt, trial)?;
+    for call in 1..=calls {
+        let failing_writes = &[call];
+        let outcome = run(
+            rt,
+            &Trial {
+                failing_writes,
+                ..*trial
+            },
+        )?;
+        assert!(rt; whole.written.starts_with(outcome.written.as_str()));
+        assert_eq!(rt; outcome.status, Status::WriteFault, "for call {call}");
+    }
+    let failing_writes = &[calls.saturating_add(1)];
+    let replies = whole.written.as_str();
+    check(
+        rt,
+        &Trial {
+            failing_writes,
+            replies,
+            ..*trial
+        },
+    )
+}
+
+fn check_all_writes<R: Threads + Sync + AllocGlobal + Abort>(
+    rt: &R,
+    scripts: &[(&str, usize, u64)],
+) -> Result<(), Fail> {
+    for (script, piece, calls) in scripts {
+        let trial = Trial {
+            piece: *piece,
             ..answered(script, "")
         };
-        let whole = run(&rt, &plain)?;
-        for call in 1..=calls + 1 {
-            let trial = Trial {
-                failing_writes: &[call],
-                ..plain
-            };
-            let outcome = run(&rt, &trial)?;
-            let is_whole = outcome.written == whole.written;
-            assert!(rt;
-                whole.written.starts_with(outcome.written.as_str()),
-                "for call {call}"
-            );
-            let (status, is_last) = if call <= calls {
-                (Status::WriteFault, false)
-            } else {
-                (Status::Done, true)
-            };
-            assert_eq!(rt;
-                (outcome.status, is_whole),
-                (status, is_last),
-                "for call {call}"
-            );
-        }
+        check_writes(rt, &trial, *calls)?;
     }
     Ok(())
 }
 
 #[test]
-fn the_usage_line_is_cut_where_the_sink_fails(rt: HostRuntime) -> Result<(), Fail> {
-    let alloc = rt.alloc();
-    for (piece, failing_writes, written, status) in [
-        (1, [1].as_slice(), "", Status::WriteFault),
-        (1, [2].as_slice(), "u", Status::WriteFault),
-        (1, [].as_slice(), USAGE, Status::Usage),
-        (12, [1].as_slice(), "", Status::WriteFault),
-        (12, [2].as_slice(), "usage: lspac", Status::WriteFault),
-        (12, [].as_slice(), USAGE, Status::Usage),
-    ] {
-        let mut src = MemSource::new(THREE_ITEMS.as_bytes().to_vec(alloc)?, 1, [1].to_vec(alloc)?);
-        let mut out = MemSink::new(alloc, piece, failing_writes.to_vec(alloc)?);
-        let mut shelf = MemShelf::new(alloc, Vec::new(alloc));
-        let found = lspace(&rt, alloc, &["--help"], &mut src, &mut out, &mut shelf);
-        assert_eq!(rt; out.written(), written.as_bytes());
-        assert_eq!(rt; found, status, "for {written:?}");
-        // The source's first call is still to come.
-        assert!(rt; src.read(&mut [0u8; 1]).is_err(), "for {written:?}");
-    }
-    Ok(())
+fn each_write_fails_in_turn(rt: HostRuntime) -> Result<(), Fail> {
+    check_all_writes(&rt, &WRITES)
 }

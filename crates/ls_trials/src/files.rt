@@ -1,7 +1,9 @@
 // Items that are read from a file of the folder.
 use crate::trial::{Trial, answered, check, check_in_pieces};
 use ls_edge::LONGEST_FILE;
+use std::process::Abort;
 use std::test::Fail;
+use std::thread::Threads;
 
 // Each table is the file `t`, from which this script begins.
 const LOAD: &str = "load-items t\nstates 1\n";
@@ -108,52 +110,67 @@ const SCRIPTS: [(&[u64], &str, &str); 9] = [
     ),
 ];
 
-#[test]
-fn items_are_read_from_a_table(rt: HostRuntime) -> Result<(), Fail> {
-    for (table, replies) in TABLES {
-        let files = &[("t", table)];
+fn check_tables<R: Threads + Sync + AllocGlobal + Abort>(
+    rt: &R,
+    tables: &[(&str, &str)],
+) -> Result<(), Fail> {
+    for (table, replies) in tables {
         let trial = Trial {
-            files,
+            files: &[("t", *table)],
             ..answered(LOAD, replies)
         };
-        check(&rt, &trial)?;
+        check(rt, &trial)?;
+    }
+    Ok(())
+}
+
+#[test]
+fn items_are_read_from_a_table(rt: HostRuntime) -> Result<(), Fail> {
+    check_tables(&rt, &TABLES)
+}
+
+fn check_calls<R: Threads + Sync + AllocGlobal + Abort>(
+    rt: &R,
+    scripts: &[(&[u64], &str, &str)],
+) -> Result<(), Fail> {
+    for (failing_calls, script, replies) in scripts {
+        let trial = Trial {
+            files: &FILES,
+            failing_calls: *failing_calls,
+            ..answered(script, replies)
+        };
+        check_in_pieces(rt, &trial)?;
     }
     Ok(())
 }
 
 #[test]
 fn files_are_refused_and_the_next_line_is_answered(rt: HostRuntime) -> Result<(), Fail> {
-    for (failing_calls, script, replies) in SCRIPTS {
-        let trial = Trial {
-            files: &FILES,
-            failing_calls,
-            ..answered(script, replies)
-        };
-        check_in_pieces(&rt, &trial)?;
-    }
-    Ok(())
+    check_calls(&rt, &SCRIPTS)
+}
+
+// A table of one name of so many bytes.
+fn check_length<R: Threads + Sync + AllocGlobal + Abort>(
+    rt: &R,
+    length: usize,
+    failing_calls: &[u64],
+    replies: &str,
+) -> Result<(), Fail> {
+    let text = "a".repeat(rt.alloc(), length)?;
+    let trial = Trial {
+        files: &[("t", text.as_str())],
+        failing_calls,
+        ..answered(LOAD, replies)
+    };
+    check(rt, &trial)
 }
 
 // A file of the greatest length is read; one that is longer is told as such, also where the call is
 // to fail.
 #[test]
 fn a_file_has_a_limit(rt: HostRuntime) -> Result<(), Fail> {
-    let longest = "a".repeat(rt.alloc(), LONGEST_FILE)?;
-    let longer = format!(in rt.alloc(); "a{longest}")?;
-    let too_long = "no 28 16777217\nno 15 0\n";
-    for (text, failing_calls, replies) in [
-        (longest.as_str(), [].as_slice(), "no 12 name 1\nno 15 0\n"),
-        (longest.as_str(), [1].as_slice(), "no 27\nno 15 0\n"),
-        (longer.as_str(), [].as_slice(), too_long),
-        (longer.as_str(), [1].as_slice(), too_long),
-    ] {
-        let files = &[("t", text)];
-        let trial = Trial {
-            files,
-            failing_calls,
-            ..answered(LOAD, replies)
-        };
-        check(&rt, &trial)?;
-    }
-    Ok(())
+    check_length(&rt, LONGEST_FILE, &[], "no 12 name 1\nno 15 0\n")?;
+    check_length(&rt, LONGEST_FILE, &[1], "no 27\nno 15 0\n")?;
+    check_length(&rt, LONGEST_FILE + 1, &[], "no 28 16777217\nno 15 0\n")?;
+    check_length(&rt, LONGEST_FILE + 1, &[1], "no 28 16777217\nno 15 0\n")
 }

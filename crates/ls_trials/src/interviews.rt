@@ -1,7 +1,5 @@
 // Interviews of an expert, line for line.
-use crate::trial::{answered, check_scripts, run};
-use ls_shell::Status;
-use std::alloc::{AllocError, Global};
+use crate::trial::{check_parts, check_scripts};
 use std::test::Fail;
 
 // A script, and its replies.
@@ -108,74 +106,44 @@ fn interviews_are_answered(rt: HostRuntime) -> Result<(), Fail> {
     check_scripts(&rt, &INTERVIEWS)
 }
 
-// So many names of a letter with the numbers below `numbers`, from a number on, each behind a
-// space. After the greatest number comes 0.
-fn in_turn(
-    alloc: Global,
-    letter: char,
-    numbers: u32,
-    from: usize,
-    count: usize,
-) -> Result<String, AllocError> {
-    let mut names = String::new(alloc);
-    for number in (0..numbers).cycle().skip(from).take(count) {
-        let name = format!(in alloc; " {letter}{number}")?;
-        names.push_str(&name)?;
-    }
-    Ok(names)
-}
-
 // Bases grow with the answers, past the most sets that are kept; what is past stays so until an
 // answer is taken back.
+const PAST: &str =
+    "items q x0 x1 x2 x3 x4 x5 x6 x7 x8 x9 x10 x11 x12 x13 x14 x15 x16 x17 x18 x19 x20 x21 x22 \
+     x23 x24 x25 x26 x27 x28 x29 x30 x31\nyes x0 x1 x2 x3 x4 x5 x6 x7 : q\nyes x8 x9 x10 x11 \
+     x12 x13 x14 x15 : q\nyes x16 x17 x18 x19 x20 x21 x22 x23 : q\nbase\nyes x24 x25 x26 x27 \
+     x28 x29 x30 x31 : q\nbase\nstates 3\nyes x0 : x1\nbase\nretract 4\nbase\n";
+
 #[test]
 fn bases_have_a_limit(rt: HostRuntime) -> Result<(), Fail> {
-    let alloc = rt.alloc();
-    let mut script = format!(in alloc; "items q{}\n", in_turn(alloc, 'x', 32, 0, 32)?)?;
-    for (from, after) in [(0, ""), (8, ""), (16, "base\n"), (24, "base\nstates 3\n")] {
-        let names = in_turn(alloc, 'x', 32, from, 8)?;
-        let answer = format!(in alloc; "yes{names} : q\n{after}")?;
-        script.push_str(&answer)?;
-    }
-    script.push_str("yes x0 : x1\nbase\nretract 4\nbase\n")?;
-    let outcome = run(&rt, &answered(&script, ""))?;
-    assert_eq!(rt; outcome.status, Status::Refused);
-    let mut rest = outcome.written.as_str();
-    for part in [
+    let parts = [
         "\nbase 544\n",
         "ok 4\nno 25 4 4128\nset ffffffff8 {",
         "}\nset ffffffff0 {",
         "}\nset fffffffe8 {",
         "}\nmore yes\nok 5\nno 25 4 4128\nok 4\nset ",
         "\nbase 480\n",
-    ] {
-        let found = rest.split_once(part);
-        assert!(rt; found.is_some(), "no {part:?}");
-        rest = found.map_or("", |parts| parts.1);
-    }
-    assert_eq!(rt; rest, "");
-    Ok(())
+    ];
+    check_parts(&rt, PAST, "ok 33\nok 1\nok 2\nok 3\nset ", &parts)
 }
 
 // Answer 6 takes the base past the limit, and answer 7 is answered. Without answer 6 there is a
 // base.
+const PAST_BY_ONE: &str =
+    "items q x0 x1 x2 x3 x4 x5 x6 x7 x8 x9 x10 x11 x12 x13 x14 x15 x16 x17 x18 x19 x20 x21 x22 \
+     x23 x24 x25 x26 x27 x28 x29 x30 x31 x32 x33 x34 x35 x36\nyes x0 x1 x2 x3 x4 x5 x6 x7 x8 x9 \
+     x10 x11 : q\nyes x6 x7 x8 x9 x10 x11 x12 x13 x14 x15 x16 x17 : q\nyes x12 x13 x14 x15 x16 \
+     x17 x18 x19 x20 x21 x22 x23 : q\nyes x18 x19 x20 x21 x22 x23 x24 x25 x26 x27 x28 x29 : q\n\
+     yes x24 x25 x26 x27 x28 x29 x30 x31 x32 x33 x34 x35 : q\nyes x30 x31 x32 x33 x34 x35 x36 \
+     x0 x1 x2 x3 x4 : q\nyes x36 x0 x1 x2 x3 x4 x5 x6 x7 x8 x9 x10 : q\nbase\nstates 1\nretract \
+     6\nbase\n";
+
+const PAST_BY_ONE_FRONT: &str =
+    "ok 38\nok 1\nok 2\nok 3\nok 4\nok 5\nok 6\nok 7\nno 25 6 4789\nset fffffffffc {q x0 x1 x2 \
+     x3 x4 x5 x6 x7 x8 x9 x10 x11 x12 x13 x14 x15 x16 x17 x18 x19 x20 x21 x22 x23 x24 x25 x26 \
+     x27 x28 x29 x30 x31 x32 x33 x34 x35 x36}\nmore yes\nok 6\nset ";
+
 #[test]
 fn answers_stand_where_no_base_is_kept(rt: HostRuntime) -> Result<(), Fail> {
-    let alloc = rt.alloc();
-    let all = in_turn(alloc, 'x', 37, 0, 37)?;
-    let mut script = format!(in alloc; "items q{all}\n")?;
-    for from in [0, 6, 12, 18, 24, 30, 36] {
-        let names = in_turn(alloc, 'x', 37, from, 12)?;
-        let answer = format!(in alloc; "yes{names} : q\n")?;
-        script.push_str(&answer)?;
-    }
-    script.push_str("base\nstates 1\nretract 6\nbase\n")?;
-    let replies = format!(in alloc;
-        "ok 38\nok 1\nok 2\nok 3\nok 4\nok 5\nok 6\nok 7\nno 25 6 4789\n\
-         set fffffffffc {{q{all}}}\nmore yes\nok 6\nset "
-    )?;
-    let outcome = run(&rt, &answered(&script, ""))?;
-    assert!(rt; outcome.written.starts_with(replies.as_str()));
-    assert!(rt; outcome.written.ends_with("\nbase 2629\n"));
-    assert_eq!(rt; outcome.status, Status::Refused);
-    Ok(())
+    check_parts(&rt, PAST_BY_ONE, PAST_BY_ONE_FRONT, &["\nbase 2629\n"])
 }

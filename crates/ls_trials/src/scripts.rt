@@ -1,6 +1,8 @@
 // Scripts and their replies, line for line.
 use crate::trial::{answered, check, check_scripts};
+use std::process::Abort;
 use std::test::Fail;
+use std::thread::Threads;
 
 // A script, and its replies.
 const SCRIPTS: [(&str, &str); 16] = [
@@ -98,19 +100,24 @@ fn scripts_are_answered_in_any_pieces(rt: HostRuntime) -> Result<(), Fail> {
     check_scripts(&rt, &SCRIPTS)
 }
 
+// Begins each script by making a domain, or not.
+fn check_unbuilt<R: Threads + Sync + AllocGlobal + Abort>(
+    rt: &R,
+    domain: &str,
+    replies: &str,
+    commands: &[&str],
+) -> Result<(), Fail> {
+    for command in commands {
+        let script = format!(in rt.alloc(); "{domain}{command}\n")?;
+        check(rt, &answered(&script, replies))?;
+    }
+    Ok(())
+}
+
 // Without a domain, in a domain that lacks the names, and in one that has them.
 #[test]
 fn commands_that_are_not_built_are_refused(rt: HostRuntime) -> Result<(), Fail> {
-    for command in UNBUILT {
-        for (domain, begun) in [
-            ("", ""),
-            ("items z\n", "ok 1\n"),
-            ("items a b c\n", "ok 3\n"),
-        ] {
-            let script = format!(in rt.alloc(); "{domain}{command}\n")?;
-            let replies = format!(in rt.alloc(); "{begun}no 49\n")?;
-            check(&rt, &answered(&script, &replies))?;
-        }
-    }
-    Ok(())
+    check_unbuilt(&rt, "", "no 49\n", &UNBUILT)?;
+    check_unbuilt(&rt, "items z\n", "ok 1\nno 49\n", &UNBUILT)?;
+    check_unbuilt(&rt, "items a b c\n", "ok 3\nno 49\n", &UNBUILT)
 }

@@ -1,7 +1,9 @@
 // How runs end.
 use crate::trial::{PLAIN, Trial, USAGE, answered, check, run};
 use ls_shell::Status;
+use std::process::Abort;
 use std::test::Fail;
+use std::thread::Threads;
 
 // The six states that a Yes leaves, in pieces of 12 bytes.
 const SIX_STATES: Trial = Trial {
@@ -10,8 +12,18 @@ const SIX_STATES: Trial = Trial {
     ..PLAIN
 };
 
-// Runs that end before the end of that script: by a read or a write that fails, and by words.
-const ENDS: [Trial; 4] = [
+// A run with words, which reads nothing: the first read would fail.
+const WORDS: Trial = Trial {
+    words: &["--help"],
+    piece: 12,
+    failing_reads: &[1],
+    replies: USAGE,
+    status: Status::Usage,
+    ..PLAIN
+};
+
+// Runs that end before the end of a script: by a read or a write that fails, and by words.
+const ENDS: [Trial; 9] = [
     Trial {
         failing_reads: &[3],
         replies: "ok 3\nok 1\n",
@@ -24,17 +36,38 @@ const ENDS: [Trial; 4] = [
         status: Status::WriteFault,
         ..SIX_STATES
     },
-    Trial {
-        words: &["--help"],
-        replies: USAGE,
-        status: Status::Usage,
-        ..SIX_STATES
-    },
+    // The usage line is cut where the sink fails.
+    WORDS,
     Trial {
         words: &["--script", "none"],
-        replies: USAGE,
-        status: Status::Usage,
-        ..SIX_STATES
+        ..WORDS
+    },
+    Trial {
+        failing_writes: &[1],
+        replies: "",
+        status: Status::WriteFault,
+        ..WORDS
+    },
+    Trial {
+        failing_writes: &[2],
+        replies: "usage: lspac",
+        status: Status::WriteFault,
+        ..WORDS
+    },
+    Trial { piece: 1, ..WORDS },
+    Trial {
+        piece: 1,
+        failing_writes: &[1],
+        replies: "",
+        status: Status::WriteFault,
+        ..WORDS
+    },
+    Trial {
+        piece: 1,
+        failing_writes: &[2],
+        replies: "u",
+        status: Status::WriteFault,
+        ..WORDS
     },
 ];
 
@@ -43,36 +76,56 @@ const LONGEST_LINE: usize = 65_536;
 
 const LONGEST_SCRIPT: usize = 67_108_864;
 
-#[test]
-fn runs_end_early(rt: HostRuntime) -> Result<(), Fail> {
-    for trial in &ENDS {
-        check(&rt, trial)?;
+fn check_trials<R: Threads + Sync + AllocGlobal + Abort>(
+    rt: &R,
+    trials: &[Trial],
+) -> Result<(), Fail> {
+    for trial in trials {
+        check(rt, trial)?;
     }
     Ok(())
+}
+
+#[test]
+fn runs_end_early(rt: HostRuntime) -> Result<(), Fail> {
+    check_trials(&rt, &ENDS)
+}
+
+// Lines, and then one of so many blanks that goes on to the script's end.
+fn check_blanks<R: Threads + Sync + AllocGlobal + Abort>(
+    rt: &R,
+    lines: &str,
+    blanks: usize,
+    trial: &Trial,
+) -> Result<(), Fail> {
+    let mut script = String::from_str(rt.alloc(), lines)?;
+    for _ in 0..blanks {
+        script.push(' ')?;
+    }
+    let script = script.as_str();
+    check(rt, &Trial { script, ..*trial })
 }
 
 #[test]
 fn a_line_has_a_limit(rt: HostRuntime) -> Result<(), Fail> {
-    for (length, replies) in [(LONGEST_LINE, ""), (LONGEST_LINE + 1, "no 10 long 65537\n")] {
-        let script = " ".repeat(rt.alloc(), length)?;
-        check(&rt, &answered(&script, replies))?;
-    }
-    Ok(())
+    check_blanks(&rt, "", LONGEST_LINE, &PLAIN)?;
+    check_blanks(
+        &rt,
+        "",
+        LONGEST_LINE + 1,
+        &answered("", "no 10 long 65537\n"),
+    )
 }
 
-// A line, and then another that goes on to the script's end.
 #[test]
 fn a_script_has_a_limit(rt: HostRuntime) -> Result<(), Fail> {
-    let mut script = String::from_str(rt.alloc(), "items a\n")?;
-    let blanks = " ".repeat(rt.alloc(), LONGEST_SCRIPT - 8)?;
-    script.push_str(&blanks)?;
-    check(&rt, &answered(&script, "ok 1\nno 10 long 67108856\n"))?;
-    script.push(' ')?;
-    let trial = Trial {
+    let long_line = answered("", "ok 1\nno 10 long 67108856\n");
+    check_blanks(&rt, "items a\n", LONGEST_SCRIPT - 8, &long_line)?;
+    let long_script = Trial {
         status: Status::InputLong,
-        ..answered(&script, "ok 1\n")
+        ..answered("", "ok 1\n")
     };
-    check(&rt, &trial)
+    check_blanks(&rt, "items a\n", LONGEST_SCRIPT - 7, &long_script)
 }
 
 #[test]

@@ -82,7 +82,7 @@ pub fn check<R: Threads + Sync + AllocGlobal + Abort>(rt: &R, trial: &Trial) -> 
     let outcome = run(rt, trial)?;
     let script = trial.script;
     assert_eq!(rt; outcome.written.as_str(), trial.replies, "for {script:?}");
-    assert_eq!(rt; outcome.status, trial.status, "for {script:?}");
+    assert_eq!(rt; outcome.status, trial.status);
     Ok(())
 }
 
@@ -105,5 +105,26 @@ pub fn check_scripts<R: Threads + Sync + AllocGlobal + Abort>(
     for (script, replies) in scripts {
         check_in_pieces(rt, &answered(script, replies))?;
     }
+    Ok(())
+}
+
+/// Runs a script of whose replies one is a refusal: what is written begins with a front, has these
+/// parts one after another, and ends with the last of them.
+pub fn check_parts<R: Threads + Sync + AllocGlobal + Abort>(
+    rt: &R,
+    script: &str,
+    front: &str,
+    parts: &[&str],
+) -> Result<(), Fail> {
+    let outcome = run(rt, &answered(script, ""))?;
+    assert_eq!(rt; outcome.status, Status::Refused);
+    let mut rest = outcome.written.as_str();
+    assert!(rt; rest.starts_with(front));
+    for part in parts {
+        let found = rest.split_once(*part);
+        assert!(rt; found.is_some(), "no {part:?}");
+        rest = found.map_or("", |(_, after)| after);
+    }
+    assert_eq!(rt; rest, "");
     Ok(())
 }

@@ -2,69 +2,80 @@
 use crate::trial::{answered, check};
 use ls_set::PLACES;
 use std::alloc::{AllocError, Global};
+use std::process::Abort;
 use std::test::Fail;
+use std::thread::Threads;
 
-// The names `i0`, `i1` and so on of the items from `from` on, joined by single spaces.
-fn names_from(alloc: Global, from: u32) -> Result<String, AllocError> {
-    let mut names = String::new(alloc);
+// A script and its replies on the items `i0` to `i511`. In them `@` stands for all the names, `!`
+// for all but the first, `F` for 127 letters f and `Z` for 127 zeros: a cursor has a digit for each
+// four items.
+const WIDE: [(&str, &str); 5] = [
+    // Listings begin after any cursor, and items have a question for each other item.
+    (
+        "items @\nstates 1\nstates 1 after 0Z\nstates 1 after 0\nask\nyes i1 : i0\n\
+         states 1 after cZ\n",
+        "ok 512\nset fF {@}\nmore yes\nmore no\nno 24 length 1\nask i0 : i1\nok 1\n\
+         set 7F {!}\nmore yes\n",
+    ),
+    // One name more is too many, unless it is a name that came before.
+    ("items @ more\n", "no 12 many\n"),
+    ("items @ i0\n", "no 12 repeat 513 1\n"),
+    ("items @ i511\n", "no 12 repeat 513 512\n"),
+    // Blocks have a limit.
+    (
+        "items @\nblocks 2\nblocks 3\nblocks 511\nblocks 512\n",
+        "ok 512\nok 131328\nno 16 3\nno 16 3\nno 17\n",
+    ),
+];
+
+// The names of the items from a number on, joined by single spaces.
+fn push_names(alloc: Global, text: &mut String, from: u32) -> Result<(), AllocError> {
     for i in from..PLACES {
-        if i > from {
-            names.push(' ')?;
-        }
         let name = format!(in alloc; "i{i}")?;
-        names.push_str(&name)?;
+        if i > from {
+            text.push(' ')?;
+        }
+        text.push_str(&name)?;
     }
-    Ok(names)
+    Ok(())
 }
 
-// Cursors have a digit for each four items, and items a question for each other item.
-#[test]
-fn listings_begin_after_any_cursor(rt: HostRuntime) -> Result<(), Fail> {
-    let alloc = rt.alloc();
-    let all = names_from(alloc, 0)?;
-    let without_first = names_from(alloc, 1)?;
-    let fs = "f".repeat(alloc, PLACES as usize / 4 - 1)?;
-    let zeros = "0".repeat(alloc, PLACES as usize / 4 - 1)?;
-    let script = format!(in alloc;
-        "items {all}\nstates 1\nstates 1 after 0{zeros}\nstates 1 after 0\nask\nyes i1 : i0\n\
-         states 1 after c{zeros}\n"
-    )?;
-    let replies = format!(in alloc;
-        "ok {PLACES}\nset f{fs} {{{all}}}\nmore yes\nmore no\nno 24 length 1\nask i0 : i1\nok 1\n\
-         set 7{fs} {{{without_first}}}\nmore yes\n"
-    )?;
-    check(&rt, &answered(&script, &replies))
+// So many characters that are the same.
+fn push_same(text: &mut String, c: char, count: u32) -> Result<(), AllocError> {
+    for _ in 0..count {
+        text.push(c)?;
+    }
+    Ok(())
 }
 
-// One name more is too many, unless it is a name that came before.
-#[test]
-fn one_item_too_many_is_refused(rt: HostRuntime) -> Result<(), Fail> {
-    let alloc = rt.alloc();
-    let all = names_from(alloc, 0)?;
-    let number = PLACES + 1;
-    let last = format!(in alloc; "i{}", PLACES - 1)?;
-    let repeats_first = format!(in alloc; "repeat {number} 1")?;
-    let repeats_last = format!(in alloc; "repeat {number} {PLACES}")?;
-    for (name, fault) in [
-        ("more", "many"),
-        ("i0", repeats_first.as_str()),
-        (last.as_str(), repeats_last.as_str()),
-    ] {
-        let script = format!(in alloc; "items {all} {name}\n")?;
-        let replies = format!(in alloc; "no 12 {fault}\n")?;
-        check(&rt, &answered(&script, &replies))?;
+// The text that a short one stands for.
+fn filled(alloc: Global, short: &str) -> Result<String, AllocError> {
+    let mut text = String::new(alloc);
+    for c in short.chars() {
+        match c {
+            '@' => push_names(alloc, &mut text, 0)?,
+            '!' => push_names(alloc, &mut text, 1)?,
+            'F' => push_same(&mut text, 'f', PLACES / 4 - 1)?,
+            'Z' => push_same(&mut text, '0', PLACES / 4 - 1)?,
+            other => text.push(other)?,
+        }
+    }
+    Ok(text)
+}
+
+fn check_wide<R: Threads + Sync + AllocGlobal + Abort>(
+    rt: &R,
+    scripts: &[(&str, &str)],
+) -> Result<(), Fail> {
+    for (script, replies) in scripts {
+        let script = filled(rt.alloc(), script)?;
+        let replies = filled(rt.alloc(), replies)?;
+        check(rt, &answered(&script, &replies))?;
     }
     Ok(())
 }
 
 #[test]
-fn blocks_have_a_limit(rt: HostRuntime) -> Result<(), Fail> {
-    let alloc = rt.alloc();
-    let all = names_from(alloc, 0)?;
-    let most = PLACES - 1;
-    let script = format!(in alloc;
-        "items {all}\nblocks 2\nblocks 3\nblocks {most}\nblocks {PLACES}\n"
-    )?;
-    let replies = format!(in alloc; "ok {PLACES}\nok 131328\nno 16 3\nno 16 3\nno 17\n")?;
-    check(&rt, &answered(&script, &replies))
+fn as_many_items_as_there_can_be_are_answered(rt: HostRuntime) -> Result<(), Fail> {
+    check_wide(&rt, &WIDE)
 }

@@ -7,7 +7,7 @@ ghost use Rattle.ls_reply.specs.Texts.{bytes_of};
 ghost use Rattle.ls_reply.specs.Lines.{lines_of};
 ghost use Rattle.ls_reply.specs.Meanings.{unnamed_places};
 ghost use Rattle.ls_reply.specs.Effects.{answers};
-ghost use Rattle.ls_reply.specs.Replies.{command_effect, reply_of, is_refusal, is_refused};
+ghost use Rattle.ls_reply.specs.Replies.{command_effect, reply_of, is_refusal};
 ghost use Rattle.ls_theory.specs.Interviews.{yes_queries};
 ghost use Rattle.ls_base.specs.Followed.{IsFollowed, followed_sets};
 ghost use Rattle.ls_reply.specs.Rows.{view_row};
@@ -161,6 +161,14 @@ pub fn view<K: Sink, L: Ledger>(
     let inquiry = interview.inquiry();
     let followed = interview.base();
     let response = respond(domain, inquiry, followed, command, steps);
-    write(&texts, inquiry, followed.sets(), &response, &mut room, out, steps)?;
+    write(
+        &texts,
+        inquiry,
+        followed.sets(),
+        &response,
+        &mut room,
+        out,
+        steps,
+    )?;
     Ok(response.is_refused())
 }

@@ -1,16 +1,13 @@
-use Rattle.std.proofs.Common.{◌≡◌, [], ◌+◌, ◌<◌, ◌≤◌, ◌++◌, length, take, drop, refl, ap, sym, subst, arith, ◌∙◌, IsErrOf}
+use Rattle.std.proofs.Common.{◌≡◌, [], ◌+◌, ◌<◌, ◌≤◌, ◌++◌, length, take, drop, refl, ap, sym, subst, arith, Err}
 use Rattle.std.proofs.lemmas.List.{take-append-le}
 use Rattle.std.proofs.lemmas.Grind.{common_steps}
 use Rattle.std.specs.Io.KnownBytes.{Consumes}
-use Rattle.ls_edge.proofs.Known.{appends_none, appends_more}
-use Rattle.ls_shell.specs.Faults.{run_fault}
-use Rattle.ls_session.specs.declared.step_fault.StepFault.TheVariants as fault
-use Rattle.ls_shell.specs.declared.run_fault.RunFault.TheVariants as run
+use Rattle.ls_edge.proofs.Known.{appends_none}
 use Rattle.ls_shell.specs.Runs.{longest_script}
 use Rattle.ls_shell.proofs.Answered.{takes_if}
 use Rattle.ls_shell.proofs.Pieces.{read_none, read_fails, read_end, stops_end, read_long, read_more, stops_more}
 use Rattle.ls_shell.proofs.Faulting.{by_write, by_read}
-use Rattle.ls_shell.proofs.Moves.{rose_since}
+use Rattle.ls_shell.proofs.Moves.{rose_since, extended}
 use Rattle.ls_shell.proofs.reading.answer_pieces.Goals as goal
 
 pub pieces-init : goal.pieces-init
@@ -39,19 +36,13 @@ returns-in_err-finish-clause-stopped g c = λ e err.
     let before = c.pieces.invariant in
     let some : 0 < length c.read.new.buf = grind (arith, common_steps) in
     takes_if _ _ _ _ _ _ _ _ _ _
-    (λ w.
-    let failed : IsErrOf c.from_residual.result run.Write = subst (λ k. IsErrOf c.from_residual.result (run_fault k)) w err in
-    let wrote : IsErrOf c.finish.result fault.Write = by_write c.from_residual.result c.finish.result c.in_err-finish.field-0.0 c.in_err-finish.was c.from_residual.ensures.1 failed in
-    sym c.in_err-finish.was ∙ wrote)
+    (λ w. ap Err (by_write c.from_residual.result c.in_err-finish.field-0.0 e c.from_residual.ensures.1 err w))
     (stops_end (g.S.Source.left c.args.src.now) (g.H.Shelf.files c.args.shelf.now) (g.H.Shelf.faults c.args.shelf.now) (g.K.Sink.written c.args.out.now) (g.S.Source.left c.pieces.src) (g.S.Source.left c.read.new.self) c.pieces.count c.pieces.run (g.H.Shelf.files c.pieces.shelf) (g.H.Shelf.files c.finish.new.shelf)
     (g.H.Shelf.faults c.pieces.shelf) (g.H.Shelf.faults c.finish.new.shelf) (g.K.Sink.written c.pieces.out) (g.K.Sink.written c.finish.new.out) before.read before.few
     (subst (λ k. Consumes (g.S.Source.left c.pieces.src) (g.S.Source.left c.read.new.self) (take k c.read.new.buf)) c.if-taken-eq0.true c.in-Ok.ensures.bytes.0) (c.in-Ok.ensures.bytes.1 c.if-taken-eq0.true some) _ c.in_err-finish.ensures.stopped)
 
 pub returns-in_err-finish-clause-kept : goal.returns-in_err-finish-clause-kept
-returns-in_err-finish-clause-kept g c =
-    let before = c.pieces.invariant in
-    let more = c.finish.ensures.sink.kept in
-    (before.kept.0 ++ more.0, appends_more (g.K.Sink.written c.args.out.now) (g.K.Sink.written c.pieces.out) (g.K.Sink.written c.finish.new.out) before.kept.0 more.0 before.kept.1 more.1)
+returns-in_err-finish-clause-kept g c = extended (g.K.Sink.written c.args.out.now) (g.K.Sink.written c.pieces.out) (g.K.Sink.written c.finish.new.out) c.pieces.invariant.kept c.finish.ensures.sink.kept
 
 pub returns-then-taken-eq0-clause-done : goal.returns-then-taken-eq0-clause-done
 returns-then-taken-eq0-clause-done g c =
@@ -62,10 +53,7 @@ returns-then-taken-eq0-clause-done g c =
     (subst (λ k. Consumes (g.S.Source.left c.pieces.src) (g.S.Source.left c.read.new.self) (take k c.read.new.buf)) c.if-taken-eq0.true c.in-Ok.ensures.bytes.0) (c.in-Ok.ensures.bytes.1 c.if-taken-eq0.true some) _ c.in_ok-finish.ensures.answered
 
 pub returns-then-taken-eq0-clause-kept : goal.returns-then-taken-eq0-clause-kept
-returns-then-taken-eq0-clause-kept g c =
-    let before = c.pieces.invariant in
-    let more = c.finish.ensures.sink.kept in
-    (before.kept.0 ++ more.0, appends_more (g.K.Sink.written c.args.out.now) (g.K.Sink.written c.pieces.out) (g.K.Sink.written c.finish.new.out) before.kept.0 more.0 before.kept.1 more.1)
+returns-then-taken-eq0-clause-kept g c = extended (g.K.Sink.written c.args.out.now) (g.K.Sink.written c.pieces.out) (g.K.Sink.written c.finish.new.out) c.pieces.invariant.kept c.finish.ensures.sink.kept
 
 pub returns-then-count-gt-LONGEST_SCRIPT-clause-long : goal.returns-then-count-gt-LONGEST_SCRIPT-clause-long
 returns-then-count-gt-LONGEST_SCRIPT-clause-long g c = λ e.
@@ -91,7 +79,7 @@ pieces-preserved g c =
           (subst (Consumes (g.S.Source.left c.pieces.src) (g.S.Source.left c.read.new.self)) (sym front) c.in-Ok.ensures.bytes.0) (omega (arith, ap length front, c.in-Ok.ensures.bound.1)) (omega arith) c.take.new.self c.in_ok-take.ensures.answered;
       few = omega arith;
       shelf_later = omega (arith, before.shelf_later, c.take.ensures.later);
-      kept = (before.kept.0 ++ more.0, appends_more (g.K.Sink.written c.args.out.now) (g.K.Sink.written c.pieces.out) (g.K.Sink.written c.take.new.out) before.kept.0 more.0 before.kept.1 more.1);
+      kept = extended (g.K.Sink.written c.args.out.now) (g.K.Sink.written c.pieces.out) (g.K.Sink.written c.take.new.out) before.kept more;
       source_later = omega (arith, before.source_later, c.read.ensures.cause.later);
       sink_later = omega (arith, before.sink_later, c.take.ensures.sink.later);
     }
@@ -108,16 +96,10 @@ returns-in_err-take-clause-stopped g c = λ e err.
     let piece = take n (buf ++ drop c.max-offered.result c.pieces.piece) in
     let front : take n (buf ++ drop c.max-offered.result c.pieces.piece) ≡ take n buf = rw take-append-le refl in
     takes_if _ _ _ _ _ _ _ _ _ _
-    (λ w.
-    let failed : IsErrOf c.from_residual-in_err-take.result run.Write = subst (λ k. IsErrOf c.from_residual-in_err-take.result (run_fault k)) w err in
-    let wrote : IsErrOf c.take.result fault.Write = by_write c.from_residual-in_err-take.result c.take.result c.in_err-take.field-0.0 c.in_err-take.was c.from_residual-in_err-take.ensures.1 failed in
-    sym c.in_err-take.was ∙ wrote)
+    (λ w. ap Err (by_write c.from_residual-in_err-take.result c.in_err-take.field-0.0 e c.from_residual-in_err-take.ensures.1 err w))
     (stops_more (g.S.Source.left c.args.src.now) (g.H.Shelf.files c.args.shelf.now) (g.H.Shelf.faults c.args.shelf.now) (g.K.Sink.written c.args.out.now) (g.S.Source.left c.pieces.src) (g.S.Source.left c.read.new.self) c.pieces.count c.pieces.run (g.H.Shelf.files c.pieces.shelf) (g.H.Shelf.files c.take.new.shelf)
     (g.H.Shelf.faults c.pieces.shelf) (g.H.Shelf.faults c.take.new.shelf) (g.K.Sink.written c.pieces.out) (g.K.Sink.written c.take.new.out) before.read before.few n piece
     (subst (Consumes (g.S.Source.left c.pieces.src) (g.S.Source.left c.read.new.self)) (sym front) c.in-Ok.ensures.bytes.0) (omega (arith, ap length front, c.in-Ok.ensures.bound.1)) (omega arith) _ c.in_err-take.ensures.stopped)
 
 pub returns-in_err-take-clause-kept : goal.returns-in_err-take-clause-kept
-returns-in_err-take-clause-kept g c =
-    let before = c.pieces.invariant in
-    let more = c.take.ensures.sink.kept in
-    (before.kept.0 ++ more.0, appends_more (g.K.Sink.written c.args.out.now) (g.K.Sink.written c.pieces.out) (g.K.Sink.written c.take.new.out) before.kept.0 more.0 before.kept.1 more.1)
+returns-in_err-take-clause-kept g c = extended (g.K.Sink.written c.args.out.now) (g.K.Sink.written c.pieces.out) (g.K.Sink.written c.take.new.out) c.pieces.invariant.kept c.take.ensures.sink.kept

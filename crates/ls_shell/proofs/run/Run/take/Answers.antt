@@ -1,6 +1,6 @@
 use Rattle.std.proofs.Common.{[], ◌++◌, drop, sym, subst, refl, arith, IsErrOf, ◌∙◌}
 use Rattle.std.proofs.lemmas.Grind.{common_steps}
-use Rattle.ls_edge.proofs.Known.{appends_none, appends_more}
+use Rattle.ls_edge.proofs.Known.{appends_none}
 use Rattle.ls_lines.specs.Lines.{lines}
 use Rattle.ls_lines.specs.Cutting.{IsTaken}
 use Rattle.ls_reply.specs.Transcripts.{bare_lines}
@@ -11,7 +11,7 @@ use Rattle.ls_shell.proofs.Joined.{few_pending}
 use Rattle.ls_shell.proofs.Followed.{OnErr_from}
 use Rattle.ls_shell.proofs.Answered.{answers_on, answers_kept, stops_if}
 use Rattle.ls_shell.proofs.Taken.{taken_more, taken_stops}
-use Rattle.ls_shell.proofs.Moves.{moves_more, moves_same}
+use Rattle.ls_shell.proofs.Moves.{moves_more, moves_same, extended}
 use Rattle.ls_shell.proofs.run.Run.take.Goals as goal
 
 pub loop-rest-init : goal.loop-rest-init
@@ -34,7 +34,6 @@ pub loop-rest-preserved : goal.loop-rest-preserved
 loop-rest-preserved g c =
     let before = c.loop-rest.invariant in
     let rest = c.loop-rest.rest.now in
-    let more = c.answer.ensures.sink.kept in
     record {
       answered = λ m taken faults start few a.
           let bytes = taken ++ c.args.piece.now in
@@ -44,7 +43,7 @@ loop-rest-preserved g c =
           (taken_more m bytes rest c.in-Some.ended c.loop-rest.self (record c.loop-rest.self { cutter = c.take-count.new.self }) c.answer.new.self (g.H.Shelf.files c.loop-rest.shelf) (g.H.Shelf.files c.answer.new.shelf) faults _ _ start _ _ refl refl b c.take-count.result.0 taken_by StepFault fault.Write
           c.in_ok-answer.ensures.answered);
       shelf_later = omega (arith, before.shelf_later, c.answer.ensures.later);
-      kept = (before.kept.0 ++ more.0, appends_more (g.K.Sink.written c.args.out.now) (g.K.Sink.written c.loop-rest.out) (g.K.Sink.written c.answer.new.out) before.kept.0 more.0 before.kept.1 more.1);
+      kept = extended (g.K.Sink.written c.args.out.now) (g.K.Sink.written c.loop-rest.out) (g.K.Sink.written c.answer.new.out) before.kept c.answer.ensures.sink.kept;
       later = omega (arith, before.later, c.answer.ensures.sink.later);
     }
 
