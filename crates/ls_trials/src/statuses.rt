@@ -5,70 +5,29 @@ use std::process::Abort;
 use std::test::Fail;
 use std::thread::Threads;
 
-// The six states that a Yes leaves, in pieces of 12 bytes.
-const SIX_STATES: Trial = Trial {
-    script: "items a b c\nyes a : b\nstates\n",
-    piece: 12,
-    ..PLAIN
-};
+// The six states that a Yes leaves.
+const SIX_STATES: &str = "items a b c\nyes a : b\nstates\n";
 
-// A run with words, which reads nothing: the first read would fail.
-const WORDS: Trial = Trial {
-    words: &["--help"],
-    piece: 12,
-    failing_reads: &[1],
-    replies: USAGE,
-    status: Status::Usage,
-    ..PLAIN
-};
-
-// Runs that end before the end of a script: by a read or a write that fails, and by words.
-const ENDS: [Trial; 9] = [
-    Trial {
-        failing_reads: &[3],
-        replies: "ok 3\nok 1\n",
-        status: Status::ReadFault,
-        ..SIX_STATES
-    },
-    Trial {
-        failing_writes: &[2],
-        replies: "ok 3\n",
-        status: Status::WriteFault,
-        ..SIX_STATES
-    },
-    // The usage line is cut where the sink fails.
-    WORDS,
-    Trial {
-        words: &["--script", "none"],
-        ..WORDS
-    },
-    Trial {
-        failing_writes: &[1],
-        replies: "",
-        status: Status::WriteFault,
-        ..WORDS
-    },
-    Trial {
-        failing_writes: &[2],
-        replies: "usage: lspac",
-        status: Status::WriteFault,
-        ..WORDS
-    },
-    Trial { piece: 1, ..WORDS },
-    Trial {
-        piece: 1,
-        failing_writes: &[1],
-        replies: "",
-        status: Status::WriteFault,
-        ..WORDS
-    },
-    Trial {
-        piece: 1,
-        failing_writes: &[2],
-        replies: "u",
-        status: Status::WriteFault,
-        ..WORDS
-    },
+// How runs over that script end before its end, by a read or a write that fails, and by words: the
+// words, how many bytes a call moves at most, which reads and which writes fail, what is written,
+// and the status. With words nothing is read, since the first read would fail.
+const ENDS: [(&[&str], usize, &[u64], &[u64], &str, Status); 9] = [
+    (&[], 12, &[3], &[], "ok 3\nok 1\n", Status::ReadFault),
+    (&[], 12, &[], &[2], "ok 3\n", Status::WriteFault),
+    (&["--script", "none"], 12, &[1], &[], USAGE, Status::Usage),
+    (&["--help"], 12, &[1], &[], USAGE, Status::Usage),
+    (&["--help"], 12, &[1], &[1], "", Status::WriteFault),
+    (
+        &["--help"],
+        12,
+        &[1],
+        &[2],
+        "usage: lspac",
+        Status::WriteFault,
+    ),
+    (&["--help"], 1, &[1], &[], USAGE, Status::Usage),
+    (&["--help"], 1, &[1], &[1], "", Status::WriteFault),
+    (&["--help"], 1, &[1], &[2], "u", Status::WriteFault),
 ];
 
 // The most bytes of a line, and of a script.
@@ -76,19 +35,29 @@ const LONGEST_LINE: usize = 65_536;
 
 const LONGEST_SCRIPT: usize = 67_108_864;
 
-fn check_trials<R: Threads + Sync + AllocGlobal + Abort>(
+fn check_ends<R: Threads + Sync + AllocGlobal + Abort>(
     rt: &R,
-    trials: &[Trial],
+    ends: &[(&[&str], usize, &[u64], &[u64], &str, Status)],
 ) -> Result<(), Fail> {
-    for trial in trials {
-        check(rt, trial)?;
+    for (words, piece, failing_reads, failing_writes, replies, status) in ends {
+        let trial = Trial {
+            words: *words,
+            script: SIX_STATES,
+            piece: *piece,
+            failing_reads: *failing_reads,
+            failing_writes: *failing_writes,
+            replies: *replies,
+            status: *status,
+            ..PLAIN
+        };
+        check(rt, &trial)?;
     }
     Ok(())
 }
 
 #[test]
 fn runs_end_early(rt: HostRuntime) -> Result<(), Fail> {
-    check_trials(&rt, &ENDS)
+    check_ends(&rt, &ENDS)
 }
 
 // Lines, and then one of so many blanks that goes on to the script's end.

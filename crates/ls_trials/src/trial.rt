@@ -1,6 +1,7 @@
 // A run of the program over objects in memory.
 use ls_edge::{MemShelf, MemSink, MemSource};
 use ls_shell::{Status, lspace};
+use std::alloc::{AllocError, Global};
 use std::process::Abort;
 use std::test::Fail;
 use std::thread::Threads;
@@ -44,21 +45,37 @@ pub struct Outcome {
     pub status: Status,
 }
 
-pub fn run<R: Threads + Sync + AllocGlobal>(rt: &R, trial: &Trial) -> Result<Outcome, Fail> {
-    let alloc = rt.alloc();
-    let piece = trial.piece.max(1);
+fn source_of(alloc: Global, trial: &Trial) -> Result<MemSource, AllocError> {
     let script = trial.script.as_bytes().to_vec(alloc)?;
-    let mut src = MemSource::new(script, piece, trial.failing_reads.to_vec(alloc)?);
-    let mut out = MemSink::new(alloc, piece, trial.failing_writes.to_vec(alloc)?);
+    let failing = trial.failing_reads.to_vec(alloc)?;
+    Ok(MemSource::new(script, trial.piece.max(1), failing))
+}
+
+fn sink_of(alloc: Global, trial: &Trial) -> Result<MemSink, AllocError> {
+    let failing = trial.failing_writes.to_vec(alloc)?;
+    Ok(MemSink::new(alloc, trial.piece.max(1), failing))
+}
+
+fn shelf_of(alloc: Global, trial: &Trial) -> Result<MemShelf, AllocError> {
     let mut shelf = MemShelf::new(alloc, trial.failing_calls.to_vec(alloc)?);
     for (name, text) in trial.files {
         shelf.put(name, text.as_bytes())?;
     }
+    Ok(shelf)
+}
+
+fn text_of(alloc: Global, bytes: &[u8]) -> Result<String, Fail> {
+    Ok(String::from_utf8(bytes.to_vec(alloc)?)?)
+}
+
+pub fn run<R: Threads + Sync + AllocGlobal>(rt: &R, trial: &Trial) -> Result<Outcome, Fail> {
+    let alloc = rt.alloc();
+    let mut src = source_of(alloc, trial)?;
+    let mut out = sink_of(alloc, trial)?;
+    let mut shelf = shelf_of(alloc, trial)?;
     let status = lspace(rt, alloc, trial.words, &mut src, &mut out, &mut shelf);
-    Ok(Outcome {
-        written: String::from_utf8(out.written().to_vec(alloc)?)?,
-        status,
-    })
+    let written = text_of(alloc, out.written())?;
+    Ok(Outcome { written, status })
 }
 
 /// A run over a script that is answered to its end by these replies.
