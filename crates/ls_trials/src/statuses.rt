@@ -35,9 +35,9 @@ const LONGEST_LINE: usize = 65_536;
 
 const LONGEST_SCRIPT: usize = 67_108_864;
 
-fn check_ends<R: Threads + Sync + AllocGlobal + Abort>(
+fn check_ends<'a, R: Threads + Sync + AllocGlobal + Abort>(
     rt: &R,
-    ends: &[(&[&str], usize, &[u64], &[u64], &str, Status)],
+    ends: &[(&'a [&'a str], usize, &'a [u64], &'a [u64], &'a str, Status)],
 ) -> Result<(), Fail> {
     for (words, piece, failing_reads, failing_writes, replies, status) in ends {
         let trial = Trial {
