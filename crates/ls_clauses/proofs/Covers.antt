@@ -1,5 +1,5 @@
 -- Sets that have each item, and the starts that an interview can have.
-use Rattle.std.proofs.Common.{ℕ, ◌≡◌, ◌↔◌, inl, inr, true, false, List, [], length, None, refl, sym, ap, ◌∙◌, true≢false, ltb-true, lt-ltb}
+use Rattle.std.proofs.Common.{ℕ, ◌≡◌, ◌↔◌, inl, inr, true, false, List, [], None, refl, sym, ap, ◌∙◌, true≢false, ltb-true, lt-ltb}
 use Rattle.std.specs.List.{list_all}
 use Rattle.std.proofs.lemmas.Bool.{cases_Bool, and_from}
 use Rattle.ls_set.specs.ItemSet.{Items, has, full, minus, least, is_same, is_within, is_among, IsInOrder}

@@ -1,4 +1,4 @@
--- Examples on the items a b c: a surmise function in which b has two clauses, what is wrong with others, and starts by base sets.
+-- Examples on the items a b c: a surmise function in which b has two clauses, flaws of others, and starts by base sets.
 use Rattle.std.proofs.Common.{◌≡◌, List, [], ◌∷◌, Some, None, false, refl}
 use Rattle.std.specs.declared.cmp.Ordering.TheVariants.{Greater}
 use Rattle.ls_set.specs.ItemSet.{Items, full, minus, least}

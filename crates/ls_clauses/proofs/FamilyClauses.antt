@@ -1,5 +1,5 @@
 -- The surmise function of a family: its clauses are the atoms, and the sets that meet it are the members.
-use Rattle.std.proofs.Common.{ℕ, zero, suc, ◌+◌, ◌<◌, ◌≤◌, ◌≡◌, inl, inr, true, List, [], ◌∷◌, map, length, get_or, refl, sym, ap, ◌∙◌, subst, arith, true≢false, ltb-true, lt-ltb}
+use Rattle.std.proofs.Common.{ℕ, zero, suc, ◌+◌, ◌<◌, ◌≤◌, ◌≡◌, inl, inr, true, List, [], map, length, get_or, refl, sym, ap, ◌∙◌, subst, arith, true≢false, ltb-true, lt-ltb}
 use Rattle.std.proofs.lemmas.List.{same_lists, get_or_default}
 use Rattle.std.proofs.lemmas.Bool.{cases_lt}
 use Rattle.ls_set.specs.ItemSet.{Items, has, full, is_among, numbers_from, IsWithin, IsInOrder}

@@ -1,5 +1,5 @@
 -- Interiors among what a list spans, and lists with the same sets.
-use Rattle.std.proofs.Common.{ℕ, ◌≡◌, true, List, sym, ap, ◌∙◌}
+use Rattle.std.proofs.Common.{ℕ, ◌≡◌, List, sym, ap, ◌∙◌}
 use Rattle.ls_set.specs.ItemSet.{Items, has, is_among}
 use Rattle.ls_set.proofs.Sets.{same_within}
 use Rattle.ls_theory.specs.Families.{interior}

@@ -1,6 +1,6 @@
--- What is wrong with clauses that are read, in whatever order they stand. The clauses of an item are told by their numbers, from 1.
---     flaw n clauses      the first condition of a surmise function on n items that the clauses violate, with the least item,
---         then the first clause, then the least other item or the first other clause for which they do
+-- What is wrong with clauses that are read, in whatever order they stand. A clause is told by its item and its number, from 1.
+--     flaw n clauses      the first condition of a surmise function on n items that they violate: at the least item, then by
+--         its first clause, then with the least other item or the first later clause
 use Rattle.std.specs.Prelude.{ℕ, suc, ◌+◌, ◌-◌, Bool, not, ◌||◌, ◌==◌, List, [], ◌∷◌, length, find, slice_index_or, Option, None, option_map}
 use Rattle.std.specs.Option.{option_or}
 use Rattle.ls_set.specs.ItemSet.{Items, has, empty, is_within, items, numbers_from}

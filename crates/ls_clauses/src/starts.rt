@@ -14,9 +14,9 @@ ghost use Rattle.ls_laws.specs.Families.{IsFamily};
 ghost use Rattle.ls_laws.specs.Forced.{IsSound};
 ghost use Rattle.ls_clauses.specs.Starts.{IsCover, IsStart};
 
-/// The sets that meet listed sets are a space where each item is in some of them, as it is where no
-/// item is missing in their union. Those that are no union of others are its base, and the union of
-/// those within a set is its interior.
+/// The sets that meet listed sets are a space where each item is in some listed set, which is so
+/// exactly where their union lacks none. The listed sets that are no union of others are the base,
+/// and the union of those within a set is its interior.
 pub fn base_starts_are_spaces()
     ensures space { (n : ℕ) (sets : List Items) → IsCover n sets →
         is_space (full n) (compat n (Sets sets) []) ≡ true }

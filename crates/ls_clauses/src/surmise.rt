@@ -1,4 +1,4 @@
-// Laws of surmise functions.
+// Laws of surmise functions, and of clauses that are read.
 ghost use Rattle.std.specs.Prelude.{◌≡◌, ◌<◌, ℕ, true, false, List, [], length, None};
 ghost use Rattle.ls_set.specs.ItemSet.{Items, full, without, is_among, IsInOrder, IsWithin};
 ghost use Rattle.ls_set.specs.declared.query.Query.{Query};
@@ -22,7 +22,7 @@ pub fn clauses_meet_unions()
         compat n (Clauses clauses) yeses ≡ compat n (Sets (all_clauses clauses)) yeses }
     ensures spanned { (n : ℕ) (clauses : List (List Items)) → IsSurmise n clauses →
         compat n (Clauses clauses) [] ≡ spanned n (all_clauses clauses) }
-    ensures small { (n : ℕ) (clauses : List (List Items)) → IsSurmise n clauses →
+    ensures is_on { (n : ℕ) (clauses : List (List Items)) → IsSurmise n clauses →
         IsOn n (all_clauses clauses) }
     ensures space { (n : ℕ) (clauses : List (List Items)) → IsSurmise n clauses →
         is_space (full n) (compat n (Clauses clauses) []) ≡ true }
@@ -75,13 +75,14 @@ pub fn families_have_clauses()
         compat n (Clauses (clauses_at n (spanned n sets))) [] ≡ compat n (Sets sets) [] }
 {}
 
-/// Clauses that are read are a surmise function, once those of each item are put in order, where they
-/// have no flaw, and the same sets meet them. A surmise function has no flaw.
+/// Clauses without a flaw are a surmise function once those of each item are put in order, and the
+/// same sets meet them then. A surmise function has no flaw.
 pub fn flawless_clauses_are_surmise_functions()
     ensures ordered { (n : ℕ) (clauses ordered : List (List Items)) → length clauses ≡ n →
         ((q : ℕ) → IsOn n (clauses_of clauses q)) → IsPutInOrder clauses ordered →
         flaw n clauses ≡ None → IsSurmise n ordered }
-    ensures meets { (clauses ordered : List (List Items)) (k : Items) → IsPutInOrder clauses ordered →
+    ensures meets { (clauses ordered : List (List Items)) (k : Items) →
+        IsPutInOrder clauses ordered →
         meets (Clauses ordered) k ≡ meets (Clauses clauses) k }
     ensures only { (n : ℕ) (clauses : List (List Items)) → IsSurmise n clauses →
         flaw n clauses ≡ None }

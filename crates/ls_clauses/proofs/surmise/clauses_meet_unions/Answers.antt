@@ -9,6 +9,6 @@ returns c = record {
   meets = λ n clauses k surmise. meets-unions n clauses surmise k;
   compatible = λ n clauses yeses surmise. compat-clauses n clauses surmise yeses;
   spanned = compat-spanned;
-  small = all-small;
+  is_on = all-small;
   space = λ n clauses surmise. start-space n (Clauses clauses) [] surmise refl;
 }
