@@ -7,15 +7,10 @@ use Rattle.ls_theory.specs.Families.{unions}
 use Rattle.ls_theory.specs.Starts.{Start, Free, Clauses, Sets}
 use Rattle.ls_laws.specs.Spans.{IsOn}
 use Rattle.ls_clauses.specs.Surmise.{IsSurmise}
-use mathlib.Core.Bool.{Bool-set}
 
 pub record IsCover (n : ℕ) (sets : List Items) : Type 0 where
   pub small : IsOn n sets
   pub each_item : (q : ℕ) → q < n → has (unions sets) q ≡ true
-
--- any two proofs that sets have each item are equal
-pub IsCover-prop : (n : ℕ) (sets : List Items) → IsProp (IsCover n sets)
-IsCover-prop n sets = hlevel Bool-set
 
 abbrev pub IsStart : ℕ → Start → Type 0
 IsStart n Free = ⊤

@@ -6,11 +6,9 @@
 --     IsPutInOrder clauses ordered      the same clauses, those of each item in the order of sets
 use Rattle.std.specs.Prelude.{ℕ, ◌<◌, ◌≡◌, ◌≢◌, Bool, true, List, [], map, length, slice_index_or}
 use Rattle.std.specs.List.{list_any, flat_map}
-use Rattle.ls_set.specs.ItemSet.{Items, has, is_within, is_among, is_same, numbers_from, IsInOrder, IsInOrder-prop}
+use Rattle.ls_set.specs.ItemSet.{Items, has, is_within, is_among, is_same, numbers_from, IsInOrder}
 use Rattle.ls_theory.specs.Bases.{atoms_at}
 use Rattle.ls_laws.specs.Spans.{IsOn}
-use native.Mathlib.Nat.{ℕ_set}
-use mathlib.Core.Bool.{Bool-set}
 
 -- the clauses of item q; a number that is no item has none
 abbrev pub clauses_of : List (List Items) → ℕ → List Items
@@ -33,10 +31,6 @@ pub record IsSurmise (n : ℕ) (clauses : List (List Items)) : Type 0 where
   pub reflexive : (q : ℕ) (c : Items) → is_among (clauses_of clauses q) c ≡ true → has c q ≡ true
   pub closed : (q : ℕ) (c : Items) (r : ℕ) → is_among (clauses_of clauses q) c ≡ true → has c r ≡ true → has_clause_within clauses r c ≡ true
   pub incomparable : (q : ℕ) (c d : Items) → is_among (clauses_of clauses q) c ≡ true → is_among (clauses_of clauses q) d ≡ true → is_within c d ≡ true → is_same c d ≡ true
-
--- any two proofs that clauses are a surmise function are equal
-pub IsSurmise-prop : (n : ℕ) (clauses : List (List Items)) → IsProp (IsSurmise n clauses)
-IsSurmise-prop n clauses = hlevel (IsInOrder-prop, Bool-set, ℕ_set)
 
 -- the clauses of an item are the atoms at it
 abbrev pub clauses_at : ℕ → List Items → List (List Items)
