@@ -1,0 +1,83 @@
+-- Sets that have each item, and the starts that an interview can have.
+use Rattle.std.proofs.Common.{ℕ, ◌≡◌, ◌↔◌, inl, inr, true, false, List, [], None, refl, sym, ap, ◌∙◌, true≢false, ltb-true, lt-ltb}
+use Rattle.std.specs.List.{list_all}
+use Rattle.std.proofs.lemmas.Bool.{cases_Bool, and_from}
+use Rattle.ls_set.specs.ItemSet.{Items, has, full, minus, least, is_same, is_within, is_among, IsInOrder}
+use Rattle.ls_set.specs.Query.{is_good}
+use Rattle.ls_set.specs.declared.query.Query.{Query}
+use Rattle.ls_set.proofs.Sets.{has-full, has-minus, Decides-is_same, is_within-from}
+use Rattle.ls_set.proofs.Ascending.{least-none}
+use Rattle.ls_set.proofs.Listed.{least-none_left}
+use Rattle.ls_theory.specs.Families.{unions, interior, is_space}
+use Rattle.ls_theory.specs.Starts.{Start, Free, Clauses, Sets, meets}
+use Rattle.ls_theory.specs.Interviews.{begun}
+use Rattle.ls_theory.specs.Compatible.{compat}
+use Rattle.ls_theory.specs.Bases.{base}
+use Rattle.ls_laws.specs.Spans.{IsOn, needed, spanned}
+use Rattle.ls_laws.specs.Forced.{IsSound}
+use Rattle.ls_laws.proofs.Lists.{some-from}
+use Rattle.ls_laws.proofs.Interiors.{has-unions, interior-whole}
+use Rattle.ls_laws.proofs.Spans.{among-spanned, spanned-has, spanned-whole, spanned-in_order, base-needed}
+use Rattle.ls_laws.proofs.Compat.{compat-space}
+use Rattle.ls_laws.proofs.BaseStarts.{compat-sets}
+use Rattle.ls_laws.proofs.Accepting.{begun-sound}
+use Rattle.ls_clauses.specs.Surmise.{clauses_of}
+use Rattle.ls_clauses.specs.Starts.{IsCover, IsStart}
+use Rattle.ls_clauses.proofs.Spanning.{interior-spanned, spans-same, part-same}
+use Rattle.ls_clauses.proofs.Clauses.{some_set, within-clause, meets-from}
+
+-- ---- sets that have each item
+
+pub cover-full : (n : ℕ) (sets : List Items) → IsCover n sets → interior sets (full n) ≡ full n
+cover-full n sets cover = interior-whole sets (full n) (λ q h.
+    let r = some-from (λ s. has s q) sets (sym (has-unions sets q) ∙ cover.each_item q (ltb-true q n (sym (has-full n q) ∙ h))) in
+    (r.0, r.1, cover.small r.0 r.1, r.2))
+
+pub cover-member : (n : ℕ) (sets : List Items) → IsCover n sets → is_among (spanned n sets) (full n) ≡ true
+cover-member n sets cover =
+    among-spanned n sets (full n) ∙ and_from (is_within (full n) (full n)) (is_same (interior sets (full n)) (full n)) (is_within-from (full n) (full n) (λ i a. a))
+    ((Decides-is_same (interior sets (full n)) (full n)).1 (cover-full n sets cover))
+
+-- the search for an item that no set has
+pub cover-least : (n : ℕ) (sets : List Items) → IsOn n sets → IsCover n sets ↔ (least (minus (full n) (unions sets)) ≡ None)
+cover-least n sets small = (
+  λ cover. least-none (minus (full n) (unions sets)) (λ q. has-minus (full n) (unions sets) q ∙ elim (cases_Bool (has (full n) q)) [
+    | inl a ↦ rw (a, cover.each_item q (ltb-true q n (sym (has-full n q) ∙ a))) refl
+    | inr a ↦ rw a refl
+  ]),
+  λ e. record {
+    small = small;
+    each_item = λ q l. elim (cases_Bool (has (unions sets) q)) [
+      | inl a ↦ a
+      | inr a ↦
+          let x : has (minus (full n) (unions sets)) q ≡ false = least-none_left (minus (full n) (unions sets)) q e in
+          absurd (true≢false (sym (has-minus (full n) (unions sets) q ∙ rw (has-full n q ∙ lt-ltb q n l, a) refl) ∙ x))
+    ];
+  },
+)
+
+-- ---- the sets that meet listed sets
+
+pub base-sets : (n : ℕ) (sets ordered : List Items) → IsOn n sets → IsInOrder ordered → ((k : Items) → is_among ordered k ≡ is_among sets k) → base (compat n (Sets sets) []) ≡ needed ordered
+base-sets n sets ordered small order same =
+    ap base (compat-sets n sets)
+    ∙ base-needed (spanned n sets) ordered (spanned-in_order n sets) order
+    (part-same (spanned n sets) sets ordered same (spanned-has n sets small)) (spans-same (spanned n sets) sets ordered same (spanned-whole n sets))
+
+pub interior-sets : (n : ℕ) (sets : List Items) → IsOn n sets → (s : Items) → interior (compat n (Sets sets) []) s ≡ interior sets s
+interior-sets n sets small s = ap (λ f. interior f s) (compat-sets n sets) ∙ interior-spanned n sets small s
+
+-- ---- starts
+
+pub start-full : (n : ℕ) (start : Start) → IsStart n start → meets start (full n) ≡ true
+start-full n Free h = refl
+start-full n (Clauses clauses) surmise = meets-from clauses (full n) (λ q a.
+    let r = some_set (clauses_of clauses q) (surmise.has_clause q (ltb-true q n (sym (has-full n q) ∙ a))) in
+    within-clause clauses q (full n) r.0 r.1 (surmise.small q r.0 r.1))
+start-full n (Sets sets) cover = (Decides-is_same (interior sets (full n)) (full n)).1 (cover-full n sets cover)
+
+pub start-space : (n : ℕ) (start : Start) (yeses : List Query) → IsStart n start → list_all (is_good n) yeses ≡ true → is_space (full n) (compat n start yeses) ≡ true
+start-space n start yeses h good = compat-space n start yeses (start-full n start h) good
+
+pub start-sound : (n : ℕ) (start : Start) → IsStart n start → IsSound (begun n start)
+start-sound n start h = begun-sound n start (start-space n start [] h refl)

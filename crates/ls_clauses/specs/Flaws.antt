@@ -1,0 +1,71 @@
+-- What is wrong with clauses that are read, in whatever order they stand. A clause is told by its item and its number, from 1.
+--     flaw n clauses      the first condition of a surmise function on n items that they violate: at the least item, then by
+--         its first clause, then with the least other item or the first later clause
+use Rattle.std.specs.Prelude.{ℕ, suc, ◌+◌, ◌-◌, Bool, not, ◌||◌, ◌==◌, List, [], ◌∷◌, length, find, slice_index_or, Option, None, option_map}
+use Rattle.std.specs.Option.{option_or}
+use Rattle.ls_set.specs.ItemSet.{Items, has, empty, is_within, items, numbers_from}
+use Rattle.ls_clauses.specs.Surmise.{clauses_of, has_clause_within}
+
+-- An item without a clause; a clause of q that lacks q; a clause of q with an item r of which no clause lies within it;
+-- two clauses of q of which one lies within the other.
+pub data Flaw : Type 0 where
+  NoClause : ℕ → Flaw
+  Reflexive : ℕ → ℕ → Flaw
+  NotClosed : ℕ → ℕ → ℕ → Flaw
+  Comparable : ℕ → ℕ → ℕ → Flaw
+
+-- the first answer that there is
+abbrev pub first_some : {X Y : Type 0} → (X → Option Y) → List X → Option Y
+first_some answer [] = None
+first_some answer (x ∷ xs) = option_or (answer x) (first_some answer xs)
+
+-- the clause of q at a place, from 0
+abbrev pub clause_at : List (List Items) → ℕ → ℕ → Items
+clause_at clauses q j = slice_index_or (clauses_of clauses q) j empty
+
+-- the places of the clauses of q
+abbrev pub places_of : List (List Items) → ℕ → List ℕ
+places_of clauses q = numbers_from 0 (length (clauses_of clauses q))
+
+-- the places after one of them
+abbrev pub places_after : List (List Items) → ℕ → ℕ → List ℕ
+places_after clauses q i = numbers_from (suc i) (length (clauses_of clauses q) - suc i)
+
+-- one of the two lies within the other
+abbrev pub are_comparable : Items → Items → Bool
+are_comparable c d = is_within c d || is_within d c
+
+-- the least item without a clause
+abbrev pub no_clause : ℕ → List (List Items) → Option Flaw
+no_clause n clauses = option_map NoClause (find (λ q. length (clauses_of clauses q) == 0) (numbers_from 0 n))
+
+-- the first clause of q that lacks q
+abbrev pub lacking_in : List (List Items) → ℕ → Option Flaw
+lacking_in clauses q = option_map (λ j. Reflexive q (j + 1)) (find (λ j. not (has (clause_at clauses q j) q)) (places_of clauses q))
+
+-- the least item of a clause of which no clause lies within it
+abbrev pub unclosed_at : List (List Items) → ℕ → ℕ → Option Flaw
+unclosed_at clauses q j =
+    let c = clause_at clauses q j in
+    option_map (λ r. NotClosed q (j + 1) r) (find (λ r. not (has_clause_within clauses r c)) (items c))
+
+-- the first clause of q with such an item
+abbrev pub unclosed_in : List (List Items) → ℕ → Option Flaw
+unclosed_in clauses q = first_some (unclosed_at clauses q) (places_of clauses q)
+
+-- the first later clause that is comparable with the clause at a place
+abbrev pub comparable_at : List (List Items) → ℕ → ℕ → Option Flaw
+comparable_at clauses q i =
+    let c = clause_at clauses q i in
+    option_map (λ j. Comparable q (i + 1) (j + 1)) (find (λ j. are_comparable c (clause_at clauses q j)) (places_after clauses q i))
+
+-- the first clause of q with such a later one
+abbrev pub comparable_in : List (List Items) → ℕ → Option Flaw
+comparable_in clauses q = first_some (comparable_at clauses q) (places_of clauses q)
+
+unfoldable pub flaw : ℕ → List (List Items) → Option Flaw
+flaw n clauses =
+    option_or (no_clause n clauses)
+    (option_or (first_some (lacking_in clauses) (numbers_from 0 n))
+    (option_or (first_some (unclosed_in clauses) (numbers_from 0 n))
+    (first_some (comparable_in clauses) (numbers_from 0 n))))

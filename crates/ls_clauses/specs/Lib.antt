@@ -1,0 +1,4 @@
+pub mod Surmise
+pub mod Flaws
+pub mod Starts
+pub mod Orderings
