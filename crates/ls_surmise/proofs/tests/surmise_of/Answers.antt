@@ -3,7 +3,7 @@ use Rattle.std.specs.List.{list_all}
 use Rattle.ls_set.specs.ItemSet.{Items, full, is_within}
 use Rattle.ls_set.proofs.Sets.{IsWithin-from}
 use Rattle.ls_laws.proofs.Lists.{every-among}
-use Rattle.ls_surmise.proofs.tests.base_of.Goals as goal
+use Rattle.ls_surmise.proofs.tests.surmise_of.Goals as goal
 
 pub from_sets-requires-clause-is_on : goal.from_sets-requires-clause-is_on
 from_sets-requires-clause-is_on g c = λ k among.
