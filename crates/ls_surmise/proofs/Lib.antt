@@ -1,1 +1,2 @@
 mod OfBases
+mod Examples

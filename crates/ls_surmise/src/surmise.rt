@@ -74,6 +74,7 @@ impl Surmise {
     pub fn from_base(alloc: Global, base: &Base) -> Result<Surmise, FromFault>
         ensures clauses { IfOk result (λ s. surmised base.now ≡ Ok s.clauses) }
         ensures item_count { IfOk result (λ s. s.item_count ≡ base.now.item_count) }
+        ensures surmise { IfOk result (λ s. IsSurmise s.item_count s.clauses) }
         ensures members { IfOk result (λ s. met_by s ≡ family base.now) }
         ensures fault { IfErr result (IsFromFaultOf (surmised base.now)) }
     {

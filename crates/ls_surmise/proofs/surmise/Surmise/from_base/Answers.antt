@@ -1,7 +1,7 @@
-use Rattle.std.proofs.Common.{◌≡◌, List, Option, None, Ok, sym, ap, ◌∙◌, subst}
+use Rattle.std.proofs.Common.{◌≡◌, List, None, Ok, sym, ap, ◌∙◌, subst}
 use Rattle.ls_set.specs.ItemSet.{Items}
 use Rattle.ls_base.specs.Bases.{BaseState, family, first_missing}
-use Rattle.ls_surmise.specs.Surmises.{IsSurmiseOf, surmised}
+use Rattle.ls_surmise.specs.Surmises.{IsSurmiseOf}
 use Rattle.ls_surmise.proofs.OfBases.{missing-is, atoms-surmise, surmised-missing, surmised-none}
 use Rattle.ls_surmise.proofs.surmise.Surmise.from_base.Goals as goal
 use Rattle.ls_surmise.proofs.surmise.Surmise.from_base.Goals.{In_ok-base}
@@ -26,6 +26,11 @@ invariant_of-result c = made c
 
 pub returns-clause-clauses : goal.returns-clause-clauses
 returns-clause-clauses c = surmised-none c.args.base.now (none_missing c) ∙ ap Ok (sym c.in_ok-clauses.ensures)
+
+pub returns-clause-surmise : goal.returns-clause-surmise
+returns-clause-surmise c =
+    let is = made c in
+    is.surmise
 
 pub returns-clause-members : goal.returns-clause-members
 returns-clause-members c =
