@@ -1,0 +1,2 @@
+mod OfBases
+mod Examples

@@ -1,0 +1,35 @@
+-- Surmise functions: what contracts see of them, and which one a base gives.
+use Rattle.std.specs.Prelude.{ℕ, ◌≡◌, List, [], Result, Ok, Err, ⊤}
+use Rattle.std.specs.Option.{option_map_or}
+use Rattle.ls_set.specs.ItemSet.{Items}
+use Rattle.ls_theory.specs.Starts.{Clauses}
+use Rattle.ls_theory.specs.Compatible.{compat}
+use Rattle.ls_theory.specs.Bases.{base}
+use Rattle.ls_base.specs.Bases.{BaseState, family, first_missing}
+use Rattle.ls_clauses.specs.Surmise.{IsSurmise, clauses_at}
+use Rattle.ls_surmise.specs.declared.fault.FromFault.{FromFault}
+use Rattle.ls_surmise.specs.declared.fault.FromFault.TheVariants.{NotSpanning, Memory}
+
+-- a number of items, and the clauses of each
+pub record SurmiseState : Type 0 where
+  pub item_count : ℕ
+  pub clauses : List (List Items)
+
+-- the family of the sets that meet the clauses
+abbrev pub met_by : SurmiseState → List Items
+met_by s = compat s.item_count (Clauses s.clauses) []
+
+-- the clauses are a surmise function, and the base is that of the sets that meet them
+pub record IsSurmiseOf (b : BaseState) (clauses : List (List Items)) : Type 0 where
+  pub surmise : IsSurmise b.item_count clauses
+  pub same : compat b.item_count (Clauses clauses) [] ≡ family b
+  pub is_base : base (family b) ≡ b.sets
+
+-- the clauses that a base gives, each item being in some set: those of an item are the atoms at it
+abbrev pub surmised : BaseState → Result (List (List Items)) FromFault
+surmised b = option_map_or (λ q. Err (NotSpanning q)) (first_missing b.item_count b.sets) (Ok (clauses_at b.item_count (family b)))
+
+-- the fault is that of the definition, unless memory ran out
+abbrev pub IsFromFaultOf : Result (List (List Items)) FromFault → FromFault → Type 0
+IsFromFaultOf answer (Memory e) = ⊤
+IsFromFaultOf answer fault = answer ≡ Err fault

@@ -1,0 +1,55 @@
+// A worked example: five items, of which three share clauses.
+ghost use Rattle.std.specs.Prelude.{◌≡◌, ◌≤◌};
+ghost use Rattle.std.specs.List.{list_all};
+ghost use Rattle.ls_set.specs.ItemSet.{is_within};
+
+use crate::Surmise;
+use ls_base::Base;
+use ls_interior::Inside;
+use ls_set::{ItemSet, PLACES};
+use std::alloc::Global;
+use std::process::Abort;
+use std::test::Fail;
+
+fn set_of(rt: &impl Abort, items: &[u32]) -> ItemSet {
+    let mut set = ItemSet::empty();
+    for item in items {
+        assert!(rt; *item < PLACES);
+        set = set.with(*item);
+    }
+    set
+}
+
+fn lie_within(sets: &[ItemSet], all: ItemSet) -> bool
+    ensures { result ≡ list_all (λ set. is_within set all) sets.now }
+{
+    sets.iter().all(|set| set.is_within(all))
+}
+
+// The surmise function of the unions of the sets.
+fn surmise_of(rt: &impl Abort, alloc: Global, n: u32, sets: &[ItemSet]) -> Result<Surmise, Fail>
+    requires { n ≤ PLACES }
+{
+    assert!(rt; lie_within(sets, ItemSet::full(n)));
+    let base = Base::from_sets(alloc, n, sets)?;
+    Ok(Surmise::from_base(alloc, &base)?)
+}
+
+fn are_clauses(surmise: &Surmise, q: u32, sets: &[ItemSet]) -> bool {
+    q < surmise.items() && surmise.clauses(q) == sets
+}
+
+#[test]
+fn items_share_clauses(rt: HostRuntime) -> Result<(), Fail> {
+    let sets = [&[0][..], &[1, 3], &[0, 1, 2], &[1, 2, 4]].map(|items| set_of(&rt, items));
+    let [a, bd, abc, bce] = sets;
+    let surmise = surmise_of(&rt, rt.alloc(), 5, &sets)?;
+    let copied = surmise.copy()?;
+    assert!(rt; are_clauses(&copied, 0, &[a]));
+    assert!(rt; are_clauses(&copied, 1, &[abc, bce, bd]));
+    assert!(rt; are_clauses(&copied, 2, &[abc, bce]));
+    assert!(rt; are_clauses(&copied, 4, &[bce]));
+    let base = surmise.to_base()?;
+    assert_eq!(rt; base.sets(), [abc, a, bce, bd].as_slice());
+    Ok(())
+}
