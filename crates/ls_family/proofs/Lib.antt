@@ -1,0 +1,6 @@
+pub mod Examples
+pub mod Fitting
+pub mod FoundSets
+pub mod Lookups
+pub mod Parts
+pub mod Rows

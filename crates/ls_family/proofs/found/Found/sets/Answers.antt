@@ -1,0 +1,21 @@
+use Rattle.std.proofs.Common.{rules, tests, ◌∙◌, ap, sym, subst}
+use Rattle.std.proofs.lemmas.Iterator.{items_from_collect, YieldsList-from_map}
+use Rattle.std.proofs.lemmas.Iterator.Consumers.{YieldsList-from_rest}
+use Rattle.std.proofs.lemmas.List.{map-id}
+use Rattle.std.specs.Map.{keys_of}
+use Rattle.std.proofs.lemmas.Result.{IfOk-weaker}
+use Rattle.ls_set.specs.ItemSet.{Items, IsInOrder}
+use Rattle.ls_family.proofs.FoundSets.{in_order-keys}
+use Rattle.ls_family.proofs.found.Found.sets.Goals as goal
+
+pub returns-clause-sets : goal.returns-clause-sets
+returns-clause-sets c =
+    let keys = keys_of c.self.inside.rows.entries in
+    let all = items_from_collect c.collect.result c.collect.ensures.ran (YieldsList-from_map _ (λ (s : Items). s) (YieldsList-from_rest keys (c.map.ensures.source ∙ c.keys.ensures.rest)) c.map.ensures.closure (λ x r q k. search (rules, tests))) in
+    IfOk-weaker c.collect.result _ _ (λ v e. e ∙ map-id keys ∙ ap keys_of c.self.view_is) all
+
+pub returns-clause-in_order : goal.returns-clause-in_order
+returns-clause-in_order c =
+    let keys = keys_of c.self.inside.rows.entries in
+    let all = items_from_collect c.collect.result c.collect.ensures.ran (YieldsList-from_map _ (λ (s : Items). s) (YieldsList-from_rest keys (c.map.ensures.source ∙ c.keys.ensures.rest)) c.map.ensures.closure (λ x r q k. search (rules, tests))) in
+    IfOk-weaker c.collect.result _ _ (λ v e. subst IsInOrder (sym (e ∙ map-id keys)) (in_order-keys keys c.keys.ensures.ordered)) all

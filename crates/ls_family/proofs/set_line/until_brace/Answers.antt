@@ -1,0 +1,28 @@
+use Rattle.std.proofs.Common.{rules, tests, ◌≡◌, ◌∙◌, ◌+◌, ◌==◌, drop, sym, ap, Some, None, true, false}
+use Rattle.std.specs.List.{list_all, position}
+use Rattle.std.proofs.lemmas.Iterator.{YieldsList-from_slice}
+use Rattle.std.proofs.lemmas.Iterator.Search.{position_from_yields_List}
+use Rattle.std.proofs.lemmas.List.{take_rest}
+use Rattle.ls_lines.specs.Lines.{is_blank}
+use Rattle.ls_family.proofs.Parts.{until_brace-none, until_brace-blank, until_brace-more}
+use Rattle.ls_family.proofs.set_line.until_brace.Goals as goal
+
+pub returns-in_default : goal.returns-in_default
+returns-in_default c =
+    let line = c.args.line.now in
+    let at = position_from_yields_List (λ b. b == 125) _ _ None c.in_default.ensures.ran (YieldsList-from_slice line cc) (λ x b q k. search (rules, tests)) in
+    sym (until_brace-none line at)
+
+pub returns-then-are_blank : goal.returns-then-are_blank
+returns-then-are_blank c =
+    let line = c.args.line.now in
+    let end = c.in-Some.end in
+    let at = position_from_yields_List (λ b. b == 125) _ _ (Some end) c.in-Some.ensures.ran (YieldsList-from_slice line cc) (λ x b q k. search (rules, tests)) in
+    sym (until_brace-blank line end at (ap (list_all is_blank) (sym (take_rest line (end + 1))) ∙ sym c.if-are_blank.ensures))
+
+pub returns-else-are_blank : goal.returns-else-are_blank
+returns-else-are_blank c =
+    let line = c.args.line.now in
+    let end = c.in-Some.end in
+    let at = position_from_yields_List (λ b. b == 125) _ _ (Some end) c.in-Some.ensures.ran (YieldsList-from_slice line cc) (λ x b q k. search (rules, tests)) in
+    sym (until_brace-more line end at (ap (list_all is_blank) (sym (take_rest line (end + 1))) ∙ sym c.if-are_blank.ensures))

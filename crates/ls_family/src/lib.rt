@@ -1,0 +1,17 @@
+//! Families of sets that are given one by one, as they are read from a file: one set a line.
+#![tactic(auto)]
+
+mod family;
+mod family_fault;
+mod found;
+mod laws;
+mod member;
+mod set_line;
+
+pub use family::Family;
+pub use family_fault::FamilyFault;
+pub use found::MOST_SETS;
+pub use laws::files_have_sets_of_items;
+
+#[cfg(test)]
+mod tests;
