@@ -1,5 +1,5 @@
 -- Examples: lines of set files, and the sets and the first faults of files.
-use Rattle.std.proofs.Common.{ℕ, ◌≡◌, refl, List, [], ◌∷◌, codes, Ok, Err}
+use Rattle.std.proofs.Common.{◌≡◌, refl, List, [], ◌∷◌, codes, Ok, Err}
 use Rattle.ls_set.specs.ItemSet.{has, empty, with, union, single, is_same, bound, items, least, differing, comes_before, set_of}
 use Rattle.ls_lines.specs.Lines.{Text, lines}
 use Rattle.ls_lines.specs.Kinds.{is_of}

@@ -1,11 +1,11 @@
 -- The sets of a file are sets of the domain's items.
-use Rattle.std.proofs.Common.{ℕ, ◌≡◌, ◌≢◌, ◌+◌, ◌<◌, inl, inr, Bool, true, false, cond, not, nat_le, List, [], ◌∷◌, length, map, Option, Some, None, is_some, Result, Ok, Err, refl, sym, ap, ◌∙◌, subst, true≢false}
+use Rattle.std.proofs.Common.{ℕ, ◌≡◌, ◌+◌, ◌<◌, inl, inr, Bool, true, false, not, nat_le, List, [], ◌∷◌, length, Some, None, is_some, Result, Ok, Err, refl, sym, ap, ◌∙◌, subst, true≢false}
 use Rattle.std.specs.List.{list_all, list_any}
 use Rattle.std.specs.Str.{bytes_eq}
 use Rattle.std.specs.Map.{keys_of}
-use Rattle.std.proofs.lemmas.Bool.{cases_Bool, and_parts, and_from, or_left}
+use Rattle.std.proofs.lemmas.Bool.{cases_Bool, and_parts, and_from}
 use Rattle.std.proofs.lemmas.List.Quantifiers.{position-Some}
-use Rattle.ls_set.specs.ItemSet.{Items, full, empty, with, set_of, is_within, is_among, IsWithin, comes_before}
+use Rattle.ls_set.specs.ItemSet.{Items, full, is_within, is_among, IsWithin, comes_before}
 use Rattle.ls_set.proofs.Sets.{IsWithin-from, is_within-from, empty-within}
 use Rattle.ls_set.proofs.Members.{among-cases}
 use Rattle.ls_lists.proofs.Options.{same_Ok, ok-err}
@@ -14,7 +14,7 @@ use Rattle.ls_lines.specs.Lines.{Text, lines, without_return}
 use Rattle.ls_domain.specs.Domains.{is_name}
 use Rattle.ls_domain.specs.Meanings.{is_named, number_of, item_of, items_of, first_unnamed}
 use Rattle.ls_domain.proofs.Numbers.{item_of-some, with-within}
-use Rattle.ls_family.specs.SetFiles.{Found, row_of, placed, with_set, with_line, set_named, words_within, within_braces, is_passed, body_read, line_read, most_sets, after_ok, found_from, sets_of}
+use Rattle.ls_family.specs.SetFiles.{Found, row_found, inserted, with_set, with_line, set_named, words_within, within_braces, is_passed, body_read, line_read, most_members, found_from, sets_of}
 use Rattle.ls_family.specs.declared.set_line.SetLine.{SetLine}
 use Rattle.ls_family.specs.declared.set_line.SetLine.TheVariants.{Passed, Bad, Unknown, Set}
 use Rattle.ls_family.specs.declared.family_fault.FamilyFault.{FamilyFault}
@@ -79,7 +79,7 @@ line-fits names line = body-fits names (without_return line)
 abbrev pub AllFit : ℕ → Found → Type 0
 AllFit n found = list_all (fits n) (keys_of found) ≡ true
 
-placed-fit : (n : ℕ) (found : Found) (s : Items) (row : ℕ) → AllFit n found → fits n s ≡ true → AllFit n (placed found s row)
+placed-fit : (n : ℕ) (found : Found) (s : Items) (row : ℕ) → AllFit n found → fits n s ≡ true → AllFit n (inserted found s row)
 placed-fit n [] s row all one = rw one refl
 placed-fit n (e ∷ found) s row all one =
     elim (cases_Bool (comes_before s e.0)) [
@@ -91,11 +91,11 @@ placed-fit n (e ∷ found) s row all one =
 
 set-fits : (n : ℕ) (found more : Found) (row : ℕ) (s : Items) → AllFit n found → fits n s ≡ true → with_set found row s ≡ Ok more → AllFit n more
 set-fits n found more row s all one e =
-    elim (row_of found s) as (λ o. row_of found s ≡ o → AllFit n more) [
+    elim (row_found found s) as (λ o. row_found found s ≡ o → AllFit n more) [
       | Some first ↦ λ f. let bad : with_set found row s ≡ Err (Repeat row first) = rw f refl in absurd (ok-err (sym e ∙ bad))
-      | None ↦ λ f. elim (cases_Bool (nat_le most_sets (length found))) [
+      | None ↦ λ f. elim (cases_Bool (nat_le most_members (length found))) [
         | inl many ↦ let bad : with_set found row s ≡ Err (TooMany row) = rw (f, many) refl in absurd (ok-err (sym e ∙ bad))
-        | inr room ↦ let good : with_set found row s ≡ Ok (placed found s row) = rw (f, room) refl in subst (AllFit n) (same_Ok (sym good ∙ e)) (placed-fit n found s row all one)
+        | inr room ↦ let good : with_set found row s ≡ Ok (inserted found s row) = rw (f, room) refl in subst (AllFit n) (same_Ok (sym good ∙ e)) (placed-fit n found s row all one)
       ]
     ] refl
 

@@ -1,6 +1,5 @@
 pub mod Examples
 pub mod Fitting
 pub mod FoundSets
-pub mod Lookups
 pub mod Parts
 pub mod Rows

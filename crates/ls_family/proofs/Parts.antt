@@ -1,5 +1,5 @@
 -- The parts of a line.
-use Rattle.std.proofs.Common.{ℕ, ◌≡◌, ◌+◌, ◌<◌, ◌==◌, true, false, List, length, map, take, drop, get_or, Bor, Option, Some, None, Result, Ok, Err, refl, sym, ap, ◌∙◌}
+use Rattle.std.proofs.Common.{ℕ, ◌≡◌, ◌+◌, ◌<◌, ◌==◌, true, false, List, length, map, take, drop, get_or, Bor, Some, None, Result, Ok, Err, refl, sym}
 use Rattle.std.specs.List.{list_all, position}
 use Rattle.std.proofs.lemmas.List.{get_or-map, length-map}
 use Rattle.ls_lines.specs.Lines.{Text, is_blank}

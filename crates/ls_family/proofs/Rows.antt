@@ -1,9 +1,9 @@
 -- The reading of a file, line by line.
-use Rattle.std.proofs.Common.{ℕ, suc, ◌<◌, ◌≤◌, arith, length, Bor, Option, Some, None, ◌≡◌, ◌+◌, List, [], ◌∷◌, ◌++◌, Result, Ok, Err, refl, sym, ap, ◌∙◌}
+use Rattle.std.proofs.Common.{ℕ, suc, ◌<◌, ◌≤◌, arith, length, Bor, Option, Some, None, ◌≡◌, ◌+◌, List, [], ◌∷◌, Result, Ok, Err, refl, sym, ap, ◌∙◌}
 use Rattle.std.specs.Map.{keys_of}
 use Rattle.std.specs.Option.{MatchOption}
 use Rattle.ls_lines.specs.Lines.{Text, lines}
-use Rattle.ls_family.specs.SetFiles.{Found, with_line, line_read, after_ok, found_from, sets_of, IsFaultOf}
+use Rattle.ls_family.specs.SetFiles.{Found, with_line, line_read, found_from, sets_of, IsFaultOf}
 use Rattle.ls_family.specs.declared.set_line.SetLine.{SetLine}
 use Rattle.ls_family.specs.declared.family_fault.FamilyFault.{FamilyFault}
 use Rattle.ls_family.specs.declared.family_fault.FamilyFault.TheVariants.{BadLine, UnknownItem, Repeat, TooMany, Memory}

@@ -1,6 +1,6 @@
 -- The order of sets as a comparison.
-use Rattle.std.proofs.Common.{ℕ, zero, suc, ◌<◌, ◌≤◌, ◌≡◌, ◌⊎◌, inl, inr, Bool, true, false, List, [], ◌∷◌, length, get_or, Result, Ok, Err, is_ok, refl, sym, ap, ◌∙◌, subst, arith, true≢false, ◌==◌}
-use Rattle.std.specs.Ordering.{ordering_index, ordering_reverse, is_eq, as_partial_cmp, eq_by_cmp}
+use Rattle.std.proofs.Common.{◌≡◌, inl, inr, true, refl, sym, ap, ◌∙◌, subst, ◌==◌}
+use Rattle.std.specs.Ordering.{ordering_reverse, is_eq, as_partial_cmp}
 use Rattle.std.specs.Cmp.{IsTotalOrder, IsPartialOrder, partial_order_from_agreeing_total}
 use Rattle.std.specs.declared.cmp.Ordering.{Ordering}
 use Rattle.std.specs.declared.cmp.Ordering.TheVariants.{Less, Equal, Greater}
@@ -8,7 +8,7 @@ use Rattle.ls_set.specs.ItemSet.{Items, is_same, comes_before}
 use Rattle.ls_lists.proofs.Bools.{same_truth}
 use Rattle.ls_set.proofs.Sets.{Decides-is_same}
 use Rattle.ls_set.proofs.Order.{comes_before-irreflexive, comes_before-asymmetric, comes_before-transitive, order_cases}
-use Rattle.ls_family.specs.Members.{order_of}
+use Rattle.ls_clauses.specs.Orderings.{order_of}
 
 pub order-less : (s t : Items) → comes_before s t ≡ true → order_of s t ≡ Less
 order-less s t h = rw h refl

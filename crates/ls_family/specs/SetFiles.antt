@@ -1,5 +1,5 @@
 -- Set files: one set a line. Bytes are numbers: 123 is `{` and 125 is `}`.
-use Rattle.std.specs.Prelude.{ℕ, ◌+◌, Bool, not, ◌&&◌, ◌||◌, ◌==◌, nat_le, nat_lt, if◌then◌else◌, List, [], ◌∷◌, map, length, take, drop, filter, slice_index, position, is_some, Option, Some, None, Result, Ok, Err, ⊤, ◌≡◌}
+use Rattle.std.specs.Prelude.{ℕ, ◌+◌, Bool, not, ◌||◌, ◌==◌, nat_le, nat_lt, if◌then◌else◌, List, [], ◌∷◌, length, take, drop, filter, slice_index, position, is_some, Option, Some, None, Result, Ok, Err, ⊤, ◌≡◌}
 use Rattle.std.specs.List.{slice_split, prefix_len, list_all}
 use Rattle.std.specs.Option.{option_map_or, option_and_then}
 use Rattle.std.specs.Map.{lookup, keys_of}
@@ -54,27 +54,27 @@ line_read names line = body_read names (without_return line)
 -- ---- a file
 
 -- the most sets of a file
-abbrev pub most_sets : ℕ
-most_sets = 65536
+abbrev pub most_members : ℕ
+most_members = 65536
 
 -- sets in their order, each with the row of its line
 abbrev pub Found : Type 0
 Found = List (Items × ℕ)
 
 -- the row of the set, if it was found
-abbrev pub row_of : Found → Items → Option ℕ
-row_of found s = lookup (is_same s) found
+abbrev pub row_found : Found → Items → Option ℕ
+row_found found s = lookup (is_same s) found
 
 -- one set more, at its place in the order of sets
-abbrev pub placed : Found → Items → ℕ → Found
-placed [] s row = (s, row) ∷ []
-placed (e ∷ found) s row = if comes_before s e.0 then (s, row) ∷ e ∷ found else e ∷ placed found s row
+abbrev pub inserted : Found → Items → ℕ → Found
+inserted [] s row = (s, row) ∷ []
+inserted (e ∷ found) s row = if comes_before s e.0 then (s, row) ∷ e ∷ found else e ∷ inserted found s row
 
 -- the sets after one set more: a repeat of a set names the row of the first
 abbrev pub with_set : Found → ℕ → Items → Result Found FamilyFault
 with_set found row s =
-    option_map_or (λ first. Err (Repeat row first)) (row_of found s)
-    (if nat_le most_sets (length found) then Err (TooMany row) else Ok (placed found s row))
+    option_map_or (λ first. Err (Repeat row first)) (row_found found s)
+    (if nat_le most_members (length found) then Err (TooMany row) else Ok (inserted found s row))
 
 -- the sets after one line more
 abbrev pub with_line : Found → ℕ → SetLine → Result Found FamilyFault

@@ -13,7 +13,7 @@ use std::collections::BTreeMap;
 use std::marker::Model;
 
 /// The most sets of a file.
-pub const MOST_SETS: usize = 65_536;
+pub const MOST_MEMBERS: usize = 65_536;
 
 /// The sets of the lines so far, in the order of sets, each with the row of its line.
 #[derive(Drop)]
@@ -61,7 +61,7 @@ impl Found {
         if let Some(first) = self.rows.get(&member).copied() {
             return Err(FamilyFault::Repeat { row, first });
         }
-        if self.rows.len() >= MOST_SETS {
+        if self.rows.len() >= MOST_MEMBERS {
             return Err(FamilyFault::TooMany { row });
         }
         match self.rows.insert(member, row) {

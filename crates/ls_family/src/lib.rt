@@ -10,7 +10,7 @@ mod set_line;
 
 pub use family::Family;
 pub use family_fault::FamilyFault;
-pub use found::MOST_SETS;
+pub use found::MOST_MEMBERS;
 pub use laws::files_have_sets_of_items;
 
 #[cfg(test)]

@@ -1,4 +1,4 @@
-use Rattle.std.proofs.Common.{rules, tests, ◌≡◌, ◌+◌, ◌<◌, ◌==◌, length, drop, arith, subst, List, ℕ, Some, None}
+use Rattle.std.proofs.Common.{rules, tests, ◌+◌, ◌<◌, ◌==◌, length, arith, subst, List, ℕ, Some, None}
 use Rattle.std.proofs.lemmas.Iterator.{YieldsList-from_slice}
 use Rattle.std.proofs.lemmas.Iterator.Search.{position_from_yields_List}
 use Rattle.std.proofs.lemmas.List.{take_rest, length-drop}

@@ -1,4 +1,4 @@
-use Rattle.std.proofs.Common.{rules, ◌≡◌, ◌∙◌, ap, arith, [], ℕ, ◌≤◌, length}
+use Rattle.std.proofs.Common.{rules, ◌≡◌, ◌∙◌, ap, arith, []}
 use Rattle.std.proofs.lemmas.Grind.{common_steps}
 use Rattle.ls_lines.specs.Lines.{lines}
 use Rattle.ls_family.specs.SetFiles.{found_from, line_read, IsFaultOf}

@@ -1,5 +1,5 @@
-use Rattle.std.proofs.Common.{rules, tests, ◌≡◌, ◌∙◌, ◌+◌, ◌==◌, drop, sym, ap, Some, None, true, false}
-use Rattle.std.specs.List.{list_all, position}
+use Rattle.std.proofs.Common.{rules, tests, ◌∙◌, ◌+◌, ◌==◌, sym, ap, Some, None}
+use Rattle.std.specs.List.{list_all}
 use Rattle.std.proofs.lemmas.Iterator.{YieldsList-from_slice}
 use Rattle.std.proofs.lemmas.Iterator.Search.{position_from_yields_List}
 use Rattle.std.proofs.lemmas.List.{take_rest}

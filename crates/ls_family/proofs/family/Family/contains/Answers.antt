@@ -1,8 +1,8 @@
 use Rattle.std.proofs.Common.{rules, ◌∙◌, ap, sym, subst}
 use Rattle.std.proofs.lemmas.Fn.{always_returns_same}
 use Rattle.ls_set.specs.ItemSet.{is_among, IsInOrder}
-use Rattle.ls_family.specs.Members.{order_of}
-use Rattle.ls_family.proofs.Lookups.{found-by-halves}
+use Rattle.ls_clauses.specs.Orderings.{order_of}
+use Rattle.ls_clauses.proofs.Lookups.{found-by-halves}
 use Rattle.ls_family.proofs.family.Family.contains.Goals as goal
 
 pub returns : goal.returns

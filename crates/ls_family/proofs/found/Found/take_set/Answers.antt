@@ -1,7 +1,7 @@
 use Rattle.std.proofs.Common.{◌≡◌, ◌∙◌, ◌≤◌, ◌<◌, length, ap, sym, arith, Some, None, Ok}
 use Rattle.std.specs.BTreeMap.{insert_entry}
-use Rattle.ls_family.specs.Members.{order_of}
-use Rattle.ls_family.specs.SetFiles.{row_of, with_set, placed, most_sets}
+use Rattle.ls_clauses.specs.Orderings.{order_of}
+use Rattle.ls_family.specs.SetFiles.{row_found, most_members}
 use Rattle.ls_family.proofs.FoundSets.{row-get, placed-inserted, with_set-repeat, with_set-many, with_set-placed}
 use Rattle.ls_family.proofs.found.Found.take_set.Goals as goal
 use Rattle.ls_family.proofs.found.Found.take_set.Goals.{in-Ok, in-Err}
@@ -9,21 +9,21 @@ use Rattle.ls_family.proofs.found.Found.take_set.Goals.{in-Ok, in-Err}
 pub returns-in-Some-clause-fault : goal.returns-in-Some-clause-fault
 returns-in-Some-clause-fault c =
     let now = c.args.self.now in
-    let told : Some c.in-Some.first ≡ row_of now c.args.set = c.in-Some.ensures ∙ c.get.ensures.value ∙ row-get c.self.inside.rows.entries c.new-member.result ∙ ap (λ f. row_of f c.new-member.result) c.self.view_is ∙ ap (row_of now) c.new-member.ensures in
+    let told : Some c.in-Some.first ≡ row_found now c.args.set = c.in-Some.ensures ∙ c.get.ensures.value ∙ row-get c.self.inside.rows.entries c.new-member.result ∙ ap (λ f. row_found f c.new-member.result) c.self.view_is ∙ ap (row_found now) c.new-member.ensures in
     with_set-repeat now c.args.row c.in-Some.first c.args.set told
 
-pub returns-then-len-ge-MOST_SETS-clause-fault : goal.returns-then-len-ge-MOST_SETS-clause-fault
-returns-then-len-ge-MOST_SETS-clause-fault c =
+pub returns-then-len-ge-MOST_MEMBERS-clause-fault : goal.returns-then-len-ge-MOST_MEMBERS-clause-fault
+returns-then-len-ge-MOST_MEMBERS-clause-fault c =
     let now = c.args.self.now in
-    let none : None ≡ row_of now c.args.set = c.in_default.ensures ∙ c.get.ensures.value ∙ row-get c.self.inside.rows.entries c.new-member.result ∙ ap (λ f. row_of f c.new-member.result) c.self.view_is ∙ ap (row_of now) c.new-member.ensures in
-    let full : most_sets ≤ length now = omega (arith, c.if-len-ge-MOST_SETS.true, c.len.ensures.len, ap length c.self.view_is) in
+    let none : None ≡ row_found now c.args.set = c.in_default.ensures ∙ c.get.ensures.value ∙ row-get c.self.inside.rows.entries c.new-member.result ∙ ap (λ f. row_found f c.new-member.result) c.self.view_is ∙ ap (row_found now) c.new-member.ensures in
+    let full : most_members ≤ length now = omega (arith, c.if-len-ge-MOST_MEMBERS.true, c.len.ensures.len, ap length c.self.view_is) in
     with_set-many now c.args.row c.args.set none full
 
 pub returns-clause-ok : goal.returns-clause-ok
 returns-clause-ok c =
     let now = c.args.self.now in
-    let none : None ≡ row_of now c.args.set = c.in_default.ensures ∙ c.get.ensures.value ∙ row-get c.self.inside.rows.entries c.new-member.result ∙ ap (λ f. row_of f c.new-member.result) c.self.view_is ∙ ap (row_of now) c.new-member.ensures in
-    let room : length now < most_sets = omega (arith, c.if-len-ge-MOST_SETS.false, c.len.ensures.len, ap length c.self.view_is) in
+    let none : None ≡ row_found now c.args.set = c.in_default.ensures ∙ c.get.ensures.value ∙ row-get c.self.inside.rows.entries c.new-member.result ∙ ap (λ f. row_found f c.new-member.result) c.self.view_is ∙ ap (row_found now) c.new-member.ensures in
+    let room : length now < most_members = omega (arith, c.if-len-ge-MOST_MEMBERS.false, c.len.ensures.len, ap length c.self.view_is) in
     elim c.match-insert.branch [
       | in-Ok w ↦ rw w.result-is (with_set-placed now c.args.row c.args.set none room ∙ ap (λ f. Ok f) (sym (w.in-Ok.ensures.entries ∙ ap (λ f. insert_entry order_of f c.new-member.result c.args.row) c.self.view_is ∙ ap (λ t. insert_entry order_of now t c.args.row) c.new-member.ensures ∙ placed-inserted now c.args.set c.args.row (sym none))))
       | in-Err w ↦ rw w.result-is tt
