@@ -5,13 +5,14 @@ use Rattle.ls_lists.proofs.Filters.{filter-all}
 use Rattle.ls_set.specs.ItemSet.{Items, full, is_among, is_within, minus, least}
 use Rattle.ls_set.proofs.Sets.{is_within-from}
 use Rattle.ls_theory.specs.Families.{unions, interior}
-use Rattle.ls_theory.specs.Bases.{base, most_base_sets}
+use Rattle.ls_theory.specs.Bases.{base, first_missing, limited, based, most_base_sets}
 use Rattle.ls_laws.specs.Spans.{IsOn, spanned}
 use Rattle.ls_laws.proofs.Lists.{every-from}
-use Rattle.ls_base.specs.Bases.{first_missing, limited, based, base_fault, IsFaultOf, IsPastOf}
+use Rattle.ls_laws.proofs.BaseStarts.{compat-sets}
+use Rattle.ls_base.specs.Bases.{base_fault, IsFaultOf, IsPastOf}
 use Rattle.ls_base.specs.declared.fault.PastFault.{PastFault}
 use Rattle.ls_base.specs.declared.fault.PastFault.TheVariants as Limit
-use Rattle.ls_base.specs.declared.fault.BaseFault.TheVariants.{NotSpanning, Past}
+use Rattle.ls_theory.specs.declared.base_fault.BaseFault.TheVariants.{NotSpanning, Past}
 
 filter-each : (p : Items → Bool) (f : List Items) → ((k : Items) → is_among f k ≡ true → p k ≡ true) → filter p f ≡ f
 filter-each p f h = filter-all p f (list_all-All p f (every-from p f h))
@@ -29,7 +30,7 @@ pub based-missing : (n : ℕ) (sets : List Items) (q : ℕ) → first_missing n 
 based-missing n sets q e = rw e refl
 
 based-spanning : (n : ℕ) (sets : List Items) → first_missing n sets ≡ None → based n sets ≡ limited (base (spanned n sets))
-based-spanning n sets e = rw e refl
+based-spanning n sets e = rw e (ap (λ f. limited (base f)) (compat-sets n sets))
 
 -- the base that was made of a copy of the sets
 pub base-given : (n : ℕ) (sets given made : List Items) → given ≡ sets → IsOn n sets → ((m : ℕ) → IsOn m given → base (spanned m given) ≡ made) → base (spanned n sets) ≡ made

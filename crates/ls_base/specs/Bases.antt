@@ -1,15 +1,13 @@
--- Bases: what contracts see of them, and which base lists of sets give.
-use Rattle.std.specs.Prelude.{ℕ, ◌≡◌, ◌<◌, ◌≤◌, nat_lt, if◌then◌else◌, List, map, length, Option, Result, Ok, Err, ⊤}
+-- Bases: what contracts see of them.
+use Rattle.std.specs.Prelude.{ℕ, ◌≡◌, ◌<◌, ◌≤◌, List, map, length, Result, Err, ⊤}
 use Rattle.std.specs.List.{range_with_len}
-use Rattle.std.specs.Option.{option_map_or}
-use Rattle.ls_set.specs.ItemSet.{Items, empty, full, with, minus, least, most_items}
-use Rattle.ls_theory.specs.Families.{unions}
+use Rattle.ls_set.specs.ItemSet.{Items, empty, with, most_items}
 use Rattle.ls_theory.specs.Bases.{base, most_base_sets}
 use Rattle.ls_laws.specs.Spans.{spanned}
 use Rattle.ls_base.specs.declared.fault.PastFault.{PastFault}
 use Rattle.ls_base.specs.declared.fault.PastFault.TheVariants as Limit
-use Rattle.ls_base.specs.declared.fault.BaseFault.{BaseFault}
-use Rattle.ls_base.specs.declared.fault.BaseFault.TheVariants.{NotSpanning, Past, Memory}
+use Rattle.ls_theory.specs.declared.base_fault.BaseFault.{BaseFault}
+use Rattle.ls_theory.specs.declared.base_fault.BaseFault.TheVariants.{Past, Memory}
 
 -- a number of items, and sets of them
 pub record BaseState : Type 0 where
@@ -26,19 +24,7 @@ pub record IsBase (b : BaseState) : Type 0 where
   pub is_base : base (family b) ≡ b.sets
   pub few : length b.sets ≤ most_base_sets
 
--- ---- the base of a list of sets
-
--- the least of the n items that no set of the list has
-abbrev pub first_missing : ℕ → List Items → Option ℕ
-first_missing n sets = least (minus (full n) (unions sets))
-
--- the sets of a base, unless there are too many
-abbrev pub limited : List Items → Result (List Items) BaseFault
-limited sets = if nat_lt most_base_sets (length sets) then Err (Past (length sets)) else Ok sets
-
--- the base of the family of all unions of the sets, each of the n items being in some set
-abbrev pub based : ℕ → List Items → Result (List Items) BaseFault
-based n sets = option_map_or (λ q. Err (NotSpanning q)) (first_missing n sets) (limited (base (spanned n sets)))
+-- ---- faults
 
 -- the fault is that of the definition, unless memory ran out
 abbrev pub IsFaultOf : Result (List Items) BaseFault → BaseFault → Type 0

@@ -3,17 +3,18 @@ ghost use Rattle.std.specs.Prelude.{◌≡◌, ◌<◌, ◌≤◌, true, not, Ok
 ghost use Rattle.ls_set.specs.ItemSet.{empty, subsets};
 ghost use Rattle.ls_set.specs.Query.{is_good};
 ghost use Rattle.ls_theory.specs.Queries.{some_breaks};
-ghost use Rattle.ls_theory.specs.Bases.{base, is_atom_at, atoms_at, most_base_sets};
+ghost use Rattle.ls_theory.specs.Bases.{base, based, is_atom_at, atoms_at, most_base_sets};
 ghost use Rattle.ls_laws.specs.Spans.{IsOn, left_by, spanned};
-ghost use Rattle.ls_base.specs.Bases.{family, based, single_sets, IsFaultOf, IsPastOf};
+ghost use Rattle.ls_base.specs.Bases.{family, single_sets, IsFaultOf, IsPastOf};
 
 use crate::atoms::is_atom_at;
-use crate::fault::{BaseFault, PastFault};
+use crate::fault::PastFault;
 use crate::left::{base_left, some_break};
 use crate::reduction::base_of;
 use crate::unions::union_within;
 use ls_interior::Inside;
 use ls_set::{ItemSet, PLACES, Query, SetList};
+use ls_theory::BaseFault;
 use std::alloc::{AllocError, Global};
 use std::marker::Model;
 

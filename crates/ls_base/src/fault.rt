@@ -1,4 +1,5 @@
 // Why there is no base.
+use ls_theory::BaseFault;
 use std::alloc::AllocError;
 use thiserror::Error;
 
@@ -6,20 +7,6 @@ use thiserror::Error;
 #[derive(Clone, Copy, Debug, PartialEq, Eq, Error)]
 pub enum PastFault {
     /// It has `count` sets, which are more than [`MOST_BASE_SETS`](crate::MOST_BASE_SETS).
-    #[error("{count} sets are too many")]
-    Past { count: usize },
-    /// Memory ran out.
-    #[error("out of memory")]
-    Memory(AllocError),
-}
-
-/// Why a list of sets gives no base.
-#[derive(Clone, Copy, Debug, PartialEq, Eq, Error)]
-pub enum BaseFault {
-    /// No set has the item, and each lesser item is in some set.
-    #[error("no set has item {item}")]
-    NotSpanning { item: u32 },
-    /// The base has `count` sets, which are more than [`MOST_BASE_SETS`](crate::MOST_BASE_SETS).
     #[error("{count} sets are too many")]
     Past { count: usize },
     /// Memory ran out.
@@ -35,17 +22,6 @@ impl From<AllocError> for PastFault {
 
     fn from(e: AllocError) -> PastFault {
         PastFault::Memory(e)
-    }
-}
-
-impl From<AllocError> for BaseFault {
-    ghost use Rattle.std.specs.Prelude.{◌≡◌};
-    ghost use Rattle.ls_base.specs.declared.fault.BaseFault.TheVariants.{Memory};
-
-    ghost from_gives = { λ e f. f ≡ Memory e };
-
-    fn from(e: AllocError) -> BaseFault {
-        BaseFault::Memory(e)
     }
 }
 

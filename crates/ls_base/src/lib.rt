@@ -13,8 +13,9 @@ mod trail;
 mod unions;
 
 pub use base::{Base, MOST_BASE_SETS};
-pub use fault::{BaseFault, PastFault};
+pub use fault::PastFault;
 pub use followed::Followed;
+pub use ls_theory::BaseFault;
 pub use trail::{MOST_KEPT_SETS, Trail};
 
 #[cfg(test)]

@@ -20,7 +20,8 @@ use Rattle.ls_laws.proofs.Atoms.{IsAtom, IsAtom-from, is_atom_at-from, base-atom
 use Rattle.ls_laws.proofs.Spans.{base-in_order}
 use Rattle.ls_laws.proofs.Compat.{all-items, items-all, among-compat, compat-in_order}
 use Rattle.ls_laws.proofs.BaseStarts.{compat-sets}
-use Rattle.ls_clauses.specs.Surmise.{clauses_of, all_clauses, has_clause_within, IsSurmise}
+use Rattle.ls_theory.specs.Clauses.{clauses_of, all_clauses, has_clause_within}
+use Rattle.ls_clauses.specs.Surmise.{IsSurmise}
 use Rattle.ls_clauses.proofs.Spanning.{interior-spanned}
 
 -- ---- lists of lists

@@ -21,7 +21,7 @@ use Rattle.ls_laws.proofs.Spans.{among-spanned, spanned-has, spanned-whole, span
 use Rattle.ls_laws.proofs.Compat.{compat-space}
 use Rattle.ls_laws.proofs.BaseStarts.{compat-sets}
 use Rattle.ls_laws.proofs.Accepting.{begun-sound}
-use Rattle.ls_clauses.specs.Surmise.{clauses_of}
+use Rattle.ls_theory.specs.Clauses.{clauses_of}
 use Rattle.ls_clauses.specs.Starts.{IsCover, IsStart}
 use Rattle.ls_clauses.proofs.Spanning.{interior-spanned, spans-same, part-same}
 use Rattle.ls_clauses.proofs.Clauses.{some_set, within-clause, meets-from}

@@ -7,8 +7,8 @@ use Rattle.ls_theory.specs.Starts.{Clauses, Sets}
 use Rattle.ls_theory.specs.Compatible.{compat}
 use Rattle.ls_theory.specs.Bases.{base}
 use Rattle.ls_laws.specs.Spans.{needed, spanned}
-use Rattle.ls_clauses.specs.Surmise.{all_clauses, clauses_at, has_clause_within}
-use Rattle.ls_clauses.specs.Flaws.{flaw, NoClause, Reflexive, NotClosed, Comparable}
+use Rattle.ls_theory.specs.Clauses.{all_clauses, clauses_at, has_clause_within, flaw}
+use Rattle.ls_theory.specs.declared.surmise_fault.SurmiseFault.TheVariants.{NoClause, Reflexive, NotClosed, Comparable}
 use Rattle.ls_clauses.specs.Orderings.{order_of}
 use Rattle.ls_clauses.proofs.Small.{words, ∅, a, b, ab, c, ac, bc, abc}
 

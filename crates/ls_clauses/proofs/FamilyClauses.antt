@@ -16,7 +16,8 @@ use Rattle.ls_laws.proofs.Atoms.{IsAtom, atom_within}
 use Rattle.ls_laws.proofs.Families.{spanned-IsFamily}
 use Rattle.ls_laws.proofs.Compat.{compat-in_order}
 use Rattle.ls_laws.proofs.BaseStarts.{compat-sets}
-use Rattle.ls_clauses.specs.Surmise.{clauses_of, IsSurmise, clauses_at}
+use Rattle.ls_theory.specs.Clauses.{clauses_of, clauses_at}
+use Rattle.ls_clauses.specs.Surmise.{IsSurmise}
 use Rattle.ls_clauses.specs.Starts.{IsCover}
 use Rattle.ls_clauses.proofs.Clauses.{within-clause, meets-clause, meets-from, member-parts, member-from, atom-among, among-atoms, atoms-clauses}
 use Rattle.ls_clauses.proofs.Covers.{cover-member}

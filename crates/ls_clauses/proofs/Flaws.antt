@@ -13,8 +13,9 @@ use Rattle.ls_set.proofs.Order.{comes_before-irreflexive}
 use Rattle.ls_theory.specs.Starts.{Clauses, meets}
 use Rattle.ls_laws.specs.Spans.{IsOn}
 use Rattle.ls_laws.proofs.Listed.{in-numbers, numbers-in, in-items}
-use Rattle.ls_clauses.specs.Surmise.{clauses_of, has_clause_within, IsSurmise, IsPutInOrder}
-use Rattle.ls_clauses.specs.Flaws.{NoClause, Reflexive, NotClosed, Comparable, first_some, clause_at, places_of, places_after, are_comparable, no_clause, lacking_in, unclosed_at, unclosed_in, comparable_at, comparable_in, flaw}
+use Rattle.ls_theory.specs.Clauses.{clauses_of, has_clause_within, first_some, clause_at, places_of, places_after, are_comparable, no_clause, lacking_in, unclosed_at, unclosed_in, comparable_at, comparable_in, flaw}
+use Rattle.ls_clauses.specs.Surmise.{IsSurmise, IsPutInOrder}
+use Rattle.ls_theory.specs.declared.surmise_fault.SurmiseFault.TheVariants.{NoClause, Reflexive, NotClosed, Comparable}
 use Rattle.ls_clauses.proofs.Places.{place-of, among-at, in_order-at}
 use Rattle.ls_clauses.proofs.Clauses.{some_set, clause-within, within-clause, meets-clause, meets-from}
 

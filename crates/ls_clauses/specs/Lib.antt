@@ -1,4 +1,3 @@
 pub mod Surmise
-pub mod Flaws
 pub mod Starts
 pub mod Orderings

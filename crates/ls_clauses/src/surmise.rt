@@ -8,8 +8,8 @@ ghost use Rattle.ls_theory.specs.Compatible.{compat};
 ghost use Rattle.ls_theory.specs.Bases.{base, atoms_at};
 ghost use Rattle.ls_laws.specs.Spans.{IsOn, spanned};
 ghost use Rattle.ls_laws.specs.Families.{IsFamily};
-ghost use Rattle.ls_clauses.specs.Surmise.{IsSurmise, IsPutInOrder, clauses_of, all_clauses, has_clause_within, clauses_at};
-ghost use Rattle.ls_clauses.specs.Flaws.{flaw};
+ghost use Rattle.ls_theory.specs.Clauses.{clauses_of, all_clauses, has_clause_within, clauses_at, flaw};
+ghost use Rattle.ls_clauses.specs.Surmise.{IsSurmise, IsPutInOrder};
 ghost use Rattle.ls_clauses.specs.Starts.{IsCover};
 
 /// The sets that meet the clauses of a surmise function are the unions of its clauses, under any

@@ -3,9 +3,9 @@ use Rattle.std.proofs.Common.{◌≡◌, refl, List, [], ◌∷◌, codes, Ok, E
 use Rattle.ls_set.specs.ItemSet.{has, empty, with, union, single, is_same, bound, items, least, differing, comes_before, set_of}
 use Rattle.ls_lines.specs.Lines.{Text, lines}
 use Rattle.ls_lines.specs.Kinds.{is_of}
-use Rattle.ls_family.specs.SetFiles.{line_read, found_from, sets_of}
-use Rattle.ls_family.specs.declared.set_line.SetLine.TheVariants.{Passed, Bad, Unknown, Set}
-use Rattle.ls_family.specs.declared.family_fault.FamilyFault.TheVariants.{BadLine, UnknownItem, Repeat}
+use Rattle.ls_files.specs.SetFiles.{line_read, found_from, sets_of}
+use Rattle.ls_files.specs.declared.set_line.SetLine.TheVariants.{Passed, Bad, Unknown, Set}
+use Rattle.ls_files.specs.declared.family_fault.FamilyFault.TheVariants.{BadLine, UnknownItem, Repeat}
 
 abbrev names : List Text
 names = codes "a" ∷ codes "b" ∷ codes "c" ∷ []

@@ -14,11 +14,11 @@ use Rattle.ls_lines.specs.Lines.{Text, lines, without_return}
 use Rattle.ls_domain.specs.Domains.{is_name}
 use Rattle.ls_domain.specs.Meanings.{is_named, number_of, item_of, items_of, first_unnamed}
 use Rattle.ls_domain.proofs.Numbers.{item_of-some, with-within}
-use Rattle.ls_family.specs.SetFiles.{Found, row_found, inserted, with_set, with_line, set_named, words_within, within_braces, is_passed, body_read, line_read, most_members, found_from, sets_of}
-use Rattle.ls_family.specs.declared.set_line.SetLine.{SetLine}
-use Rattle.ls_family.specs.declared.set_line.SetLine.TheVariants.{Passed, Bad, Unknown, Set}
-use Rattle.ls_family.specs.declared.family_fault.FamilyFault.{FamilyFault}
-use Rattle.ls_family.specs.declared.family_fault.FamilyFault.TheVariants.{Repeat, TooMany}
+use Rattle.ls_files.specs.SetFiles.{Found, row_found, inserted, with_set, with_line, set_named, words_within, within_braces, is_passed, body_read, line_read, most_members, found_from, sets_of}
+use Rattle.ls_files.specs.declared.set_line.SetLine.{SetLine}
+use Rattle.ls_files.specs.declared.set_line.SetLine.TheVariants.{Passed, Bad, Unknown, Set}
+use Rattle.ls_files.specs.declared.family_fault.FamilyFault.{FamilyFault}
+use Rattle.ls_files.specs.declared.family_fault.FamilyFault.TheVariants.{Repeat, TooMany}
 
 -- whether the set has items below n alone
 abbrev pub fits : ℕ → Items → Bool

@@ -9,8 +9,8 @@ use Rattle.ls_set.proofs.Sets.{Decides-is_same}
 use Rattle.ls_set.proofs.Order.{comes_before-asymmetric, order_cases, Each-weaker}
 use Rattle.ls_clauses.specs.Orderings.{order_of}
 use Rattle.std.proofs.lemmas.Bool.Decides.{nat_tests}
-use Rattle.ls_family.specs.SetFiles.{Found, row_found, inserted, with_set, most_members}
-use Rattle.ls_family.specs.declared.family_fault.FamilyFault.TheVariants.{Repeat, TooMany}
+use Rattle.ls_files.specs.SetFiles.{Found, row_found, inserted, with_set, most_members}
+use Rattle.ls_files.specs.declared.family_fault.FamilyFault.TheVariants.{Repeat, TooMany}
 use Rattle.ls_family.specs.Orders.{order-less, order-greater, order-before, same-order}
 
 -- what a map by the order of sets has at a set

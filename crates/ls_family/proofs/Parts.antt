@@ -8,7 +8,7 @@ use Rattle.std.specs.Str.{IsUtf8}
 use Rattle.ls_lists.proofs.Overwriting.{all-at}
 use Rattle.ls_domain.specs.Domains.{is_name}
 use Rattle.ls_domain.proofs.Numbers.{is_name-utf8}
-use Rattle.ls_family.specs.SetFiles.{until_brace}
+use Rattle.ls_files.specs.SetFiles.{until_brace}
 
 pub until_brace-none : (line : List ℕ) → None ≡ position (λ b. b == 125) line → until_brace line ≡ None
 until_brace-none line e = rw (← e) refl

@@ -3,10 +3,10 @@ use Rattle.std.proofs.Common.{ℕ, suc, ◌<◌, ◌≤◌, arith, length, Bor, 
 use Rattle.std.specs.Map.{keys_of}
 use Rattle.std.specs.Option.{MatchOption}
 use Rattle.ls_lines.specs.Lines.{Text, lines}
-use Rattle.ls_family.specs.SetFiles.{Found, with_line, line_read, found_from, sets_of, IsFaultOf}
-use Rattle.ls_family.specs.declared.set_line.SetLine.{SetLine}
-use Rattle.ls_family.specs.declared.family_fault.FamilyFault.{FamilyFault}
-use Rattle.ls_family.specs.declared.family_fault.FamilyFault.TheVariants.{BadLine, UnknownItem, Repeat, TooMany, Memory}
+use Rattle.ls_files.specs.SetFiles.{Found, with_line, line_read, found_from, sets_of, IsFaultOf}
+use Rattle.ls_files.specs.declared.set_line.SetLine.{SetLine}
+use Rattle.ls_files.specs.declared.family_fault.FamilyFault.{FamilyFault}
+use Rattle.ls_files.specs.declared.family_fault.FamilyFault.TheVariants.{BadLine, UnknownItem, Repeat, TooMany, Memory}
 
 pub found_from-nil : (names : List Text) (found : Found) (row : ℕ) → found_from names found row [] ≡ Ok found
 unfolding found_from

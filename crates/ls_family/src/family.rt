@@ -2,13 +2,13 @@
 ghost use Rattle.std.specs.Prelude.{◌≡◌, ◌<◌, ◌≤◌, ◌∷◌, [], Ok, length, IfOk, IfErr, MatchOption};
 ghost use Rattle.ls_set.specs.ItemSet.{is_among, IsInOrder};
 ghost use Rattle.ls_lines.specs.Lines.{lines};
-ghost use Rattle.ls_family.specs.SetFiles.{sets_of, found_from, IsFaultOf};
+ghost use Rattle.ls_files.specs.SetFiles.{sets_of, found_from, IsFaultOf};
 
-use crate::FamilyFault;
 use crate::found::Found;
 use crate::member::order_of;
 use crate::set_line::read_line;
 use ls_domain::Domain;
+use ls_files::FamilyFault;
 use ls_set::ItemSet;
 use std::alloc::Global;
 use std::marker::Model;

@@ -2,11 +2,10 @@
 ghost use Rattle.std.specs.Prelude.{◌≡◌, ◌<◌, [], Ok, IfOk, IfErr, OnOk};
 ghost use Rattle.std.specs.Map.{keys_of};
 ghost use Rattle.ls_set.specs.ItemSet.{IsInOrder};
-ghost use Rattle.ls_family.specs.SetFiles.{with_set, with_line, IsFaultOf};
+ghost use Rattle.ls_files.specs.SetFiles.{with_set, with_line, IsFaultOf};
 
-use crate::FamilyFault;
 use crate::member::Member;
-use crate::set_line::SetLine;
+use ls_files::{FamilyFault, SetLine};
 use ls_set::ItemSet;
 use std::alloc::{AllocError, Global};
 use std::collections::BTreeMap;
@@ -22,7 +21,7 @@ pub(crate) struct Found {
 }
 
 impl Model for Found {
-    ghost use Rattle.ls_family.specs.SetFiles as files;
+    ghost use Rattle.ls_files.specs.SetFiles as files;
 
     ghost Value = { files.Found };
 

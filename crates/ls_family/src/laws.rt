@@ -2,7 +2,7 @@
 ghost use Rattle.std.specs.Prelude.{◌≡◌, ℕ, List, true, Ok, length};
 ghost use Rattle.ls_set.specs.ItemSet.{Items, full, is_among, IsWithin};
 ghost use Rattle.ls_lines.specs.Lines.{Text};
-ghost use Rattle.ls_family.specs.SetFiles.{sets_of};
+ghost use Rattle.ls_files.specs.SetFiles.{sets_of};
 
 /// The sets of a file are sets of the items that have the names. Nothing is done.
 pub fn files_have_sets_of_items()

@@ -2,16 +2,15 @@
 #![tactic(auto)]
 
 mod family;
-mod family_fault;
 mod found;
 mod laws;
 mod member;
 mod set_line;
 
 pub use family::Family;
-pub use family_fault::FamilyFault;
 pub use found::MOST_MEMBERS;
 pub use laws::files_have_sets_of_items;
+pub use ls_files::FamilyFault;
 
 #[cfg(test)]
 mod tests;

@@ -4,24 +4,16 @@ ghost use Rattle.std.specs.List.{list_all};
 ghost use Rattle.ls_lines.specs.Lines.{without_return, is_blank, parts_words};
 ghost use Rattle.ls_domain.specs.Domains.{is_name};
 ghost use Rattle.ls_domain.specs.Meanings.{first_unnamed, items_of};
-ghost use Rattle.ls_family.specs.SetFiles.{unindented, until_brace, within_braces, words_within, set_named, body_read, line_read};
+ghost use Rattle.ls_files.specs.SetFiles.{unindented, until_brace, within_braces, words_within, set_named, body_read, line_read};
 
 use ls_domain::Domain;
+use ls_files::SetLine;
 use ls_lines::Kind;
 use ls_set::ItemSet;
 use std::alloc::{AllocError, Global};
 
-/// What a line is: it is passed over, is no set, has a name that no item has, or is a set.
-#[derive(Clone, Copy, Debug)]
-pub(crate) enum SetLine {
-    Passed,
-    Bad,
-    Unknown,
-    Set(ItemSet),
-}
-
 /// What a line is, given without its line feed.
-#[tactic(auto, unfolding(crate::specs::SetFiles::line_read))]
+#[tactic(auto, unfolding(ls_files::specs::SetFiles::line_read))]
 pub(crate) fn read_line(alloc: Global, d: &Domain, line: &[u8]) -> Result<SetLine, AllocError>
     ensures { IfOk result (λ l. l ≡ line_read d.now line.now) }
 {

@@ -43,11 +43,11 @@ not_refused : is_some_refused map.empty (codes "items a b c\nyes a : b\nstates\n
 unfolding answering
 not_refused = refl
 
-refused : transcript map.empty (codes "items a a\nitems a b\nitems c\nyes a : a\nyes z : a\nsurmise") ≡ codes "no 12 repeat 2 1\nok 2\nno 11\nno 18\nno 15 2\nno 49\n"
+refused : transcript map.empty (codes "items a a\nitems a b\nitems c\nyes a : a\nyes z : a\nlearning") ≡ codes "no 12 repeat 2 1\nok 2\nno 11\nno 18\nno 15 2\nno 49\n"
 unfolding answering
 refused = refl
 
-some_refused : is_some_refused map.empty (codes "items a a\nitems a b\nitems c\nyes a : a\nyes z : a\nsurmise") ≡ true
+some_refused : is_some_refused map.empty (codes "items a a\nitems a b\nitems c\nyes a : a\nyes z : a\nlearning") ≡ true
 unfolding answering
 some_refused = refl
 
@@ -77,10 +77,10 @@ unfolding answering
 alone = refl
 
 -- what answers force rules the other reply out
-forced : map_of refusal_words (refuse_fault Answer (opposed Known.Yes false)) ≡ (codes "20" ∷ []) ∷ []
+forced : map_of (refusal_words []) (refuse_fault Answer (opposed Known.Yes false)) ≡ (codes "20" ∷ []) ∷ []
 forced = refl
 
-opposed_by : map_of refusal_words (refuse_fault Answer (opposed (Known.No 2) true)) ≡ (codes "21" ∷ decimal 2 ∷ []) ∷ []
+opposed_by : map_of (refusal_words []) (refuse_fault Answer (opposed (Known.No 2) true)) ≡ (codes "21" ∷ decimal 2 ∷ []) ∷ []
 opposed_by = refl
 
 -- blocks of three items
@@ -116,7 +116,7 @@ unfolding answering
 no_cursors = refl
 
 -- what isn't built yet comes before the domain
-not_built : transcript map.empty (codes "surmise\nitems a\nsurmise\npaths 1 after\nload-items a b") ≡ codes "no 49\nok 1\nno 49\nno 49\nno 10 3\n"
+not_built : transcript map.empty (codes "learning\nitems a\nlearning\npaths 1 after\nload-items a b") ≡ codes "no 49\nok 1\nno 49\nno 49\nno 10 3\n"
 unfolding answering
 not_built = refl
 

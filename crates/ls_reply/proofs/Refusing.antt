@@ -7,15 +7,18 @@ use Rattle.ls_theory.specs.Bases.{base}
 use Rattle.ls_theory.specs.declared.known.Known.TheVariants as known
 use Rattle.ls_theory.specs.declared.answer_fault.AnswerFault.TheVariants as answer
 use Rattle.ls_theory.specs.declared.block_fault.BlockFault.TheVariants as block
+use Rattle.ls_theory.specs.declared.base_fault.BaseFault.TheVariants as of_base
+use Rattle.ls_theory.specs.declared.surmise_fault.SurmiseFault.TheVariants as surmise
 use Rattle.ls_lines.specs.Lines.{Text}
 use Rattle.ls_domain.specs.declared.domain_fault.DomainFault.TheVariants as domain
+use Rattle.ls_files.specs.declared.family_fault.FamilyFault.TheVariants as sets
 use Rattle.ls_reply.specs.Texts.{line_of, bytes_of}
 use Rattle.ls_reply.specs.Sessions.{Session, states}
 use Rattle.ls_reply.specs.Refusals.{refusal_words}
 use Rattle.ls_reply.specs.Lines.{lines_of, shown_lines, base_lines, page_lines}
 use Rattle.ls_reply.specs.Replies.{is_refusal, is_refused}
 use Rattle.ls_reply.specs.declared.refusal.Refusal.{Refusal}
-use Rattle.ls_reply.specs.declared.refusal.Refusal.TheVariants.{NoCommand, LongLine, DomainStands, Domain, Unnamed, Block, Answer, NotStanding, Cursor, Past, NoFile, FileFailed, LargeFile, NotBuilt}
+use Rattle.ls_reply.specs.declared.refusal.Refusal.TheVariants.{NoCommand, LongLine, DomainStands, Domain, AnswersStand, StartSurmise, StartSets, StartBase, Unnamed, Block, Answer, NotStanding, Cursor, Past, NoFile, FileFailed, LargeFile, NotBuilt}
 use Rattle.ls_reply.specs.declared.response.Response.{Response}
 use Rattle.ls_reply.specs.declared.response.Response.TheVariants.{Silence, Refused, Done, Shown}
 use Rattle.ls_reply.specs.declared.response.Shown.{Shown as Showing}
@@ -32,35 +35,52 @@ refusal_line [] e = absurd (cc e)
 refusal_line (w ∷ ws) e = refl
 
 -- each refusal has its code
-some_words : (r : Refusal) → is_some (refusal_words r) ≡ true
-some_words (NoCommand place) = refl
-some_words (LongLine bytes) = refl
-some_words DomainStands = refl
-some_words (Domain domain.NoItems) = refl
-some_words (Domain (domain.BadCsv row)) = refl
-some_words (Domain (domain.BadName row)) = refl
-some_words (Domain (domain.Repeat row first)) = refl
-some_words (Domain domain.TooMany) = refl
-some_words (Domain (domain.Memory e)) = refl
-some_words (Unnamed place) = refl
-some_words (Block (block.TooWide size)) = refl
-some_words (Block block.BadBlock) = refl
-some_words (Block (block.Memory e)) = refl
-some_words (Answer answer.BadQuery) = refl
-some_words (Answer (answer.Repeat number)) = refl
-some_words (Answer answer.ForcedYes) = refl
-some_words (Answer (answer.ForcedNo by)) = refl
-some_words (Answer answer.Full) = refl
-some_words (Answer (answer.Memory e)) = refl
-some_words NotStanding = refl
-some_words (Cursor (cursor.Length had)) = refl
-some_words (Cursor (cursor.Digit place)) = refl
-some_words (Cursor cursor.Spare) = refl
-some_words (Past position count) = refl
-some_words NoFile = refl
-some_words FileFailed = refl
-some_words (LargeFile bytes) = refl
-some_words NotBuilt = refl
+some_words : (names : List Text) (r : Refusal) → is_some (refusal_words names r) ≡ true
+some_words names (NoCommand place) = refl
+some_words names (LongLine bytes) = refl
+some_words names DomainStands = refl
+some_words names (Domain domain.NoItems) = refl
+some_words names (Domain (domain.BadCsv row)) = refl
+some_words names (Domain (domain.BadName row)) = refl
+some_words names (Domain (domain.Repeat row first)) = refl
+some_words names (Domain domain.TooMany) = refl
+some_words names (Domain (domain.Memory e)) = refl
+some_words names AnswersStand = refl
+some_words names (StartSurmise surmise.BadJson) = refl
+some_words names (StartSurmise surmise.UnknownItem) = refl
+some_words names (StartSurmise (surmise.NoClause q)) = refl
+some_words names (StartSurmise (surmise.Reflexive q clause)) = refl
+some_words names (StartSurmise (surmise.NotClosed q clause r)) = refl
+some_words names (StartSurmise (surmise.Comparable q first second)) = refl
+some_words names (StartSurmise (surmise.Wide count)) = refl
+some_words names (StartSurmise (surmise.Memory e)) = refl
+some_words names (StartSets (sets.BadLine row)) = refl
+some_words names (StartSets (sets.UnknownItem row)) = refl
+some_words names (StartSets (sets.Repeat row first)) = refl
+some_words names (StartSets (sets.TooMany row)) = refl
+some_words names (StartSets (sets.Memory e)) = refl
+some_words names (StartBase (of_base.NotSpanning q)) = refl
+some_words names (StartBase (of_base.Past count)) = refl
+some_words names (StartBase (of_base.Memory e)) = refl
+some_words names (Unnamed place) = refl
+some_words names (Block (block.TooWide size)) = refl
+some_words names (Block block.BadBlock) = refl
+some_words names (Block (block.Memory e)) = refl
+some_words names (Answer answer.BadQuery) = refl
+some_words names (Answer (answer.Repeat number)) = refl
+some_words names (Answer answer.ForcedYes) = refl
+some_words names (Answer (answer.ForcedNo by)) = refl
+some_words names (Answer answer.Full) = refl
+some_words names (Answer (answer.Memory e)) = refl
+some_words names NotStanding = refl
+some_words names (Cursor (cursor.Length had)) = refl
+some_words names (Cursor (cursor.Digit place)) = refl
+some_words names (Cursor cursor.Spare) = refl
+some_words names (Past position count) = refl
+some_words names NoFile = refl
+some_words names FileFailed = refl
+some_words names (LargeFile bytes) = refl
+some_words names NotBuilt = refl
 
 -- ---- what is shown is no refusal
 
@@ -84,10 +104,11 @@ shown_is_no_refusal s (shown.Question (Some r)) = refl
 shown_is_no_refusal s (shown.States count after) =
     let p = page comes_before (states s) after count in page_shown s.names p.members p.more
 shown_is_no_refusal s shown.Base = base_shown s.names (base (states s))
+shown_is_no_refusal s shown.Surmise = refl
 
 pub is_refusal-lines_of : (s : Session) (r : Response) → is_refusal (bytes_of (lines_of s r)) ≡ is_refused r
 unfolding bytes_of line_of
 is_refusal-lines_of s Silence = refl
-is_refusal-lines_of s (Refused refusal) = refusal_line (refusal_words refusal) (some_words refusal)
+is_refusal-lines_of s (Refused refusal) = refusal_line (refusal_words s.names refusal) (some_words s.names refusal)
 is_refusal-lines_of s (Done number) = refl
 is_refusal-lines_of s (Shown what) = shown_is_no_refusal s what

@@ -5,9 +5,11 @@ use Rattle.ls_set.specs.Cursor.{cursor}
 use Rattle.ls_set.specs.declared.query.Query.{Query}
 use Rattle.ls_theory.specs.declared.known.Known.{Known}
 use Rattle.ls_theory.specs.Bases.{base}
+use Rattle.ls_theory.specs.Clauses.{clauses_at}
 use Rattle.ls_theory.specs.Pages.{Page, page}
 use Rattle.ls_lines.specs.Lines.{Text}
 use Rattle.ls_domain.specs.Texts.{name_of, joined_names, set_text}
+use Rattle.ls_files.specs.SurmiseFiles.{surmise_text}
 use Rattle.ls_reply.specs.Sessions.{Session, states}
 use Rattle.ls_reply.specs.Refusals.{refusal_words}
 use Rattle.ls_reply.specs.declared.response.Response.{Response}
@@ -38,15 +40,20 @@ base_lines names sets = map (set_words names) sets ++ (codes "base" ∷ decimal 
 abbrev pub page_lines : List Text → Page Items → List (List Text)
 page_lines names p = map (set_words names) p.members ++ (codes "more" ∷ (if p.more then codes "yes" else codes "no") ∷ []) ∷ []
 
+-- a surmise function
+abbrev pub surmise_words : List Text → List (List Items) → List Text
+surmise_words names clauses = codes "surmise" ∷ surmise_text names clauses ∷ []
+
 -- what is shown of an interview on named items
 abbrev pub shown_lines : Session → Showing → List (List Text)
 shown_lines s (shown.Known known) = known_words known ∷ []
 shown_lines s (shown.Question next) = question_words s.names next ∷ []
 shown_lines s (shown.States count after) = page_lines s.names (page comes_before (states s) after count)
 shown_lines s shown.Base = base_lines s.names (base (states s))
+shown_lines s shown.Surmise = surmise_words s.names (clauses_at (length s.names) (states s)) ∷ []
 
 abbrev pub lines_of : Session → Response → List (List Text)
 lines_of s Silence = []
-lines_of s (Refused refusal) = (codes "no" ∷ refusal_words refusal) ∷ []
+lines_of s (Refused refusal) = (codes "no" ∷ refusal_words s.names refusal) ∷ []
 lines_of s (Done number) = (codes "ok" ∷ decimal number ∷ []) ∷ []
 lines_of s (Shown what) = shown_lines s what

@@ -60,4 +60,5 @@ request_of names (command.Known ws w) = Some (View (view.Known (query_of names w
 request_of names command.Ask = Some (View view.Ask)
 request_of names (command.States count after) = Some (View (view.States count (after_of (length names) after)))
 request_of names command.Base = Some (View view.Base)
+request_of names command.Surmise = Some (View view.Surmise)
 request_of names c = None

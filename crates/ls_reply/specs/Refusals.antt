@@ -1,16 +1,23 @@
 -- The words of a refusal: its code, and its details. Want of memory refuses no line, so the rows of `Memory` are never told.
-use Rattle.std.specs.Prelude.{List, [], ◌∷◌, codes, decimal}
+use Rattle.std.specs.Prelude.{ℕ, List, [], ◌∷◌, codes, decimal}
 use Rattle.ls_set.specs.declared.cursor.CursorFault.{CursorFault}
 use Rattle.ls_set.specs.declared.cursor.CursorFault.TheVariants as cursor
 use Rattle.ls_theory.specs.declared.answer_fault.AnswerFault.{AnswerFault}
 use Rattle.ls_theory.specs.declared.answer_fault.AnswerFault.TheVariants as answer
 use Rattle.ls_theory.specs.declared.block_fault.BlockFault.{BlockFault}
 use Rattle.ls_theory.specs.declared.block_fault.BlockFault.TheVariants as block
+use Rattle.ls_theory.specs.declared.base_fault.BaseFault.{BaseFault}
+use Rattle.ls_theory.specs.declared.base_fault.BaseFault.TheVariants as base
+use Rattle.ls_theory.specs.declared.surmise_fault.SurmiseFault.{SurmiseFault}
+use Rattle.ls_theory.specs.declared.surmise_fault.SurmiseFault.TheVariants as surmise
 use Rattle.ls_lines.specs.Lines.{Text}
 use Rattle.ls_domain.specs.declared.domain_fault.DomainFault.{DomainFault}
 use Rattle.ls_domain.specs.declared.domain_fault.DomainFault.TheVariants as domain
+use Rattle.ls_domain.specs.Texts.{name_of}
+use Rattle.ls_files.specs.declared.family_fault.FamilyFault.{FamilyFault}
+use Rattle.ls_files.specs.declared.family_fault.FamilyFault.TheVariants as sets
 use Rattle.ls_reply.specs.declared.refusal.Refusal.{Refusal}
-use Rattle.ls_reply.specs.declared.refusal.Refusal.TheVariants.{NoCommand, LongLine, DomainStands, Domain, Unnamed, Block, Answer, NotStanding, Cursor, Past, NoFile, FileFailed, LargeFile, NotBuilt}
+use Rattle.ls_reply.specs.declared.refusal.Refusal.TheVariants.{NoCommand, LongLine, DomainStands, Domain, AnswersStand, StartSurmise, StartSets, StartBase, Unnamed, Block, Answer, NotStanding, Cursor, Past, NoFile, FileFailed, LargeFile, NotBuilt}
 
 -- names that are no domain
 abbrev pub domain_words : DomainFault → List Text
@@ -42,18 +49,66 @@ cursor_words (cursor.Length had) = codes "24" ∷ codes "length" ∷ decimal had
 cursor_words (cursor.Digit place) = codes "24" ∷ codes "digit" ∷ decimal place ∷ []
 cursor_words cursor.Spare = codes "24" ∷ codes "spare" ∷ []
 
-abbrev pub refusal_words : Refusal → List Text
-refusal_words (NoCommand place) = codes "10" ∷ decimal place ∷ []
-refusal_words (LongLine bytes) = codes "10" ∷ codes "long" ∷ decimal bytes ∷ []
-refusal_words DomainStands = codes "11" ∷ []
-refusal_words (Domain fault) = domain_words fault
-refusal_words (Unnamed place) = codes "15" ∷ decimal place ∷ []
-refusal_words (Block fault) = block_words fault
-refusal_words (Answer fault) = answer_words fault
-refusal_words NotStanding = codes "23" ∷ []
-refusal_words (Cursor fault) = cursor_words fault
-refusal_words (Past position count) = codes "25" ∷ decimal position ∷ decimal count ∷ []
-refusal_words NoFile = codes "26" ∷ []
-refusal_words FileFailed = codes "27" ∷ []
-refusal_words (LargeFile bytes) = codes "28" ∷ decimal bytes ∷ []
-refusal_words NotBuilt = codes "49" ∷ []
+-- clauses of a file that are no start
+abbrev pub surmise_words : List Text → SurmiseFault → List Text
+surmise_words names surmise.BadJson = codes "14" ∷ codes "json" ∷ []
+surmise_words names surmise.UnknownItem = codes "14" ∷ codes "unknown" ∷ []
+surmise_words names (surmise.NoClause q) = codes "14" ∷ codes "no-clause" ∷ name_of names q ∷ []
+surmise_words names (surmise.Reflexive q clause) = codes "14" ∷ codes "reflexive" ∷ name_of names q ∷ decimal clause ∷ []
+surmise_words names (surmise.NotClosed q clause r) = codes "14" ∷ codes "open" ∷ name_of names q ∷ decimal clause ∷ name_of names r ∷ []
+surmise_words names (surmise.Comparable q first second) = codes "14" ∷ codes "comparable" ∷ name_of names q ∷ decimal first ∷ decimal second ∷ []
+surmise_words names (surmise.Wide count) = codes "14" ∷ codes "wide" ∷ decimal count ∷ []
+surmise_words names (surmise.Memory e) = codes "14" ∷ []
+
+-- a file that is no list of sets, behind the code
+abbrev pub sets_words : Text → FamilyFault → List Text
+sets_words code (sets.BadLine row) = code ∷ codes "line" ∷ decimal row ∷ []
+sets_words code (sets.UnknownItem row) = code ∷ codes "unknown-item" ∷ decimal row ∷ []
+sets_words code (sets.Repeat row first) = code ∷ codes "repeat" ∷ decimal row ∷ decimal first ∷ []
+sets_words code (sets.TooMany row) = code ∷ codes "many" ∷ decimal row ∷ []
+sets_words code (sets.Memory e) = code ∷ []
+
+-- sets of a file that are no start
+abbrev pub base_words : List Text → BaseFault → List Text
+base_words names (base.NotSpanning q) = codes "14" ∷ codes "not-spanning" ∷ name_of names q ∷ []
+base_words names (base.Past count) = codes "14" ∷ codes "wide" ∷ decimal count ∷ []
+base_words names (base.Memory e) = codes "14" ∷ []
+
+-- where the names are those of the items
+abbrev pub refusal_words : List Text → Refusal → List Text
+refusal_words names (NoCommand place) = codes "10" ∷ decimal place ∷ []
+refusal_words names (LongLine bytes) = codes "10" ∷ codes "long" ∷ decimal bytes ∷ []
+refusal_words names DomainStands = codes "11" ∷ []
+refusal_words names (Domain fault) = domain_words fault
+refusal_words names AnswersStand = codes "13" ∷ []
+refusal_words names (StartSurmise fault) = surmise_words names fault
+refusal_words names (StartSets fault) = sets_words (codes "14") fault
+refusal_words names (StartBase fault) = base_words names fault
+refusal_words names (Unnamed place) = codes "15" ∷ decimal place ∷ []
+refusal_words names (Block fault) = block_words fault
+refusal_words names (Answer fault) = answer_words fault
+refusal_words names NotStanding = codes "23" ∷ []
+refusal_words names (Cursor fault) = cursor_words fault
+refusal_words names (Past position count) = codes "25" ∷ decimal position ∷ decimal count ∷ []
+refusal_words names NoFile = codes "26" ∷ []
+refusal_words names FileFailed = codes "27" ∷ []
+refusal_words names (LargeFile bytes) = codes "28" ∷ decimal bytes ∷ []
+refusal_words names NotBuilt = codes "49" ∷ []
+
+-- ---- the items that a refusal names
+
+abbrev pub surmise_items : SurmiseFault → List ℕ
+surmise_items (surmise.NoClause q) = q ∷ []
+surmise_items (surmise.Reflexive q clause) = q ∷ []
+surmise_items (surmise.NotClosed q clause r) = q ∷ r ∷ []
+surmise_items (surmise.Comparable q first second) = q ∷ []
+surmise_items fault = []
+
+abbrev pub base_items : BaseFault → List ℕ
+base_items (base.NotSpanning q) = q ∷ []
+base_items fault = []
+
+abbrev pub refusal_items : Refusal → List ℕ
+refusal_items (StartSurmise fault) = surmise_items fault
+refusal_items (StartBase fault) = base_items fault
+refusal_items refusal = []

@@ -1,6 +1,7 @@
 -- What a line does, by the session and the folder; and its reply.
 use Rattle.std.specs.Prelude.{ℕ, Bool, true, false, if◌then◌else◌, List, [], ◌∷◌, length, Option, Some, None, codes, nat_eq}
 use Rattle.std.specs.List.{starts_with}
+use Rattle.ls_theory.specs.Interviews.{Interview}
 use Rattle.ls_lines.specs.Lines.{Text, is_long, words}
 use Rattle.ls_lines.specs.Commands.{command_of, fault_place}
 use Rattle.ls_lines.specs.declared.command.Command.{Command}
@@ -10,9 +11,10 @@ use Rattle.ls_reply.specs.Sessions.{Session, has_domain}
 use Rattle.ls_reply.specs.Scenes.{Calls}
 use Rattle.ls_reply.specs.Meanings.{unnamed_places, request_of}
 use Rattle.ls_reply.specs.Lines.{lines_of}
-use Rattle.ls_reply.specs.Effects.{Effect, answers, changes, changes_interview}
-use Rattle.ls_reply.specs.Rows.{items_row, load_items_row, view_row, edit_row}
+use Rattle.ls_reply.specs.Effects.{Effect, Change, answers, changes, changes_interview}
+use Rattle.ls_reply.specs.Rows.{items_row, load_items_row, start_row, view_row, edit_row}
 use Rattle.ls_reply.specs.declared.refusal.Refusal.TheVariants.{NoCommand, LongLine, Unnamed, NotBuilt}
+use Rattle.ls_reply.specs.declared.request.StartFile.TheVariants as start_file
 use Rattle.ls_reply.specs.declared.request.Request.{Request}
 use Rattle.ls_reply.specs.declared.request.Request.TheVariants.{View, Edit}
 use Rattle.ls_reply.specs.declared.response.Response.{Response}
@@ -37,11 +39,17 @@ abbrev pub asked_effect : Session → List ℕ → Option Request → Effect
 asked_effect s places None = answers s (Refused NotBuilt)
 asked_effect s places (Some request) = named_effect s places request
 
+-- a change of the interview by a file, where a domain stands
+abbrev pub file_effect : Session → Change Interview → Effect
+file_effect s c = if has_domain s then changes_interview s c else answers s (Refused (Unnamed 0))
+
 -- a command; the first three need no domain
 unfoldable pub command_effect : Session → Calls → Command → Effect
 command_effect s calls command.Nothing = answers s Silence
 command_effect s calls (command.Items names) = changes (items_row s names)
 command_effect s calls (command.LoadItems file) = changes (load_items_row s (calls.file file))
+command_effect s calls (command.StartSurmise file) = file_effect s (start_row start_file.Surmise s (calls.file file))
+command_effect s calls (command.StartBase file) = file_effect s (start_row start_file.Base s (calls.file file))
 command_effect s calls c = asked_effect s (unnamed_at s c) (request_of s.names c)
 
 -- words, which may be no command

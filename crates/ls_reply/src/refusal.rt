@@ -1,7 +1,8 @@
 // Refusals.
 use ls_domain::DomainFault;
+use ls_files::FamilyFault;
 use ls_set::CursorFault;
-use ls_theory::{AnswerFault, BlockFault};
+use ls_theory::{AnswerFault, BaseFault, BlockFault, SurmiseFault};
 
 /// Why a line is refused.
 #[derive(Clone, Copy, Debug)]
@@ -14,6 +15,14 @@ pub enum Refusal {
     DomainStands,
     /// The names are no domain.
     Domain(DomainFault),
+    /// An answer stands, so the interview can't begin with another start.
+    AnswersStand,
+    /// The surmise file gives no start.
+    StartSurmise(SurmiseFault),
+    /// The base file is no list of sets.
+    StartSets(FamilyFault),
+    /// The sets of the base file give no start.
+    StartBase(BaseFault),
     /// The word at this place must name an item and doesn't; at place 0, no domain stands.
     Unnamed { place: usize },
     /// The blocks can't be made.

@@ -25,6 +25,8 @@ pub enum View {
     },
     /// The base of the states.
     Base,
+    /// The surmise function of the states.
+    Surmise,
 }
 
 /// How an interview is to change.
@@ -36,4 +38,13 @@ pub enum Edit {
     Answer { query: Query, yes: bool },
     /// The answer with the number is taken back.
     Retract { number: u64 },
+}
+
+/// What a file gives a start by.
+#[derive(Clone, Copy, Debug)]
+pub enum StartFile {
+    /// The clauses of each item.
+    Surmise,
+    /// Sets, whose unions the states are.
+    Base,
 }

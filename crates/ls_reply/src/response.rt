@@ -38,4 +38,6 @@ pub enum Shown {
     States { count: u32, after: Option<ItemSet> },
     /// The base of the states.
     Base,
+    /// The surmise function of the states: for each item the atoms at it.
+    Surmise,
 }

@@ -3,12 +3,12 @@ use Rattle.std.proofs.Common.{ℕ, ◌≡◌, List, Option, Some, None, Result, 
 use Rattle.std.specs.declared.alloc.AllocError.{AllocError}
 use Rattle.ls_set.specs.ItemSet.{Items, full, minus, least, is_among}
 use Rattle.ls_theory.specs.Families.{interior}
-use Rattle.ls_theory.specs.Bases.{base}
+use Rattle.ls_theory.specs.Bases.{base, first_missing}
 use Rattle.ls_laws.proofs.Families.{spanned-IsFamily}
-use Rattle.ls_base.specs.Bases.{BaseState, family, first_missing}
+use Rattle.ls_base.specs.Bases.{BaseState, family}
 use Rattle.ls_base.proofs.Spanned.{base-on, interior-spanned}
 use Rattle.ls_base.proofs.Given.{first_missing-is}
-use Rattle.ls_clauses.specs.Surmise.{all_clauses, clauses_at}
+use Rattle.ls_theory.specs.Clauses.{all_clauses, clauses_at}
 use Rattle.ls_clauses.proofs.Clauses.{base-clauses}
 use Rattle.ls_clauses.proofs.Covers.{cover-least, cover-member}
 use Rattle.ls_clauses.proofs.FamilyClauses.{family-surmise, family-met}

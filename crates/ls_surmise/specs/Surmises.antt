@@ -4,9 +4,10 @@ use Rattle.std.specs.Option.{option_map_or}
 use Rattle.ls_set.specs.ItemSet.{Items}
 use Rattle.ls_theory.specs.Starts.{Clauses}
 use Rattle.ls_theory.specs.Compatible.{compat}
-use Rattle.ls_theory.specs.Bases.{base}
-use Rattle.ls_base.specs.Bases.{BaseState, family, first_missing}
-use Rattle.ls_clauses.specs.Surmise.{IsSurmise, clauses_at}
+use Rattle.ls_theory.specs.Bases.{base, first_missing}
+use Rattle.ls_base.specs.Bases.{BaseState, family}
+use Rattle.ls_theory.specs.Clauses.{clauses_at}
+use Rattle.ls_clauses.specs.Surmise.{IsSurmise}
 use Rattle.ls_surmise.specs.declared.fault.FromFault.{FromFault}
 use Rattle.ls_surmise.specs.declared.fault.FromFault.TheVariants.{NotSpanning, Memory}
 

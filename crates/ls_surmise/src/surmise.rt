@@ -3,7 +3,8 @@ ghost use Rattle.std.specs.Prelude.{◌≡◌, ◌<◌, Ok, IfOk, IfErr};
 ghost use Rattle.ls_set.specs.ItemSet.{Items, is_among};
 ghost use Rattle.ls_theory.specs.Bases.{base};
 ghost use Rattle.ls_base.specs.Bases.{family};
-ghost use Rattle.ls_clauses.specs.Surmise.{IsSurmise, clauses_of, all_clauses, clauses_at};
+ghost use Rattle.ls_theory.specs.Clauses.{clauses_of, all_clauses, clauses_at};
+ghost use Rattle.ls_clauses.specs.Surmise.{IsSurmise};
 ghost use Rattle.ls_surmise.specs.Surmises.{met_by, surmised, IsFromFaultOf};
 
 use crate::fault::FromFault;

@@ -1,9 +1,13 @@
--- Atoms and bases of a family.
-use Rattle.std.specs.Prelude.{ℕ, suc, Bool, not, ◌&&◌, nat_lt, List, filter, find, length, take, Option, option_map}
+-- Atoms and bases of a family, and the base of listed sets.
+use Rattle.std.specs.Prelude.{ℕ, suc, Bool, not, ◌&&◌, nat_lt, if◌then◌else◌, List, [], filter, find, length, take, Option, option_map, Result, Ok, Err}
 use Rattle.std.specs.List.{list_any}
-use Rattle.ls_set.specs.ItemSet.{Items, has, is_same, is_within, items, numbers_from}
+use Rattle.std.specs.Option.{option_map_or}
+use Rattle.ls_set.specs.ItemSet.{Items, has, full, minus, least, is_same, is_within, items, numbers_from}
 use Rattle.ls_set.specs.declared.query.Query.{Query}
-use Rattle.ls_theory.specs.Starts.{Start}
+use Rattle.ls_theory.specs.declared.base_fault.BaseFault.{BaseFault}
+use Rattle.ls_theory.specs.declared.base_fault.BaseFault.TheVariants.{NotSpanning, Past}
+use Rattle.ls_theory.specs.Families.{unions}
+use Rattle.ls_theory.specs.Starts.{Start, Sets}
 use Rattle.ls_theory.specs.Interviews.{Interview, yes_queries}
 use Rattle.ls_theory.specs.Compatible.{compat}
 
@@ -45,3 +49,17 @@ most_base_sets = 4096
 -- the peak of an interview, whose answers stand in order of number
 abbrev pub peak_of : Interview → Option Peak
 peak_of i = peak most_base_sets i.count i.start (yes_queries i.answers)
+
+-- ---- the base of listed sets
+
+-- the least of the n items that no set of the list has
+abbrev pub first_missing : ℕ → List Items → Option ℕ
+first_missing n sets = least (minus (full n) (unions sets))
+
+-- the sets of a base, unless there are too many
+abbrev pub limited : List Items → Result (List Items) BaseFault
+limited sets = if nat_lt most_base_sets (length sets) then Err (Past (length sets)) else Ok sets
+
+-- the base of all unions of the sets, each of the n items being in some set
+abbrev pub based : ℕ → List Items → Result (List Items) BaseFault
+based n sets = option_map_or (λ q. Err (NotSpanning q)) (first_missing n sets) (limited (base (compat n (Sets sets) [])))

@@ -10,6 +10,7 @@ pub mod Forced
 pub mod Blocks
 pub mod Answering
 pub mod Bases
+pub mod Clauses
 pub mod Verdict
 pub mod Fringes
 pub mod Projections

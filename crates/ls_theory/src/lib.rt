@@ -5,6 +5,7 @@
 mod answer;
 mod answer_fault;
 mod asked;
+mod base_fault;
 mod block_fault;
 mod fringe_pair;
 mod known;
@@ -20,11 +21,13 @@ mod outcome;
 mod reason;
 mod replay;
 mod reply;
+mod surmise_fault;
 mod verdict;
 
 pub use answer::Answer;
 pub use answer_fault::AnswerFault;
 pub use asked::Asked;
+pub use base_fault::BaseFault;
 pub use block_fault::BlockFault;
 pub use fringe_pair::FringePair;
 pub use known::Known;
@@ -40,4 +43,5 @@ pub use outcome::Outcome;
 pub use reason::Reason;
 pub use replay::Replay;
 pub use reply::Reply;
+pub use surmise_fault::SurmiseFault;
 pub use verdict::Verdict;

@@ -1,7 +1,7 @@
 use Rattle.std.proofs.Common.{rules, ◌≡◌, ◌∙◌, ap, arith, []}
 use Rattle.std.proofs.lemmas.Grind.{common_steps}
 use Rattle.ls_lines.specs.Lines.{lines}
-use Rattle.ls_family.specs.SetFiles.{found_from, line_read, IsFaultOf}
+use Rattle.ls_files.specs.SetFiles.{found_from, line_read, IsFaultOf}
 use Rattle.ls_family.proofs.Rows.{read_on, left, left-less, line-good, line-bad}
 use Rattle.ls_family.proofs.family.found_in.Goals as goal
 

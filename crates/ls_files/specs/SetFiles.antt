@@ -7,10 +7,10 @@ use Rattle.ls_set.specs.ItemSet.{Items, comes_before, is_same}
 use Rattle.ls_lines.specs.Lines.{Text, lines, without_return, is_blank, is_note, parts_words}
 use Rattle.ls_domain.specs.Domains.{is_name}
 use Rattle.ls_domain.specs.Meanings.{items_of, first_unnamed}
-use Rattle.ls_family.specs.declared.set_line.SetLine.{SetLine}
-use Rattle.ls_family.specs.declared.set_line.SetLine.TheVariants.{Passed, Bad, Unknown, Set}
-use Rattle.ls_family.specs.declared.family_fault.FamilyFault.{FamilyFault}
-use Rattle.ls_family.specs.declared.family_fault.FamilyFault.TheVariants.{BadLine, UnknownItem, Repeat, TooMany, Memory}
+use Rattle.ls_files.specs.declared.set_line.SetLine.{SetLine}
+use Rattle.ls_files.specs.declared.set_line.SetLine.TheVariants.{Passed, Bad, Unknown, Set}
+use Rattle.ls_files.specs.declared.family_fault.FamilyFault.{FamilyFault}
+use Rattle.ls_files.specs.declared.family_fault.FamilyFault.TheVariants.{BadLine, UnknownItem, Repeat, TooMany, Memory}
 
 -- ---- one line
 

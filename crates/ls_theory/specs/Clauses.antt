@@ -1,18 +1,30 @@
--- What is wrong with clauses that are read, in whatever order they stand. A clause is told by its item and its number, from 1.
+-- Clauses, and what is wrong with clauses that are read, in whatever order they stand. A clause is told by its item and its number, from 1.
 --     flaw n clauses      the first condition of a surmise function on n items that they violate: at the least item, then by
 --         its first clause, then with the least other item or the first later clause
-use Rattle.std.specs.Prelude.{ℕ, suc, ◌+◌, ◌-◌, Bool, not, ◌||◌, ◌==◌, List, [], ◌∷◌, length, find, slice_index_or, Option, None, option_map}
+use Rattle.std.specs.Prelude.{ℕ, suc, ◌+◌, ◌-◌, Bool, not, ◌||◌, ◌==◌, List, [], ◌∷◌, map, length, find, slice_index_or, Option, None, option_map}
+use Rattle.std.specs.List.{list_any, flat_map}
 use Rattle.std.specs.Option.{option_or}
 use Rattle.ls_set.specs.ItemSet.{Items, has, empty, is_within, items, numbers_from}
-use Rattle.ls_clauses.specs.Surmise.{clauses_of, has_clause_within}
+use Rattle.ls_theory.specs.declared.surmise_fault.SurmiseFault.{SurmiseFault}
+use Rattle.ls_theory.specs.declared.surmise_fault.SurmiseFault.TheVariants.{NoClause, Reflexive, NotClosed, Comparable}
+use Rattle.ls_theory.specs.Bases.{atoms_at}
 
--- An item without a clause; a clause of q that lacks q; a clause of q with an item r of which no clause lies within it;
--- two clauses of q of which one lies within the other.
-pub data Flaw : Type 0 where
-  NoClause : ℕ → Flaw
-  Reflexive : ℕ → ℕ → Flaw
-  NotClosed : ℕ → ℕ → ℕ → Flaw
-  Comparable : ℕ → ℕ → ℕ → Flaw
+-- the clauses of item q; a number that is no item has none
+abbrev pub clauses_of : List (List Items) → ℕ → List Items
+clauses_of clauses q = slice_index_or clauses q []
+
+-- one item's after the other's
+abbrev pub all_clauses : List (List Items) → List Items
+all_clauses clauses = flat_map (λ of_item. of_item) clauses
+
+abbrev pub has_clause_within : List (List Items) → ℕ → Items → Bool
+has_clause_within clauses q s = list_any (λ c. is_within c s) (clauses_of clauses q)
+
+-- the clauses of an item are the atoms at it
+abbrev pub clauses_at : ℕ → List Items → List (List Items)
+clauses_at n f = map (atoms_at f) (numbers_from 0 n)
+
+-- ---- flaws
 
 -- the first answer that there is
 abbrev pub first_some : {X Y : Type 0} → (X → Option Y) → List X → Option Y
@@ -36,34 +48,34 @@ abbrev pub are_comparable : Items → Items → Bool
 are_comparable c d = is_within c d || is_within d c
 
 -- the least item without a clause
-abbrev pub no_clause : ℕ → List (List Items) → Option Flaw
+abbrev pub no_clause : ℕ → List (List Items) → Option SurmiseFault
 no_clause n clauses = option_map NoClause (find (λ q. length (clauses_of clauses q) == 0) (numbers_from 0 n))
 
 -- the first clause of q that lacks q
-abbrev pub lacking_in : List (List Items) → ℕ → Option Flaw
+abbrev pub lacking_in : List (List Items) → ℕ → Option SurmiseFault
 lacking_in clauses q = option_map (λ j. Reflexive q (j + 1)) (find (λ j. not (has (clause_at clauses q j) q)) (places_of clauses q))
 
 -- the least item of a clause of which no clause lies within it
-abbrev pub unclosed_at : List (List Items) → ℕ → ℕ → Option Flaw
+abbrev pub unclosed_at : List (List Items) → ℕ → ℕ → Option SurmiseFault
 unclosed_at clauses q j =
     let c = clause_at clauses q j in
     option_map (λ r. NotClosed q (j + 1) r) (find (λ r. not (has_clause_within clauses r c)) (items c))
 
 -- the first clause of q with such an item
-abbrev pub unclosed_in : List (List Items) → ℕ → Option Flaw
+abbrev pub unclosed_in : List (List Items) → ℕ → Option SurmiseFault
 unclosed_in clauses q = first_some (unclosed_at clauses q) (places_of clauses q)
 
 -- the first later clause that is comparable with the clause at a place
-abbrev pub comparable_at : List (List Items) → ℕ → ℕ → Option Flaw
+abbrev pub comparable_at : List (List Items) → ℕ → ℕ → Option SurmiseFault
 comparable_at clauses q i =
     let c = clause_at clauses q i in
     option_map (λ j. Comparable q (i + 1) (j + 1)) (find (λ j. are_comparable c (clause_at clauses q j)) (places_after clauses q i))
 
 -- the first clause of q with such a later one
-abbrev pub comparable_in : List (List Items) → ℕ → Option Flaw
+abbrev pub comparable_in : List (List Items) → ℕ → Option SurmiseFault
 comparable_in clauses q = first_some (comparable_at clauses q) (places_of clauses q)
 
-unfoldable pub flaw : ℕ → List (List Items) → Option Flaw
+unfoldable pub flaw : ℕ → List (List Items) → Option SurmiseFault
 flaw n clauses =
     option_or (no_clause n clauses)
     (option_or (first_some (lacking_in clauses) (numbers_from 0 n))

@@ -1,0 +1,2 @@
+pub mod SetFiles
+pub mod SurmiseFiles

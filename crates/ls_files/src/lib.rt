@@ -1,0 +1,10 @@
+//! What files say of a space: set files and surmise files. The readings stand in specs/, as
+//! functions of the names and the bytes; here are the data types of which they speak.
+#![tactic(auto)]
+
+mod family_fault;
+mod set_line;
+
+pub use family_fault::FamilyFault;
+pub use ls_theory::{BaseFault, SurmiseFault};
+pub use set_line::SetLine;
