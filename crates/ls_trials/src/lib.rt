@@ -10,6 +10,8 @@ mod interviews;
 #[cfg(test)]
 mod scripts;
 #[cfg(test)]
+mod starts;
+#[cfg(test)]
 mod statuses;
 #[cfg(test)]
 mod trial;

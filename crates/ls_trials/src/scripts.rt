@@ -14,7 +14,7 @@ const SCRIPTS: [(&str, &str); 16] = [
     ),
     // Refusals, each with its cause.
     (
-        "items a a\nitems a b\nitems c\nyes a : a\nyes : b\nyes z : a\nyes a : z\nsurmise\n",
+        "items a a\nitems a b\nitems c\nyes a : a\nyes : b\nyes z : a\nyes a : z\nlearning\n",
         "no 12 repeat 2 1\nok 2\nno 11\nno 18\nno 18\nno 15 2\nno 15 4\nno 49\n",
     ),
     (
@@ -68,10 +68,7 @@ const SCRIPTS: [(&str, &str); 16] = [
 ];
 
 // The forms of commands that aren't built.
-const UNBUILT: [&str; 24] = [
-    "start surmise f",
-    "start base f",
-    "surmise",
+const UNBUILT: [&str; 21] = [
     "learning",
     "project 10 : b c",
     "project 10 after c : b c",
