@@ -8,6 +8,8 @@ mod files;
 #[cfg(test)]
 mod interviews;
 #[cfg(test)]
+mod many_sets;
+#[cfg(test)]
 mod scripts;
 #[cfg(test)]
 mod starts;

@@ -13,7 +13,8 @@ const CLAUSES: [(&str, &str); 6] = [
     ),
     // Blanks and line ends, another order of keys and of clauses.
     (
-        "\n{ \"c\" : [ [ \"c\" ] ] ,\r\n\t\"b\":[[\"c\",\"b\"],[\"b\",\"a\"]], \"a\": [[\"a\"]] }\n",
+        "\n{ \"c\" : [ [ \"c\" ] ] ,\r\n\t\"b\":[[\"c\",\"b\"],[\"b\",\"a\"]],\
+         \"a\": [[\"a\"]] }\n",
         "ok 4\nsurmise {\"a\":[[\"a\"]],\"b\":[[\"a\",\"b\"],[\"b\",\"c\"]],\"c\":[[\"c\"]]}\n",
     ),
     // Escapes, in keys and in names.
@@ -185,8 +186,8 @@ const SCRIPTS: [(&[u64], &str, &str); 11] = [
     // Without a domain the file isn't looked at; nor where an answer stands.
     (
         &[1],
-        "start surmise s\nstart base none\nitems a b c\nno a : c\nstart base g\nstart surmise none\n\
-         retract 1\nstart base g\nstart base g\n",
+        "start surmise s\nstart base none\nitems a b c\nno a : c\nstart base g\n\
+         start surmise none\nretract 1\nstart base g\nstart base g\n",
         "no 15 0\nno 15 0\nok 3\nok 1\nno 13\nno 13\nok 1\nno 27\nok 2\n",
     ),
     // A refused start changes nothing.
@@ -202,16 +203,16 @@ const SCRIPTS: [(&[u64], &str, &str); 11] = [
         &[],
         "items a b c\nblocks 2\nno a b : c\nretract 1\nstart base g\nstart surmise s\nyes a c : b\n\
          yes a : b\nbase\nask\nretract 2\n",
-        "ok 3\nok 6\nok 1\nok 1\nok 2\nok 4\nok 2\nok 3\nset c {a b}\nset 8 {a}\nset 2 {c}\nbase 3\n\
-         ask a : c\nok 2\n",
+        "ok 3\nok 6\nok 1\nok 1\nok 2\nok 4\nok 2\nok 3\nset c {a b}\nset 8 {a}\nset 2 {c}\n\
+         base 3\nask a : c\nok 2\n",
     ),
     // The start forces answers.
     (
         &[],
         "items a b c\nstart base g\nknown a : b\nknown a : c\nknown c : a\nno b : a\nyes c : a\n\
          ask\nknown c : a\nbase\nretract 1\nknown c : a\n",
-        "ok 3\nok 2\nknown yes\nknown yes\nknown open\nno 20\nok 1\nsettled\nknown yes\nset e {a b c}\n\
-         base 1\nok 1\nknown open\n",
+        "ok 3\nok 2\nknown yes\nknown yes\nknown open\nno 20\nok 1\nsettled\nknown yes\n\
+         set e {a b c}\nbase 1\nok 1\nknown open\n",
     ),
     // A Yes leaves other clauses than the start had, and a retraction gives them back.
     (
@@ -226,8 +227,8 @@ const SCRIPTS: [(&[u64], &str, &str); 11] = [
         &[],
         "items a b c\nstart base g\nstates 1 after e\nstates 1 after 8\nstart surmise s\n\
          states 2 after 8\nyes c : b\nstates 2 after 8\n",
-        "ok 3\nok 2\nset c {a b}\nmore yes\nset 0 {}\nmore no\nok 4\nset 6 {b c}\nset 2 {c}\nmore yes\n\
-         ok 1\nset 6 {b c}\nset 2 {c}\nmore yes\n",
+        "ok 3\nok 2\nset c {a b}\nmore yes\nset 0 {}\nmore no\nok 4\nset 6 {b c}\nset 2 {c}\n\
+         more yes\nok 1\nset 6 {b c}\nset 2 {c}\nmore yes\n",
     ),
     (
         &[],

@@ -1,0 +1,91 @@
+// Files of more sets than are read, and of more than a base may have.
+use crate::trial::{Trial, answered, check};
+use std::alloc::{AllocError, Global};
+use std::process::Abort;
+use std::test::Fail;
+use std::thread::Threads;
+
+// Sixteen items, and one more.
+const ITEMS: &str = "items i0 i1 i2 i3 i4 i5 i6 i7 i8 i9 i10 i11 i12 i13 i14 i15 z\n";
+
+// The names of the items that are the binary digits of a number, each between two marks.
+fn names_of(alloc: Global, number: u32, before: &str, after: &str) -> Result<String, AllocError> {
+    let mut names = String::new(alloc);
+    for item in 0..16u32 {
+        if number >> item & 1 == 1 {
+            names.push_str(&format!(in alloc; "{before}i{item}{after}")?)?;
+        }
+    }
+    Ok(names)
+}
+
+// The lines of the sets of the first sixteen items.
+fn all_sets(alloc: Global) -> Result<String, AllocError> {
+    let mut text = String::new(alloc);
+    for number in 0..65_536u32 {
+        let names = names_of(alloc, number, "", " ")?;
+        text.push_str(&format!(in alloc; "{{{names}}}\n")?)?;
+    }
+    Ok(text)
+}
+
+// The sixteen items alone, and each six of them with the last item, as lines of a base file.
+fn sixes(alloc: Global) -> Result<String, AllocError> {
+    let mut text = String::new(alloc);
+    for number in 0..65_536u32 {
+        let names = names_of(alloc, number, "", " ")?;
+        match number.count_ones() {
+            1 => text.push_str(&format!(in alloc; "{{{names}}}\n")?)?,
+            6 => text.push_str(&format!(in alloc; "{{{names}z}}\n")?)?,
+            _ => {}
+        }
+    }
+    Ok(text)
+}
+
+// The same as a surmise file.
+fn clauses_of_sixes(alloc: Global) -> Result<String, AllocError> {
+    let mut own = String::new(alloc);
+    let mut ways = String::from_str(alloc, "\"z\":[")?;
+    for number in 0..65_536u32 {
+        let names = names_of(alloc, number, "\"", "\",")?;
+        let name = names.as_str().trim_end_matches(',');
+        match number.count_ones() {
+            1 => own.push_str(&format!(in alloc; "{name}:[[{name}]],")?)?,
+            6 => ways.push_str(&format!(in alloc; "[{names}\"z\"],")?)?,
+            _ => {}
+        }
+    }
+    let ways = ways.as_str().trim_end_matches(',');
+    format!(in alloc; "{{{own}{ways}]}}")
+}
+
+fn check_start<R: Threads + Sync + AllocGlobal + Abort>(
+    rt: &R,
+    command: &str,
+    text: &str,
+    details: &str,
+) -> Result<(), Fail> {
+    let script = format!(in rt.alloc(); "{ITEMS}{command} f\n")?;
+    let replies = format!(in rt.alloc(); "ok 17\nno 14 {details}\n")?;
+    let trial = Trial {
+        files: &[("f", text)],
+        ..answered(&script, &replies)
+    };
+    check(rt, &trial)
+}
+
+#[test]
+fn a_base_file_has_a_limit(rt: HostRuntime) -> Result<(), Fail> {
+    let mut text = all_sets(rt.alloc())?;
+    check_start(&rt, "start base", &text, "not-spanning z")?;
+    text.push_str("{z}")?;
+    check_start(&rt, "start base", &text, "many 65537")
+}
+
+#[test]
+fn a_start_has_at_most_as_many_sets_as_a_base(rt: HostRuntime) -> Result<(), Fail> {
+    check_start(&rt, "start base", &sixes(rt.alloc())?, "wide 8024")?;
+    let clauses = clauses_of_sixes(rt.alloc())?;
+    check_start(&rt, "start surmise", &clauses, "wide 8024")
+}
