@@ -16,6 +16,3 @@ pub use base::{Base, MOST_BASE_SETS};
 pub use fault::{BaseFault, PastFault};
 pub use followed::Followed;
 pub use trail::{MOST_KEPT_SETS, Trail};
-
-#[cfg(test)]
-mod tests;

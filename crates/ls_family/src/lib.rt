@@ -12,6 +12,3 @@ pub use family::Family;
 pub use family_fault::FamilyFault;
 pub use found::MOST_MEMBERS;
 pub use laws::files_have_sets_of_items;
-
-#[cfg(test)]
-mod tests;
