@@ -24,7 +24,12 @@ fn lie_within(sets: &[ItemSet], all: ItemSet) -> bool
 }
 
 // The base of the unions of the sets.
-pub(crate) fn base_of(rt: &impl Abort, alloc: Global, n: u32, sets: &[ItemSet]) -> Result<Base, BaseFault>
+pub(crate) fn base_of(
+    rt: &impl Abort,
+    alloc: Global,
+    n: u32,
+    sets: &[ItemSet],
+) -> Result<Base, BaseFault>
     requires { n ≤ PLACES }
     ensures { IfOk result (λ b. b.item_count ≡ n) }
 {

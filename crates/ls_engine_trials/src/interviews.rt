@@ -1,8 +1,8 @@
 // Each call of an interview once, over three items.
 ghost use Rattle.std.specs.Prelude.{◌≡◌, ◌<◌};
 
-use ls_expert::{AnswerFault, BadQuery, Interview, RetractFault, StandingFault, Start};
 use ls_base::Followed;
+use ls_expert::{AnswerFault, BadQuery, Interview, RetractFault, StandingFault, Start};
 use ls_interior::Steps;
 use ls_query::BlockFault;
 use ls_set::{ItemSet, PLACES, Query};

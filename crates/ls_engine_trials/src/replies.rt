@@ -3,11 +3,11 @@ ghost use Rattle.std.specs.Prelude.{◌<◌, length, IfOk};
 ghost use Rattle.std.specs.List.{All};
 ghost use Rattle.ls_set.specs.ItemSet.{full, IsWithin};
 
-use ls_writing::{ROOM, Room, SetTexts, put_base, put_line, put_numbered};
 use ls_domain::Domain;
 use ls_edge::{MemSink, SinkFault};
 use ls_lines::{Word, WordList};
 use ls_set::ItemSet;
+use ls_writing::{ROOM, Room, SetTexts, put_base, put_line, put_numbered};
 use std::alloc::{AllocError, Global};
 use std::test::Fail;
 

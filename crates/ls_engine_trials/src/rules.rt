@@ -1,6 +1,6 @@
 // A rule over the family of all sets, with memory at hand.
-use ls_rules::Ruled;
 use ls_interior::{Free, Inside};
+use ls_rules::Ruled;
 use ls_set::{ItemSet, Query};
 use std::test::Fail;
 

@@ -1,6 +1,6 @@
 // Set files that are read.
-use ls_family::{Family, FamilyFault, files_have_sets_of_items};
 use ls_domain::Domain;
+use ls_family::{Family, FamilyFault, files_have_sets_of_items};
 use ls_lines::{Word, WordList};
 use ls_set::{ItemSet, PLACES};
 use std::alloc::{AllocError, Global};

@@ -2,6 +2,7 @@
 ghost use Rattle.std.specs.Prelude.{◌≤◌};
 
 use crate::helpers::{base_of, set_of};
+use ls_interior::Inside;
 use ls_set::{ItemSet, PLACES};
 use ls_surmise::Surmise;
 use std::alloc::Global;
