@@ -17,6 +17,3 @@ pub use fault::PastFault;
 pub use followed::Followed;
 pub use ls_theory::BaseFault;
 pub use trail::{MOST_KEPT_SETS, Trail};
-
-#[cfg(test)]
-mod tests;

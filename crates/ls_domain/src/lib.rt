@@ -13,6 +13,3 @@ pub use domain::Domain;
 pub use domain_fault::DomainFault;
 pub use laws::{domains_are_read, names_and_numbers_agree};
 pub use unknown_at::UnknownAt;
-
-#[cfg(test)]
-mod tests;

@@ -11,6 +11,3 @@ pub use listing::{list_all, page, pages_join};
 pub use ls_theory::Listing;
 pub use states::States;
 pub use successor::{first, first_left, next_after};
-
-#[cfg(test)]
-mod tests;

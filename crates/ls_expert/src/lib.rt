@@ -20,6 +20,3 @@ pub use on_items::OnItems;
 pub use retract_fault::RetractFault;
 pub use standing_fault::StandingFault;
 pub use start::Start;
-
-#[cfg(test)]
-mod tests;

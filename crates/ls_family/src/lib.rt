@@ -11,6 +11,3 @@ pub use family::Family;
 pub use found::MOST_MEMBERS;
 pub use laws::files_have_sets_of_items;
 pub use ls_files::FamilyFault;
-
-#[cfg(test)]
-mod tests;

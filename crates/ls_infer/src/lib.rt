@@ -9,6 +9,3 @@ mod table;
 pub use laws::told_is_forced;
 pub use ls_theory::{Known, No};
 pub use table::Table;
-
-#[cfg(test)]
-mod tests;

@@ -10,6 +10,3 @@ pub use counted::Counted;
 pub use family::{Inside, Interior, closure, is_member};
 pub use free::Free;
 pub use steps::Steps;
-
-#[cfg(test)]
-mod tests;

@@ -20,8 +20,6 @@ mod pupil_form;
 mod reading;
 mod setting_form;
 mod structure_form;
-#[cfg(test)]
-mod tests;
 mod token;
 mod word;
 mod word_list;

@@ -8,6 +8,3 @@ mod ruled;
 mod waking;
 
 pub use ruled::Ruled;
-
-#[cfg(test)]
-mod tests;

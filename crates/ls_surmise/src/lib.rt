@@ -7,6 +7,3 @@ mod surmise;
 
 pub use fault::FromFault;
 pub use surmise::Surmise;
-
-#[cfg(test)]
-mod tests;
