@@ -3,3 +3,4 @@ pub mod Fitting
 pub mod FoundSets
 pub mod Parts
 pub mod Rows
+pub mod Words

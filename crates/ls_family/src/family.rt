@@ -82,8 +82,7 @@ fn found_in(alloc: Global, d: &Domain, bytes: &[u8]) -> Result<Found, FamilyFaul
     let mut row = 1;
     while let Some(rest) = text {
         let (line, more) = first_line(rest);
-        let line = read_line(alloc, d, line).map_err(FamilyFault::Memory)?;
-        found.take_line(row, line)?;
+        found.take_line(row, read_line(d, line))?;
         text = more;
         row += 1;
     }

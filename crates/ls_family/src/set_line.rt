@@ -1,36 +1,34 @@
 // Lines of a set file.
-ghost use Rattle.std.specs.Prelude.{◌≡◌, true, None, is_some, IfOk, MatchOption, map, option_map};
+ghost use Rattle.std.specs.Prelude.{◌≡◌, option_map};
 ghost use Rattle.std.specs.List.{list_all};
 ghost use Rattle.ls_lines.specs.Lines.{without_return, is_blank, parts_words};
-ghost use Rattle.ls_domain.specs.Domains.{is_name};
-ghost use Rattle.ls_domain.specs.Meanings.{first_unnamed, items_of};
 ghost use Rattle.ls_files.specs.SetFiles.{unindented, until_brace, within_braces, words_within, set_named, body_read, line_read};
+ghost use Rattle.ls_family.specs.Words.{with_word};
 
 use ls_domain::Domain;
 use ls_files::SetLine;
 use ls_lines::Kind;
 use ls_set::ItemSet;
-use std::alloc::{AllocError, Global};
 
 /// What a line is, given without its line feed.
 #[tactic(auto, unfolding(ls_files::specs::SetFiles::line_read))]
-pub(crate) fn read_line(alloc: Global, d: &Domain, line: &[u8]) -> Result<SetLine, AllocError>
-    ensures { IfOk result (λ l. l ≡ line_read d.now line.now) }
+pub(crate) fn read_line(d: &Domain, line: &[u8]) -> SetLine
+    ensures { result ≡ line_read d.now line.now }
 {
-    read_body(alloc, d, without_return(line))
+    read_body(d, without_return(line))
 }
 
 // What a line is, without the carriage return at its end.
-fn read_body(alloc: Global, d: &Domain, body: &[u8]) -> Result<SetLine, AllocError>
-    ensures { IfOk result (λ l. l ≡ body_read d.now body.now) }
+fn read_body(d: &Domain, body: &[u8]) -> SetLine
+    ensures { result ≡ body_read d.now body.now }
 {
     match unindented(body) {
-        [] | [b'#', ..] => Ok(SetLine::Passed),
+        [] | [b'#', ..] => SetLine::Passed,
         [b'{', rest @ ..] => match until_brace(rest) {
-            None => Ok(SetLine::Bad),
-            Some(part) => Ok(set_named(d, &words_within(alloc, part)?)),
+            None => SetLine::Bad,
+            Some(part) => set_named(d, part),
         },
-        _ => Ok(SetLine::Bad),
+        _ => SetLine::Bad,
     }
 }
 
@@ -85,49 +83,30 @@ fn until_brace(line: &[u8]) -> Option<&[u8]>
     }
 }
 
-// The runs of bytes between spaces, tabs and commas.
-fn words_within(alloc: Global, part: &[u8]) -> Result<Vec<&[u8]>, AllocError>
-    ensures { IfOk result (λ v. map (λ w. w.now) v.items ≡ words_within part.now) }
+// The set of the words between spaces, tabs and commas, if each is a name that an item has.
+fn set_named(d: &Domain, part: &[u8]) -> SetLine
+    ensures { result ≡ set_named d.now (words_within part.now) }
 {
     part.split(|b| parts_words(*b))
-        .filter(|w| !w.is_empty())
-        .collect(alloc)
+        .filter(|word| !word.is_empty())
+        .fold(SetLine::Set(ItemSet::empty()), |line, word| {
+            with_word(d, line, word)
+        })
 }
 
-// The set of the words, if each is a name, and each name is an item's.
-fn set_named(d: &Domain, words: &[&[u8]]) -> SetLine
-    ensures { result ≡ set_named d.now (map (λ w. w.now) words.now) }
+// What a line is with one word more between its braces.
+fn with_word(d: &Domain, line: SetLine, word: &[u8]) -> SetLine
+    ensures { result ≡ with_word d.now line word.now }
 {
-    if !are_names(words) {
+    if !Kind::Name.takes(word) {
         return SetLine::Bad;
     }
-    match items_named(d, words) {
+    let SetLine::Set(set) = line else {
+        return line;
+    };
+    let name = str::from_utf8(word).unwrap();
+    match d.number(name) {
         None => SetLine::Unknown,
-        Some(set) => SetLine::Set(set),
+        Some(item) => SetLine::Set(set.with(item)),
     }
-}
-
-fn are_names(words: &[&[u8]]) -> bool
-    ensures { result ≡ list_all is_name (map (λ w. w.now) words.now) }
-{
-    words.iter().all(|w| Kind::Name.takes(w))
-}
-
-// The set of the items that have the names, if each is an item's.
-fn items_named(d: &Domain, names: &[&[u8]]) -> Option<ItemSet>
-    requires { list_all is_name (map (λ w. w.now) names.now) ≡ true }
-    ensures { MatchOption result
-        (is_some (first_unnamed d.now (map (λ w. w.now) names.now)) ≡ true)
-        (λ s. (first_unnamed d.now (map (λ w. w.now) names.now) ≡ None)
-        × (s ≡ items_of d.now (map (λ w. w.now) names.now))) }
-{
-    let mut set = ItemSet::empty();
-    for word in names {
-        let name = str::from_utf8(word).unwrap();
-        let Some(item) = d.number(name) else {
-            return None;
-        };
-        set = set.with(item);
-    }
-    Some(set)
 }

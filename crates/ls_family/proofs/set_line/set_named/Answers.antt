@@ -1,0 +1,17 @@
+use Rattle.std.proofs.Common.{rules, tests, ◌∙◌, ap, fold, length, nat_lt}
+use Rattle.std.proofs.lemmas.Iterator.Consumers.{fold_from_yields_List, YieldsList-at, YieldsList-from_filter}
+use Rattle.std.proofs.lemmas.Iterator.Splits.{YieldsList-from_slice_split}
+use Rattle.ls_lines.specs.Lines.{parts_words}
+use Rattle.ls_files.specs.SetFiles.{words_within}
+use Rattle.ls_files.specs.declared.set_line.SetLine.TheVariants.{Set}
+use Rattle.ls_family.specs.Words.{with_word}
+use Rattle.ls_family.proofs.Words.{words-named}
+use Rattle.ls_family.proofs.set_line.set_named.Goals as goal
+
+pub returns : goal.returns
+returns c =
+    let names = c.args.d.now in
+    let words = words_within c.args.part.now in
+    fold_from_yields_List _ (with_word names) _ _ c.fold.ensures.ran (YieldsList-from_filter _ (λ w. nat_lt 0 (length w)) (YieldsList-at c.filter.ensures.source (YieldsList-from_slice_split _ parts_words c.args.part.now c.split.ensures.rest c.split.ensures.done c.split.ensures.closure (λ x r q k. search (rules, tests)))) c.filter.ensures.closure (λ x r q k. search (rules, tests))) (λ line x b q k. search (rules, tests))
+    ∙ ap (λ s. fold (with_word names) (Set s) words) c.empty.ensures
+    ∙ words-named names words
