@@ -1,2 +1,4 @@
 mod OfBases
+mod PutMembers
+mod Printed
 mod Examples

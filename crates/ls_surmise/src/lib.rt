@@ -3,6 +3,7 @@
 #![tactic(auto)]
 
 mod fault;
+mod printing;
 mod surmise;
 
 pub use fault::FromFault;
