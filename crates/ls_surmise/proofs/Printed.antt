@@ -1,5 +1,5 @@
 -- The value of a surmise function, put together from the last item on.
-use Rattle.std.proofs.Common.{◌≡◌, ℕ, ◌+◌, ◌<◌, List, [], ◌∷◌, ◌++◌, length, map, drop, String, string_bytes, Global, false, refl, sym, ap, ap₂, ◌∙◌, subst, rules, arith}
+use Rattle.std.proofs.Common.{◌≡◌, ℕ, ◌+◌, ◌<◌, List, [], ◌∷◌, ◌++◌, length, map, drop, String, string_bytes, Global, false, refl, sym, ap, ap₂, ◌∙◌, rules, arith}
 use Rattle.std.specs.Prelude.{⊤}
 use Rattle.std.proofs.lemmas.List.{drop_more, drop_all, map_push}
 use Rattle.serde_json.specs.Data.{Data, string, Members, no_members, member, put}
