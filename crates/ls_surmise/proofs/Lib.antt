@@ -1,2 +1,8 @@
 mod OfBases
+mod PutMembers
+mod Printed
+mod PlainValues
+mod SurmiseValues
+mod RowTables
+mod ReadBack
 mod Examples

@@ -3,7 +3,10 @@
 #![tactic(auto)]
 
 mod fault;
+mod laws;
+mod printing;
 mod surmise;
 
 pub use fault::FromFault;
+pub use laws::surmise_functions_are_read_back;
 pub use surmise::Surmise;

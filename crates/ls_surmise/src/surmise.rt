@@ -20,7 +20,7 @@ use std::marker::Model;
 pub struct Surmise {
     base: Base,
     clauses: Vec<SetList>,
-    alloc: Global,
+    pub(crate) alloc: Global,
 }
 
 impl Model for Surmise {
