@@ -26,6 +26,7 @@ pub fn asks(command: &Command) -> bool
             | Command::Ask
             | Command::States { .. }
             | Command::Base
+            | Command::Surmise
     )
 }
 
@@ -58,6 +59,7 @@ pub fn resolve(domain: &Domain, command: &Command) -> Result<Option<Request>, Un
             after: read_after(domain.count(), after),
         }),
         Command::Base => Request::View(View::Base),
+        Command::Surmise => Request::View(View::Surmise),
         _ => return Ok(None),
     };
     Ok(Some(request))

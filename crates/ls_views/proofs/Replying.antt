@@ -30,5 +30,6 @@ pub reading-effect : (s : Session) (calls : Calls) (c : Command) (v : View) → 
     → command_effect s calls c ≡ answers s (view_row s.interview v)
 reading-effect s calls c v reading some named asked =
     command_effect-asked s calls c (λ e. true≢false (sym reading ∙ ap is_reading e)) (λ names e. true≢false (sym reading ∙ ap is_reading e)) (λ file e. true≢false (sym reading ∙ ap is_reading e))
+    (λ file e. true≢false (sym reading ∙ ap is_reading e)) (λ file e. true≢false (sym reading ∙ ap is_reading e))
     ∙ ap (λ ps. asked_effect s ps (request_of s.names c)) (ap (λ (b : Bool). cond b (unnamed_places s.names c) (0 ∷ [])) (has_domain-some s some) ∙ named)
     ∙ ap (asked_effect s []) asked

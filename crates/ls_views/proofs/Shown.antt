@@ -1,14 +1,16 @@
 -- The bytes of what is shown, and the sets of a base.
-use Rattle.std.proofs.Common.{◌≡◌, ◌<◌, ℕ, zero, suc, List, [], ◌∷◌, ◌++◌, codes, true, refl, ap, sym, subst, length, append_assoc, arith}
+use Rattle.std.proofs.Common.{◌≡◌, ◌<◌, ℕ, zero, suc, List, [], ◌∷◌, ◌++◌, map, codes, true, refl, ap, sym, subst, ◌∙◌, length, append_assoc, arith}
 use Rattle.std.specs.Prelude.{slice_index_or}
 use Rattle.std.specs.List.{All}
-use Rattle.ls_set.specs.ItemSet.{Items, full, IsWithin, is_among}
+use Rattle.ls_set.specs.ItemSet.{Items, full, IsWithin, is_among, numbers_from}
 use Rattle.ls_theory.specs.Interviews.{Interview, yes_queries}
 use Rattle.ls_theory.specs.Compatible.{compatible_sets}
-use Rattle.ls_theory.specs.Bases.{base}
+use Rattle.ls_theory.specs.Bases.{base, atoms_at}
+use Rattle.ls_theory.specs.Clauses.{clauses_at}
 use Rattle.ls_set.proofs.Members.{among-here, among-there}
 use Rattle.ls_laws.proofs.Atoms.{base-member}
-use Rattle.ls_laws.proofs.Compat.{compat-IsUnionFamily}
+use Rattle.ls_laws.proofs.Compat.{compat-IsUnionFamily, compat-in_order}
+use Rattle.ls_base.proofs.Spanned.{atoms_at-base}
 use Rattle.ls_reply.specs.Texts.{line_of, bytes_of}
 use Rattle.ls_reply.specs.Sessions.{Session}
 use Rattle.ls_reply.specs.Lines.{shown_lines}
@@ -34,3 +36,13 @@ base-within i n sets en e =
     let small = (compat-IsUnionFamily i.count i.start (yes_queries i.answers)).small in
     let found = all-among i.count (base (compatible_sets i)) (λ k m. small k (base-member (compatible_sets i) k m)) in
     subst (λ m. All (λ k. IsWithin k (full m)) sets) (sym en) (subst (λ ks. All (λ k. IsWithin k (full i.count)) ks) (sym e) found)
+
+map-same : {X Y : Type 0} (f g : X → Y) (xs : List X) → ((x : X) → f x ≡ g x) → map f xs ≡ map g xs
+map-same f g [] h = refl
+map-same f g (x ∷ xs) h = ap (λ y. y ∷ map f xs) (h x) ∙ ap (λ ys. g x ∷ ys) (map-same f g xs h)
+
+-- the atoms among the sets of the base are those among the states
+pub base-clauses : (i : Interview) (n : ℕ) (sets : List Items) → sets ≡ base (compatible_sets i) → clauses_at n sets ≡ clauses_at n (compatible_sets i)
+base-clauses i n sets e =
+    ap (clauses_at n) e
+    ∙ map-same (atoms_at (base (compatible_sets i))) (atoms_at (compatible_sets i)) (numbers_from 0 n) (λ q. atoms_at-base (compatible_sets i) q (compat-in_order i.count i.start (yes_queries i.answers)))

@@ -15,6 +15,7 @@ use Rattle.ls_reply.specs.declared.response.Response.{Response}
 use Rattle.ls_reply.specs.declared.response.Response.TheVariants as response
 use Rattle.ls_reply.specs.declared.response.Shown.{Shown}
 use Rattle.ls_reply.specs.declared.response.Shown.TheVariants as shown
+use Rattle.ls_writing.specs.Names.{CanRefuse}
 
 -- the session of an interview on named items
 abbrev pub session_on : List Text → Interview → Session
@@ -25,11 +26,13 @@ is_reading (command.Known names item) = true
 is_reading command.Ask = true
 is_reading (command.States count after) = true
 is_reading command.Base = true
+is_reading command.Surmise = true
 is_reading c = false
 
--- whether the base is asked for
+-- whether what is asked for stands on the base
 abbrev pub is_based : View → Bool
 is_based view.Base = true
+is_based view.Surmise = true
 is_based v = false
 
 -- What is shown speaks of the items alone; and of the base, where these are its sets.
@@ -38,9 +41,16 @@ CanShow s sets (shown.Known known) = ⊤
 CanShow s sets (shown.Question next) = ForSome next (λ r. is_good (length s.names) r ≡ true)
 CanShow s sets (shown.States count after) = ForSome after (λ k. IsWithin k (full (length s.names)))
 CanShow s sets shown.Base = sets ≡ base (states s)
+CanShow s sets shown.Surmise = sets ≡ base (states s)
 
+-- what is shown can be said by the sets of the base
+abbrev pub IsBased : Shown → Type 0
+IsBased what = (s : Session) (sets : List Items) → sets ≡ base (states s) → CanShow s sets what
+
+-- and a refusal speaks of items that have names
 abbrev pub CanSay : Session → List Items → Response → Type 0
 CanSay s sets (response.Shown what) = CanShow s sets what
+CanSay s sets (response.Refused refusal) = CanRefuse s.names refusal
 CanSay s sets r = ⊤
 
 -- how many interiors it takes at most to decide what is shown

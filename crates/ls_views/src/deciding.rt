@@ -2,7 +2,7 @@
 ghost use Rattle.std.specs.Prelude.{◌≡◌, ◌≤◌, ◌+◌, false, length};
 ghost use Rattle.ls_theory.specs.Interviews.{Interview, yes_queries};
 ghost use Rattle.ls_base.specs.Followed.{IsFollowed};
-ghost use Rattle.ls_reply.specs.Rows.{known_row, base_row, view_row};
+ghost use Rattle.ls_reply.specs.Rows.{known_row, based_row, view_row};
 ghost use Rattle.ls_views.specs.Views.{is_based, view_steps};
 
 use ls_base::Followed;
@@ -12,7 +12,7 @@ use ls_reply::{Refusal, Response, Shown, View};
 use ls_set::Query;
 use std::sync::ledger::Ledger;
 
-/// What is shown where something other than the base is asked of the interview. It takes at most
+/// What is shown where something that doesn't stand on the base is asked of the interview. It takes at most
 /// one interior for a query, and none for the others.
 pub fn decide<L: Ledger>(inquiry: &Inquiry, view: &View, steps: &mut Steps<L>) -> Response
     requires { is_based view.now ≡ false }
@@ -29,17 +29,18 @@ pub fn decide<L: Ledger>(inquiry: &Inquiry, view: &View, steps: &mut Steps<L>) -
             }),
             Err(fault) => Response::Refused(Refusal::Cursor(*fault)),
         },
-        View::Base => unreachable!(),
+        View::Base | View::Surmise => unreachable!(),
     }
 }
 
-/// What is shown where the base is asked for, which was followed over the Yes answers.
-pub fn based(followed: &Followed) -> Response
+/// The response where `what` is asked for, which stands on the base that was followed over the Yes
+/// answers.
+pub fn based(followed: &Followed, what: Shown) -> Response
     ensures { (i : Interview) → IsFollowed i.count i.start (yes_queries i.answers) followed.now →
-        result ≡ base_row i }
+        result ≡ based_row i what }
 {
     match followed {
-        Followed::Within(_) => Response::Shown(Shown::Base),
+        Followed::Within(_) => Response::Shown(what),
         Followed::Past { position, count } => Response::Refused(Refusal::Past {
             position: *position,
             count: *count,

@@ -24,7 +24,7 @@ use ls_expert::{Inquiry, Interview};
 use ls_interior::Steps;
 use ls_lines::Command;
 use ls_meanings::resolve;
-use ls_reply::{Request, Response, View};
+use ls_reply::{Request, Response, Shown, View};
 use ls_set::ItemSet;
 use ls_writing::{Room, SetTexts, put_done, put_refusal};
 use std::alloc::{AllocError, Global};
@@ -49,7 +49,7 @@ pub fn put_response<K: Sink, L: Ledger>(
 {
     match response {
         Response::Silence => (),
-        Response::Refused(refusal) => put_refusal(refusal, room, out),
+        Response::Refused(refusal) => put_refusal(Some(texts.domain()), refusal, room, out),
         Response::Done { number } => put_done(*number, room, out),
         Response::Shown(shown) => put_shown(texts, inquiry, sets, shown, room, out, steps),
     }
@@ -97,7 +97,8 @@ fn show<L: Ledger>(
     ensures cost { steps.new ≤ steps.old + view_steps view.now }
 {
     match view {
-        View::Base => based(followed),
+        View::Base => based(followed, Shown::Base),
+        View::Surmise => based(followed, Shown::Surmise),
         _ => decide(inquiry, view, steps),
     }
 }

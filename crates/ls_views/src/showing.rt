@@ -12,7 +12,7 @@ use ls_expert::{Inquiry, Known};
 use ls_interior::{Counted, Steps};
 use ls_reply::Shown;
 use ls_set::{ItemSet, Query};
-use ls_writing::{Room, SetTexts, put_base, put_line, put_listing, put_numbered};
+use ls_writing::{Room, SetTexts, put_base, put_line, put_listing, put_numbered, put_surmise};
 use std::sync::ledger::Ledger;
 
 /// Says what is shown of the interview on named items. `sets` are those of its base, where that is
@@ -41,6 +41,7 @@ pub fn put_shown<K: Sink, L: Ledger>(
             put_listing(&states, texts, *after, *count, room, out, steps);
         }
         Shown::Base => put_base(texts, sets, room, out),
+        Shown::Surmise => put_surmise(texts, sets, room, out),
     }
 }
 

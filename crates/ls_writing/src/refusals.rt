@@ -1,12 +1,14 @@
 // The lines of refusals, and of commands that were carried out.
-ghost use Rattle.std.specs.Prelude.{[], ◌∷◌, codes, decimal};
+ghost use Rattle.std.specs.Prelude.{[], ◌∷◌, codes, decimal, option_copied};
 ghost use Rattle.ls_reply.specs.Texts.{line_of};
 ghost use Rattle.ls_reply.specs.Refusals.{domain_words, block_words, answer_words, cursor_words};
 ghost use Rattle.ls_reply.specs.Refusals.{refusal_words};
 ghost use Rattle.ls_writing.specs.Rooms.{Says};
+ghost use Rattle.ls_writing.specs.Names.{names_in, CanRefuse};
 
+use crate::start_refusals::{put_base_fault, put_sets_fault, put_surmise_fault};
 use crate::{Room, put_line, put_numbered};
-use ls_domain::DomainFault;
+use ls_domain::{Domain, DomainFault};
 use ls_edge::Sink;
 use ls_reply::Refusal;
 use ls_set::CursorFault;
@@ -21,11 +23,19 @@ pub fn put_done<K: Sink>(number: u64, room: &mut Room, out: &mut K)
     put_numbered(&[b"ok"], &[number], room, out);
 }
 
-/// Says the line of a refusal: its code and its details.
-pub fn put_refusal<K: Sink>(refusal: &Refusal, room: &mut Room, out: &mut K)
+/// Says the line of a refusal: its code and its details. `domain` has the names of the items, where
+/// one stands; the refusal may name these alone.
+pub fn put_refusal<K: Sink>(
+    domain: Option<&Domain>,
+    refusal: &Refusal,
+    room: &mut Room,
+    out: &mut K,
+)
+    requires { CanRefuse (names_in (option_copied domain)) refusal.now }
     ensures { Says (K.written out.old) (K.faults out.old) room.old
         (K.written out.new) (K.faults out.new) room.new
-        (line_of (codes "no" ∷ refusal_words refusal.now)) }
+        (line_of (codes "no" ∷ refusal_words (names_in (option_copied domain.entry))
+        refusal.now)) }
 {
     match refusal {
         Refusal::NoCommand { place } => {
@@ -34,6 +44,10 @@ pub fn put_refusal<K: Sink>(refusal: &Refusal, room: &mut Room, out: &mut K)
         Refusal::LongLine { bytes } => put_numbered(&[b"no", b"10", b"long"], &[*bytes], room, out),
         Refusal::DomainStands => put_line(&[b"no", b"11"], room, out),
         Refusal::Domain(fault) => put_domain_fault(*fault, room, out),
+        Refusal::AnswersStand => put_line(&[b"no", b"13"], room, out),
+        Refusal::StartSurmise(fault) => put_surmise_fault(domain, *fault, room, out),
+        Refusal::StartSets(fault) => put_sets_fault(*fault, room, out),
+        Refusal::StartBase(fault) => put_base_fault(domain, *fault, room, out),
         Refusal::Unnamed { place } => put_numbered(&[b"no", b"15"], &[*place as u64], room, out),
         Refusal::Block(fault) => put_block_fault(*fault, room, out),
         Refusal::Answer(fault) => put_answer_fault(*fault, room, out),

@@ -1,11 +1,19 @@
-use Rattle.std.proofs.Common.{[], ◌∷◌, codes, decimal, sym, ◌∙◌}
+use Rattle.std.proofs.Common.{◌≡◌, List, [], ◌∷◌, Some, codes, decimal, ap, sym, ◌∙◌, subst}
+use Rattle.ls_lines.specs.Lines.{Text}
+use Rattle.ls_reply.specs.Texts.{line_of}
 use Rattle.ls_reply.specs.Refusals.{refusal_words}
 use Rattle.ls_reply.specs.declared.response.Response.TheVariants as response
+use Rattle.ls_writing.specs.Names.{names_in, CanRefuse}
 use Rattle.ls_writing.proofs.Saying.{says_as, says_nothing}
 use Rattle.ls_writing.proofs.Joins.{bytes_of-none, bytes_of-one}
-use Rattle.ls_views.specs.Views.{session_on}
+use Rattle.ls_views.specs.Views.{CanSay, session_on}
 use Rattle.ls_views.proofs.Replying.{said_bytes}
 use Rattle.ls_views.proofs.reading.put_response.Goals as goal
+
+pub put_refusal-requires : goal.put_refusal-requires
+put_refusal-requires g c =
+    let s = session_on c.args.texts.now c.args.inquiry.now in
+    subst (λ (names : List Text). CanRefuse names c.in-Refused.refusal) (sym c.domain.ensures) (subst (CanSay s c.args.sets.now) c.in-Refused.is c.requires.can)
 
 pub returns-in-Silence-clause-says : goal.returns-in-Silence-clause-says
 returns-in-Silence-clause-says g c =
@@ -15,7 +23,9 @@ returns-in-Silence-clause-says g c =
 pub returns-in-Refused-clause-says : goal.returns-in-Refused-clause-says
 returns-in-Refused-clause-says g c =
     let s = session_on c.args.texts.now c.args.inquiry.now in
-    says_as (sym (bytes_of-one (codes "no" ∷ refusal_words c.in-Refused.refusal)) ∙ said_bytes s c.args.response.now (response.Refused c.in-Refused.refusal) c.in-Refused.is) c.put_refusal.ensures
+    let names = c.args.texts.now in
+    let words : codes "no" ∷ refusal_words (names_in (Some c.domain.result.now)) c.in-Refused.refusal ≡ codes "no" ∷ refusal_words names c.in-Refused.refusal = ap (λ (ns : List Text). codes "no" ∷ refusal_words ns c.in-Refused.refusal) c.domain.ensures in
+    says_as (ap line_of words ∙ sym (bytes_of-one (codes "no" ∷ refusal_words names c.in-Refused.refusal)) ∙ said_bytes s c.args.response.now (response.Refused c.in-Refused.refusal) c.in-Refused.is) c.put_refusal.ensures
 
 pub returns-in-Done-clause-says : goal.returns-in-Done-clause-says
 returns-in-Done-clause-says g c =
