@@ -1,2 +1,5 @@
 mod OfBases
+mod Firsts
+mod Walks
+mod Names
 mod Examples

@@ -3,6 +3,8 @@
 #![tactic(auto)]
 
 mod fault;
+mod flaws;
+mod reading;
 mod surmise;
 
 pub use fault::FromFault;
