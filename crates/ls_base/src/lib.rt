@@ -17,4 +17,5 @@ pub use base::{Base, MOST_BASE_SETS};
 pub use fault::PastFault;
 pub use followed::Followed;
 pub use ls_theory::BaseFault;
+pub use reduction::put_in_order;
 pub use trail::{MOST_KEPT_SETS, Trail};

@@ -13,7 +13,7 @@ use Rattle.ls_set.specs.ItemSet.{Items, is_among, subsets}
 use Rattle.ls_theory.specs.Bases.{most_base_sets}
 use Rattle.ls_theory.specs.Clauses.{all_clauses, flaw}
 use Rattle.ls_theory.specs.declared.surmise_fault.SurmiseFault.{SurmiseFault}
-use Rattle.ls_theory.specs.declared.surmise_fault.SurmiseFault.TheVariants.{BadJson, UnknownItem, Wide, Memory}
+use Rattle.ls_theory.specs.declared.surmise_fault.SurmiseFault.TheVariants.{BadJson, UnknownItem, NoClause, Reflexive, NotClosed, Comparable, Wide, Memory}
 use Rattle.ls_lines.specs.Lines.{Text}
 use Rattle.ls_domain.specs.Meanings.{is_named, items_of}
 use Rattle.ls_domain.specs.Texts.{names_of_set}
@@ -96,6 +96,14 @@ surmise_of names bytes = option_map_or (surmise_in names) (table_of bytes) (Err 
 abbrev pub IsSurmiseFaultOf : {X : Type 0} → Result X SurmiseFault → SurmiseFault → Type 0
 IsSurmiseFaultOf reading (Memory e) = ⊤
 IsSurmiseFaultOf reading fault = reading ≡ Err fault
+
+-- the items that a fault names
+abbrev pub surmise_items : SurmiseFault → List ℕ
+surmise_items (NoClause q) = q ∷ []
+surmise_items (Reflexive q clause) = q ∷ []
+surmise_items (NotClosed q clause r) = q ∷ r ∷ []
+surmise_items (Comparable q first second) = q ∷ []
+surmise_items fault = []
 
 -- ---- the text of a surmise function
 

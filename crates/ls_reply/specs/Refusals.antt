@@ -14,6 +14,7 @@ use Rattle.ls_lines.specs.Lines.{Text}
 use Rattle.ls_domain.specs.declared.domain_fault.DomainFault.{DomainFault}
 use Rattle.ls_domain.specs.declared.domain_fault.DomainFault.TheVariants as domain
 use Rattle.ls_domain.specs.Texts.{name_of}
+use Rattle.ls_files.specs.SurmiseFiles.{surmise_items}
 use Rattle.ls_files.specs.declared.family_fault.FamilyFault.{FamilyFault}
 use Rattle.ls_files.specs.declared.family_fault.FamilyFault.TheVariants as sets
 use Rattle.ls_reply.specs.declared.refusal.Refusal.{Refusal}
@@ -96,13 +97,6 @@ refusal_words names (LargeFile bytes) = codes "28" ∷ decimal bytes ∷ []
 refusal_words names NotBuilt = codes "49" ∷ []
 
 -- ---- the items that a refusal names
-
-abbrev pub surmise_items : SurmiseFault → List ℕ
-surmise_items (surmise.NoClause q) = q ∷ []
-surmise_items (surmise.Reflexive q clause) = q ∷ []
-surmise_items (surmise.NotClosed q clause r) = q ∷ r ∷ []
-surmise_items (surmise.Comparable q first second) = q ∷ []
-surmise_items fault = []
 
 abbrev pub base_items : BaseFault → List ℕ
 base_items (base.NotSpanning q) = q ∷ []

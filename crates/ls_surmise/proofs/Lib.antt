@@ -5,4 +5,7 @@ mod PlainValues
 mod SurmiseValues
 mod RowTables
 mod ReadBack
+mod Firsts
+mod Walks
+mod Names
 mod Examples

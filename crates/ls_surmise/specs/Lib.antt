@@ -1,1 +1,2 @@
 pub mod Surmises
+pub mod Reading

@@ -5,6 +5,8 @@
 mod fault;
 mod laws;
 mod printing;
+mod flaws;
+mod reading;
 mod surmise;
 
 pub use fault::FromFault;
