@@ -195,13 +195,14 @@ fn push_spaced(name: &str, out: &mut Vec<u8>) -> Result<(), AllocError>
     out.extend_from_slice(name.as_bytes())
 }
 
-// The items in the order of the bytes of their names. And a domain has the names of one.
+// The items in the order of the bytes of their names, which are those of a domain.
 fn items_by_name(alloc: Global, domain: &Domain) -> Result<Vec<u32>, AllocError>
     ensures order { IfOk result (λ v. v.items ≡ items_by_name domain.now) }
     ensures domain { OnOk result (IsDomain domain.now) }
 {
-    let mut order = Vec::new(alloc);
-    for item in (0..domain.count()).rev() {
+    let count = domain.count();
+    let mut order = Vec::with_capacity(alloc, count as usize)?;
+    for item in (0..count).rev() {
         let place = place_by_name(domain, item, &order);
         order.insert(place, item)?;
     }

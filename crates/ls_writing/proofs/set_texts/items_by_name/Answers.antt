@@ -1,4 +1,4 @@
-use Rattle.std.proofs.Common.{◌≡◌, ◌<◌, ◌≤◌, ◌-◌, suc, length, ap, sym, subst, ◌∙◌, arith}
+use Rattle.std.proofs.Common.{◌≡◌, ◌<◌, ◌-◌, suc, length, ap, sym, subst, ◌∙◌, arith}
 use Rattle.std.specs.List.{All, insert}
 use Rattle.ls_set.specs.ItemSet.{numbers_from}
 use Rattle.ls_writing.specs.SurmiseTexts.{insert_by_name, by_name}
@@ -8,10 +8,10 @@ use Rattle.ls_writing.proofs.set_texts.items_by_name.Goals as goal
 pub loop-item-init : goal.loop-item-init
 loop-item-init c =
     let names = c.args.domain.now in
-    let count : length names ≡ c.count-item.result = sym c.count-item.ensures.value in
+    let count : length names ≡ c.count-count.result = sym c.count-count.ensures.value in
     record {
       within = omega arith;
-      order = c.new-order.ensures.items ∙ by_name-none names (length names) ∙ ap (λ i. by_name names (numbers_from i (length names - i))) count;
+      order = c.in_ok-order.ensures.items ∙ by_name-none names (length names) ∙ ap (λ i. by_name names (numbers_from i (length names - i))) count;
     }
 
 pub place_by_name-place-requires-clause-order : goal.place_by_name-place-requires-clause-order
@@ -25,7 +25,7 @@ loop-item-preserved c =
     let names = c.args.domain.now in
     let i = c.loop-item.item - 1 in
     let next : c.loop-item.item ≡ suc i = omega arith in
-    let given = c.deref.ensures.value in
+    let given : c.deref.result.now ≡ c.loop-item.order.items = c.deref.ensures.value in
     record {
       within = omega arith;
       order = c.in_ok-insert.ensures.items ∙ ap (λ l. insert l c.place_by_name-place.result i) (sym given) ∙ c.place_by_name-place.ensures.place ∙ ap (insert_by_name names i) given

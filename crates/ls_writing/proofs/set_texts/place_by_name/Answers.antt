@@ -1,4 +1,4 @@
-use Rattle.std.proofs.Common.{◌≡◌, ℕ, ◌<◌, ◌≤◌, Bool, true, false, length, get_or, is_lt, nat_cmp, ap, ap₂, sym, ◌∙◌, arith, below_more}
+use Rattle.std.proofs.Common.{◌≡◌, ◌<◌, ◌≤◌, true, false, length, get_or, is_lt, nat_cmp, ap₂, sym, ◌∙◌, arith, below_more}
 use Rattle.std.specs.Cmp.Lexicographic.{slice_cmp}
 use Rattle.ls_writing.proofs.Names.{comes_first, insert-place}
 use Rattle.ls_writing.proofs.set_texts.place_by_name.Goals as goal

@@ -1,4 +1,4 @@
-use Rattle.std.proofs.Common.{◌≡◌, ◌<◌, ◌≤◌, ◌++◌, [], false, length, drop, get_or, refl, sym, ◌∙◌, arith}
+use Rattle.std.proofs.Common.{◌<◌, ◌≤◌, ◌++◌, [], false, length, drop, get_or, refl, sym, ◌∙◌, arith}
 use Rattle.serde_json.specs.Written.{comma_if}
 use Rattle.ls_writing.specs.SurmiseTexts.{listed, row_text}
 use Rattle.ls_writing.proofs.Saying.{says_then, says_as, says_nothing, says_void}

@@ -1,5 +1,4 @@
 use Rattle.std.proofs.Common.{◌<◌, length, ap, ◌∙◌, sym, subst}
-use Rattle.ls_domain.specs.Domains.{IsDomain}
 use Rattle.ls_writing.specs.SurmiseTexts.{quoted_name}
 use Rattle.ls_writing.proofs.Saying.{says_then, says_as}
 use Rattle.ls_writing.proofs.Names.{quotes}
