@@ -1,29 +1,25 @@
 -- What an interview keeps, through its beginning and its changes.
-use Rattle.std.proofs.Common.{true, ℕ, zero, suc, ◌+◌, ◌<◌, ◌≤◌, ◌≡◌, length, List, [], Ok, refl, sym, ap, ap₂, ◌∙◌, subst, arith}
+use Rattle.std.proofs.Common.{ℕ, zero, suc, ◌+◌, ◌<◌, ◌≤◌, ◌≡◌, length, List, [], Ok, refl, sym, ap, ap₂, ◌∙◌, subst, arith}
 use Rattle.std.specs.List.{IsDistinct}
-use Rattle.ls_set.specs.ItemSet.{full}
 use Rattle.ls_set.specs.declared.item_set.TheConstants.{PLACES}
 use Rattle.ls_set.specs.declared.query.Query.{Query}
 use Rattle.ls_theory.specs.Starts as theory
 use Rattle.ls_theory.specs.Queries.{blocks}
-use Rattle.ls_theory.specs.Families.{is_space}
 use Rattle.ls_theory.specs.Compatible.{compat}
 use Rattle.ls_theory.specs.Interviews.{Interview, begun, yes_queries, nos}
 use Rattle.ls_theory.specs.declared.answer.Answer.{Answer}
 use Rattle.ls_theory.specs.Blocks.{BlockRange, made, most_sets}
 use Rattle.ls_theory.specs.Answering.{is_same_query}
-use Rattle.ls_laws.proofs.Compat.{compat-space}
-use Rattle.ls_laws.proofs.Accepting.{begun-sound}
+use Rattle.ls_laws.specs.Forced.{IsSound}
 use Rattle.ls_laws.proofs.Numbered.{begun-numbered}
+use Rattle.ls_clauses.specs.Starts.{IsStart}
+use Rattle.ls_clauses.proofs.Covers.{start-sound}
 use Rattle.ls_query.specs.Blocks.{choose}
 use Rattle.ls_query.proofs.Made.{made_of}
 use Rattle.ls_query.proofs.Binomials.{choose-none, choose-more, choose-zero_more}
 use Rattle.ls_query.proofs.BySize.{length-blocks_more, length-blocks_none}
 use Rattle.ls_query.proofs.Counted.{made-ok, none_too_wide}
 use Rattle.ls_infer.specs.Tables.{TableState, table_of}
-use Rattle.ls_expert.specs.declared.start.Start.{Start}
-use Rattle.ls_expert.specs.declared.start.Start.TheVariants.{Free}
-use Rattle.ls_expert.specs.Starts.{start_of}
 use Rattle.ls_expert.specs.Held.{blocks_of, closures_of, IsHeld}
 
 -- ---- blocks of single items
@@ -58,25 +54,22 @@ tabled-by i b s rules answers t h eb es er ea =
 pub begun-as : (n m : ℕ) (s t : theory.Start) (answers : List Answer) → n ≡ m → s ≡ t → answers ≡ [] → begun n s ≡ (let i : Interview = record { count = m; start = t; block = 1; answers = answers; next = 1 } in i)
 begun-as n m s t answers en es ea = cc
 
-pub start-whole : (start : Start) (n : ℕ) → is_space (full n) (compat n (start_of start) []) ≡ true
-start-whole Free n = compat-space n theory.Free [] refl refl
-
 none-distinct : IsDistinct is_same_query []
 unfolding IsDistinct
 none-distinct = tt
 
-pub held-begun : (n : ℕ) (start : Start) (i : Interview) (rules : List Query) (t : TableState) → 0 < n → n ≤ PLACES → begun n (start_of start) ≡ i → rules ≡ [] → t ≡ closures_of i → IsHeld i rules t
-held-begun n start i rules t some few e none table =
+pub held-begun : (n : ℕ) (start : theory.Start) (i : Interview) (rules : List Query) (t : TableState) → 0 < n → n ≤ PLACES → IsStart n start → begun n start ≡ i → rules ≡ [] → t ≡ closures_of i → IsHeld i rules t
+held-begun n start i rules t some few is_start e none table =
     subst (λ (j : Interview). t ≡ closures_of j → IsHeld j rules t) e (λ table. record {
       some_items = some;
       few_items = few;
       ruled = none;
       tabled = table;
       standing = record {
-        sound = begun-sound n (start_of start) (start-whole start n);
+        sound = start-sound n start is_start;
         good = refl;
         distinct = none-distinct;
-        numbered = begun-numbered n (start_of start);
+        numbered = begun-numbered n start;
         few_answers = omega arith;
         some_number = omega arith;
         numbers_left = omega arith;
@@ -100,3 +93,25 @@ held-blocks i k rules t new h table = record {
     numbers_left = h.standing.numbers_left;
   };
 }
+
+-- another start, with its table
+pub held-start : (i : Interview) (start : theory.Start) (rules after : List Query) (t new : TableState) → IsHeld i rules t → i.answers ≡ [] → IsStart i.count start → after ≡ []
+    → new ≡ closures_of (record i { start = start }) → IsHeld (record i { start = start }) after new
+held-start i start rules after t new h none is_start no_rules table =
+    let begins = start-sound i.count start is_start in
+    record {
+      some_items = h.some_items;
+      few_items = h.few_items;
+      ruled = no_rules ∙ sym (ap yes_queries none);
+      tabled = table;
+      standing = record {
+        sound = subst (λ (answers : List Answer). IsSound (record { count = i.count; start = start; block = i.block; answers = answers; next = i.next })) (sym none)
+            (record { some_fits = begins.some_fits; are_good = begins.are_good });
+        good = h.standing.good;
+        distinct = h.standing.distinct;
+        numbered = record { in_order = h.standing.numbered.in_order; below_next = h.standing.numbered.below_next };
+        few_answers = h.standing.few_answers;
+        some_number = h.standing.some_number;
+        numbers_left = h.standing.numbers_left;
+      };
+    }

@@ -1,5 +1,5 @@
 -- The compatible sets as a family with rules, and the lists of an interview's answers.
-use Rattle.std.proofs.Common.{ℕ, ◌≡◌, inl, inr, Bool, true, false, cond, not, ◌&&◌, List, [], ◌∷◌, filter, find, Option, Some, None, IfSome, is_some, refl, sym, ap, ◌∙◌, true≢false}
+use Rattle.std.proofs.Common.{ℕ, ◌≡◌, inl, inr, Bool, true, false, cond, not, ◌&&◌, List, [], ◌∷◌, filter, find, Option, Some, None, IfSome, is_some, refl, sym, ap, ◌∙◌, subst, true≢false}
 use Rattle.std.proofs.lemmas.Bool.{and_from, false_from_ne_true}
 use Rattle.std.proofs.lemmas.List.Elements.{filter_agree}
 use Rattle.ls_lists.proofs.Filters.{filter-both}
@@ -27,9 +27,12 @@ use Rattle.ls_lists.specs.Lists.{IsIn}
 use Rattle.ls_lists.proofs.Elements.{filter-in}
 use Rattle.ls_query.proofs.QuerySets.{queries-in}
 use Rattle.ls_infer.specs.Tables.{TableState, table_of}
+use Rattle.ls_laws.specs.Spans.{spanned}
+use Rattle.ls_laws.proofs.BaseStarts.{compat-sets}
+use Rattle.ls_base.specs.Bases.{BaseState, family}
 use Rattle.ls_expert.specs.declared.start.Start.{Start}
-use Rattle.ls_expert.specs.declared.start.Start.TheVariants.{Free}
-use Rattle.ls_expert.specs.Starts.{start_of}
+use Rattle.ls_expert.specs.declared.start.Start.TheVariants.{Sets}
+use Rattle.ls_expert.specs.Starts.{start_of, HasItems}
 use Rattle.ls_expert.specs.Held.{closures_of}
 
 -- the sets of the start that break none of the queries are the compatible ones
@@ -44,14 +47,20 @@ all_pass [] = refl
 all_pass (k ∷ f) = ap (λ l. k ∷ l) (all_pass f)
 
 -- every set of the items meets the free start
-pub start-inside : (start : Start) (n : ℕ) (s : Items) → IsWithin s (full n) → s ≡ interior (compat n (start_of start) []) s
-start-inside Free n s w =
+pub free-inside : (n : ℕ) (s : Items) → IsWithin s (full n) → s ≡ interior (compat n theory.Free []) s
+free-inside n s w =
     sym (interior-member (compat n theory.Free []) s (among-compat n theory.Free [] s ∙ and_from (is_within s (full n)) true (is_within-from s (full n) w) refl))
 
+-- the sets that meet the start by a base are its family
+pub sets-family : (start : Start) (n : ℕ) (b : BaseState) → start ≡ Sets b → HasItems n start → family b ≡ compat n (start_of start) []
+sets-family start n b e h =
+    let items : b.item_count ≡ n = subst (HasItems n) e h in
+    rw e (ap (λ m. spanned m b.sets) items ∙ sym (compat-sets n b.sets))
+
 -- the base of all sets is that of the free start
-pub start-base : (start : Start) (n : ℕ) → base (subsets n) ≡ base (compat n (start_of start) [])
+pub free-base : (n : ℕ) → base (subsets n) ≡ base (compat n theory.Free [])
 unfolding compat
-start-base Free n = ap base (sym (all_pass (subsets n)))
+free-base n = ap base (sym (all_pass (subsets n)))
 
 -- a table of the interview, told by its own blocks
 pub own_blocks : (i : Interview) (t : TableState) → t ≡ closures_of i → t ≡ table_of t.blocks (compatible_sets i) (nos i.answers)

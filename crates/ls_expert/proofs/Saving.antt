@@ -1,5 +1,5 @@
 -- Whether answers from which an interview is to go on stand.
-use Rattle.std.proofs.Common.{ℕ, ◌+◌, ◌-◌, ◌<◌, ◌≤◌, ◌≡◌, ◌⊎◌, inl, inr, Bool, true, false, not, ◌&&◌, ◌||◌, ltb, length, get_or, take, drop, List, [], ◌∷◌, map, filter, Result, Ok, IfErr, refl, sym, ap, ap₂, ◌∙◌, subst, arith, ltb-true, lt-ltb, le-ltb}
+use Rattle.std.proofs.Common.{ℕ, ◌+◌, ◌-◌, ◌<◌, ◌≤◌, ◌≡◌, ◌⊎◌, inl, inr, Bool, true, false, not, ◌&&◌, ◌||◌, ltb, length, get_or, take, drop, List, [], ◌∷◌, map, filter, Result, Ok, IfErr, refl, sym, ap, ap₂, ◌∙◌, arith, ltb-true, lt-ltb, le-ltb}
 use Rattle.std.specs.Bool.{Decides}
 use Rattle.std.specs.Cmp.{nat_cmp_is}
 use Rattle.std.specs.Ordering.{nat_cmp}
@@ -23,7 +23,7 @@ use Rattle.ls_set.specs.declared.query.Query.{Query}
 use Rattle.ls_set.proofs.Sets.{has-full, has-minus, and-false}
 use Rattle.ls_theory.specs.declared.answer.Answer.{Answer}
 use Rattle.ls_theory.specs.Queries.{breaks_none, some_breaks}
-use Rattle.ls_theory.specs.Families.{interior, is_space}
+use Rattle.ls_theory.specs.Families.{interior}
 use Rattle.ls_theory.specs.Interviews.{Interview, yes_queries, no_queries}
 use Rattle.ls_theory.specs.Compatible.{compat, compatible_sets}
 use Rattle.ls_theory.specs.Blocks.{BlockRange, made}
@@ -33,18 +33,19 @@ use Rattle.ls_laws.specs.Spans.{IsOn}
 use Rattle.ls_laws.specs.Forced.{IsSound}
 use Rattle.ls_laws.proofs.Closures.{has-closure}
 use Rattle.ls_laws.proofs.Interiors.{space-from}
-use Rattle.ls_laws.proofs.Compat.{compat-IsUnionFamily, compat-in_order, start-space}
+use Rattle.ls_laws.proofs.Compat.{compat-IsUnionFamily, compat-in_order}
 use Rattle.ls_laws.proofs.Search.{fitting_some}
 use Rattle.ls_laws.proofs.Answering.{compatible_fit}
+use Rattle.ls_clauses.specs.Starts.{IsStart}
+use Rattle.ls_clauses.proofs.Covers.{start-space}
 use Rattle.ls_expert.specs.declared.standing_fault.StandingFault.{StandingFault}
 use Rattle.ls_expert.specs.declared.standing_fault.StandingFault.TheVariants.{Memory}
-use Rattle.ls_expert.specs.declared.start.Start.{Start}
-use Rattle.ls_expert.specs.Starts.{StartOn, start_of}
+use Rattle.ls_expert.specs.Starts.{StartOn}
 use Rattle.ls_expert.specs.Held.{blocks_of}
 use Rattle.ls_expert.specs.Saved.{IsStandingFault}
 use Rattle.ls_expert.proofs.AnswerLists.{all-told}
 use Rattle.ls_expert.proofs.Ruling.{ruled-compat}
-use Rattle.ls_expert.proofs.Holding.{start-whole, range-of}
+use Rattle.ls_expert.proofs.Holding.{range-of}
 
 -- ---- numbers
 
@@ -177,22 +178,21 @@ pub ran_out : {X : Type 0} (i : Interview) (r : Result X StandingFault) (e : All
 ran_out i r e made out = let p = err_from_is_err_and r out in rw (p.1, p.2) made
 
 -- some space fits good answers exactly where each No is broken by some set of the start that breaks no Yes
-pub fit-decides : (i : Interview) (start : Start) (b : Bool) (s : StartOn) (rules : List Query) → start_of start ≡ i.start → list_all (λ a. is_good i.count a.query) i.answers ≡ true
+pub fit-decides : (i : Interview) (b : Bool) (s : StartOn) (rules : List Query) → IsStart i.count i.start → list_all (λ a. is_good i.count a.query) i.answers ≡ true
     → s ≡ record { item_count = i.count; start = i.start } → rules ≡ yes_queries i.answers
     → b ≡ list_all (some_breaks (filter (breaks_none rules) (compat s.item_count s.start []))) (no_queries i.answers) → Decides b (IsSound i)
-fit-decides i start b s rules e good es er told =
+fit-decides i b s rules is_start good es er told =
     let n = i.count in
     let yeses = yes_queries i.answers in
     let ns = no_queries i.answers in
     let f = compatible_sets i in
     let family = ruled-compat s.item_count s.start rules ∙ ap₂ (λ (u : StartOn) (l : List Query). compat u.item_count u.start l) es er in
-    let broken = told ∙ ap (λ (g : List Items). list_all (some_breaks g) ns) family in
-    let space = subst (λ s. is_space (full n) (compat n s []) ≡ true) e (start-whole start n) in (
+    let broken = told ∙ ap (λ (g : List Items). list_all (some_breaks g) ns) family in (
       λ h. record {
         some_fits = fitting_some n i.start yeses ns f (record {
           in_order = compat-in_order n i.start yeses;
           is_family = compat-IsUnionFamily n i.start yeses;
-          holds_full = (space-from (full n) f (start-space n i.start yeses space (all-told (is_good n) (λ a. a.yes) (λ a. a.query) i.answers good))).holds_whole;
+          holds_full = (space-from (full n) f (start-space n i.start yeses is_start (all-told (is_good n) (λ a. a.yes) (λ a. a.query) i.answers good))).holds_whole;
           compatible = λ k c. c;
           broken = list_all-All (some_breaks f) ns (sym broken ∙ h);
         });

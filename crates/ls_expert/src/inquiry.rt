@@ -1,5 +1,5 @@
 // What an expert was asked and answered.
-ghost use Rattle.std.specs.Prelude.{◌≡◌, ◌+◌, ◌-◌, max, ◌<◌, ◌≤◌, ◌∷◌, [], true, false, length, filter, Some, None, Ok, Err, IsSome, IsNone, IfOk, IfErr, IfSome, OnOk, OnErr};
+ghost use Rattle.std.specs.Prelude.{◌≡◌, ◌≢◌, ◌+◌, ◌-◌, max, ◌<◌, ◌≤◌, ◌∷◌, [], true, false, length, filter, Some, None, Ok, Err, IsSome, IsNone, IfOk, IfErr, IfSome, OnOk, OnErr};
 ghost use Rattle.std.specs.Option.{ForSome, option_map};
 ghost use Rattle.std.specs.List.{list_all};
 ghost use Rattle.ls_set.specs.Query.{is_good};
@@ -23,6 +23,7 @@ use crate::bad_query::BadQuery;
 use crate::on_items::OnItems;
 use crate::retract_fault::RetractFault;
 use crate::start::Start;
+use crate::start_fault::StartFault;
 use ls_base::Base;
 use ls_infer::Table;
 use ls_interior::{Counted, Inside, Steps};
@@ -86,7 +87,7 @@ fn build<L: Ledger>(
 }
 
 impl Inquiry {
-    ghost use Rattle.ls_expert.specs.Starts.{start_of};
+    ghost use Rattle.ls_expert.specs.Starts.{start_of, IsStartOn};
 
     /// The inquiry on `n` items that begins with the start: blocks of single items, no answers, and
     /// the next number 1.
@@ -98,6 +99,7 @@ impl Inquiry {
     ) -> Result<Inquiry, AllocError>
         requires some { 0 < n }
         requires few { n ≤ PLACES }
+        requires start { IsStartOn n start }
         ensures { IfOk result (λ i. i ≡ begun n (start_of start)) }
     {
         let family = Ruled::new(alloc, OnItems::new(n, start));
@@ -129,6 +131,30 @@ impl Inquiry {
         };
         self.table = table;
         self.block = k;
+        Ok(())
+    }
+
+    /// Begins with another start; the blocks and the next number stay. It is refused only where an
+    /// answer stands, and nothing changes then.
+    pub fn set_start<L: Ledger>(
+        &mut self,
+        start: Start,
+        steps: &mut Steps<L>,
+    ) -> Result<(), StartFault>
+        requires { IsStartOn self.old.count start }
+        ensures none_stood { OnOk result (self.old.answers ≡ []) }
+        ensures ok { OnOk result (self.new ≡ record self.old { start = start_of start }) }
+        ensures answers_stand { result ≡ Err StartFault.AnswersStand → self.old.answers ≢ [] }
+        ensures err { OnErr result (self.new ≡ self.old) }
+    {
+        if !self.answers.is_empty() {
+            return Err(StartFault::AnswersStand);
+        }
+        let family = Ruled::new(self.alloc, OnItems::new(self.family.items(), start));
+        let blocks = self.table.blocks();
+        let table = build(self.alloc, blocks, &family, &self.answers, steps)?;
+        self.family = family;
+        self.table = table;
         Ok(())
     }
 
@@ -272,6 +298,16 @@ impl Inquiry {
         ensures sets { IfOk result (λ b. b.sets ≡ base (compat self.now.count self.now.start [])) }
     {
         self.family.inner().base(self.alloc)
+    }
+
+    // The base of the sets that meet another start.
+    pub(crate) fn base_of(&self, start: &Start) -> Result<Base, AllocError>
+        requires { IsStartOn self.now.count start.now }
+        ensures items { IfOk result (λ b. b.item_count ≡ self.now.count) }
+        ensures sets { IfOk result (λ b.
+            b.sets ≡ base (compat self.now.count (start_of start.now) [])) }
+    {
+        start.base(self.alloc, self.items())
     }
 
     /// The queries that were answered Yes, in order of number.

@@ -1,5 +1,5 @@
 // The interview of an expert.
-ghost use Rattle.std.specs.Prelude.{◌≡◌, ◌+◌, ◌-◌, max, ◌<◌, ◌≤◌, ◌∷◌, [], true, false, filter, Some, None, Ok, Err, IsSome, IsNone, IfOk, IfErr, IfSome, OnOk, OnErr};
+ghost use Rattle.std.specs.Prelude.{◌≡◌, ◌≢◌, ◌+◌, ◌-◌, max, ◌<◌, ◌≤◌, ◌∷◌, [], true, false, filter, Some, None, Ok, Err, IsSome, IsNone, IfOk, IfErr, IfSome, OnOk, OnErr};
 ghost use Rattle.std.specs.Option.{ForSome, option_map};
 ghost use Rattle.ls_set.specs.Query.{is_good};
 ghost use Rattle.ls_theory.specs.Queries.{breaks_none};
@@ -20,6 +20,7 @@ use crate::on_items::OnItems;
 use crate::retract_fault::RetractFault;
 use crate::standing_fault::StandingFault;
 use crate::start::Start;
+use crate::start_fault::StartFault;
 use ls_base::Followed;
 use ls_interior::Steps;
 use ls_query::{BlockFault, Blocks};
@@ -51,7 +52,7 @@ impl Model for Interview {
 }
 
 impl Interview {
-    ghost use Rattle.ls_expert.specs.Starts.{start_of};
+    ghost use Rattle.ls_expert.specs.Starts.{start_of, IsStartOn};
 
     /// The interview on `n` items that begins with the start: blocks of single items, no answers,
     /// and the next number 1.
@@ -63,6 +64,7 @@ impl Interview {
     ) -> Result<Interview, AllocError>
         requires some { 0 < n }
         requires few { n ≤ PLACES }
+        requires start { IsStartOn n start }
         ensures { IfOk result (λ i. i ≡ begun n (start_of start)) }
     {
         let inquiry = Inquiry::new(alloc, n, start, steps)?;
@@ -84,6 +86,7 @@ impl Interview {
     ) -> Result<Interview, StandingFault>
         requires some { 0 < n }
         requires few { n ≤ PLACES }
+        requires start { IsStartOn n start }
         ensures ok { IfOk result (λ i.
             i ≡ interview_on n (start_of start) k answers.now next) }
         ensures made { IfOk result (λ i. made n k ≡ Ok (blocks_of i)) }
@@ -105,6 +108,28 @@ impl Interview {
         ensures err { OnErr result (self.new ≡ self.old) }
     {
         self.inquiry.set_blocks(k, steps)
+    }
+
+    /// Begins with another start; the blocks and the next number stay. It is refused only where an
+    /// answer stands, and nothing changes then.
+    pub fn set_start<L: Ledger>(
+        &mut self,
+        start: Start,
+        steps: &mut Steps<L>,
+    ) -> Result<(), StartFault>
+        requires { IsStartOn self.old.count start }
+        ensures none_stood { OnOk result (self.old.answers ≡ []) }
+        ensures ok { OnOk result (self.new ≡ record self.old { start = start_of start }) }
+        ensures answers_stand { result ≡ Err StartFault.AnswersStand → self.old.answers ≢ [] }
+        ensures err { OnErr result (self.new ≡ self.old) }
+    {
+        if !self.inquiry.standing().is_empty() {
+            return Err(StartFault::AnswersStand);
+        }
+        let followed = Followed::begin(self.inquiry.base_of(&start)?);
+        self.inquiry.set_start(start, steps)?;
+        self.followed = followed;
+        Ok(())
     }
 
     /// Takes the expert's answer to a query, and gives its number. It is refused by the first of

@@ -11,6 +11,7 @@ mod retract_fault;
 mod saved;
 mod standing_fault;
 mod start;
+mod start_fault;
 
 pub use bad_query::BadQuery;
 pub use inquiry::{Inquiry, MOST_ANSWERS, MOST_NUMBER};
@@ -20,6 +21,7 @@ pub use on_items::OnItems;
 pub use retract_fault::RetractFault;
 pub use standing_fault::StandingFault;
 pub use start::Start;
+pub use start_fault::StartFault;
 
 #[cfg(test)]
 mod tests;

@@ -19,22 +19,22 @@ pub struct OnItems {
 
 impl Model for OnItems {
     ghost use Rattle.std.specs.Prelude.{◌≤◌};
-    ghost use Rattle.ls_set.specs.declared.item_set.TheConstants.{PLACES};
-    ghost use Rattle.ls_expert.specs.Starts.{StartOn, start_of};
+    ghost use Rattle.ls_expert.specs.Starts.{StartOn, start_of, IsOnItems};
 
     ghost Value = { StartOn };
 
     ghost view = { λ s. record { item_count = s.n; start = start_of s.start } };
 
-    ghost invariant = { λ s. s.n ≤ PLACES };
+    ghost invariant = { λ s. IsOnItems s.n s.start };
 }
 
 impl OnItems {
-    ghost use Rattle.ls_expert.specs.Starts.{start_of};
+    ghost use Rattle.ls_expert.specs.Starts.{start_of, IsStartOn};
 
     /// The start on `n` items. It takes no memory.
     pub fn new(n: u32, start: Start) -> OnItems
-        requires { n ≤ PLACES }
+        requires few { n ≤ PLACES }
+        requires start { IsStartOn n start }
         ensures items { result.item_count ≡ n }
         ensures start { result.start ≡ start_of start }
     {

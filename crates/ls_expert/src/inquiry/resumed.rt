@@ -1,7 +1,7 @@
 // Inquiries that go on from answers.
 ghost use Rattle.std.specs.Prelude.{◌≡◌, ◌<◌, ◌≤◌, Ok, IfOk, IfErr};
 ghost use Rattle.ls_theory.specs.Blocks.{made};
-ghost use Rattle.ls_expert.specs.Starts.{start_of};
+ghost use Rattle.ls_expert.specs.Starts.{start_of, IsStartOn};
 ghost use Rattle.ls_expert.specs.Held.{blocks_of, interview_on, IsStanding};
 ghost use Rattle.ls_expert.specs.Saved.{IsStandingFault};
 
@@ -33,6 +33,7 @@ impl Inquiry {
     ) -> Result<Inquiry, StandingFault>
         requires some { 0 < n }
         requires few { n ≤ PLACES }
+        requires start { IsStartOn n start }
         ensures ok { IfOk result (λ i.
             i ≡ interview_on n (start_of start) k answers.now next) }
         ensures made { IfOk result (λ i. made n k ≡ Ok (blocks_of i)) }

@@ -39,7 +39,7 @@ ruled g c = c.in_ok-family.ensures.rules ∙ c.deref.ensures.value ∙ c.in_ok-y
 -- some space fits it exactly where each No is broken
 decides : (g : given.Over) (c : After-each_no_broken g) → Decides c.each_no_broken.result (IsSound (asked g c))
 decides g c =
-    fit-decides (asked g c) c.args.start c.each_no_broken.result c.new-3.result.inner c.new-3.result.rules refl (c.can_stand.ensures.good c.if-not-can_stand.false)
+    fit-decides (asked g c) c.each_no_broken.result c.new-3.result.inner c.new-3.result.rules c.requires.start.is_start (c.can_stand.ensures.good c.if-not-can_stand.false)
     (ap (λ (f : RuledState StartOn). f.inner) c.new-3.ensures ∙ inner g c) (ap (λ (f : RuledState StartOn). f.rules) c.new-3.ensures ∙ ruled g c) c.each_no_broken.ensures
 
 -- ---- what is refused

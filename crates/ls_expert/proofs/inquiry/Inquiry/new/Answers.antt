@@ -27,7 +27,7 @@ invariant_of-result g c =
     let items = sym (ap (λ (s : StartOn). s.item_count) c.new-family.ensures.inner ∙ c.new.ensures.items) in
     let blocks = one c.args.n c.new-2.result c.unwrap-blocks.result c.requires.some c.requires.few c.new-2.ensures.value c.unwrap-blocks.ensures in
     let same = begun-as c.args.n s.item_count (start_of c.args.start) s.start c.new-answers.result.items items (sym (ap (λ (s : StartOn). s.start) c.new-family.ensures.inner ∙ c.new.ensures.start)) c.new-answers.ensures.items in
-    held-begun c.args.n c.args.start i rules c.in_ok-table.table.table c.requires.some c.requires.few same c.new-family.ensures.rules
+    held-begun c.args.n (start_of c.args.start) i rules c.in_ok-table.table.table c.requires.some c.requires.few c.requires.start.is_start same c.new-family.ensures.rules
     (tabled-by i c.unwrap-blocks.result s.start rules c.deref.result.now c.in_ok-table.table.table c.in_ok-table.ensures
     (sym blocks ∙ ap (λ (m : ℕ). let x : BlockRange = record { item_count = m; largest = 1 } in x) items)
     refl (c.new-family.ensures.rules ∙ sym (ap yes_queries c.new-answers.ensures.items)) c.deref.ensures.value)

@@ -1,8 +1,15 @@
-use Rattle.std.proofs.Common.{ap, ◌∙◌}
+use Rattle.std.proofs.Common.{sym, ap, ◌∙◌}
 use Rattle.std.proofs.lemmas.Result.{IfOk-weaker}
+use Rattle.ls_theory.specs.Bases.{base}
 use Rattle.ls_base.specs.Bases.{BaseState}
-use Rattle.ls_expert.proofs.Ruling.{start-base}
+use Rattle.ls_expert.proofs.Ruling.{free-base, sets-family}
 use Rattle.ls_expert.proofs.start.Start.base.Goals as goal
 
-pub returns-clause-sets : goal.returns-clause-sets
-returns-clause-sets c = IfOk-weaker c.singletons.result _ _ (λ b h. ap (λ (x : BaseState). x.sets) h ∙ start-base c.args.self.now c.args.n) c.singletons.ensures
+pub returns-in-Free-clause-sets : goal.returns-in-Free-clause-sets
+returns-in-Free-clause-sets c = rw c.in-Free.is (IfOk-weaker c.singletons.result _ _ (λ b h. ap (λ (x : BaseState). x.sets) h ∙ free-base c.args.n) c.singletons.ensures)
+
+pub returns-in-Sets-clause-sets : goal.returns-in-Sets-clause-sets
+returns-in-Sets-clause-sets c =
+    IfOk-weaker c.copy.result _ _
+    (λ b h. ap (λ (x : BaseState). x.sets) h ∙ sym c.sets.ensures.base ∙ ap base (sets-family c.args.self.now c.args.n c.in-Sets.base c.in-Sets.is c.requires.start.items))
+    c.copy.ensures
