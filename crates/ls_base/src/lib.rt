@@ -12,6 +12,7 @@ mod reduction;
 mod trail;
 mod unions;
 
+pub use atoms::is_atom_at;
 pub use base::{Base, MOST_BASE_SETS};
 pub use fault::PastFault;
 pub use followed::Followed;

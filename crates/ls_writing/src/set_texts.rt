@@ -1,11 +1,14 @@
 // The names of sets, joined beforehand.
 ghost use Rattle.std.specs.Prelude.{◌≡◌, ◌+◌, ◌-◌, ◌*◌, ◌<◌, ◌≤◌, ◌++◌, ◌∷◌, length, drop, IfOk, OnOk};
+ghost use Rattle.std.specs.List.{All, insert};
 ghost use Rattle.ls_set.specs.ItemSet.{has, full, IsWithin};
+ghost use Rattle.ls_domain.specs.Domains.{IsDomain};
 ghost use Rattle.ls_domain.specs.Texts.{joined_names};
 ghost use Rattle.ls_reply.specs.Texts.{line_of};
 ghost use Rattle.ls_reply.specs.Lines.{set_words};
 ghost use Rattle.ls_writing.specs.Rooms.{Says};
 ghost use Rattle.ls_writing.specs.SetTexts.{group_count, group_items, group_text, group_texts, spaced_names};
+ghost use Rattle.ls_writing.specs.SurmiseTexts.{items_by_name, insert_by_name, quoted_name};
 
 use crate::Room;
 use crate::text_list::TextList;
@@ -20,23 +23,27 @@ const MOST_DIGITS: usize = (PLACES as usize + 3) / 4;
 
 /// The names of a domain's items, joined beforehand: for each eight items, a group, the texts of
 /// all its subsets, each name behind a space. So the names of a set are said by one text a group.
-/// Contracts see it as the list of names.
+/// And the items in the order of the bytes of their names. Contracts see it as the list of names.
 // The text of pattern `p` of group `g` is at index `256 * g + p`.
 #[derive(Drop)]
 pub struct SetTexts {
     domain: Domain,
     texts: TextList,
+    by_name: Vec<u32>,
 }
 
 impl Model for SetTexts {
     ghost use Rattle.std.specs.Prelude.{List, ℕ, ◌≡◌};
+    ghost use Rattle.ls_domain.specs.Domains.{IsDomain};
     ghost use Rattle.ls_writing.specs.SetTexts.{group_texts};
+    ghost use Rattle.ls_writing.specs.SurmiseTexts.{items_by_name};
 
     ghost Value = { List (List ℕ) };
 
     ghost view = { λ t. t.domain };
 
-    ghost invariant = { λ t. t.texts ≡ group_texts t.domain };
+    ghost invariant = { λ t. (t.texts ≡ group_texts t.domain)
+        × (t.by_name.items ≡ items_by_name t.domain) × IsDomain t.domain };
 }
 
 impl SetTexts {
@@ -46,7 +53,12 @@ impl SetTexts {
         ensures { IfOk result (λ t. t ≡ domain) }
     {
         let texts = texts_of(alloc, &domain)?;
-        Ok(SetTexts { domain, texts })
+        let by_name = items_by_name(alloc, &domain)?;
+        Ok(SetTexts {
+            domain,
+            texts,
+            by_name,
+        })
     }
 
     /// The names themselves.
@@ -54,6 +66,25 @@ impl SetTexts {
         ensures { result.now ≡ self.now }
     {
         &self.domain
+    }
+
+    // The items in the order of the bytes of their names.
+    pub(crate) fn by_name(&self) -> &[u32]
+        ensures order { result.now ≡ items_by_name self.now }
+        ensures domain { IsDomain self.now }
+    {
+        &self.by_name
+    }
+
+    // Says the name of an item in quotes.
+    pub(crate) fn put_quoted<K: Sink>(&self, item: u32, room: &mut Room, out: &mut K)
+        requires { item < length self.now }
+        ensures { Says (K.written out.old) (K.faults out.old) room.old (K.written out.new)
+            (K.faults out.new) room.new (quoted_name self.now item) }
+    {
+        room.put(b"\"", out);
+        room.put(self.domain.name(item).as_bytes(), out);
+        room.put(b"\"", out);
     }
 
     /// Says the names of the set's items, in the order of items, joined by single spaces.
@@ -162,4 +193,34 @@ fn push_spaced(name: &str, out: &mut Vec<u8>) -> Result<(), AllocError>
 {
     out.push(b' ')?;
     out.extend_from_slice(name.as_bytes())
+}
+
+// The items in the order of the bytes of their names, which are those of a domain.
+fn items_by_name(alloc: Global, domain: &Domain) -> Result<Vec<u32>, AllocError>
+    ensures order { IfOk result (λ v. v.items ≡ items_by_name domain.now) }
+    ensures domain { OnOk result (IsDomain domain.now) }
+{
+    let count = domain.count();
+    let mut order = Vec::with_capacity(alloc, count as usize)?;
+    for item in (0..count).rev() {
+        let place = place_by_name(domain, item, &order);
+        order.insert(place, item)?;
+    }
+    Ok(order)
+}
+
+// Where an item stands among others that are in the order of their names.
+fn place_by_name(domain: &Domain, item: u32, order: &[u32]) -> usize
+    requires item { item < length domain.now }
+    requires order { All (λ i. i < length domain.now) order.now }
+    ensures within { result ≤ length order.now }
+    ensures place { insert order.now result item ≡ insert_by_name domain.now item order.now }
+{
+    let name = domain.name(item);
+    for (place, other) in order.iter().enumerate() {
+        if name < domain.name(*other) {
+            return place;
+        }
+    }
+    order.len()
 }
