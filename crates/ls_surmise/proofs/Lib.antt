@@ -6,3 +6,4 @@ mod SurmiseValues
 mod RowTables
 mod ReadBack
 mod Examples
+mod TextExamples
