@@ -9,3 +9,4 @@ mod Firsts
 mod Walks
 mod Names
 mod Examples
+mod TextExamples

@@ -1,15 +1,13 @@
 // The text of a surmise function.
-ghost use Rattle.std.specs.Prelude.{◌≡◌, ◌<◌, length, IfOk, OnOk};
+ghost use Rattle.std.specs.Prelude.{◌≡◌, length, IfOk, OnOk};
 ghost use Rattle.serde_json.specs.View.{view, members_view};
 ghost use Rattle.serde_json.specs.Data.{put};
 ghost use Rattle.ls_set.specs.ItemSet.{full, IsWithin};
 ghost use Rattle.ls_laws.specs.Spans.{IsOn};
-ghost use Rattle.ls_clauses.specs.Surmise.{IsSurmise};
 ghost use Rattle.ls_files.specs.SurmiseFiles.{clause_value, list_value, members_from, surmise_text};
 
 use crate::Surmise;
 use ls_domain::Domain;
-use ls_interior::Inside;
 use ls_set::ItemSet;
 use serde_json::{Map, Value};
 use std::alloc::{AllocError, Global};
@@ -55,8 +53,9 @@ fn insert_member(
 
 impl Surmise {
     /// The text of the surmise function: a JSON object without spaces, which has under each item's
-    /// name its clauses in their order, each an array of the names of its items. What is written is
-    /// read as the same function (`surmise_functions_are_read_back`).
+    /// name its clauses in their order, each an array of the names of its items, in the order of
+    /// items. The names stand in the order of their bytes. The text is read as the same function
+    /// (`surmise_functions_are_read_back`). The error is want of memory.
     pub fn print(&self, d: &Domain) -> Result<Vec<u8>, AllocError>
         requires { length d.now ≡ self.now.item_count }
         ensures { IfOk result (λ v. v.items ≡ surmise_text d.now self.now.clauses) }
