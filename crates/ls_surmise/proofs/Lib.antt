@@ -2,4 +2,8 @@ mod OfBases
 mod Firsts
 mod Walks
 mod Names
+mod Tables
+mod Orderings
+mod Files
+mod FaultItems
 mod Examples

@@ -4,6 +4,7 @@
 
 mod fault;
 mod flaws;
+mod ordering;
 mod reading;
 mod surmise;
 
