@@ -31,11 +31,11 @@ All-two n q r h i (suc (suc k)) d l = absurd (omega arith)
 
 first-found : {X Y : Type 0} (answer : X → Option Y) (xs : List X) (y : Y) → first_some answer xs ≡ Some y → (x : X) × IsIn x xs × (answer x ≡ Some y)
 first-found answer [] y e = absurd (let z : None ≡ Some y = e in cc)
-first-found answer (x ∷ xs) y e = step (answer x) refl e
+first-found {X = X} {Y = Y} answer (x ∷ xs) y e = step (answer x) refl e (λ l. first-found answer xs y l)
   where
-    step : (o : Option Y) → answer x ≡ o → option_or o (first_some answer xs) ≡ Some y → (z : X) × IsIn z (x ∷ xs) × (answer z ≡ Some y)
-    step None a e = let r = first-found answer xs y e in (r.0, inr r.1, r.2)
-    step (Some z) a e = (x, inl refl, a ∙ e)
+    step : (o : Option Y) → answer x ≡ o → option_or o (first_some answer xs) ≡ Some y → (first_some answer xs ≡ Some y → (z : X) × IsIn z xs × (answer z ≡ Some y)) → (z : X) × IsIn z (x ∷ xs) × (answer z ≡ Some y)
+    step None a e later = let r = later e in (r.0, inr r.1, r.2)
+    step (Some z) a e later = (x, inl refl, a ∙ e)
 
 map-found : {X Y : Type 0} (f : X → Y) (o : Option X) (y : Y) → option_map f o ≡ Some y → (x : X) × (o ≡ Some x) × (f x ≡ y)
 map-found f None y e = absurd (let z : None ≡ Some y = e in cc)

@@ -1,5 +1,5 @@
 -- The surmise function of a file, step by step; and the items that a fault names.
-use Rattle.std.proofs.Common.{◌≡◌, ◌⊎◌, inl, inr, ℕ, zero, suc, ◌+◌, ◌<◌, Bool, true, false, not, cond, ◌&&◌, ◌==◌, List, [], ◌∷◌, ◌++◌, map, length, find, get_or, Option, Some, None, is_some, Result, Ok, Err, refl, sym, ap, ◌∙◌, subst, option_map, bytes_eq, true≢false, arith, ltb-true}
+use Rattle.std.proofs.Common.{◌≡◌, ◌⊎◌, inl, inr, ℕ, zero, suc, ◌+◌, ◌<◌, Bool, true, false, not, cond, ◌&&◌, ◌==◌, List, [], ◌∷◌, ◌++◌, map, length, find, get_or, Option, Some, None, is_some, Result, Ok, Err, refl, sym, ap, ap₂, ◌∙◌, subst, option_map, bytes_eq, true≢false, arith, ltb-true}
 use Rattle.std.specs.Prelude.{unwrap_or}
 use Rattle.std.specs.List.{All, list_all}
 use Rattle.std.specs.Map.{lookup}
@@ -15,16 +15,18 @@ use Rattle.ls_set.proofs.Sets.{has-full, empty-within}
 use Rattle.ls_theory.specs.Clauses.{clauses_of, all_clauses, has_clause_within, first_some, clause_at, places_of, places_after, are_comparable, no_clause, lacking_in, unclosed_at, unclosed_in, comparable_at, comparable_in, flaw}
 use Rattle.ls_theory.specs.declared.surmise_fault.SurmiseFault.{SurmiseFault}
 use Rattle.ls_theory.specs.declared.surmise_fault.SurmiseFault.TheVariants.{BadJson, UnknownItem, NoClause, Reflexive, NotClosed, Comparable, Wide, Memory}
-use Rattle.ls_laws.specs.Spans.{IsOn}
+use Rattle.ls_theory.specs.Bases.{base}
+use Rattle.ls_laws.specs.Spans.{IsOn, spanned}
+use Rattle.ls_base.specs.Bases.{BaseState, family}
 use Rattle.ls_clauses.proofs.Clauses.{among-all}
 use Rattle.ls_clauses.proofs.Places.{among-at}
-use Rattle.ls_clauses.proofs.Flaws.{items-in, below-in}
 use Rattle.ls_lines.specs.Lines.{Text}
 use Rattle.ls_domain.specs.Meanings.{is_named, number_of, item_of, items_of}
 use Rattle.ls_domain.proofs.Numbers.{item_of-some, with-within}
 use Rattle.ls_files.specs.SurmiseFiles.{Table, table_of, are_named, is_table_named, row_under, clauses_in, in_order, wide, surmise_from, surmise_in, surmise_of, surmise_items, IsSurmiseFaultOf}
 use Rattle.ls_surmise.specs.Reading.{clauses_from, clauses_read}
-use Rattle.ls_surmise.specs.Surmises.{IsWideOf}
+use Rattle.ls_surmise.specs.Surmises.{IsSurmiseOf, IsWideOf}
+use Rattle.ls_surmise.proofs.Orderings.{put-surmise}
 
 -- ---- from what is read
 
@@ -61,6 +63,16 @@ form-fault names bytes (Memory e) h = tt
 pub of_flaw : (n : ℕ) (clauses : List (List Items)) (fault : SurmiseFault) → flaw n clauses ≡ Some fault → surmise_from n clauses ≡ Err fault
 unfolding surmise_from
 of_flaw n clauses fault e = ap (λ o. option_map_or Err (option_or o (wide n clauses)) (Ok (map (in_order n) clauses))) e
+
+pub fault-from : {X : Type 0} (r : Result X SurmiseFault) (fault : SurmiseFault) → r ≡ Err fault → IsSurmiseFaultOf r fault
+fault-from r BadJson e = e
+fault-from r UnknownItem e = e
+fault-from r (NoClause q) e = e
+fault-from r (Reflexive q j) e = e
+fault-from r (NotClosed q j s) e = e
+fault-from r (Comparable q i j) e = e
+fault-from r (Wide m) e = e
+fault-from r (Memory f) e = tt
 
 of_both : (n : ℕ) (clauses : List (List Items)) (o : Option SurmiseFault) → flaw n clauses ≡ None → wide n clauses ≡ o → surmise_from n clauses ≡ option_map_or Err o (Ok (map (in_order n) clauses))
 unfolding surmise_from
@@ -157,3 +169,28 @@ read-on names bytes clauses e =
     let r = read-from names bytes clauses e in
     subst (λ (cs : List (List Items)). IsOn (length names) (all_clauses cs)) r.is
     (all-on (length names) (λ w. map (items_of names) (row_under r.table w)) (λ w. clauses-on names (row_under r.table w) (row-named names r.table w r.named)) names)
+
+-- ---- what is made of a file
+
+pub made : (names : List Text) (bytes : List ℕ) (n : ℕ) (read one two three put : List (List Items)) (b : BaseState) → n ≡ length names → clauses_read names bytes ≡ Ok read → one ≡ read → two ≡ read → three ≡ read → flaw n one ≡ None
+    → b.item_count ≡ n → family b ≡ spanned n (all_clauses two) → base (family b) ≡ b.sets → ((m : ℕ) → IsOn m (all_clauses three) → put ≡ map (in_order m) three) → IsSurmiseOf b put
+made names bytes n read one two three put b count told e f g none items members is_base is =
+    let small = subst (λ m. IsOn m (all_clauses read)) (sym count) (read-on names bytes read told) in
+    let surmise = put-surmise n read b (read-each names bytes read told ∙ sym count) small (ap (flaw n) (sym e) ∙ none) items (members ∙ ap (λ (cs : List (List Items)). spanned n (all_clauses cs)) f) is_base in
+    let same : put ≡ map (in_order n) read = is n (subst (λ (cs : List (List Items)). IsOn n (all_clauses cs)) (sym g) small) ∙ ap (map (in_order n)) g in
+    subst (λ (cs : List (List Items)). IsSurmiseOf b cs) (sym same) surmise
+
+pub told-by : (names : List Text) (bytes : List ℕ) (n : ℕ) (read one two three put : List (List Items)) → n ≡ length names → clauses_read names bytes ≡ Ok read → one ≡ read → two ≡ read → three ≡ read → flaw n one ≡ None → wide n two ≡ None
+    → ((m : ℕ) → IsOn m (all_clauses three) → put ≡ map (in_order m) three) → surmise_of names bytes ≡ Ok put
+told-by names bytes n read one two three put count told e f g none few is =
+    let small = subst (λ m. IsOn m (all_clauses read)) (sym count) (read-on names bytes read told) in
+    let same : put ≡ map (in_order n) read = is n (subst (λ (cs : List (List Items)). IsOn n (all_clauses cs)) (sym g) small) ∙ ap (map (in_order n)) g in
+    of_clauses names bytes read told ∙ ap (λ m. surmise_from m read) (sym count) ∙ of_none n read (ap (flaw n) (sym e) ∙ none) (ap (wide n) (sym f) ∙ few) ∙ ap Ok (sym same)
+
+pub flawed : (names : List Text) (bytes : List ℕ) (n : ℕ) (read one : List (List Items)) (fault : SurmiseFault) → n ≡ length names → clauses_read names bytes ≡ Ok read → one ≡ read → flaw n one ≡ Some fault → flaw (length names) read ≡ Some fault
+flawed names bytes n read one fault count told e is = ap₂ flaw (sym count) (sym e) ∙ is
+
+pub too_wide : (names : List Text) (bytes : List ℕ) (n : ℕ) (read one two : List (List Items)) (fault : SurmiseFault) → n ≡ length names → clauses_read names bytes ≡ Ok read → one ≡ read → two ≡ read → flaw n one ≡ None → IsWideOf (wide n two) fault → IsSurmiseFaultOf (surmise_of names bytes) fault
+too_wide names bytes n read one two fault count told e f none is =
+    fault-as names bytes read fault told
+    (wide-fault (length names) read fault (ap₂ flaw (sym count) (sym e) ∙ none) (subst (λ (o : Option SurmiseFault). IsWideOf o fault) (ap₂ wide count f) is))

@@ -119,7 +119,9 @@ impl Surmise {
             return Err(fault);
         }
         let base = base_of(alloc, n, &read)?;
-        let clauses = put_clauses(alloc, &read).map_err(SurmiseFault::Memory)?;
+        let Ok(clauses) = put_clauses(alloc, &read) else {
+            return Err(SurmiseFault::Memory(AllocError));
+        };
         Ok(Surmise {
             base,
             clauses,

@@ -12,7 +12,8 @@ returns-then-len-gt-MOST_BASE_SETS-clause-fault c =
     let all : c.in_ok-all.all.items ≡ all_clauses c.args.clauses.now = search rules in
     let is = put-is c.args.n (all_clauses c.args.clauses.now) put c.put_in_order.ensures.in_order (λ k. c.put_in_order.ensures.same k ∙ ap (λ g. is_among g k) all) c.requires.is_on in
     let many : most_base_sets < length put = omega (arith, c.len.ensures, c.if-len-gt-MOST_BASE_SETS.true) in
-    wide-many c.args.n c.args.clauses.now put is many ∙ ap (λ m. Some (Wide m)) (sym c.len-then-len-gt-MOST_BASE_SETS.ensures)
+    let count : length put ≡ c.len-then-len-gt-MOST_BASE_SETS.result = search rules in
+    wide-many c.args.n c.args.clauses.now put is many ∙ ap (λ m. Some (Wide m)) count
 
 pub returns-in-Ok-clause-few : goal.returns-in-Ok-clause-few
 returns-in-Ok-clause-few c =
