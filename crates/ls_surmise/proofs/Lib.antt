@@ -8,5 +8,9 @@ mod ReadBack
 mod Firsts
 mod Walks
 mod Names
+mod Tables
+mod Orderings
+mod Files
+mod FaultItems
 mod Examples
 mod TextExamples

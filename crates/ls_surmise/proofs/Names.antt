@@ -1,5 +1,5 @@
 -- Words that name items, one after another; and tables whose names are items.
-use Rattle.std.proofs.Common.{◌≡◌, ℕ, ◌+◌, ◌<◌, ◌≤◌, Bool, true, false, cond, ◌&&◌, List, [], ◌∷◌, map, length, get_or, drop, Option, Some, None, is_some, refl, sym, ap, ap₂, ◌∙◌, subst, option_map, option_and_then, bytes_eq, true≢false}
+use Rattle.std.proofs.Common.{◌≡◌, ℕ, ◌+◌, ◌<◌, ◌≤◌, Bool, true, false, cond, ◌&&◌, List, [], ◌∷◌, map, length, get_or, drop, Option, Some, None, is_some, refl, sym, ap, ap₂, ◌∙◌, subst, option_map, option_and_then, bytes_eq, true≢false, arith}
 use Rattle.std.specs.List.{list_all}
 use Rattle.std.proofs.lemmas.Bool.Decides.{nat_tests}
 use Rattle.std.proofs.lemmas.List.{drop_all}
@@ -9,12 +9,17 @@ use Rattle.serde_json.specs.View.{view, items_view}
 use Rattle.serde_json.specs.declared.value.Value.{Value}
 use Rattle.ls_set.specs.ItemSet.{Items, has, empty, full, with, union, IsWithin}
 use Rattle.ls_set.proofs.Sets.{members, same_set, union-empty_left, empty-within}
+use Rattle.ls_lists.proofs.Places.{is_some-position}
 use Rattle.ls_lines.specs.Lines.{Text}
 use Rattle.ls_domain.specs.Meanings.{is_named, number_of, item_of, items_of}
 use Rattle.ls_domain.proofs.Numbers.{is_named-some, is_named-none, item_of-some, with-within}
 use Rattle.ls_files.specs.SurmiseFiles.{read_each, read_list}
 use Rattle.ls_surmise.specs.Reading.{named_set, read_clause}
 use Rattle.ls_surmise.proofs.Walks.{next-item}
+
+-- a word has a number where it is a name
+pub number_named : (names : List Text) (w : Text) → is_some (number_of names w) ≡ is_named names w
+number_named names w = is_some-position (bytes_eq w) names
 
 -- ---- the set of a clause
 
@@ -30,7 +35,7 @@ named-first names s vs o empty_is e = same s empty_is (option_and_then (named_se
     same s e (Some t) = ap Some (ap (λ u. union u t) e ∙ union-empty_left t)
 
 with-union : (s t : Items) (q : ℕ) → union s (with t q) ≡ union (with s q) t
-with-union s t q = same_set _ _ (λ i. grind (members, nat_tests))
+with-union s t q = same_set _ _ (λ i. grind (arith, members, nat_tests))
 
 one_more : (names : List Text) (w : Text) (q : ℕ) (s : Items) (o : Option (List Text)) → number_of names w ≡ Some q
     → option_map (union s) (option_and_then (named_set names) (option_map (λ ws. w ∷ ws) o)) ≡ option_map (union (with s q)) (option_and_then (named_set names) o)
@@ -44,20 +49,15 @@ one_more names w q s (Some ws) e =
     last true = ap Some (with-union s (items_of names ws) q)
     last false = refl
 
-pub named-next : (names : List Text) (s : Items) (vs : List Value) (i : ℕ) (v : Value) (w : Text) (q : ℕ) (whole : Option Items) → i < length vs → v ≡ get_or vs i v → as_str (view v) ≡ Some w → number_of names w ≡ Some q
-    → IsNamed names s (drop i vs) whole → IsNamed names (with s q) (drop (i + 1) vs) whole
-named-next names s vs i v w q whole l e text number h =
-    let rest = read_each as_str (items_view (drop (i + 1) vs)) in
-    sym (one_more names w q s rest number)
-    ∙ ap (λ o. option_map (union s) (option_and_then (named_set names) (option_and_then (λ y. option_map (λ ys. y ∷ ys) rest) o))) (sym text)
-    ∙ ap (λ ws. option_map (union s) (option_and_then (named_set names) (read_each as_str (items_view ws)))) (sym (next-item vs i v l e))
-    ∙ h
+more : (names : List Text) (q : ℕ) (s : Items) (o : Option Text) (r : Option (List Text)) → Some q ≡ option_and_then (number_of names) o
+    → option_map (union s) (option_and_then (named_set names) (option_and_then (λ w. option_map (λ ws. w ∷ ws) r) o)) ≡ option_map (union (with s q)) (option_and_then (named_set names) r)
+more names q s None r e = absurd (let z : Some q ≡ None = e in cc)
+more names q s (Some w) r e = one_more names w q s r (sym e)
 
-pub named-no_text : (names : List Text) (s : Items) (vs : List Value) (i : ℕ) (v : Value) (whole : Option Items) → i < length vs → v ≡ get_or vs i v → as_str (view v) ≡ None
-    → IsNamed names s (drop i vs) whole → None ≡ whole
-named-no_text names s vs i v whole l e text h =
-    let rest = read_each as_str (items_view (drop (i + 1) vs)) in
-    ap (λ o. option_map (union s) (option_and_then (named_set names) (option_and_then (λ y. option_map (λ ys. y ∷ ys) rest) o))) (sym text)
+pub named-next : (names : List Text) (s : Items) (vs : List Value) (i : ℕ) (v : Value) (q : ℕ) (whole : Option Items) → i < length vs → v ≡ get_or vs i v → Some q ≡ option_and_then (number_of names) (as_str (view v))
+    → IsNamed names s (drop i vs) whole → IsNamed names (with s q) (drop (i + 1) vs) whole
+named-next names s vs i v q whole l e item h =
+    sym (more names q s (as_str (view v)) (read_each as_str (items_view (drop (i + 1) vs))) item)
     ∙ ap (λ ws. option_map (union s) (option_and_then (named_set names) (read_each as_str (items_view ws)))) (sym (next-item vs i v l e))
     ∙ h
 
@@ -65,16 +65,19 @@ no_more : (names : List Text) (w : Text) (s : Items) (o : Option (List Text)) �
 no_more names w s None e = refl
 no_more names w s (Some ws) e = ap (λ b. option_map (union s) (cond (b && list_all (is_named names) ws) (Some (items_of names (w ∷ ws))) None)) (is_named-none names w e)
 
-pub named-no_item : (names : List Text) (s : Items) (vs : List Value) (i : ℕ) (v : Value) (w : Text) (whole : Option Items) → i < length vs → v ≡ get_or vs i v → as_str (view v) ≡ Some w → number_of names w ≡ None
+none : (names : List Text) (s : Items) (o : Option Text) (r : Option (List Text)) → None ≡ option_and_then (number_of names) o
+    → option_map (union s) (option_and_then (named_set names) (option_and_then (λ w. option_map (λ ws. w ∷ ws) r) o)) ≡ None
+none names s None r e = refl
+none names s (Some w) r e = no_more names w s r (sym e)
+
+pub named-none : (names : List Text) (s : Items) (vs : List Value) (i : ℕ) (v : Value) (whole : Option Items) → i < length vs → v ≡ get_or vs i v → None ≡ option_and_then (number_of names) (as_str (view v))
     → IsNamed names s (drop i vs) whole → None ≡ whole
-named-no_item names s vs i v w whole l e text number h =
-    let rest = read_each as_str (items_view (drop (i + 1) vs)) in
-    sym (no_more names w s rest number)
-    ∙ ap (λ o. option_map (union s) (option_and_then (named_set names) (option_and_then (λ y. option_map (λ ys. y ∷ ys) rest) o))) (sym text)
+named-none names s vs i v whole l e item h =
+    sym (none names s (as_str (view v)) (read_each as_str (items_view (drop (i + 1) vs))) item)
     ∙ ap (λ ws. option_map (union s) (option_and_then (named_set names) (read_each as_str (items_view ws)))) (sym (next-item vs i v l e))
     ∙ h
 
 pub named-last : (names : List Text) (s : Items) (vs : List Value) (i : ℕ) (whole : Option Items) → length vs ≤ i → IsNamed names s (drop i vs) whole → Some s ≡ whole
 named-last names s vs i whole l h =
-    ap Some (same_set s (union s empty) (λ i. grind (members)))
+    ap Some (same_set s (union s empty) (λ i. grind (arith, members, nat_tests)))
     ∙ ap (λ ws. option_map (union s) (option_and_then (named_set names) (read_each as_str (items_view ws)))) (sym (drop_all i vs l)) ∙ h

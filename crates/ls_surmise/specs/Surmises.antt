@@ -1,5 +1,5 @@
 -- Surmise functions: what contracts see of them, and which one a base gives.
-use Rattle.std.specs.Prelude.{ℕ, ◌≡◌, List, [], Result, Ok, Err, ⊤}
+use Rattle.std.specs.Prelude.{ℕ, ◌≡◌, List, [], Option, Some, Result, Ok, Err, ⊤}
 use Rattle.std.specs.Option.{option_map_or}
 use Rattle.ls_set.specs.ItemSet.{Items}
 use Rattle.ls_theory.specs.Starts.{Clauses}
@@ -7,6 +7,8 @@ use Rattle.ls_theory.specs.Compatible.{compat}
 use Rattle.ls_theory.specs.Bases.{base, first_missing}
 use Rattle.ls_base.specs.Bases.{BaseState, family}
 use Rattle.ls_theory.specs.Clauses.{clauses_at}
+use Rattle.ls_theory.specs.declared.surmise_fault.SurmiseFault.{SurmiseFault}
+use Rattle.ls_theory.specs.declared.surmise_fault.SurmiseFault.TheVariants as surmise
 use Rattle.ls_clauses.specs.Surmise.{IsSurmise}
 use Rattle.ls_surmise.specs.declared.fault.FromFault.{FromFault}
 use Rattle.ls_surmise.specs.declared.fault.FromFault.TheVariants.{NotSpanning, Memory}
@@ -34,3 +36,8 @@ surmised b = option_map_or (λ q. Err (NotSpanning q)) (first_missing b.item_cou
 abbrev pub IsFromFaultOf : Result (List (List Items)) FromFault → FromFault → Type 0
 IsFromFaultOf answer (Memory e) = ⊤
 IsFromFaultOf answer fault = answer ≡ Err fault
+
+-- the clauses are too many, unless memory ran out
+abbrev pub IsWideOf : Option SurmiseFault → SurmiseFault → Type 0
+IsWideOf found (surmise.Memory e) = ⊤
+IsWideOf found fault = found ≡ Some fault

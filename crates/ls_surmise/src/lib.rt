@@ -6,6 +6,7 @@ mod fault;
 mod laws;
 mod printing;
 mod flaws;
+mod ordering;
 mod reading;
 mod surmise;
 

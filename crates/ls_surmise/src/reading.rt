@@ -1,12 +1,13 @@
 // The clauses of a surmise file, as they stand.
-ghost use Rattle.std.specs.Prelude.{◌≡◌, ◌<◌, Ok, is_some, length, option_map, IfOk, IfErr};
+ghost use Rattle.std.specs.Prelude.{◌≡◌, ◌<◌, ◌&&◌, Ok, is_some, length, option_map, option_and_then, IfOk, IfErr, IfSome};
 ghost use Rattle.serde_json.specs.View.{view};
 ghost use Rattle.serde_json.specs.Find.{as_str};
+ghost use Rattle.ls_domain.specs.Meanings.{is_named, number_of};
 ghost use Rattle.ls_files.specs.SurmiseFiles.{read_list, read_clauses, read_table, value_of, IsSurmiseFaultOf};
 ghost use Rattle.ls_surmise.specs.Reading.{read_clause, read_sets, is_known, read_own, read_all, clauses_read};
 
 use ls_domain::Domain;
-use ls_set::{ItemSet, SetList};
+use ls_set::{ItemSet, PLACES, SetList};
 use ls_theory::SurmiseFault;
 use serde_json::Value;
 use std::alloc::{AllocError, Global};
@@ -76,14 +77,26 @@ fn is_table(value: &Value) -> bool
 
 // ---- the names
 
+// The item whose name the value is.
+fn item_of(d: &Domain, value: &Value) -> Option<u32>
+    ensures value { result ≡ option_and_then (number_of d.now) (as_str (view value.now)) }
+    ensures place { IfSome result (λ i. i < PLACES) }
+{
+    d.number(value.as_str()?)
+}
+
 // The set of an array of items' names.
 fn read_clause(d: &Domain, value: &Value) -> Option<ItemSet>
     ensures { result ≡ read_clause d.now (view value.now) }
 {
-    let entries = value.as_array()?;
+    let Some(entries) = value.as_array() else {
+        return None;
+    };
     let mut set = ItemSet::empty();
     for entry in entries {
-        let item = d.number(entry.as_str()?)?;
+        let Some(item) = item_of(d, entry) else {
+            return None;
+        };
         set = set.with(item);
     }
     Some(set)
@@ -104,7 +117,15 @@ fn are_known_clauses(d: &Domain, value: &Value) -> bool
     true
 }
 
-// Whether the value is an object of them, whose keys are items' names.
+// Whether the key is an item's name, and the value such an array.
+#[tactic(auto, using(crate::proofs::Names::number_named))]
+fn is_known_row(d: &Domain, key: &str, value: &Value) -> bool
+    ensures { result ≡ (is_named d.now key.now && is_some (read_sets d.now (view value.now))) }
+{
+    d.number(key).is_some() && are_known_clauses(d, value)
+}
+
+// Whether the value is an object of such rows.
 fn is_known(d: &Domain, value: &Value) -> bool
     ensures { result ≡ is_known d.now (view value.now) }
 {
@@ -112,7 +133,7 @@ fn is_known(d: &Domain, value: &Value) -> bool
         return false;
     };
     for (key, member) in members {
-        if d.number(key.as_str()).is_none() || !are_known_clauses(d, member) {
+        if !is_known_row(d, key.as_str(), member) {
             return false;
         }
     }
@@ -183,5 +204,6 @@ pub(crate) fn read_file(
     if !is_known(d, &value) {
         return Err(SurmiseFault::UnknownItem);
     }
-    read_all(alloc, d, &value).map_err(SurmiseFault::Memory)
+    let clauses = read_all(alloc, d, &value).map_err(SurmiseFault::Memory)?;
+    Ok(clauses)
 }

@@ -1,16 +1,23 @@
 // Surmise functions.
-ghost use Rattle.std.specs.Prelude.{◌≡◌, ◌<◌, Ok, IfOk, IfErr};
+ghost use Rattle.std.specs.Prelude.{◌≡◌, ◌<◌, Ok, length, IfOk, IfErr};
+ghost use Rattle.std.specs.List.{All};
 ghost use Rattle.ls_set.specs.ItemSet.{Items, is_among};
 ghost use Rattle.ls_theory.specs.Bases.{base};
 ghost use Rattle.ls_base.specs.Bases.{family};
 ghost use Rattle.ls_theory.specs.Clauses.{clauses_of, all_clauses, clauses_at};
 ghost use Rattle.ls_clauses.specs.Surmise.{IsSurmise};
+ghost use Rattle.ls_files.specs.SurmiseFiles.{surmise_of, surmise_items, IsSurmiseFaultOf};
 ghost use Rattle.ls_surmise.specs.Surmises.{met_by, surmised, IsFromFaultOf};
 
 use crate::fault::FromFault;
+use crate::flaws::flaw;
+use crate::ordering::{base_of, put_clauses};
+use crate::reading::read_file;
 use ls_base::Base;
+use ls_domain::Domain;
 use ls_interior::Inside;
 use ls_set::{ItemSet, SetList};
+use ls_theory::SurmiseFault;
 use std::alloc::{AllocError, Global};
 use std::marker::Model;
 
@@ -86,6 +93,35 @@ impl Surmise {
         }
         let clauses = atoms_of(alloc, base)?;
         let base = base.copy()?;
+        Ok(Surmise {
+            base,
+            clauses,
+            alloc,
+        })
+    }
+
+    /// The surmise function of a surmise file: an object whose keys are the names of items, and
+    /// whose values are arrays of clauses, each an array of names. The error is the first of these:
+    /// the bytes are no such object; a name is that of no item; an item has no clause; a clause
+    /// lacks its item; a clause has an item of which no clause lies within it; of two clauses of an
+    /// item one lies within the other; there are more distinct clauses than a base may have sets;
+    /// or memory ran out.
+    pub fn from_json(alloc: Global, d: &Domain, bytes: &[u8]) -> Result<Surmise, SurmiseFault>
+        ensures clauses { IfOk result (λ s. surmise_of d.now bytes.now ≡ Ok s.clauses) }
+        ensures item_count { IfOk result (λ s. s.item_count ≡ length d.now) }
+        ensures surmise { IfOk result (λ s. IsSurmise s.item_count s.clauses) }
+        ensures fault { IfErr result (IsSurmiseFaultOf (surmise_of d.now bytes.now)) }
+        ensures items { IfErr result (λ e. All (λ q. q < length d.now) (surmise_items e)) }
+    {
+        let read = read_file(alloc, d, bytes)?;
+        let n = d.count();
+        if let Some(fault) = flaw(n, &read) {
+            return Err(fault);
+        }
+        let base = base_of(alloc, n, &read)?;
+        let Ok(clauses) = put_clauses(alloc, &read) else {
+            return Err(SurmiseFault::Memory(AllocError));
+        };
         Ok(Surmise {
             base,
             clauses,

@@ -1,0 +1,196 @@
+-- The surmise function of a file, step by step; and the items that a fault names.
+use Rattle.std.proofs.Common.{◌≡◌, ◌⊎◌, inl, inr, ℕ, zero, suc, ◌+◌, ◌<◌, Bool, true, false, not, cond, ◌&&◌, ◌==◌, List, [], ◌∷◌, ◌++◌, map, length, find, get_or, Option, Some, None, is_some, Result, Ok, Err, refl, sym, ap, ap₂, ◌∙◌, subst, option_map, bytes_eq, true≢false, arith, ltb-true}
+use Rattle.std.specs.Prelude.{unwrap_or}
+use Rattle.std.specs.List.{All, list_all}
+use Rattle.std.specs.Map.{lookup}
+use Rattle.std.specs.Option.{option_map_or, option_or}
+use Rattle.std.proofs.lemmas.Bool.{and_parts, or_cases}
+use Rattle.std.specs.Result.{result_ok}
+use Rattle.ls_lists.specs.Lists.{IsIn}
+use Rattle.ls_lists.proofs.Options.{ok-err}
+use Rattle.ls_lists.proofs.Places.{is_some-position, position-lt}
+use Rattle.ls_set.specs.ItemSet.{Items, has, full, items, with, is_among, is_within, numbers_from, IsWithin, subsets}
+use Rattle.ls_set.proofs.Members.{among-cases, among-append}
+use Rattle.ls_set.proofs.Sets.{has-full, empty-within}
+use Rattle.ls_theory.specs.Clauses.{clauses_of, all_clauses, has_clause_within, first_some, clause_at, places_of, places_after, are_comparable, no_clause, lacking_in, unclosed_at, unclosed_in, comparable_at, comparable_in, flaw}
+use Rattle.ls_theory.specs.declared.surmise_fault.SurmiseFault.{SurmiseFault}
+use Rattle.ls_theory.specs.declared.surmise_fault.SurmiseFault.TheVariants.{BadJson, UnknownItem, NoClause, Reflexive, NotClosed, Comparable, Wide, Memory}
+use Rattle.ls_theory.specs.Bases.{base}
+use Rattle.ls_laws.specs.Spans.{IsOn, spanned}
+use Rattle.ls_base.specs.Bases.{BaseState, family}
+use Rattle.ls_clauses.proofs.Clauses.{among-all}
+use Rattle.ls_clauses.proofs.Places.{among-at}
+use Rattle.ls_lines.specs.Lines.{Text}
+use Rattle.ls_domain.specs.Meanings.{is_named, number_of, item_of, items_of}
+use Rattle.ls_domain.proofs.Numbers.{item_of-some, with-within}
+use Rattle.ls_files.specs.SurmiseFiles.{Table, table_of, are_named, is_table_named, row_under, clauses_in, in_order, wide, surmise_from, surmise_in, surmise_of, surmise_items, IsSurmiseFaultOf}
+use Rattle.ls_surmise.specs.Reading.{clauses_from, clauses_read}
+use Rattle.ls_surmise.specs.Surmises.{IsSurmiseOf, IsWideOf}
+use Rattle.ls_surmise.proofs.Orderings.{put-surmise}
+
+-- ---- from what is read
+
+abbrev then : List Text → Result (List (List Items)) SurmiseFault → Result (List (List Items)) SurmiseFault
+then names (Ok clauses) = surmise_from (length names) clauses
+then names (Err fault) = Err fault
+
+surmise-then : (names : List Text) (bytes : List ℕ) → surmise_of names bytes ≡ then names (clauses_read names bytes)
+unfolding surmise_of
+surmise-then names bytes = step (table_of bytes)
+  where
+    tested : (b : Bool) (clauses : List (List Items)) → cond b (surmise_from (length names) clauses) (Err UnknownItem) ≡ then names (cond b (Ok clauses) (Err UnknownItem))
+    tested true clauses = refl
+    tested false clauses = refl
+
+    step : (o : Option Table) → option_map_or (surmise_in names) o (Err BadJson) ≡ then names (option_map_or (clauses_from names) o (Err BadJson))
+    step None = refl
+    step (Some table) = tested (is_table_named names table) (clauses_in names table)
+
+pub of_clauses : (names : List Text) (bytes : List ℕ) (clauses : List (List Items)) → clauses_read names bytes ≡ Ok clauses → surmise_of names bytes ≡ surmise_from (length names) clauses
+of_clauses names bytes clauses e = surmise-then names bytes ∙ ap (then names) e
+
+-- a fault of the form is one of the file
+pub form-fault : (names : List Text) (bytes : List ℕ) (fault : SurmiseFault) → IsSurmiseFaultOf (clauses_read names bytes) fault → IsSurmiseFaultOf (surmise_of names bytes) fault
+form-fault names bytes BadJson e = surmise-then names bytes ∙ ap (then names) e
+form-fault names bytes UnknownItem e = surmise-then names bytes ∙ ap (then names) e
+form-fault names bytes (NoClause q) e = surmise-then names bytes ∙ ap (then names) e
+form-fault names bytes (Reflexive q j) e = surmise-then names bytes ∙ ap (then names) e
+form-fault names bytes (NotClosed q j r) e = surmise-then names bytes ∙ ap (then names) e
+form-fault names bytes (Comparable q i j) e = surmise-then names bytes ∙ ap (then names) e
+form-fault names bytes (Wide m) e = surmise-then names bytes ∙ ap (then names) e
+form-fault names bytes (Memory e) h = tt
+
+pub of_flaw : (n : ℕ) (clauses : List (List Items)) (fault : SurmiseFault) → flaw n clauses ≡ Some fault → surmise_from n clauses ≡ Err fault
+unfolding surmise_from
+of_flaw n clauses fault e = ap (λ o. option_map_or Err (option_or o (wide n clauses)) (Ok (map (in_order n) clauses))) e
+
+pub fault-from : {X : Type 0} (r : Result X SurmiseFault) (fault : SurmiseFault) → r ≡ Err fault → IsSurmiseFaultOf r fault
+fault-from r BadJson e = e
+fault-from r UnknownItem e = e
+fault-from r (NoClause q) e = e
+fault-from r (Reflexive q j) e = e
+fault-from r (NotClosed q j s) e = e
+fault-from r (Comparable q i j) e = e
+fault-from r (Wide m) e = e
+fault-from r (Memory f) e = tt
+
+of_both : (n : ℕ) (clauses : List (List Items)) (o : Option SurmiseFault) → flaw n clauses ≡ None → wide n clauses ≡ o → surmise_from n clauses ≡ option_map_or Err o (Ok (map (in_order n) clauses))
+unfolding surmise_from
+of_both n clauses o e w = ap (λ p. option_map_or Err (option_or p (wide n clauses)) (Ok (map (in_order n) clauses))) e ∙ ap (λ p. option_map_or Err p (Ok (map (in_order n) clauses))) w
+
+pub of_none : (n : ℕ) (clauses : List (List Items)) → flaw n clauses ≡ None → wide n clauses ≡ None → surmise_from n clauses ≡ Ok (map (in_order n) clauses)
+of_none n clauses e w = of_both n clauses None e w
+
+pub wide-fault : (n : ℕ) (clauses : List (List Items)) (fault : SurmiseFault) → flaw n clauses ≡ None → IsWideOf (wide n clauses) fault → IsSurmiseFaultOf (surmise_from n clauses) fault
+wide-fault n clauses BadJson e w = of_both n clauses (Some BadJson) e w
+wide-fault n clauses UnknownItem e w = of_both n clauses (Some UnknownItem) e w
+wide-fault n clauses (NoClause q) e w = of_both n clauses (Some (NoClause q)) e w
+wide-fault n clauses (Reflexive q j) e w = of_both n clauses (Some (Reflexive q j)) e w
+wide-fault n clauses (NotClosed q j r) e w = of_both n clauses (Some (NotClosed q j r)) e w
+wide-fault n clauses (Comparable q i j) e w = of_both n clauses (Some (Comparable q i j)) e w
+wide-fault n clauses (Wide m) e w = of_both n clauses (Some (Wide m)) e w
+wide-fault n clauses (Memory e) h w = tt
+
+pub fault-as : (names : List Text) (bytes : List ℕ) (clauses : List (List Items)) (fault : SurmiseFault) → clauses_read names bytes ≡ Ok clauses → IsSurmiseFaultOf (surmise_from (length names) clauses) fault → IsSurmiseFaultOf (surmise_of names bytes) fault
+fault-as names bytes clauses fault e h = subst (λ (r : Result (List (List Items)) SurmiseFault). IsSurmiseFaultOf r fault) (sym (of_clauses names bytes clauses e)) h
+
+-- ---- what is read
+
+clause-on : (names ws : List Text) → list_all (is_named names) ws ≡ true → IsWithin (items_of names ws) (full (length names))
+clause-on names [] h = empty-within (full (length names))
+clause-on names (w ∷ ws) h =
+    let p = and_parts (is_named names w) (list_all (is_named names) ws) h in
+    with-within (items_of names ws) (item_of names w) (length names) (clause-on names ws p.1) (below (number_of names w) refl (is_some-position (bytes_eq w) names ∙ p.0))
+  where
+    below : (o : Option ℕ) → number_of names w ≡ o → is_some (number_of names w) ≡ true → item_of names w < length names
+    below None e s = absurd (true≢false (sym s ∙ ap is_some e))
+    below (Some i) e s = subst (λ k. k < length names) (sym (item_of-some names w i e)) (position-lt (bytes_eq w) names i e)
+
+clauses-on : (names : List Text) (wss : List (List Text)) → are_named names wss ≡ true → IsOn (length names) (map (items_of names) wss)
+clauses-on names [] h k c = absurd (true≢false (sym c))
+clauses-on names (ws ∷ wss) h k c =
+    let p = and_parts (list_all (is_named names) ws) (are_named names wss) h in
+    elim (among-cases k (items_of names ws) (map (items_of names) wss) c) [
+      | inl e ↦ subst (λ s. IsWithin s (full (length names))) (sym e) (clause-on names ws p.0)
+      | inr d ↦ clauses-on names wss p.1 k d
+    ]
+
+row-named : (names : List Text) (table : Table) (w : Text) → list_all (λ row. is_named names row.0 && are_named names row.1) table ≡ true → are_named names (row_under table w) ≡ true
+row-named names [] w h = refl
+row-named names (row ∷ table) w h = step (bytes_eq w row.0) (and_parts (is_named names row.0) (are_named names row.1) p.0).1 (row-named names table w p.1)
+  where
+    p : ((is_named names row.0 && are_named names row.1) ≡ true) × (list_all (λ row. is_named names row.0 && are_named names row.1) table ≡ true)
+    p = and_parts (is_named names row.0 && are_named names row.1) (list_all (λ row. is_named names row.0 && are_named names row.1) table) h
+
+    step : (b : Bool) → are_named names row.1 ≡ true → are_named names (row_under table w) ≡ true → are_named names (option_map_or (λ r. r) (cond b (Some row.1) (lookup (bytes_eq w) table)) []) ≡ true
+    step true here later = here
+    step false here later = later
+
+all-on : (n : ℕ) (h : Text → List Items) → ((w : Text) → IsOn n (h w)) → (ws : List Text) → IsOn n (all_clauses (map h ws))
+all-on n h each [] k c = absurd (true≢false (sym c))
+all-on n h each (w ∷ ws) k c =
+    elim (or_cases (is_among (h w) k) (is_among (all_clauses (map h ws)) k) (sym (among-append (h w) (all_clauses (map h ws)) k) ∙ c)) [
+      | inl a ↦ each w k a
+      | inr b ↦ all-on n h each ws k b
+    ]
+
+same_Ok : {X : Type 0} (x y : X) → ◌≡◌ {A = Result X SurmiseFault} (Ok x) (Ok y) → x ≡ y
+same_Ok x y e = ap (λ r. unwrap_or (result_ok r) x) e
+
+record IsReadFrom (names : List Text) (clauses : List (List Items)) : Type 0 where
+  table : Table
+  named : is_table_named names table ≡ true
+  is : clauses_in names table ≡ clauses
+
+read-from : (names : List Text) (bytes : List ℕ) (clauses : List (List Items)) → clauses_read names bytes ≡ Ok clauses → IsReadFrom names clauses
+read-from names bytes clauses e = step (table_of bytes) e
+  where
+    tested : (table : Table) (b : Bool) → is_table_named names table ≡ b → cond b (Ok (clauses_in names table)) (Err UnknownItem) ≡ Ok clauses → IsReadFrom names clauses
+    tested table true t e = record { table = table; named = t; is = same_Ok (clauses_in names table) clauses e }
+    tested table false t e = absurd (let z : Err UnknownItem ≡ Ok clauses = e in cc)
+
+    step : (o : Option Table) → option_map_or (clauses_from names) o (Err BadJson) ≡ Ok clauses → IsReadFrom names clauses
+    step None e = absurd (let z : Err BadJson ≡ Ok clauses = e in cc)
+    step (Some table) e = tested table (is_table_named names table) refl e
+
+length-mapped : {X Y : Type 0} (h : X → Y) (xs : List X) → length (map h xs) ≡ length xs
+length-mapped h [] = refl
+length-mapped h (x ∷ xs) = ap suc (length-mapped h xs)
+
+pub read-each : (names : List Text) (bytes : List ℕ) (clauses : List (List Items)) → clauses_read names bytes ≡ Ok clauses → length clauses ≡ length names
+unfolding clauses_in
+read-each names bytes clauses e =
+    let r = read-from names bytes clauses e in
+    ap length (sym r.is) ∙ length-mapped (λ w. map (items_of names) (row_under r.table w)) names
+
+pub read-on : (names : List Text) (bytes : List ℕ) (clauses : List (List Items)) → clauses_read names bytes ≡ Ok clauses → IsOn (length names) (all_clauses clauses)
+unfolding clauses_in is_table_named
+read-on names bytes clauses e =
+    let r = read-from names bytes clauses e in
+    subst (λ (cs : List (List Items)). IsOn (length names) (all_clauses cs)) r.is
+    (all-on (length names) (λ w. map (items_of names) (row_under r.table w)) (λ w. clauses-on names (row_under r.table w) (row-named names r.table w r.named)) names)
+
+-- ---- what is made of a file
+
+pub made : (names : List Text) (bytes : List ℕ) (n : ℕ) (read one two three put : List (List Items)) (b : BaseState) → n ≡ length names → clauses_read names bytes ≡ Ok read → one ≡ read → two ≡ read → three ≡ read → flaw n one ≡ None
+    → b.item_count ≡ n → family b ≡ spanned n (all_clauses two) → base (family b) ≡ b.sets → ((m : ℕ) → IsOn m (all_clauses three) → put ≡ map (in_order m) three) → IsSurmiseOf b put
+made names bytes n read one two three put b count told e f g none items members is_base is =
+    let small = subst (λ m. IsOn m (all_clauses read)) (sym count) (read-on names bytes read told) in
+    let surmise = put-surmise n read b (read-each names bytes read told ∙ sym count) small (ap (flaw n) (sym e) ∙ none) items (members ∙ ap (λ (cs : List (List Items)). spanned n (all_clauses cs)) f) is_base in
+    let same : put ≡ map (in_order n) read = is n (subst (λ (cs : List (List Items)). IsOn n (all_clauses cs)) (sym g) small) ∙ ap (map (in_order n)) g in
+    subst (λ (cs : List (List Items)). IsSurmiseOf b cs) (sym same) surmise
+
+pub told-by : (names : List Text) (bytes : List ℕ) (n : ℕ) (read one two three put : List (List Items)) → n ≡ length names → clauses_read names bytes ≡ Ok read → one ≡ read → two ≡ read → three ≡ read → flaw n one ≡ None → wide n two ≡ None
+    → ((m : ℕ) → IsOn m (all_clauses three) → put ≡ map (in_order m) three) → surmise_of names bytes ≡ Ok put
+told-by names bytes n read one two three put count told e f g none few is =
+    let small = subst (λ m. IsOn m (all_clauses read)) (sym count) (read-on names bytes read told) in
+    let same : put ≡ map (in_order n) read = is n (subst (λ (cs : List (List Items)). IsOn n (all_clauses cs)) (sym g) small) ∙ ap (map (in_order n)) g in
+    of_clauses names bytes read told ∙ ap (λ m. surmise_from m read) (sym count) ∙ of_none n read (ap (flaw n) (sym e) ∙ none) (ap (wide n) (sym f) ∙ few) ∙ ap Ok (sym same)
+
+pub flawed : (names : List Text) (bytes : List ℕ) (n : ℕ) (read one : List (List Items)) (fault : SurmiseFault) → n ≡ length names → clauses_read names bytes ≡ Ok read → one ≡ read → flaw n one ≡ Some fault → flaw (length names) read ≡ Some fault
+flawed names bytes n read one fault count told e is = ap₂ flaw (sym count) (sym e) ∙ is
+
+pub too_wide : (names : List Text) (bytes : List ℕ) (n : ℕ) (read one two : List (List Items)) (fault : SurmiseFault) → n ≡ length names → clauses_read names bytes ≡ Ok read → one ≡ read → two ≡ read → flaw n one ≡ None → IsWideOf (wide n two) fault → IsSurmiseFaultOf (surmise_of names bytes) fault
+too_wide names bytes n read one two fault count told e f none is =
+    fault-as names bytes read fault told
+    (wide-fault (length names) read fault (ap₂ flaw (sym count) (sym e) ∙ none) (subst (λ (o : Option SurmiseFault). IsWideOf o fault) (ap₂ wide count f) is))
