@@ -1,9 +1,9 @@
 -- The items that a flaw names are items.
-use Rattle.std.proofs.Common.{◌≡◌, ◌⊎◌, inl, inr, ℕ, zero, suc, ◌+◌, ◌<◌, Bool, true, false, not, cond, ◌==◌, List, [], ◌∷◌, length, find, Option, Some, None, refl, sym, ap, ◌∙◌, subst, option_map, arith, ltb-true}
+use Rattle.std.proofs.Common.{◌≡◌, inl, inr, ℕ, zero, suc, ◌+◌, ◌<◌, Bool, true, false, not, cond, ◌==◌, List, [], ◌∷◌, length, find, Option, Some, None, refl, sym, ◌∙◌, subst, option_map, arith, ltb-true}
 use Rattle.std.specs.List.{All}
 use Rattle.std.specs.Option.{option_or}
 use Rattle.ls_lists.specs.Lists.{IsIn}
-use Rattle.ls_set.specs.ItemSet.{Items, has, full, bound, items, numbers_from, empty}
+use Rattle.ls_set.specs.ItemSet.{Items, has, bound, items, numbers_from}
 use Rattle.ls_set.proofs.Sets.{has-full}
 use Rattle.ls_lists.proofs.Elements.{filter-in}
 use Rattle.ls_laws.specs.Spans.{IsOn}

@@ -1,29 +1,25 @@
 -- The surmise function of a file, step by step; and the items that a fault names.
-use Rattle.std.proofs.Common.{◌≡◌, ◌⊎◌, inl, inr, ℕ, zero, suc, ◌+◌, ◌<◌, Bool, true, false, not, cond, ◌&&◌, ◌==◌, List, [], ◌∷◌, ◌++◌, map, length, find, get_or, Option, Some, None, is_some, Result, Ok, Err, refl, sym, ap, ap₂, ◌∙◌, subst, option_map, bytes_eq, true≢false, arith, ltb-true}
+use Rattle.std.proofs.Common.{◌≡◌, inl, inr, ℕ, suc, ◌<◌, Bool, true, false, cond, ◌&&◌, List, [], ◌∷◌, map, length, Option, Some, None, is_some, Result, Ok, Err, refl, sym, ap, ap₂, ◌∙◌, subst, bytes_eq, true≢false}
 use Rattle.std.specs.Prelude.{unwrap_or}
-use Rattle.std.specs.List.{All, list_all}
+use Rattle.std.specs.List.{list_all}
 use Rattle.std.specs.Map.{lookup}
 use Rattle.std.specs.Option.{option_map_or, option_or}
 use Rattle.std.proofs.lemmas.Bool.{and_parts, or_cases}
 use Rattle.std.specs.Result.{result_ok}
-use Rattle.ls_lists.specs.Lists.{IsIn}
-use Rattle.ls_lists.proofs.Options.{ok-err}
 use Rattle.ls_lists.proofs.Places.{is_some-position, position-lt}
-use Rattle.ls_set.specs.ItemSet.{Items, has, full, items, with, is_among, is_within, numbers_from, IsWithin, subsets}
+use Rattle.ls_set.specs.ItemSet.{Items, full, items, is_among, IsWithin}
 use Rattle.ls_set.proofs.Members.{among-cases, among-append}
-use Rattle.ls_set.proofs.Sets.{has-full, empty-within}
-use Rattle.ls_theory.specs.Clauses.{clauses_of, all_clauses, has_clause_within, first_some, clause_at, places_of, places_after, are_comparable, no_clause, lacking_in, unclosed_at, unclosed_in, comparable_at, comparable_in, flaw}
+use Rattle.ls_set.proofs.Sets.{empty-within}
+use Rattle.ls_theory.specs.Clauses.{all_clauses, flaw}
 use Rattle.ls_theory.specs.declared.surmise_fault.SurmiseFault.{SurmiseFault}
 use Rattle.ls_theory.specs.declared.surmise_fault.SurmiseFault.TheVariants.{BadJson, UnknownItem, NoClause, Reflexive, NotClosed, Comparable, Wide, Memory}
 use Rattle.ls_theory.specs.Bases.{base}
 use Rattle.ls_laws.specs.Spans.{IsOn, spanned}
 use Rattle.ls_base.specs.Bases.{BaseState, family}
-use Rattle.ls_clauses.proofs.Clauses.{among-all}
-use Rattle.ls_clauses.proofs.Places.{among-at}
 use Rattle.ls_lines.specs.Lines.{Text}
 use Rattle.ls_domain.specs.Meanings.{is_named, number_of, item_of, items_of}
 use Rattle.ls_domain.proofs.Numbers.{item_of-some, with-within}
-use Rattle.ls_files.specs.SurmiseFiles.{Table, table_of, are_named, is_table_named, row_under, clauses_in, in_order, wide, surmise_from, surmise_in, surmise_of, surmise_items, IsSurmiseFaultOf}
+use Rattle.ls_files.specs.SurmiseFiles.{Table, table_of, are_named, is_table_named, row_under, clauses_in, in_order, wide, surmise_from, surmise_in, surmise_of, IsSurmiseFaultOf}
 use Rattle.ls_surmise.specs.Reading.{clauses_from, clauses_read}
 use Rattle.ls_surmise.specs.Surmises.{IsSurmiseOf, IsWideOf}
 use Rattle.ls_surmise.proofs.Orderings.{put-surmise}

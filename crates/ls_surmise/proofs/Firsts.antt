@@ -1,5 +1,5 @@
 -- Searches through numbers, by what is left of them.
-use Rattle.std.proofs.Common.{ℕ, suc, ◌+◌, ◌-◌, ◌<◌, ◌≤◌, ◌≡◌, Bool, true, false, List, [], ◌∷◌, find, length, get_or, Option, Some, None, refl, sym, ap, ◌∙◌, arith}
+use Rattle.std.proofs.Common.{ℕ, suc, ◌+◌, ◌-◌, ◌<◌, ◌≤◌, ◌≡◌, Bool, true, false, [], ◌∷◌, find, Option, Some, None, refl, sym, ap, ◌∙◌, arith}
 use Rattle.ls_set.specs.ItemSet.{numbers_from}
 use Rattle.ls_theory.specs.Clauses.{first_some}
 

@@ -1,20 +1,20 @@
 -- Words that name items, one after another; and tables whose names are items.
-use Rattle.std.proofs.Common.{◌≡◌, ℕ, ◌+◌, ◌<◌, ◌≤◌, Bool, true, false, cond, ◌&&◌, List, [], ◌∷◌, map, length, get_or, drop, Option, Some, None, is_some, refl, sym, ap, ap₂, ◌∙◌, subst, option_map, option_and_then, bytes_eq, true≢false, arith}
+use Rattle.std.proofs.Common.{◌≡◌, ℕ, ◌+◌, ◌<◌, ◌≤◌, Bool, true, false, cond, ◌&&◌, List, ◌∷◌, length, get_or, drop, Option, Some, None, is_some, refl, sym, ap, ◌∙◌, option_map, option_and_then, bytes_eq, arith}
 use Rattle.std.specs.List.{list_all}
 use Rattle.std.proofs.lemmas.Bool.Decides.{nat_tests}
 use Rattle.std.proofs.lemmas.List.{drop_all}
-use Rattle.serde_json.specs.Data.{Data, Items as Values}
+use Rattle.serde_json.specs.Data.{Items as Values}
 use Rattle.serde_json.specs.Find.{as_str}
 use Rattle.serde_json.specs.View.{view, items_view}
 use Rattle.serde_json.specs.declared.value.Value.{Value}
-use Rattle.ls_set.specs.ItemSet.{Items, has, empty, full, with, union, IsWithin}
-use Rattle.ls_set.proofs.Sets.{members, same_set, union-empty_left, empty-within}
+use Rattle.ls_set.specs.ItemSet.{Items, empty, with, union}
+use Rattle.ls_set.proofs.Sets.{members, same_set, union-empty_left}
 use Rattle.ls_lists.proofs.Places.{is_some-position}
 use Rattle.ls_lines.specs.Lines.{Text}
 use Rattle.ls_domain.specs.Meanings.{is_named, number_of, item_of, items_of}
-use Rattle.ls_domain.proofs.Numbers.{is_named-some, is_named-none, item_of-some, with-within}
-use Rattle.ls_files.specs.SurmiseFiles.{read_each, read_list}
-use Rattle.ls_surmise.specs.Reading.{named_set, read_clause}
+use Rattle.ls_domain.proofs.Numbers.{is_named-some, is_named-none, item_of-some}
+use Rattle.ls_files.specs.SurmiseFiles.{read_each}
+use Rattle.ls_surmise.specs.Reading.{named_set}
 use Rattle.ls_surmise.proofs.Walks.{next-item}
 
 -- a word has a number where it is a name

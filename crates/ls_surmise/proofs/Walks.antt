@@ -1,10 +1,10 @@
 -- Lists of values and members of an object, read one after another.
-use Rattle.std.proofs.Common.{◌≡◌, ℕ, suc, ◌+◌, ◌<◌, ◌≤◌, Bool, true, false, List, [], ◌∷◌, ◌++◌, length, get_or, drop, Option, Some, None, is_some, refl, sym, ap, ◌∙◌, arith, option_map, option_and_then, append_assoc, append-nil, drop-cons}
+use Rattle.std.proofs.Common.{◌≡◌, ℕ, suc, ◌+◌, ◌<◌, ◌≤◌, Bool, true, false, List, [], ◌∷◌, ◌++◌, length, get_or, drop, Option, Some, None, is_some, refl, sym, ap, ◌∙◌, arith, option_map, option_and_then, append_assoc, drop-cons}
 use Rattle.std.proofs.lemmas.List.{drop_all}
 use Rattle.serde_json.specs.Data.{Data, Items as Values}
 use Rattle.serde_json.specs.View.{view, items_view}
 use Rattle.serde_json.specs.declared.value.Value.{Value}
-use Rattle.ls_files.specs.SurmiseFiles.{read_each, read_list}
+use Rattle.ls_files.specs.SurmiseFiles.{read_each}
 
 -- what was read, and the rest, are the whole
 abbrev pub IsRead : {X : Type 0} → (Data → Option X) → List X → List Value → Option (List X) → Type 0

@@ -72,7 +72,11 @@ fn unclosed_at(clauses: &[SetList], q: u32, j: usize) -> Option<SurmiseFault>
     let c = clauses_of(clauses, q)[j];
     for r in c.items() {
         if !has_clause_within(clauses, r, c) {
-            return Some(SurmiseFault::NotClosed { q, clause: j + 1, r });
+            return Some(SurmiseFault::NotClosed {
+                q,
+                clause: j + 1,
+                r,
+            });
         }
     }
     None

@@ -28,10 +28,7 @@ fn put_sets(alloc: Global, sets: &[ItemSet]) -> Result<SetList, AllocError>
 }
 
 /// The clauses of each item in the order of sets, each once.
-pub(crate) fn put_clauses(
-    alloc: Global,
-    clauses: &[SetList],
-) -> Result<Vec<SetList>, AllocError>
+pub(crate) fn put_clauses(alloc: Global, clauses: &[SetList]) -> Result<Vec<SetList>, AllocError>
     ensures { IfOk result (λ v. (n : ℕ) → IsOn n (all_clauses clauses.now) →
         v.items ≡ map (in_order n) clauses.now) }
 {
@@ -56,11 +53,7 @@ fn all_clauses(alloc: Global, clauses: &[SetList]) -> Result<Vec<ItemSet>, Alloc
 
 /// The base of the unions of all clauses, unless there are more distinct ones than a base may have
 /// sets: they are then told by their number.
-pub(crate) fn base_of(
-    alloc: Global,
-    n: u32,
-    clauses: &[SetList],
-) -> Result<Base, SurmiseFault>
+pub(crate) fn base_of(alloc: Global, n: u32, clauses: &[SetList]) -> Result<Base, SurmiseFault>
     requires few_items { n ≤ PLACES }
     requires is_on { IsOn n (all_clauses clauses.now) }
     ensures few { OnOk result (wide n clauses.now ≡ None) }

@@ -1,4 +1,4 @@
-use Rattle.std.proofs.Common.{◌≡◌, ◌<◌, ◌≤◌, ℕ, Some, Ok, length, sym, ap, ◌∙◌, subst, rules, arith}
+use Rattle.std.proofs.Common.{◌≡◌, ◌<◌, ◌≤◌, Some, length, ap, ◌∙◌, rules, arith}
 use Rattle.ls_set.specs.ItemSet.{Items, is_among}
 use Rattle.ls_theory.specs.Bases.{most_base_sets}
 use Rattle.ls_theory.specs.Clauses.{all_clauses}

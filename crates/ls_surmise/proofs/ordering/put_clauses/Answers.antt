@@ -1,4 +1,4 @@
-use Rattle.std.proofs.Common.{◌≡◌, ◌++◌, ◌∷◌, List, [], sym, ap, ap₂, ◌∙◌, subst}
+use Rattle.std.proofs.Common.{◌++◌, ◌∷◌, List, [], sym, ap, ap₂, ◌∙◌, subst}
 use Rattle.ls_set.specs.ItemSet.{Items}
 use Rattle.ls_laws.specs.Spans.{IsOn}
 use Rattle.ls_files.specs.SurmiseFiles.{in_order}

@@ -1,4 +1,4 @@
-use Rattle.std.proofs.Common.{◌≡◌, Some, None, Ok, is_some, true, false, sym, ap, ◌∙◌, rules}
+use Rattle.std.proofs.Common.{◌≡◌, Some, None, Ok, is_some, true, sym, ap, ◌∙◌, rules}
 use Rattle.serde_json.specs.View.{view}
 use Rattle.ls_files.specs.SurmiseFiles.{read_table, value_of}
 use Rattle.ls_surmise.specs.Reading.{is_known, read_all}

@@ -1,4 +1,4 @@
-use Rattle.std.proofs.Common.{◌≡◌, sym, ◌∙◌, arith}
+use Rattle.std.proofs.Common.{sym, ◌∙◌, arith}
 use Rattle.std.proofs.lemmas.Grind.{common_steps}
 use Rattle.ls_files.specs.SurmiseFiles.{surmise_of, IsSurmiseFaultOf}
 use Rattle.ls_surmise.proofs.Files.{form-fault, fault-as, fault-from, of_flaw, read-on, made, told-by, flawed, too_wide}
@@ -31,7 +31,7 @@ pub returns-in_err-base-clause-fault : goal.returns-in_err-base-clause-fault
 returns-in_err-base-clause-fault c =
     let told : IsSurmiseFaultOf (surmise_of c.args.d.now c.args.bytes.now) c.in_err-base.field-0.0 =
     too_wide c.args.d.now c.args.bytes.now c.count-n.result c.in_ok-read.read.items c.deref.result.now c.deref-2.result.now c.in_err-base.field-0.0 c.count-n.ensures.value c.in_ok-read.ensures.read c.deref.ensures.value c.deref-2.ensures.value (sym c.flaw.ensures ∙ c.in_default.is)
-        c.in_err-base.ensures.fault in
+    c.in_err-base.ensures.fault in
     grind (arith, common_steps, told)
 
 pub invariant_of-result : goal.invariant_of-result
@@ -48,5 +48,5 @@ pub returns-clause-surmise : goal.returns-clause-surmise
 returns-clause-surmise c =
     let is =
     made c.args.d.now c.args.bytes.now c.count-n.result c.in_ok-read.read.items c.deref.result.now c.deref-2.result.now c.deref-3.result.now c.in-Ok.clauses.items c.in_ok-base.base c.count-n.ensures.value c.in_ok-read.ensures.read c.deref.ensures.value c.deref-2.ensures.value c.deref-3.ensures.value
-        (sym c.flaw.ensures ∙ c.in_default.is) c.in_ok-base.ensures.item_count c.in_ok-base.ensures.members c.in_ok-base.ensures.is_base c.in-Ok.ensures in
+    (sym c.flaw.ensures ∙ c.in_default.is) c.in_ok-base.ensures.item_count c.in_ok-base.ensures.members c.in_ok-base.ensures.is_base c.in-Ok.ensures in
     is.surmise
