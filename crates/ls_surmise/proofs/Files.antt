@@ -190,3 +190,8 @@ pub too_wide : (names : List Text) (bytes : List ℕ) (n : ℕ) (read one two : 
 too_wide names bytes n read one two fault count told e f none is =
     fault-as names bytes read fault told
     (wide-fault (length names) read fault (ap₂ flaw (sym count) (sym e) ∙ none) (subst (λ (o : Option SurmiseFault). IsWideOf o fault) (ap₂ wide count f) is))
+
+-- the clauses in order, as they are searched
+pub put-of : (names : List Text) (bytes : List ℕ) (n : ℕ) (read three put : List (List Items)) → n ≡ length names → clauses_read names bytes ≡ Ok read → three ≡ read → ((m : ℕ) → IsOn m (all_clauses three) → put ≡ map (in_order m) three) → put ≡ map (in_order n) read
+put-of names bytes n read three put count told g is =
+    is n (subst (λ (cs : List (List Items)). IsOn n (all_clauses cs)) (sym g) (subst (λ m. IsOn m (all_clauses read)) (sym count) (read-on names bytes read told))) ∙ ap (map (in_order n)) g

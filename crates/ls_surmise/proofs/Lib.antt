@@ -14,3 +14,4 @@ mod Files
 mod FaultItems
 mod Examples
 mod TextExamples
+mod Jumps

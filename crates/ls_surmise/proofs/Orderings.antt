@@ -14,7 +14,7 @@ use Rattle.ls_set.proofs.Order.{among-subsets, subsets_from-in_order}
 use Rattle.ls_theory.specs.Starts.{Clauses, Sets}
 use Rattle.ls_theory.specs.Compatible.{compat}
 use Rattle.ls_theory.specs.Bases.{base, based, limited, first_missing, most_base_sets}
-use Rattle.ls_theory.specs.Clauses.{clauses_of, all_clauses, flaw}
+use Rattle.ls_theory.specs.Clauses.{clauses_of, all_clauses, has_clause_within, flaw}
 use Rattle.ls_theory.specs.declared.base_fault.BaseFault.TheVariants.{NotSpanning, Past}
 use Rattle.ls_theory.specs.declared.surmise_fault.SurmiseFault.TheVariants.{Wide}
 use Rattle.ls_laws.specs.Spans.{IsOn, spanned}
@@ -24,7 +24,7 @@ use Rattle.ls_laws.proofs.BaseStarts.{compat-sets}
 use Rattle.ls_base.specs.Bases.{BaseState, family}
 use Rattle.ls_base.proofs.Below.{interior-same}
 use Rattle.ls_clauses.specs.Surmise.{IsSurmise, IsPutInOrder}
-use Rattle.ls_clauses.proofs.Clauses.{among-all, from-all, compat-spanned}
+use Rattle.ls_clauses.proofs.Clauses.{among-all, from-all, clause-within, within-clause, compat-spanned}
 use Rattle.ls_clauses.proofs.Flaws.{flawless-ordered}
 use Rattle.ls_files.specs.SurmiseFiles.{in_order, wide}
 use Rattle.ls_surmise.specs.Surmises.{IsSurmiseOf}
@@ -128,3 +128,18 @@ put-surmise n cs b each small none count members is_base =
       same = ap (λ m. compat m (Clauses (map (in_order n) cs)) []) count ∙ compat-spanned n (map (in_order n) cs) surmise ∙ spanned-members n (all_clauses (map (in_order n) cs)) (all_clauses cs) (all-same cs (map (in_order n) cs) put) ∙ sym members;
       is_base = is_base;
     }
+
+-- ---- clauses that are searched in order
+
+put-within : (n : ℕ) (cs : List (List Items)) → IsOn n (all_clauses cs) → (r : ℕ) (s : Items) → has_clause_within (map (in_order n) cs) r s ≡ has_clause_within cs r s
+put-within n cs small r s =
+    let own_small = λ (q : ℕ) (k : Items) (c : is_among (clauses_of cs q) k ≡ true). small k (among-all cs q k c) in
+    same_truth (has_clause_within (map (in_order n) cs) r s) (has_clause_within cs r s)
+    (λ h. let x = clause-within (map (in_order n) cs) r s h in within-clause cs r s x.0 (sym (same-at n cs r own_small x.0) ∙ x.1) x.2)
+    (λ h. let x = clause-within cs r s h in within-clause (map (in_order n) cs) r s x.0 (same-at n cs r own_small x.0 ∙ x.1) x.2)
+
+pub searched-order : (n : ℕ) (cs put : List (List Items)) → put ≡ map (in_order n) cs → (r : ℕ) → IsInOrder (clauses_of put r)
+searched-order n cs put e r = subst (λ (p : List (List Items)). IsInOrder (clauses_of p r)) (sym e) (order-at n cs r)
+
+pub searched-same : (n : ℕ) (cs put : List (List Items)) → put ≡ map (in_order n) cs → IsOn n (all_clauses cs) → (r : ℕ) (s : Items) → has_clause_within put r s ≡ has_clause_within cs r s
+searched-same n cs put e small r s = ap (λ (p : List (List Items)). has_clause_within p r s) e ∙ put-within n cs small r s

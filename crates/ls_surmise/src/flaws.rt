@@ -1,8 +1,9 @@
 // What is wrong with clauses that are read.
-ghost use Rattle.std.specs.Prelude.{◌≡◌, ◌<◌, ◌≤◌, length};
-ghost use Rattle.ls_set.specs.ItemSet.{most_items, numbers_from};
+ghost use Rattle.std.specs.Prelude.{◌≡◌, ◌<◌, ◌≤◌, ℕ, length};
+ghost use Rattle.ls_set.specs.ItemSet.{Items, IsInOrder, most_items, numbers_from};
 ghost use Rattle.ls_theory.specs.Clauses.{clauses_of, has_clause_within, first_some, no_clause, lacking_in, unclosed_at, unclosed_in, comparable_at, comparable_in, flaw, are_comparable};
 
+use crate::search::has_within;
 use ls_set::{ItemSet, PLACES, SetList};
 use ls_theory::SurmiseFault;
 
@@ -59,19 +60,23 @@ fn lacking(n: u32, clauses: &[SetList]) -> Option<SurmiseFault>
 
 // ---- a clause with an item of which no clause lies within it
 
-fn has_clause_within(clauses: &[SetList], r: u32, set: ItemSet) -> bool
-    ensures { result ≡ has_clause_within clauses.now r set }
+fn has_clause_within(ordered: &[SetList], r: u32, set: ItemSet) -> bool
+    requires { (r : ℕ) → IsInOrder (clauses_of ordered.now r) }
+    ensures { result ≡ has_clause_within ordered.now r set }
 {
-    clauses_of(clauses, r).iter().any(|c| c.is_within(set))
+    has_within(clauses_of(ordered, r), set)
 }
 
-fn unclosed_at(clauses: &[SetList], q: u32, j: usize) -> Option<SurmiseFault>
-    requires { j < length (clauses_of clauses.now q) }
+fn unclosed_at(clauses: &[SetList], ordered: &[SetList], q: u32, j: usize) -> Option<SurmiseFault>
+    requires place { j < length (clauses_of clauses.now q) }
+    requires in_order { (r : ℕ) → IsInOrder (clauses_of ordered.now r) }
+    requires same { (r : ℕ) (s : Items) →
+        has_clause_within ordered.now r s ≡ has_clause_within clauses.now r s }
     ensures { result ≡ unclosed_at clauses.now q j }
 {
     let c = clauses_of(clauses, q)[j];
     for r in c.items() {
-        if !has_clause_within(clauses, r, c) {
+        if !has_clause_within(ordered, r, c) {
             return Some(SurmiseFault::NotClosed {
                 q,
                 clause: j + 1,
@@ -82,11 +87,14 @@ fn unclosed_at(clauses: &[SetList], q: u32, j: usize) -> Option<SurmiseFault>
     None
 }
 
-fn unclosed_in(clauses: &[SetList], q: u32) -> Option<SurmiseFault>
+fn unclosed_in(clauses: &[SetList], ordered: &[SetList], q: u32) -> Option<SurmiseFault>
+    requires in_order { (r : ℕ) → IsInOrder (clauses_of ordered.now r) }
+    requires same { (r : ℕ) (s : Items) →
+        has_clause_within ordered.now r s ≡ has_clause_within clauses.now r s }
     ensures { result ≡ unclosed_in clauses.now q }
 {
     for j in 0..clauses_of(clauses, q).len() {
-        let found = unclosed_at(clauses, q, j);
+        let found = unclosed_at(clauses, ordered, q, j);
         if found.is_some() {
             return found;
         }
@@ -94,11 +102,14 @@ fn unclosed_in(clauses: &[SetList], q: u32) -> Option<SurmiseFault>
     None
 }
 
-fn unclosed(n: u32, clauses: &[SetList]) -> Option<SurmiseFault>
+fn unclosed(n: u32, clauses: &[SetList], ordered: &[SetList]) -> Option<SurmiseFault>
+    requires in_order { (r : ℕ) → IsInOrder (clauses_of ordered.now r) }
+    requires same { (r : ℕ) (s : Items) →
+        has_clause_within ordered.now r s ≡ has_clause_within clauses.now r s }
     ensures { result ≡ first_some (unclosed_in clauses.now) (numbers_from 0 n) }
 {
     for q in 0..n {
-        let found = unclosed_in(clauses, q);
+        let found = unclosed_in(clauses, ordered, q);
         if found.is_some() {
             return found;
         }
@@ -156,10 +167,14 @@ fn comparable(n: u32, clauses: &[SetList]) -> Option<SurmiseFault>
     None
 }
 
-/// The first flaw of the clauses of `n` items, if they have one.
+/// The first flaw of the clauses of `n` items, if they have one. The clauses of each item are given
+/// in the order of sets too.
 #[tactic(auto, unfolding(ls_theory::specs::Clauses::flaw))]
-pub(crate) fn flaw(n: u32, clauses: &[SetList]) -> Option<SurmiseFault>
-    requires { n ≤ PLACES }
+pub(crate) fn flaw(n: u32, clauses: &[SetList], ordered: &[SetList]) -> Option<SurmiseFault>
+    requires few { n ≤ PLACES }
+    requires in_order { (r : ℕ) → IsInOrder (clauses_of ordered.now r) }
+    requires same { (r : ℕ) (s : Items) →
+        has_clause_within ordered.now r s ≡ has_clause_within clauses.now r s }
     ensures { result ≡ flaw n clauses.now }
 {
     let found = no_clause(n, clauses);
@@ -170,7 +185,7 @@ pub(crate) fn flaw(n: u32, clauses: &[SetList]) -> Option<SurmiseFault>
     if found.is_some() {
         return found;
     }
-    let found = unclosed(n, clauses);
+    let found = unclosed(n, clauses, ordered);
     if found.is_some() {
         return found;
     }

@@ -3,11 +3,12 @@
 #![tactic(auto)]
 
 mod fault;
-mod laws;
-mod printing;
 mod flaws;
+mod laws;
 mod ordering;
+mod printing;
 mod reading;
+mod search;
 mod surmise;
 
 pub use fault::FromFault;

@@ -115,13 +115,13 @@ impl Surmise {
     {
         let read = read_file(alloc, d, bytes)?;
         let n = d.count();
-        if let Some(fault) = flaw(n, &read) {
-            return Err(fault);
-        }
-        let base = base_of(alloc, n, &read)?;
         let Ok(clauses) = put_clauses(alloc, &read) else {
             return Err(SurmiseFault::Memory(AllocError));
         };
+        if let Some(fault) = flaw(n, &read, &clauses) {
+            return Err(fault);
+        }
+        let base = base_of(alloc, n, &read)?;
         Ok(Surmise {
             base,
             clauses,
