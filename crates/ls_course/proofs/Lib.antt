@@ -1,1 +1,2 @@
 mod Trailed
+mod BaseCovers

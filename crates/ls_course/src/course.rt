@@ -1,18 +1,19 @@
 // A domain, and the interview on its items.
-ghost use Rattle.std.specs.Prelude.{◌≡◌, ◌<◌, length, IfOk, OnOk, OnErr};
+ghost use Rattle.std.specs.Prelude.{◌≡◌, ◌<◌, ◌==◌, not, [], length, IfOk, OnOk, OnErr};
 ghost use Rattle.ls_reply.specs.Texts.{bytes_of};
 ghost use Rattle.ls_reply.specs.Sessions.{started};
 ghost use Rattle.ls_reply.specs.Meanings.{request_of};
 ghost use Rattle.ls_reply.specs.Lines.{shown_lines};
-ghost use Rattle.ls_reply.specs.Rows.{view_row, base_row, edit_row};
+ghost use Rattle.ls_reply.specs.Rows.{view_row, based_row, edit_row, starts_by, start_read};
 ghost use Rattle.ls_reply.specs.Replies.{asked_effect, unnamed_at};
 ghost use Rattle.ls_writing.specs.Rooms.{Says};
 ghost use Rattle.ls_meanings.specs.Asked.{IsOn};
-ghost use Rattle.ls_views.specs.Views.{CanShow, is_based};
+ghost use Rattle.ls_views.specs.Views.{CanShow, IsBased, is_based};
 ghost use Rattle.ls_course.specs.States.{CanTell};
 
 use crate::changing::{set_blocks, take, take_back};
 use crate::following::follow;
+use crate::starting::{begin_with, read_start};
 use ls_base::Trail;
 use ls_domain::Domain;
 use ls_edge::Sink;
@@ -20,7 +21,7 @@ use ls_expert::{Inquiry, Start};
 use ls_interior::Steps;
 use ls_lines::Command;
 use ls_meanings::{Unnamed, resolve};
-use ls_reply::{Edit, Refusal, Request, Response, Shown, View};
+use ls_reply::{Edit, Refusal, Request, Response, Shown, StartFile, View};
 use ls_views::{based, decide, put_shown};
 use ls_writing::{Room, SetTexts};
 use std::alloc::{AllocError, Global};
@@ -30,6 +31,7 @@ use std::sync::ledger::Ledger;
 /// A domain, and the interview on its items. Its base is followed when it is asked for.
 #[derive(Drop)]
 pub struct Course {
+    alloc: Global,
     texts: SetTexts,
     inquiry: Inquiry,
     trail: Trail,
@@ -61,6 +63,7 @@ impl Course {
     {
         let inquiry = Inquiry::new(alloc, domain.count(), Start::Free, steps)?;
         Ok(Course {
+            alloc,
             texts: SetTexts::new(alloc, domain)?,
             inquiry,
             trail: Trail::new(alloc),
@@ -125,6 +128,42 @@ impl Course {
         );
     }
 
+    /// Whether an answer stands.
+    pub fn has_answers(&self) -> bool
+        ensures { result ≡ not (length self.now.session.interview.answers == 0) }
+    {
+        !self.inquiry.standing().is_empty()
+    }
+
+    /// Begins the interview with the start that the bytes of a file give, where no answer stands.
+    /// Where they give none it is refused, and where memory runs out nothing changes.
+    pub fn start_from<L: Ledger>(
+        &mut self,
+        file: StartFile,
+        bytes: &[u8],
+        steps: &mut Steps<L>,
+    ) -> Result<Response, AllocError>
+        requires { self.old.session.interview.answers ≡ [] }
+        ensures response { let s = self.old.session in IfOk result (λ r.
+            r ≡ (starts_by s.interview [] (start_read file s.names bytes.now)).response) }
+        ensures interview { let s = self.old.session in OnOk result (self.new.session.interview ≡
+            (starts_by s.interview [] (start_read file s.names bytes.now)).next) }
+        ensures names { self.new.session.names ≡ self.old.session.names }
+        ensures said { IfOk result (CanTell self.new) }
+        ensures err { OnErr result (self.new.session ≡ self.old.session) }
+    {
+        match read_start(self.alloc, self.texts.domain(), file, bytes)? {
+            Ok(start) => begin_with(
+                self.alloc,
+                &mut self.inquiry,
+                &mut self.trail,
+                start,
+                steps,
+            ),
+            Err(refusal) => Ok(Response::Refused(refusal)),
+        }
+    }
+
     // What is shown. The base is followed where it is asked for.
     fn view<L: Ledger>(&mut self, view: &View, steps: &mut Steps<L>) -> Result<Response, AllocError>
         requires { IsOn (length self.old.session.names) view.now }
@@ -133,20 +172,22 @@ impl Course {
         ensures said { IfOk result (CanTell self.new) }
     {
         match view {
-            View::Base => self.base(),
+            View::Base => self.based(Shown::Base),
+            View::Surmise => self.based(Shown::Surmise),
             _ => Ok(decide(&self.inquiry, view, steps)),
         }
     }
 
-    // `base`
-    fn base(&mut self) -> Result<Response, AllocError>
-        ensures response { IfOk result (λ r. r ≡ base_row self.old.session.interview) }
+    // What stands on the base.
+    fn based(&mut self, what: Shown) -> Result<Response, AllocError>
+        requires { IsBased what }
+        ensures response { IfOk result (λ r. r ≡ based_row self.old.session.interview what) }
         ensures session { self.new.session ≡ self.old.session }
         ensures said { IfOk result (CanTell self.new) }
     {
         follow(&mut self.trail, &self.inquiry)?;
         match self.trail.last() {
-            Some(followed) => Ok(based(followed)),
+            Some(followed) => Ok(based(followed, what)),
             None => unreachable!(),
         }
     }

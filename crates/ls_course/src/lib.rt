@@ -4,5 +4,6 @@
 mod changing;
 mod course;
 mod following;
+mod starting;
 
 pub use course::Course;

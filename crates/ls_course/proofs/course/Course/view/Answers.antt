@@ -8,4 +8,4 @@ pub returns-in_default : goal.returns-in_default
 returns-in_default g c =
     let row = c.decide.ensures.response ∙ ap (λ (s : CourseState). view_row s.session.interview c.args.view.now) c.self.view_is in
     let items = subst (λ (s : CourseState). length s.session.names ≡ s.session.interview.count) c.self.view_is c.self.invariant.items in
-    record { response = row; session = refl; said = can-view c.args.self.now.session c.args.self.now.followed c.args.view.now c.decide.result items c.requires (not-based c.args.view.now c.in_default.not-Base) row }
+    record { response = row; session = refl; said = can-view c.args.self.now.session c.args.self.now.followed c.args.view.now c.decide.result items c.requires (not-based c.args.view.now c.in_default.not-Base c.in_default.not-Surmise) row }

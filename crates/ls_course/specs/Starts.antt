@@ -1,0 +1,13 @@
+-- Starts that are read from files.
+use Rattle.std.specs.Prelude.{◌≡◌, List, length, Result, Ok, Err}
+use Rattle.ls_theory.specs.Starts as theory
+use Rattle.ls_lines.specs.Lines.{Text}
+use Rattle.ls_expert.specs.Starts.{start_of, IsStartOn}
+use Rattle.ls_expert.specs.declared.start.Start.{Start}
+use Rattle.ls_reply.specs.declared.refusal.Refusal.{Refusal}
+use Rattle.ls_writing.specs.Names.{CanRefuse}
+
+-- what was read is what the definition reads: a start on the named items, or a refusal that can be told
+abbrev pub IsStartRead : List Text → Result theory.Start Refusal → Result Start Refusal → Type 0
+IsStartRead names reading (Ok start) = (reading ≡ Ok (start_of start)) × IsStartOn (length names) start
+IsStartRead names reading (Err refusal) = (reading ≡ Err refusal) × CanRefuse names refusal
