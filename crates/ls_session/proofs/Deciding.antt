@@ -1,15 +1,26 @@
 -- Lines that are decided without the folder.
-use Rattle.std.proofs.Common.{◌≡◌, ℕ, true, false, cond, ltb, List, length, Option, Some, None, is_some, Result, Ok, Err, IfOk, OnOk, refl, sym, ap, ◌∙◌, subst, arith}
+use Rattle.std.proofs.Common.{◌≡◌, ◌==◌, ◌<◌, ℕ, true, false, not, ne_eqb, cond, ltb, List, [], ◌∷◌, length, Option, Some, None, is_some, Result, Ok, Err, IfOk, OnOk, OnErr, refl, sym, ap, ◌∙◌, subst, arith}
 use Rattle.std.specs.declared.alloc.AllocError.{AllocError}
 use Rattle.std.specs.FinMap as map
+use Rattle.std.proofs.lemmas.Bool.{true≢false}
+use Rattle.std.proofs.lemmas.Result.{on_ok_weaker}
 use Rattle.ls_edge.specs.Files.{longest_file, Folder}
+use Rattle.ls_theory.specs.declared.answer.Answer.{Answer}
+use Rattle.ls_theory.specs.Interviews.{Interview}
+use Rattle.ls_lines.specs.Lines.{Text}
 use Rattle.ls_reply.specs.Scenes.{Calls, Bytes, Missing, TooLarge, Failed, fetched_from, calls_of}
 use Rattle.ls_reply.specs.Sessions.{Session, has_domain}
-use Rattle.ls_reply.specs.Effects.{Effect}
+use Rattle.ls_reply.specs.Effects.{Effect, Change, changes_interview}
+use Rattle.ls_reply.specs.Replies.{asked_effect}
+use Rattle.ls_reply.specs.declared.request.Request.{Request}
+use Rattle.ls_reply.specs.declared.request.Request.TheVariants.{View, Edit}
+use Rattle.ls_reply.specs.declared.refusal.Refusal.{Refusal}
 use Rattle.ls_reply.specs.declared.response.Response.{Response}
+use Rattle.ls_reply.specs.declared.response.Response.TheVariants.{Refused}
 use Rattle.ls_reply.proofs.Effects.{has_domain-some}
 use Rattle.ls_course.specs.States.{CourseState}
-use Rattle.ls_session.specs.Courses.{session_of, HasNames}
+use Rattle.ls_writing.specs.Names.{CanRefuse}
+use Rattle.ls_session.specs.Courses.{session_of, HasNames, IsSayable}
 use Rattle.ls_session.specs.Follows.{Sees, IsDecided}
 use Rattle.ls_session.specs.Decides.{Makes, Decides}
 
@@ -17,6 +28,11 @@ use Rattle.ls_session.specs.Decides.{Makes, Decides}
 pub has_domain-is : (c : Option CourseState) → HasNames c → has_domain (session_of c) ≡ is_some c
 has_domain-is None h = refl
 has_domain-is (Some c) h = has_domain-some c.session (h c refl)
+
+-- a refusal that can be said names items of the session
+pub refuses-named : (c : Option CourseState) (r : Refusal) → IsSayable c (Refused r) → CanRefuse (session_of c).names r
+refuses-named None r h = h
+refuses-named (Some c) r h = h
 
 -- ---- what is seen of the folder where no call is made there
 
@@ -42,6 +58,33 @@ sees_told (Some m) faults = record {
 
 pub makes_as : {e f : Effect} {old new : Session} {r : Result Response AllocError} → e ≡ f → Makes f old new r → Makes e old new r
 makes_as {e} {f} {old} {new} {r} same h = subst (λ x. Makes x old new r) (sym same) h
+
+-- the names stay where something is asked
+asked_names : (s : Session) (places : List ℕ) (r : Option Request) → (asked_effect s places r).session.names ≡ s.names
+asked_names s places None = refl
+asked_names s (place ∷ places) (Some request) = refl
+asked_names s [] (Some (View view)) = refl
+asked_names s [] (Some (Edit edit)) = refl
+
+pub asked_named : (s new : Session) (places : List ℕ) (r : Option Request) (x : Result Response AllocError) → 0 < length s.names → OnOk x (new ≡ (asked_effect s places r).session) → OnErr x (new ≡ s) → 0 < length new.names
+asked_named s new places r (Ok x) some at undone = subst (λ (ns : List Text). 0 < length ns) (sym (ap (λ (y : Session). y.names) at ∙ asked_names s places r)) some
+asked_named s new places r (Err x) some at undone = subst (λ (y : Session). 0 < length y.names) (sym undone) some
+
+-- no answer stands
+pub no_answers : (answers : List Answer) → not (length answers == 0) ≡ false → answers ≡ []
+no_answers [] e = refl
+no_answers (a ∷ answers) e = absurd (true≢false (sym (ap not (ne_eqb (length (a ∷ answers)) 0 (λ e. omega arith))) ∙ e))
+
+session_is : (x s : Session) (i : Interview) → x.names ≡ s.names → x.interview ≡ i → x ≡ record s { interview = i }
+session_is x s i names interview = ap (λ (ns : List Text). record x { names = ns }) names ∙ ap (λ (j : Interview). record s { interview = j }) interview
+
+-- a change of the interview, whose names stay
+pub makes_interview : (s new : Session) (c : Change Interview) (r : Result Response AllocError) → IfOk r (λ x. x ≡ c.response) → OnOk r (new.interview ≡ c.next) → new.names ≡ s.names → OnErr r (new ≡ s) → Makes (changes_interview s c) s new r
+makes_interview s new c r response interview names undone = record {
+  response = response;
+  session = on_ok_weaker r (λ at. session_is new s c.next names at) interview;
+  undone = undone;
+}
 
 pub decides_made : {effect : Calls → Effect} {e : Effect} {old new : Session} (folder : Option Folder) (faults : ℕ) (r : Result Response AllocError) → ((calls : Calls) → effect calls ≡ e) → e.stored ≡ None → Makes e old new r → Decides effect old new folder folder faults faults r
 decides_made {effect} {e} {old} {new} folder faults (Ok x) same none h =

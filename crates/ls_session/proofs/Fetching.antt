@@ -1,5 +1,5 @@
 -- What a fetch lets a line see, and a line that is decided by it.
-use Rattle.std.proofs.Common.{◌≡◌, ℕ, Bool, true, false, cond, ltb, List, length, Option, Some, None, Result, Ok, Err, IfOk, IsErrOf, MatchResult, Vec, refl, sym, ap, ◌∙◌, subst}
+use Rattle.std.proofs.Common.{◌≡◌, ◌==◌, ℕ, Bool, true, false, not, cond, ltb, List, [], ◌++◌, length, Option, Some, None, Result, Ok, Err, IfOk, IsErrOf, MatchResult, Vec, refl, sym, ap, ◌∙◌, subst}
 use Rattle.std.specs.declared.alloc.AllocError.{AllocError}
 use Rattle.std.specs.declared.alloc.Global.{Global}
 use Rattle.std.specs.FinMap as map
@@ -7,18 +7,22 @@ use Rattle.std.proofs.lemmas.Result.{on_ok_weaker, on_err_weaker}
 use Rattle.ls_edge.specs.Files.{longest_file, Folder, Fetches, FetchCause, FetchedFrom, GivesBytes, Stays}
 use Rattle.ls_edge.specs.declared.traits.FetchFault.{FetchFault}
 use Rattle.ls_edge.specs.declared.traits.FetchFault.TheVariants as fetch
+use Rattle.ls_theory.specs.declared.answer.Answer.{Answer}
 use Rattle.ls_lines.specs.Lines.{Text}
 use Rattle.ls_domain.specs.Domains.{names_of_table}
 use Rattle.ls_reply.specs.Scenes.{Calls, Fetched, Bytes, Missing, TooLarge, Failed, fetched_from, calls_of}
 use Rattle.ls_reply.specs.Sessions.{Session, has_domain}
-use Rattle.ls_reply.specs.Effects.{Effect, Change, changes}
-use Rattle.ls_reply.specs.Rows.{load_items_row, started_by, file_refusals, bytes_fetched}
-use Rattle.ls_reply.specs.declared.refusal.Refusal.TheVariants.{NoFile, FileFailed}
+use Rattle.ls_reply.specs.Effects.{Effect, answers, changes, changes_interview, refuse}
+use Rattle.ls_reply.specs.Rows.{load_items_row, started_by, start_row, starts_by, start_read, file_refusals, bytes_fetched}
+use Rattle.ls_reply.specs.Replies.{file_effect}
+use Rattle.ls_reply.specs.declared.refusal.Refusal.TheVariants.{AnswersStand, Unnamed, NoFile, FileFailed}
+use Rattle.ls_reply.specs.declared.request.StartFile.{StartFile}
 use Rattle.ls_reply.specs.declared.response.Response.{Response}
 use Rattle.ls_reply.specs.declared.response.Response.TheVariants.{Refused}
 use Rattle.ls_reply.proofs.Effects.{load_items_row-begins}
 use Rattle.ls_session.specs.Follows.{Sees}
 use Rattle.ls_session.specs.Decides.{Makes, Decides, IsFetched}
+use Rattle.ls_session.proofs.Deciding.{makes_as}
 
 abbrev is_failed : Result (Vec ℕ Global) FetchFault → Bool
 is_failed (Err fetch.Failed) = true
@@ -101,34 +105,79 @@ stays : (old new : Option Folder) → Stays old new → (m : Folder) → old ≡
 stays None new h m e = absurd (cc e)
 stays (Some k) new h m e = h ∙ e
 
+-- ---- what a fetched file does
+
+-- A line does what its file makes it do. A file that is missing and one that could not be fetched make it do different things.
+module _ (effect : Fetched → Effect) (no_file : (effect Missing).response ≡ Refused NoFile) (file_failed : (effect Failed).response ≡ Refused FileFailed)
+  (stores_none : (given : Fetched) → (effect given).stored ≡ None) where
+  depends : (name : Text) → ((a b : Calls) → effect (a.file name) ≡ effect (b.file name)) → ⊥
+  depends name one =
+      let missing : Calls = record { file = λ _. Missing; failed = false } in
+      let failed : Calls = record { file = λ _. Failed; failed = true } in
+      let same : Refused NoFile ≡ Refused FileFailed = sym no_file ∙ ap (λ (e : Effect). e.response) (one missing failed) ∙ file_failed in
+      cc same
+
+  pub decides_fetched : {s new : Session} {folder left : Option Folder} {before now : ℕ} {fetched : Result (Vec ℕ Global) FetchFault} (name : Text) (r : Result Response AllocError) → Fetches folder left name fetched → FetchCause before now fetched
+      → ((given : Fetched) → IsFetched given fetched → Makes (effect given) s new r)
+      → Decides (λ calls. effect (calls.file name)) s new folder left before now r
+  decides_fetched {s} {new} {folder} {left} {before} {now} {fetched} name r fetches cause makes =
+      let given = (calls_seen folder fetched).file name in
+      let h = makes given (seen_is folder left fetched name fetches) in
+      record {
+        calls = calls_seen folder fetched;
+        sees = sees_fetched folder fetched before now cause;
+        response = h.response;
+        decided = on_ok_weaker r (λ at. record {
+          session = at;
+          files = λ m told. rw (stores_none given) (stays folder left fetches.0 m told);
+        }) h.session;
+        undone = on_err_weaker r (λ at. (at, stays folder left fetches.0)) h.undone;
+        alone = λ one. absurd (depends name one);
+        later = cause.later;
+      }
+
 -- ---- `load-items` where no domain stands
 
--- a file that is missing and one that could not be fetched do different things
-depends : (s : Session) (name : Text) → has_domain s ≡ false → ((a b : Calls) → changes (load_items_row s (a.file name)) ≡ changes (load_items_row s (b.file name))) → ⊥
-depends s name none one =
-    let missing : Calls = record { file = λ _. Missing; failed = false } in
-    let failed : Calls = record { file = λ _. Failed; failed = true } in
-    let left = ap (λ (c : Change Session). c.response) (load_items_row-begins s Missing none) in
-    let right = ap (λ (c : Change Session). c.response) (load_items_row-begins s Failed none) in
-    let same : Refused NoFile ≡ Refused FileFailed = sym left ∙ ap (λ (e : Effect). e.response) (one missing failed) ∙ right in
-    cc same
+module _ (s : Session) (none : has_domain s ≡ false) where
+  abbrev loads : Fetched → Effect
+  loads given = changes (load_items_row s given)
 
-pub decides_fetched : {s new : Session} {folder left : Option Folder} {before now : ℕ} {fetched : Result (Vec ℕ Global) FetchFault} (name : Text) (r : Result Response AllocError) → has_domain s ≡ false → Fetches folder left name fetched → FetchCause before now fetched
-    → ((given : Fetched) → IsFetched given fetched → Makes (changes (started_by s (file_refusals given) (names_of_table (bytes_fetched given)))) s new r)
-    → Decides (λ calls. changes (load_items_row s (calls.file name))) s new folder left before now r
-decides_fetched {s} {new} {folder} {left} {before} {now} {fetched} name r none fetches cause makes =
-    let given = (calls_seen folder fetched).file name in
-    let same = ap changes (load_items_row-begins s given none) in
-    let h = makes given (seen_is folder left fetched name fetches) in
-    record {
-      calls = calls_seen folder fetched;
-      sees = sees_fetched folder fetched before now cause;
-      response = subst (λ (x : Effect). IfOk r (λ y. y ≡ x.response)) (sym same) h.response;
-      decided = on_ok_weaker r (λ at. record {
-        session = at ∙ sym (ap (λ (x : Effect). x.session) same);
-        files = stays folder left fetches.0;
-      }) h.session;
-      undone = on_err_weaker r (λ at. (at, stays folder left fetches.0)) h.undone;
-      alone = λ one. absurd (depends s name none one);
-      later = cause.later;
-    }
+  abbrev begins : Fetched → Effect
+  begins given = changes (started_by s (file_refusals given) (names_of_table (bytes_fetched given)))
+
+  loads-begins : (given : Fetched) → loads given ≡ begins given
+  loads-begins given = ap changes (load_items_row-begins s given none)
+
+  pub decides_loaded : {new : Session} {folder left : Option Folder} {before now : ℕ} {fetched : Result (Vec ℕ Global) FetchFault} (name : Text) (r : Result Response AllocError) → Fetches folder left name fetched → FetchCause before now fetched
+      → ((given : Fetched) → IsFetched given fetched → Makes (begins given) s new r)
+      → Decides (λ calls. loads (calls.file name)) s new folder left before now r
+  decides_loaded name r fetches cause makes =
+      decides_fetched loads (ap (λ (e : Effect). e.response) (loads-begins Missing)) (ap (λ (e : Effect). e.response) (loads-begins Failed)) (λ given. refl) name r fetches cause
+      (λ given h. makes_as (loads-begins given) (makes given h))
+
+-- ---- a start from a file, where a domain stands
+
+-- an answer stands
+pub start_row-stands : (kind : StartFile) (s : Session) → has_domain s ≡ true → not (length s.interview.answers == 0) ≡ true → (given : Fetched) → file_effect s (start_row kind s given) ≡ answers s (Refused AnswersStand)
+start_row-stands kind s stands some given =
+    ap (λ b. cond b (changes_interview s (start_row kind s given)) (answers s (Refused (Unnamed 0)))) stands
+    ∙ ap (λ b. changes_interview s (starts_by s.interview (refuse AnswersStand b ++ file_refusals given) (start_read kind s.names (bytes_fetched given)))) some
+
+module _ (kind : StartFile) (s : Session) (stands : has_domain s ≡ true) (none : s.interview.answers ≡ []) where
+  abbrev reads : Fetched → Effect
+  reads given = file_effect s (start_row kind s given)
+
+  abbrev starts : Fetched → Effect
+  starts given = changes_interview s (starts_by s.interview (file_refusals given) (start_read kind s.names (bytes_fetched given)))
+
+  reads-starts : (given : Fetched) → reads given ≡ starts given
+  reads-starts given =
+      ap (λ b. cond b (changes_interview s (start_row kind s given)) (answers s (Refused (Unnamed 0)))) stands
+      ∙ ap (λ (l : List Answer). changes_interview s (starts_by s.interview (refuse AnswersStand (not (length l == 0)) ++ file_refusals given) (start_read kind s.names (bytes_fetched given)))) none
+
+  pub decides_started : {new : Session} {folder left : Option Folder} {before now : ℕ} {fetched : Result (Vec ℕ Global) FetchFault} (name : Text) (r : Result Response AllocError) → Fetches folder left name fetched → FetchCause before now fetched
+      → ((given : Fetched) → IsFetched given fetched → Makes (starts given) s new r)
+      → Decides (λ calls. reads (calls.file name)) s new folder left before now r
+  decides_started name r fetches cause makes =
+      decides_fetched reads (ap (λ (e : Effect). e.response) (reads-starts Missing)) (ap (λ (e : Effect). e.response) (reads-starts Failed))
+      (λ given. ap (λ (e : Effect). e.stored) (reads-starts given)) name r fetches cause (λ given h. makes_as (reads-starts given) (makes given h))

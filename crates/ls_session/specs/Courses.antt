@@ -3,8 +3,9 @@ use Rattle.std.specs.Prelude.{◌≡◌, ◌<◌, [], length, Option, Some, None
 use Rattle.std.specs.Option.{ForSome}
 use Rattle.ls_reply.specs.Sessions.{Session, started}
 use Rattle.ls_reply.specs.declared.response.Response.{Response}
-use Rattle.ls_reply.specs.declared.response.Response.TheVariants.{Shown}
+use Rattle.ls_reply.specs.declared.response.Response.TheVariants.{Refused, Shown}
 use Rattle.ls_writing.specs.Rooms.{RoomState, no_reply}
+use Rattle.ls_writing.specs.Names.{CanRefuse}
 use Rattle.ls_course.specs.States.{CourseState, CanTell}
 
 -- where there is none, no domain stands
@@ -16,9 +17,10 @@ session_of (Some c) = c.session
 abbrev pub HasNames : Option CourseState → Type 0
 HasNames course = ForSome course (λ c. 0 < length c.session.names)
 
--- the response can be said: where no domain stands, nothing is shown
+-- the response can be said: where no domain stands, nothing is shown, and a refusal names no item
 abbrev pub IsSayable : Option CourseState → Response → Type 0
 IsSayable None (Shown what) = ⊥
+IsSayable None (Refused refusal) = CanRefuse [] refusal
 IsSayable None response = ⊤
 IsSayable (Some c) response = CanTell c response
 

@@ -1,5 +1,5 @@
 // What a line does, decided and not yet written.
-ghost use Rattle.std.specs.Prelude.{◌≡◌, [], None, is_some, List, Result, IfOk, if◌then◌else◌};
+ghost use Rattle.std.specs.Prelude.{◌≡◌, ◌∷◌, [], None, is_some, List, Result, Err, IfOk, if◌then◌else◌, option_copied};
 ghost use Rattle.ls_domain.specs.Domains.{names_of_table};
 ghost use Rattle.ls_domain.specs.declared.domain_fault.DomainFault.{DomainFault as Fault};
 ghost use Rattle.ls_lines.specs.Lines.{Text};
@@ -7,12 +7,16 @@ ghost use Rattle.ls_reply.specs.Texts.{bytes_of};
 ghost use Rattle.ls_reply.specs.Scenes.{Fetched};
 ghost use Rattle.ls_reply.specs.Meanings.{request_of};
 ghost use Rattle.ls_reply.specs.Lines.{lines_of};
-ghost use Rattle.ls_reply.specs.Effects.{changes};
+ghost use Rattle.ls_reply.specs.Effects.{changes, changes_interview};
+ghost use Rattle.ls_reply.specs.Refusals.{refusal_items};
 ghost use Rattle.ls_reply.specs.Rows.{items_row, load_items_row, started_by};
+ghost use Rattle.ls_reply.specs.Rows.{start_row, starts_by, start_read};
 ghost use Rattle.ls_reply.specs.Rows.{file_refusals, bytes_fetched};
-ghost use Rattle.ls_reply.specs.Replies.{line_effect, command_effect, asked_effect, unnamed_at};
+ghost use Rattle.ls_reply.specs.Replies.{line_effect, command_effect, asked_effect, file_effect, unnamed_at};
 ghost use Rattle.ls_reply.specs.declared.refusal.Refusal.TheVariants.{Unnamed, NotBuilt};
 ghost use Rattle.ls_writing.specs.Rooms.{Says};
+ghost use Rattle.ls_writing.specs.Names.{names_in};
+ghost use Rattle.ls_course.specs.States.{CanTell};
 ghost use Rattle.ls_session.specs.Courses.{session_of, HasNames, IsSayable};
 ghost use Rattle.ls_session.specs.Decides.{Decides, Makes, IsRead, IsFetched};
 
@@ -22,7 +26,7 @@ use ls_edge::{FetchFault, Shelf, Sink};
 use ls_interior::Steps;
 use ls_lines::{Command, LONGEST_LINE, LineFault, Word, WordList, read_command};
 use ls_meanings::asks;
-use ls_reply::{Refusal, Response};
+use ls_reply::{Refusal, Response, StartFile};
 use ls_writing::{Room, put_done, put_refusal};
 use std::alloc::{AllocError, Global};
 use std::sync::ledger::Ledger;
@@ -35,7 +39,7 @@ pub struct Decider {
     ghost named: { HasNames course },
 }
 
-// The refusal of a command that isn't of these three where no domain stands.
+// The refusal of a command that calls no folder and isn't `items` where no domain stands.
 fn refusal_without(command: &Command) -> Refusal
     ensures { result ≡ (if is_some (request_of [] command.now) then Unnamed 0 else NotBuilt) }
 {
@@ -43,6 +47,41 @@ fn refusal_without(command: &Command) -> Refusal
         Refusal::Unnamed { place: 0 }
     } else {
         Refusal::NotBuilt
+    }
+}
+
+// The refusal of a file that was not fetched, unless memory ran out.
+fn refusal_of(fault: FetchFault) -> Result<Refusal, AllocError>
+    ensures refusal { (given : Fetched) → IsFetched given (Err fault) →
+        IfOk result (λ r. file_refusals given ≡ r ∷ []) }
+    ensures names { IfOk result (λ r. refusal_items r ≡ []) }
+{
+    match fault {
+        FetchFault::Missing => Ok(Refusal::NoFile),
+        FetchFault::TooLarge { bytes } => Ok(Refusal::LargeFile { bytes }),
+        FetchFault::Failed => Ok(Refusal::FileFailed),
+        FetchFault::Memory(e) => Err(e),
+    }
+}
+
+// Begins the interview with the start of the file that was fetched, where no answer stands.
+fn start_from<L: Ledger>(
+    course: &mut Course,
+    kind: StartFile,
+    fetched: Result<Vec<u8>, FetchFault>,
+    steps: &mut Steps<L>,
+) -> Result<Response, AllocError>
+    requires { course.old.session.interview.answers ≡ [] }
+    ensures makes { let s = course.old.session in
+        (given : Fetched) → IsFetched given fetched →
+        Makes (changes_interview s (starts_by s.interview (file_refusals given)
+        (start_read kind s.names (bytes_fetched given)))) s course.new.session result }
+    ensures names { course.new.session.names ≡ course.old.session.names }
+    ensures said { IfOk result (CanTell course.new) }
+{
+    match fetched {
+        Ok(bytes) => course.start_from(kind, &bytes, steps),
+        Err(fault) => Ok(Response::Refused(refusal_of(fault)?)),
     }
 }
 
@@ -98,6 +137,10 @@ impl Decider {
             Command::Nothing => Ok(Response::Silence),
             Command::Items { names } => self.begin(names, steps),
             Command::LoadItems { file } => self.load(file, shelf, steps),
+            Command::StartSurmise { file } => {
+                self.load_start(StartFile::Surmise, file, shelf, steps)
+            }
+            Command::StartBase { file } => self.load_start(StartFile::Base, file, shelf, steps),
             _ => self.ask(command, steps),
         }
     }
@@ -169,14 +212,10 @@ impl Decider {
             s (session_of self.new.course) result }
         ensures said { IfOk result (IsSayable self.new.course) }
     {
-        let refusal = match fetched {
-            Ok(bytes) => return self.start(Domain::from_csv(self.alloc, &bytes), steps),
-            Err(FetchFault::Missing) => Refusal::NoFile,
-            Err(FetchFault::TooLarge { bytes }) => Refusal::LargeFile { bytes },
-            Err(FetchFault::Failed) => Refusal::FileFailed,
-            Err(FetchFault::Memory(e)) => return Err(e),
-        };
-        Ok(Response::Refused(refusal))
+        match fetched {
+            Ok(bytes) => self.start(Domain::from_csv(self.alloc, &bytes), steps),
+            Err(fault) => Ok(Response::Refused(refusal_of(fault)?)),
+        }
     }
 
     // Begins with the domain that was read.
@@ -201,6 +240,42 @@ impl Decider {
         }
     }
 
+    // `start surmise FILE` and `start base FILE`. It is not made part of its callers, as `load`
+    // isn't.
+    #[inline(never)]
+    fn load_start<H: Shelf, L: Ledger>(
+        &mut self,
+        kind: StartFile,
+        file: &Word,
+        shelf: &mut H,
+        steps: &mut Steps<L>,
+    ) -> Result<Response, AllocError>
+        ensures decides { let s = session_of self.old.course in
+            Decides (λ calls. file_effect s (start_row kind s (calls.file file.now)))
+            s (session_of self.new.course)
+            (H.files shelf.old) (H.files shelf.new)
+            (H.faults shelf.old) (H.faults shelf.new) result }
+        ensures said { IfOk result (IsSayable self.new.course) }
+    {
+        let Some(course) = &mut self.course else {
+            return Ok(Response::Refused(Refusal::Unnamed { place: 0 }));
+        };
+        if course.has_answers() {
+            return Ok(Response::Refused(Refusal::AnswersStand));
+        }
+        start_from(course, kind, shelf.fetch(file.as_str()), steps)
+    }
+
+    // The names of the items, where a domain stands.
+    fn domain(&self) -> Option<&Domain>
+        ensures { names_in (option_copied result) ≡ (session_of self.now.course).names }
+    {
+        match &self.course {
+            Some(course) => Some(course.domain()),
+            None => None,
+        }
+    }
+
     /// Says the lines of a response.
     pub fn put<K: Sink, L: Ledger>(
         &self,
@@ -216,7 +291,7 @@ impl Decider {
     {
         match response {
             Response::Silence => {}
-            Response::Refused(refusal) => put_refusal(refusal, room, out),
+            Response::Refused(refusal) => put_refusal(self.domain(), refusal, room, out),
             Response::Done { number } => put_done(*number, room, out),
             Response::Shown(shown) => {
                 if let Some(course) = &self.course {

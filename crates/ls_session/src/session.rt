@@ -81,7 +81,7 @@ impl Session {
             (K.faults out.old) (K.faults out.new) result }
     {
         let mut room = self.take_room()?;
-        put_refusal(&Refusal::LongLine { bytes }, &mut room, out);
+        put_refusal(None, &Refusal::LongLine { bytes }, &mut room, out);
         self.finish(room, out)?;
         Ok(true)
     }

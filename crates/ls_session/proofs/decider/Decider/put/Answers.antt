@@ -1,12 +1,20 @@
-use Rattle.std.proofs.Common.{◌∷◌, [], ◌∙◌, sym, ap, codes, decimal}
-use Rattle.ls_reply.specs.Texts.{bytes_of}
+use Rattle.std.proofs.Common.{◌≡◌, List, ◌∷◌, [], ◌∙◌, sym, ap, subst, codes, decimal}
+use Rattle.ls_lines.specs.Lines.{Text}
+use Rattle.ls_reply.specs.Texts.{line_of, bytes_of}
 use Rattle.ls_reply.specs.Refusals.{refusal_words}
 use Rattle.ls_reply.specs.Lines.{lines_of}
 use Rattle.ls_reply.specs.declared.response.Response.{Response}
+use Rattle.ls_writing.specs.Names.{CanRefuse}
 use Rattle.ls_writing.proofs.Saying.{says_nothing, says_as}
 use Rattle.ls_writing.proofs.Joins.{bytes_of-none, bytes_of-one}
-use Rattle.ls_session.specs.Courses.{session_of}
+use Rattle.ls_session.specs.Courses.{session_of, IsSayable}
+use Rattle.ls_session.proofs.Deciding.{refuses-named}
 use Rattle.ls_session.proofs.decider.Decider.put.Goals as goal
+
+pub put_refusal-requires : goal.put_refusal-requires
+put_refusal-requires g c =
+    subst (λ (names : List Text). CanRefuse names c.in-Refused.refusal) (sym c.domain.ensures)
+    (refuses-named c.args.self.now.course c.in-Refused.refusal (subst (IsSayable c.args.self.now.course) c.in-Refused.is c.requires))
 
 pub returns-in-Silence : goal.returns-in-Silence
 returns-in-Silence g c =
@@ -16,7 +24,9 @@ returns-in-Silence g c =
 pub returns-in-Refused : goal.returns-in-Refused
 returns-in-Refused g c =
     let s = session_of c.args.self.now.course in
-    says_as (sym (bytes_of-one (codes "no" ∷ refusal_words c.in-Refused.refusal)) ∙ ap (λ (r : Response). bytes_of (lines_of s r)) (sym c.in-Refused.is)) c.put_refusal.ensures
+    says_as
+    (ap (λ (ns : List Text). line_of (codes "no" ∷ refusal_words ns c.in-Refused.refusal)) c.domain.ensures
+     ∙ sym (bytes_of-one (codes "no" ∷ refusal_words s.names c.in-Refused.refusal)) ∙ ap (λ (r : Response). bytes_of (lines_of s r)) (sym c.in-Refused.is)) c.put_refusal.ensures
 
 pub returns-in-Done : goal.returns-in-Done
 returns-in-Done g c =

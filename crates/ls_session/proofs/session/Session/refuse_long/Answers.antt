@@ -1,4 +1,4 @@
-use Rattle.std.proofs.Common.{◌≡◌, ◌∙◌, ◌∷◌, ℕ, List, Ok, true, length, codes, refl, sym, ap, ltb-true}
+use Rattle.std.proofs.Common.{◌≡◌, ◌∙◌, ◌∷◌, ℕ, List, [], Ok, true, length, codes, refl, sym, ap, ltb-true}
 use Rattle.std.specs.declared.option.Option.{Option}
 use Rattle.ls_edge.specs.Files.{Folder}
 use Rattle.ls_lines.specs.Lines.{is_long, longest_line}
@@ -29,7 +29,7 @@ pub returns-in_err-finish-clause-follows : goal.returns-in_err-finish-clause-fol
 returns-in_err-finish-clause-follows g c = λ line is long folder faults.
     follows_of line refl (c.finish.ensures.kept ∙ c.take_room.ensures.kept)
     (follows_front c.from_residual-in_err-finish.result refl (decides_long c.args.self.now line c.args.bytes folder faults is long) c.in_err-finish.was
-    (wrote c.in_ok-room.ensures.room (says_as (sym (bytes_of-one (codes "no" ∷ refusal_words (LongLine c.args.bytes)))) c.put_refusal.ensures) c.finish.ensures.ends)
+    (wrote c.in_ok-room.ensures.room (says_as (sym (bytes_of-one (codes "no" ∷ refusal_words [] (LongLine c.args.bytes)))) c.put_refusal.ensures) c.finish.ensures.ends)
     c.from_residual-in_err-finish.ensures.1)
 
 pub returns-in_err-finish-clause-sink : goal.returns-in_err-finish-clause-sink
@@ -41,7 +41,7 @@ pub returns-clause-follows : goal.returns-clause-follows
 returns-clause-follows g c = λ line is long folder faults.
     follows_of line refl (c.finish.ensures.kept ∙ c.take_room.ensures.kept)
     (follows_whole refl (decides_long c.args.self.now line c.args.bytes folder faults is long) c.in_ok-finish.was
-    (wrote c.in_ok-room.ensures.room (says_as (sym (bytes_of-one (codes "no" ∷ refusal_words (LongLine c.args.bytes)))) c.put_refusal.ensures) c.finish.ensures.ends)
+    (wrote c.in_ok-room.ensures.room (says_as (sym (bytes_of-one (codes "no" ∷ refusal_words [] (LongLine c.args.bytes)))) c.put_refusal.ensures) c.finish.ensures.ends)
     refl)
 
 pub returns-clause-sink : goal.returns-clause-sink
