@@ -153,13 +153,7 @@ impl Course {
         ensures err { OnErr result (self.new.session ≡ self.old.session) }
     {
         match read_start(self.alloc, self.texts.domain(), file, bytes)? {
-            Ok(start) => begin_with(
-                self.alloc,
-                &mut self.inquiry,
-                &mut self.trail,
-                start,
-                steps,
-            ),
+            Ok(start) => begin_with(self.alloc, &mut self.inquiry, &mut self.trail, start, steps),
             Err(refusal) => Ok(Response::Refused(refusal)),
         }
     }

@@ -109,7 +109,7 @@ stays (Some k) new h m e = h ∙ e
 
 -- A line does what its file makes it do. A file that is missing and one that could not be fetched make it do different things.
 module _ (effect : Fetched → Effect) (no_file : (effect Missing).response ≡ Refused NoFile) (file_failed : (effect Failed).response ≡ Refused FileFailed)
-  (stores_none : (given : Fetched) → (effect given).stored ≡ None) where
+    (stores_none : (given : Fetched) → (effect given).stored ≡ None) where
   depends : (name : Text) → ((a b : Calls) → effect (a.file name) ≡ effect (b.file name)) → ⊥
   depends name one =
       let missing : Calls = record { file = λ _. Missing; failed = false } in

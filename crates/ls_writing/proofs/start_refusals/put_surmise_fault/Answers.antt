@@ -12,7 +12,7 @@ returns-in-NoClause g c =
     let names = names_in (option_copied c.args.domain) in
     says_as
     (ap (λ (w : Text). line_of (codes "no" ∷ codes "14" ∷ codes "no-clause" ∷ w ∷ [])) c.name_in.ensures
-     ∙ ap (λ (f : SurmiseFault). line_of (codes "no" ∷ surmise_words names f)) (sym c.in-NoClause.is))
+    ∙ ap (λ (f : SurmiseFault). line_of (codes "no" ∷ surmise_words names f)) (sym c.in-NoClause.is))
     c.put_line-in-NoClause.ensures
 
 pub returns-in-Comparable : goal.returns-in-Comparable
@@ -21,5 +21,5 @@ returns-in-Comparable g c =
     let numbers = decimal c.in-Comparable.first ∷ decimal c.in-Comparable.second ∷ [] in
     says_as
     (ap (λ (w : Text). line_of (codes "no" ∷ codes "14" ∷ codes "comparable" ∷ w ∷ numbers)) c.name_in-in-Comparable.ensures
-     ∙ ap (λ (f : SurmiseFault). line_of (codes "no" ∷ surmise_words names f)) (sym c.in-Comparable.is))
+    ∙ ap (λ (f : SurmiseFault). line_of (codes "no" ∷ surmise_words names f)) (sym c.in-Comparable.is))
     c.put_numbered-in-Comparable.ensures

@@ -26,7 +26,7 @@ returns-in-Refused g c =
     let s = session_of c.args.self.now.course in
     says_as
     (ap (λ (ns : List Text). line_of (codes "no" ∷ refusal_words ns c.in-Refused.refusal)) c.domain.ensures
-     ∙ sym (bytes_of-one (codes "no" ∷ refusal_words s.names c.in-Refused.refusal)) ∙ ap (λ (r : Response). bytes_of (lines_of s r)) (sym c.in-Refused.is)) c.put_refusal.ensures
+    ∙ sym (bytes_of-one (codes "no" ∷ refusal_words s.names c.in-Refused.refusal)) ∙ ap (λ (r : Response). bytes_of (lines_of s r)) (sym c.in-Refused.is)) c.put_refusal.ensures
 
 pub returns-in-Done : goal.returns-in-Done
 returns-in-Done g c =
