@@ -1,12 +1,12 @@
 -- Examples: whole scripts, byte for byte.
 use Rattle.std.proofs.Common.{◌≡◌, refl, true, false, [], ◌∷◌, codes, decimal, replicate}
 use Rattle.std.specs.Fmt.{digits}
-use Rattle.std.specs.Prelude.{ℕ, map as map_of}
-use Rattle.ls_set.specs.ItemSet.{has, empty, full, with, union, meet, single, differing, is_within, is_same, bound, items, least, comes_before, len}
+use Rattle.std.specs.Prelude.{ℕ, List, map as map_of}
+use Rattle.ls_set.specs.ItemSet.{has, empty, full, with, union, meet, minus, single, differing, is_within, is_same, bound, items, least, comes_before, len}
 use Rattle.ls_set.specs.Cursor.{cursor, cursor_set, read_cursor}
 use Rattle.ls_theory.specs.Compatible.{compat}
 use Rattle.ls_theory.specs.Queries.{blocks, block_before, query_before, queries}
-use Rattle.ls_theory.specs.Families.{families}
+use Rattle.ls_theory.specs.Families.{families, interior}
 use Rattle.ls_theory.specs.Bases.{base, peak}
 use Rattle.ls_theory.specs.Fitting.{fitting_spaces}
 use Rattle.ls_theory.specs.declared.known.Known.{Known}
@@ -19,10 +19,13 @@ use Rattle.ls_lines.specs.Forms.{spelling, parts, command, forms}
 use Rattle.ls_lines.specs.Commands.{cut, is_begun, command_of, fault_place}
 use Rattle.ls_domain.specs.Texts.{names_of_set}
 use Rattle.ls_domain.specs.Domains.{names_from}
+use Rattle.ls_files.specs.SetFiles.{line_read, found_from, sets_of}
+use Rattle.ls_files.specs.SurmiseFiles.{surmise_text, members_from}
 use Rattle.ls_reply.specs.Texts.{line_of, bytes_of}
 use Rattle.std.specs.FinMap as map
+use Rattle.json.specs.Print.{escape_byte}
 use Rattle.ls_reply.specs.Sessions.{started}
-use Rattle.ls_reply.specs.Scenes.{calls_of, Missing, TooLarge, Failed}
+use Rattle.ls_reply.specs.Scenes.{calls_of, Bytes, Missing, TooLarge, Failed}
 use Rattle.ls_reply.specs.Refusals.{refusal_words}
 use Rattle.ls_reply.specs.Effects.{refuse_fault}
 use Rattle.ls_reply.specs.declared.refusal.Refusal.TheVariants.{Answer}
@@ -31,7 +34,7 @@ use Rattle.ls_reply.specs.Transcripts.{replies, refuses, transcript, is_some_ref
 
 -- an example that opens this opens each word
 unfoldable answering : ℕ
-unfolding digits has empty full with union meet single differing is_within is_same bound items least comes_before cursor cursor_set read_cursor compat lines words is_of spelling parts command forms cut is_begun command_of fault_place line_of bytes_of names_of_set names_from command_effect line_effect replies refuses is_too_wide made blocks len families fitting_spaces known next_question queries query_before block_before base peak
+unfolding escape_byte minus interior line_read found_from sets_of surmise_text members_from digits has empty full with union meet single differing is_within is_same bound items least comes_before cursor cursor_set read_cursor compat lines words is_of spelling parts command forms cut is_begun command_of fault_place line_of bytes_of names_of_set names_from command_effect line_effect replies refuses is_too_wide made blocks len families fitting_spaces known next_question queries query_before block_before base peak
 answering = 0
 
 -- three items, the answer that who fails a fails b, and the six states that it leaves
@@ -136,3 +139,29 @@ failed = refl
 standing : reply_of (line_effect (started (codes "a" ∷ [])) (record { file = λ name. Failed; failed = true }) (codes "load-items i")) ≡ codes "no 11\n"
 unfolding answering
 standing = refl
+
+-- an interview that begins with a base file: how many sets the base has; and what is wrong with such a file
+abbrev start_reply : List ℕ → List ℕ
+start_reply bytes = reply_of (line_effect (started (codes "a" ∷ codes "b" ∷ codes "c" ∷ [])) (record { file = λ name. Bytes bytes; failed = false }) (codes "start base f"))
+
+started_by_sets : start_reply (codes "{a b}\n# a note\n{a b c}\n") ≡ codes "ok 2\n"
+unfolding answering
+started_by_sets = refl
+
+not_spanning : start_reply (codes "{a b}\n{}") ≡ codes "no 14 not-spanning c\n"
+unfolding answering
+not_spanning = refl
+
+repeated : start_reply (codes "{a b}\n{c}\n{b,a}") ≡ codes "no 14 repeat 3 1\n"
+unfolding answering
+repeated = refl
+
+-- the file isn't looked at without a domain, nor where an answer stands
+not_started : transcript map.empty (codes "start base none\nitems a b\nyes a : b\nstart surmise none") ≡ codes "no 15 0\nok 2\nok 1\nno 13\n"
+unfolding answering
+not_started = refl
+
+-- the clauses of what the answers leave, under keys in the order of their bytes
+clauses_shown : transcript map.empty (codes "items b a\nyes a : b\nsurmise") ≡ codes "ok 2\nok 1\nsurmise {\"a\":[[\"a\"]],\"b\":[[\"b\",\"a\"]]}\n"
+unfolding answering
+clauses_shown = refl
