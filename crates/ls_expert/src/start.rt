@@ -42,6 +42,21 @@ impl Start {
     {
         match self {
             Start::Free => s,
+            _ => self.inside_listed(n, s),
+        }
+    }
+
+    // The same, found among clauses or base sets. It is not made part of its callers, so that where
+    // all sets meet the start an interior costs nothing.
+    #[inline(never)]
+    fn inside_listed(&self, n: u32, s: ItemSet) -> ItemSet
+        requires within { IsWithin s (full n) }
+        requires start { IsStartOn n self.now }
+        ensures { result ≡ interior (compat n (start_of self.now) []) s }
+    {
+        let _ = n;
+        match self {
+            Start::Free => s,
             Start::Clauses(surmise) => surmise.inside(s),
             Start::Sets(base) => base.inside(s),
         }

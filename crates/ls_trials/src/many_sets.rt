@@ -1,5 +1,6 @@
-// Files of more sets than are read, and of more than a base may have.
+// Files of more sets than are read, and of more than a base may have; and files that are too large.
 use crate::trial::{Trial, answered, check};
+use ls_edge::LONGEST_FILE;
 use std::alloc::{AllocError, Global};
 use std::process::Abort;
 use std::test::Fail;
@@ -67,7 +68,7 @@ fn check_start<R: Threads + Sync + AllocGlobal + Abort>(
     details: &str,
 ) -> Result<(), Fail> {
     let script = format!(in rt.alloc(); "{ITEMS}{command} f\n")?;
-    let replies = format!(in rt.alloc(); "ok 17\nno 14 {details}\n")?;
+    let replies = format!(in rt.alloc(); "ok 17\nno {details}\n")?;
     let trial = Trial {
         files: &[("f", text)],
         ..answered(&script, &replies)
@@ -78,14 +79,25 @@ fn check_start<R: Threads + Sync + AllocGlobal + Abort>(
 #[test]
 fn a_base_file_has_a_limit(rt: HostRuntime) -> Result<(), Fail> {
     let mut text = all_sets(rt.alloc())?;
-    check_start(&rt, "start base", &text, "not-spanning z")?;
+    check_start(&rt, "start base", &text, "14 not-spanning z")?;
     text.push_str("{z}")?;
-    check_start(&rt, "start base", &text, "many 65537")
+    check_start(&rt, "start base", &text, "14 many 65537")
 }
 
 #[test]
 fn a_start_has_at_most_as_many_sets_as_a_base(rt: HostRuntime) -> Result<(), Fail> {
-    check_start(&rt, "start base", &sixes(rt.alloc())?, "wide 8024")?;
+    check_start(&rt, "start base", &sixes(rt.alloc())?, "14 wide 8024")?;
     let clauses = clauses_of_sixes(rt.alloc())?;
-    check_start(&rt, "start surmise", &clauses, "wide 8024")
+    check_start(&rt, "start surmise", &clauses, "14 wide 8024")
+}
+
+// A file of the greatest length is read, and one of a byte more isn't.
+#[test]
+fn a_file_of_a_start_has_a_limit(rt: HostRuntime) -> Result<(), Fail> {
+    let mut text = "\n".repeat(rt.alloc(), LONGEST_FILE)?;
+    check_start(&rt, "start base", &text, "14 not-spanning i0")?;
+    check_start(&rt, "start surmise", &text, "14 json")?;
+    text.push_str("\n")?;
+    check_start(&rt, "start base", &text, "28 16777217")?;
+    check_start(&rt, "start surmise", &text, "28 16777217")
 }

@@ -12,8 +12,8 @@ use ls_reply::{Refusal, Response, Shown, View};
 use ls_set::Query;
 use std::sync::ledger::Ledger;
 
-/// What is shown where something that doesn't stand on the base is asked of the interview. It takes at most
-/// one interior for a query, and none for the others.
+/// What is shown where something that doesn't stand on the base is asked of the interview. It takes
+/// at most one interior for a query, and none for the others.
 pub fn decide<L: Ledger>(inquiry: &Inquiry, view: &View, steps: &mut Steps<L>) -> Response
     requires { is_based view.now ≡ false }
     ensures response { result ≡ view_row inquiry.now view.now }

@@ -2,9 +2,8 @@
 ghost use Rattle.std.specs.Prelude.{◌≡◌, ◌<◌, ◌∷◌, [], length, codes, decimal, option_copied};
 ghost use Rattle.ls_domain.specs.Texts.{name_of};
 ghost use Rattle.ls_reply.specs.Texts.{line_of};
-ghost use Rattle.ls_reply.specs.Refusals.{surmise_words, sets_words, base_words};
 ghost use Rattle.ls_files.specs.SurmiseFiles.{surmise_items};
-ghost use Rattle.ls_reply.specs.Refusals.{base_items};
+ghost use Rattle.ls_reply.specs.Refusals.{surmise_words, sets_words, base_words, base_items};
 ghost use Rattle.ls_writing.specs.Rooms.{Says};
 ghost use Rattle.ls_writing.specs.Names.{names_in, AreNamed};
 
