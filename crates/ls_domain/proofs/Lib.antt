@@ -1,4 +1,5 @@
 pub mod Numbers
+pub mod NamedSets
 pub mod Rows
 pub mod Readings
 mod Records

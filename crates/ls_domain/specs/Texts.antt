@@ -19,3 +19,7 @@ joined_names names s = join_with_byte 32 (names_of_set names s)
 -- a set: its names within braces
 abbrev pub set_text : List Text → Items → Text
 set_text names s = 123 ∷ joined_names names s ++ 125 ∷ []
+
+-- two fringes as words: the names of the inner one's items, a bar, and the names of the outer one's
+abbrev pub fringe_words : List Text → Items → Items → List Text
+fringe_words names inner outer = names_of_set names inner ++ (124 ∷ []) ∷ names_of_set names outer

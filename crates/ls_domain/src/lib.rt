@@ -11,5 +11,5 @@ mod unknown_at;
 
 pub use domain::Domain;
 pub use domain_fault::DomainFault;
-pub use laws::{domains_are_read, names_and_numbers_agree};
+pub use laws::{domains_are_read, names_and_numbers_agree, sets_are_read_back};
 pub use unknown_at::UnknownAt;

@@ -1,5 +1,5 @@
 -- The verdict on a space, by atoms.
-use Rattle.std.proofs.Common.{◌≡◌, ◌↔◌, inl, inr, Bool, true, false, cond, not, ◌&&◌, ◌||◌, List, [], ◌∷◌, map, find, Some, None, refl, sym, ap, ◌∙◌, arith, true≢false}
+use Rattle.std.proofs.Common.{ℕ, ◌≡◌, ◌↔◌, inl, inr, Bool, true, false, cond, not, ◌&&◌, ◌||◌, List, [], ◌∷◌, map, find, Some, None, refl, sym, ap, ◌∙◌, arith, true≢false}
 use Rattle.std.specs.Prelude.{slice_index, unwrap_or}
 use Rattle.std.specs.List.{list_any}
 use Rattle.std.proofs.lemmas.Bool.{cases_Bool, and_parts, and_from, or_parts, or_from, not-true, not-false, false_from_ne_true}
@@ -10,10 +10,11 @@ use Rattle.ls_set.proofs.Sets.{members, same_set}
 use Rattle.ls_set.proofs.Members.{among-here, among-there, among-cases}
 use Rattle.ls_theory.specs.declared.verdict.Verdict.{Verdict}
 use Rattle.ls_theory.specs.declared.verdict.Verdict.TheVariants.{NoEmpty, NoFull, NotClosed, NotGraded, Learning}
+use Rattle.ls_theory.specs.declared.verdict.BaseVerdict.TheVariants as base_verdict_of
 use Rattle.ls_theory.specs.Words.{pairs}
 use Rattle.ls_theory.specs.Families.{is_space, is_union_closed}
 use Rattle.ls_theory.specs.Bases.{base, atom_items}
-use Rattle.ls_theory.specs.Verdict.{is_well_graded, is_learning_space, unclosed_pair, double_atom, graded_verdict, verdict}
+use Rattle.ls_theory.specs.Verdict.{is_well_graded, is_learning_space, unclosed_pair, double_atom, with_base, graded_verdict, verdict}
 use Rattle.ls_laws.specs.Spans.{IsPart, is_double}
 use Rattle.ls_laws.proofs.Lists.{some-among, some-from}
 use Rattle.ls_laws.specs.Families.{IsUnionClosed}
@@ -93,9 +94,14 @@ pub verdict-atoms : (whole : Items) (f : List Items) → is_space whole f ≡ tr
     → verdict whole f ≡ (let k = double_atom f in cond (list_any (is_double f) (base f)) (NotGraded k (slice_index (atom_items f k) 0) (slice_index (atom_items f k) 1)) (Learning (base f)))
 verdict-atoms whole f h =
     let k = double_atom f in
-    verdict-space whole f h ∙ ap (λ b. cond b (Learning (base f)) (NotGraded k (slice_index (atom_items f k) 0) (slice_index (atom_items f k) 1))) (graded-space whole f h)
+    verdict-space whole f h ∙ based (base f) k (slice_index (atom_items f k) 0) (slice_index (atom_items f k) 1) (is_well_graded f)
+    ∙ ap (λ b. cond b (Learning (base f)) (NotGraded k (slice_index (atom_items f k) 0) (slice_index (atom_items f k) 1))) (graded-space whole f h)
     ∙ swapped (list_any (is_double f) (base f)) (Learning (base f)) (NotGraded k (slice_index (atom_items f k) 0) (slice_index (atom_items f k) 1))
   where
+    based : (b : List Items) (k : Items) (i j : ℕ) (g : Bool) → with_base b (cond g base_verdict_of.Learning (base_verdict_of.NotGraded k i j)) ≡ cond g (Learning b) (NotGraded k i j)
+    based b k i j true = refl
+    based b k i j false = refl
+
     swapped : (b : Bool) (v w : Verdict) → cond (not b) v w ≡ cond b w v
     swapped true v w = refl
     swapped false v w = refl

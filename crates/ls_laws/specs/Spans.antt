@@ -26,9 +26,13 @@ is_double f k = nat_lt 1 (length (atom_items f k))
 abbrev pub is_proper : Items → Items → Bool
 is_proper s t = is_within s t && not (is_same s t)
 
+-- the union of the sets of the list that lie within k and are not k
+abbrev pub union_below : List Items → Items → Items
+union_below g k = interior (filter (λ l. is_proper l k) g) k
+
 -- the sets of g that are not the union of the other sets of g within them
 unfoldable pub needed : List Items → List Items
-needed g = filter (λ k. not (is_same (interior (filter (λ l. is_proper l k) g) k) k)) g
+needed g = filter (λ k. not (is_same (union_below g k) k)) g
 
 -- the sets of items below n that are the union of the sets of g within them
 unfoldable pub spanned : ℕ → List Items → List Items

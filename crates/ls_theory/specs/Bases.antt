@@ -1,8 +1,8 @@
 -- Atoms and bases of a family, and the base of listed sets.
-use Rattle.std.specs.Prelude.{ℕ, suc, Bool, not, ◌&&◌, nat_lt, if◌then◌else◌, List, [], filter, find, length, take, Option, option_map, Result, Ok, Err}
+use Rattle.std.specs.Prelude.{ℕ, suc, Bool, not, ◌&&◌, nat_lt, if◌then◌else◌, List, [], map, filter, find, length, take, Option, option_map, Result, Ok, Err}
 use Rattle.std.specs.List.{list_any}
 use Rattle.std.specs.Option.{option_map_or}
-use Rattle.ls_set.specs.ItemSet.{Items, has, full, minus, least, is_same, is_within, items, numbers_from}
+use Rattle.ls_set.specs.ItemSet.{Items, has, full, minus, least, is_same, is_within, items, set_of, numbers_from}
 use Rattle.ls_set.specs.declared.query.Query.{Query}
 use Rattle.ls_theory.specs.declared.base_fault.BaseFault.{BaseFault}
 use Rattle.ls_theory.specs.declared.base_fault.BaseFault.TheVariants.{NotSpanning, Past}
@@ -26,6 +26,10 @@ atom_items f k = filter (λ q. is_atom_at f q k) (items k)
 -- the base: the members that are atoms at some item
 unfoldable pub base : List Items → List Items
 base f = filter (λ k. list_any (λ q. is_atom_at f q k) (items k)) f
+
+-- for each base set the items at which it is an atom
+abbrev pub atom_sets : List Items → List Items
+atom_sets f = map (λ k. set_of (atom_items f k)) (base f)
 
 -- the size of the base of the compatible sets under the first j Yes answers
 abbrev pub base_size : ℕ → Start → List Query → ℕ → ℕ

@@ -1,12 +1,16 @@
 -- Learning paths: the orders in which the items can be learned, one by one.
-use Rattle.std.specs.Prelude.{ℕ, zero, suc, Bool, List, [], ◌∷◌, map, filter, length, take}
+use Rattle.std.specs.Prelude.{ℕ, zero, suc, Bool, ◌&&◌, ◌==◌, List, [], ◌∷◌, map, filter, length, take}
 use Rattle.std.specs.List.{list_all, flat_map}
-use Rattle.ls_set.specs.ItemSet.{Items, full, without, is_among, items, set_of, numbers_from}
+use Rattle.ls_set.specs.ItemSet.{Items, full, without, is_same, is_among, items, set_of, numbers_from}
 
 -- the lists of m items of s, each once, in lexicographic order: by the first item, then by the same rule on the others
 unfoldable pub orders_of : ℕ → Items → List (List ℕ)
 orders_of zero s = [] ∷ []
 orders_of (suc m) s = flat_map (λ i. map (λ rest. i ∷ rest) (orders_of m (without s i))) (items s)
+
+-- the list has each of the n items once
+abbrev pub is_order : ℕ → List ℕ → Bool
+is_order n order = length order == n && is_same (set_of order) (full n)
 
 -- each prefix of the list, as a set, is a member
 abbrev pub is_path : List Items → List ℕ → Bool

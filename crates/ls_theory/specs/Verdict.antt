@@ -4,6 +4,8 @@ use Rattle.std.specs.List.{list_any, list_all}
 use Rattle.ls_set.specs.ItemSet.{Items, empty, union, differing, is_same, is_among, len}
 use Rattle.ls_theory.specs.declared.verdict.Verdict.{Verdict}
 use Rattle.ls_theory.specs.declared.verdict.Verdict.TheVariants.{NoEmpty, NoFull, NotClosed, NotGraded, Learning}
+use Rattle.ls_theory.specs.declared.verdict.BaseVerdict.{BaseVerdict}
+use Rattle.ls_theory.specs.declared.verdict.BaseVerdict.TheVariants as base_verdict_of
 use Rattle.ls_theory.specs.Words.{pairs}
 use Rattle.ls_theory.specs.Families.{is_space}
 use Rattle.ls_theory.specs.Bases.{atom_items, base}
@@ -33,12 +35,21 @@ unclosed_pair f = find (λ p. not (is_among f (union p.0 p.1))) (pairs f)
 abbrev pub double_atom : List Items → Items
 double_atom f = unwrap_or (find (λ k. nat_lt 1 (length (atom_items f k))) (base f)) empty
 
--- the verdict on gradation: a learning space, or a base set with the two least items at which it is an atom
-abbrev pub graded_verdict : List Items → Verdict
-graded_verdict f =
+-- whether a space is a learning space; if not, a base set with the two least items at which it is an atom
+abbrev pub base_verdict : List Items → BaseVerdict
+base_verdict f =
     let k = double_atom f in
-    if is_well_graded f then Learning (base f)
-    else NotGraded k (slice_index (atom_items f k) 0) (slice_index (atom_items f k) 1)
+    if is_well_graded f then base_verdict_of.Learning
+    else base_verdict_of.NotGraded k (slice_index (atom_items f k) 0) (slice_index (atom_items f k) 1)
+
+-- the verdict on a space with the base b
+abbrev pub with_base : List Items → BaseVerdict → Verdict
+with_base b base_verdict_of.Learning = Learning b
+with_base b (base_verdict_of.NotGraded k i j) = NotGraded k i j
+
+-- the verdict on gradation
+abbrev pub graded_verdict : List Items → Verdict
+graded_verdict f = with_base (base f) (base_verdict f)
 
 -- the verdict on unions, and then on gradation
 abbrev pub verdict_from : List Items → Option (Items × Items) → Verdict

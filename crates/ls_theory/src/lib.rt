@@ -44,4 +44,4 @@ pub use reason::Reason;
 pub use replay::Replay;
 pub use reply::Reply;
 pub use surmise_fault::SurmiseFault;
-pub use verdict::Verdict;
+pub use verdict::{BaseVerdict, Verdict};

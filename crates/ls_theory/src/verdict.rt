@@ -24,3 +24,15 @@ pub enum Verdict {
         base: SetList,
     },
 }
+
+/// Whether a space is a learning space.
+#[derive(Clone, Copy, Debug, PartialEq, Eq)]
+pub enum BaseVerdict {
+    /// It is not: the set of its base is an atom at both items.
+    NotGraded {
+        set: ItemSet,
+        first: u32,
+        second: u32,
+    },
+    Learning,
+}
