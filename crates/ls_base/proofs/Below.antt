@@ -1,14 +1,11 @@
--- The union of the sets of a list below a set, and the sets that are not such a union.
-use Rattle.std.proofs.Common.{◌≡◌, true, false, not, ◌&&◌, List, [], ◌∷◌, filter, refl, sym, ap, ◌∙◌}
+-- The union of the sets of a list below a set.
+use Rattle.std.proofs.Common.{◌≡◌, true, false, not, List, [], ◌∷◌, filter, refl, sym, ap, ◌∙◌}
 use Rattle.std.proofs.lemmas.Bool.{and_parts}
-use Rattle.std.proofs.lemmas.List.Elements.{filter_agree}
 use Rattle.ls_set.specs.ItemSet.{Items, has, empty, union, is_among, is_same, is_within}
 use Rattle.ls_set.proofs.Sets.{same_within}
-use Rattle.ls_set.proofs.Members.{among-filter}
 use Rattle.ls_theory.specs.Families.{interior}
-use Rattle.ls_laws.specs.Spans.{is_proper, needed}
+use Rattle.ls_laws.specs.Spans.{is_proper, union_below}
 use Rattle.ls_laws.proofs.Interiors.{from-interior, to-interior, interior-whole, interior-within}
-use Rattle.ls_base.specs.Unions.{union_below, is_union_in}
 use Rattle.ls_base.proofs.Turns.{Unites}
 
 -- ---- interiors in a list, set by set
@@ -55,10 +52,3 @@ pub interior-same : (f g : List Items) (s : Items) → ((k : Items) → is_among
 interior-same f g s e = same_within (interior f s) (interior g s)
     (λ i h. let r = from-interior f s i h in to-interior g s r.0 i (sym (e r.0) ∙ r.1) r.2 r.3)
     (λ i h. let r = from-interior g s i h in to-interior f s r.0 i (e r.0 ∙ r.1) r.2 r.3)
-
--- the sets of f that are needed, told by another list with the same sets
-pub needed-same : (f g : List Items) → ((k : Items) → is_among f k ≡ is_among g k) → filter (λ k. not (is_union_in g k)) f ≡ needed f
-unfolding needed
-needed-same f g e = filter_agree (λ k. not (is_union_in g k)) (λ k. not (is_union_in f k)) (λ k.
-    let p = λ (l : Items). is_proper l k in
-    ap (λ u. not (is_same u k)) (interior-same (filter p g) (filter p f) k (λ l. among-filter p g l ∙ ap (λ b. b && p l) (sym (e l)) ∙ sym (among-filter p f l)))) f

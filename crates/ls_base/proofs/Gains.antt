@@ -18,7 +18,7 @@ use Rattle.ls_laws.proofs.Closures.{left-IsUnionFamily}
 use Rattle.ls_changes.specs.Least.{least_sets, least_beside, has_none_within, having, near, joined, gained, IsBelow}
 use Rattle.ls_changes.proofs.Least.{among-either, among-left, among-right, some-filter, some-same}
 use Rattle.ls_changes.proofs.Atoms.{near_least-below, gained-where, base-list, base-same}
-use Rattle.ls_base.specs.Unions.{union_below}
+use Rattle.ls_laws.specs.Spans.{union_below}
 use Rattle.ls_base.specs.Gains.{broken_in, broken_at, is_gained, gained_at, gained_below}
 use Rattle.ls_base.specs.declared.left.Broken.{Broken}
 use Rattle.ls_base.proofs.Spanned.{base-again, atoms_at-base}

@@ -8,3 +8,5 @@ pub mod Peaks
 pub mod Given
 pub mod Followings
 pub mod Trails
+pub mod Reduced
+pub mod OwnItems

@@ -1,8 +1,8 @@
 -- Bases: what contracts see of them.
 use Rattle.std.specs.Prelude.{ℕ, ◌≡◌, ◌<◌, ◌≤◌, List, map, length, Result, Err, ⊤}
 use Rattle.std.specs.List.{range_with_len}
-use Rattle.ls_set.specs.ItemSet.{Items, empty, with, most_items}
-use Rattle.ls_theory.specs.Bases.{base, most_base_sets}
+use Rattle.ls_set.specs.ItemSet.{Items, empty, with, set_of, most_items}
+use Rattle.ls_theory.specs.Bases.{base, atom_items, most_base_sets}
 use Rattle.ls_laws.specs.Spans.{spanned}
 use Rattle.ls_base.specs.declared.fault.PastFault.{PastFault}
 use Rattle.ls_base.specs.declared.fault.PastFault.TheVariants as Limit
@@ -24,6 +24,12 @@ pub record IsBase (b : BaseState) : Type 0 where
   pub is_base : base (family b) ≡ b.sets
   pub few : length b.sets ≤ most_base_sets
 
+-- ---- atoms
+
+-- the items at which a member is an atom
+abbrev pub own_items : List Items → Items → Items
+own_items f k = set_of (atom_items f k)
+
 -- ---- faults
 
 -- the fault is that of the definition, unless memory ran out
@@ -35,6 +41,11 @@ IsFaultOf answer fault = answer ≡ Err fault
 abbrev pub IsPastOf : List Items → PastFault → Type 0
 IsPastOf sets (Limit.Past count) = (most_base_sets < length sets) × (count ≡ length sets)
 IsPastOf sets (Limit.Memory e) = ⊤
+
+-- more sets than a base has were given, unless memory ran out
+abbrev pub IsOfMany : List Items → PastFault → Type 0
+IsOfMany given (Limit.Past count) = most_base_sets < length given
+IsOfMany given (Limit.Memory e) = ⊤
 
 abbrev pub base_fault : PastFault → BaseFault
 base_fault (Limit.Past count) = Past count

@@ -4,7 +4,7 @@ use Rattle.std.specs.List.{list_any}
 use Rattle.ls_set.specs.ItemSet.{Items, has, minus, len}
 use Rattle.ls_laws.specs.Spans.{is_proper, joins}
 use Rattle.ls_changes.specs.Least.{having, has_none_within}
-use Rattle.ls_base.specs.Unions.{union_below}
+use Rattle.ls_laws.specs.Spans.{union_below}
 use Rattle.ls_base.specs.declared.left.Broken.{Broken}
 
 -- the set, with those of its items that no set of the list below it has

@@ -1,4 +1,3 @@
-pub mod Unions
 pub mod Gains
 pub mod Bases
 pub mod Followed

@@ -3,13 +3,14 @@ ghost use Rattle.std.specs.Prelude.{◌≡◌, ◌<◌, ◌≤◌, true, not, Ok
 ghost use Rattle.ls_set.specs.ItemSet.{empty, subsets};
 ghost use Rattle.ls_set.specs.Query.{is_good};
 ghost use Rattle.ls_theory.specs.Queries.{some_breaks};
-ghost use Rattle.ls_theory.specs.Bases.{base, based, is_atom_at, atoms_at, most_base_sets};
+ghost use Rattle.ls_theory.specs.Bases.{base, atom_sets, based, is_atom_at, atoms_at, most_base_sets};
 ghost use Rattle.ls_laws.specs.Spans.{IsOn, left_by, spanned};
-ghost use Rattle.ls_base.specs.Bases.{family, single_sets, IsFaultOf, IsPastOf};
+ghost use Rattle.ls_base.specs.Bases.{family, single_sets, own_items, IsFaultOf, IsPastOf, IsOfMany};
 
 use crate::atoms::is_atom_at;
 use crate::fault::PastFault;
 use crate::left::{base_left, some_break};
+use crate::own::own_items;
 use crate::reduction::base_of;
 use crate::unions::union_within;
 use ls_interior::Inside;
@@ -78,8 +79,23 @@ impl Base {
             return Err(BaseFault::NotSpanning { item });
         }
         let given = Vec::from_slice(alloc, sets)?;
-        let needed = base_of(alloc, given)?;
-        Ok(Base::limited(alloc, n, needed)?)
+        Ok(Base::spanned_by(alloc, n, given)?)
+    }
+
+    /// The base of the family of all unions of the given sets, which have items below `n` alone; an
+    /// item may be in none of them. The error is `Past` where the base has more sets than
+    /// [`MOST_BASE_SETS`], which it doesn't where no more are given; or memory ran out.
+    pub fn spanned_by(alloc: Global, n: u32, sets: Vec<ItemSet>) -> Result<Base, PastFault>
+        requires few_items { n ≤ PLACES }
+        requires is_on { IsOn n sets.items }
+        ensures sets { IfOk result (λ b. b.sets ≡ base (spanned n sets.items)) }
+        ensures item_count { IfOk result (λ b. b.item_count ≡ n) }
+        ensures few { OnOk result (length (base (spanned n sets.items)) ≤ most_base_sets) }
+        ensures past { IfErr result (IsPastOf (base (spanned n sets.items))) }
+        ensures many { IfErr result (IsOfMany sets.items) }
+    {
+        let needed = base_of(alloc, sets)?;
+        Base::limited(alloc, n, needed)
     }
 
     /// The base of the family of all sets of the items below `n`: each of the items alone.
@@ -144,6 +160,27 @@ impl Base {
             ≡ is_atom_at (family self.now) q (slice_index_or self.now.sets place empty) }
     {
         is_atom_at(&self.sets, q, self.sets[place])
+    }
+
+    /// The items at which the set at a place, counted from 0, is an atom: there is one at least.
+    pub fn own_items(&self, place: usize) -> ItemSet
+        requires { place < length self.now.sets }
+        ensures { result
+            ≡ own_items (family self.now) (slice_index_or self.now.sets place empty) }
+    {
+        let set = self.sets[place];
+        own_items(&self.sets[place + 1..], set)
+    }
+
+    /// Of each set, in their order, the items at which it is an atom.
+    pub fn atom_sets(&self) -> Result<SetList, AllocError>
+        ensures { IfOk result (λ sets. sets ≡ atom_sets (family self.now)) }
+    {
+        let mut sets = SetList::new(self.alloc);
+        for place in 0..self.sets.len() {
+            sets.push(self.own_items(place))?;
+        }
+        Ok(sets)
     }
 
     /// The atoms at item `q`, in their order.

@@ -1,13 +1,12 @@
 // The sets of a list that are not the union of others of it.
-ghost use Rattle.std.specs.Prelude.{◌≡◌, ◌≤◌, ℕ, not, filter, length, IfOk, IsPermutation};
+ghost use Rattle.std.specs.Prelude.{◌≡◌, ◌≤◌, ℕ, length, reverse, IfOk, IsPermutation};
 ghost use Rattle.std.specs.Ordering.{is_lt};
 ghost use Rattle.std.specs.List.Sorted.{IsSortedBy};
 ghost use Rattle.ls_set.specs.ItemSet.{Items, comes_before, is_among, IsInOrder};
 ghost use Rattle.ls_theory.specs.Bases.{base};
-ghost use Rattle.ls_laws.specs.Spans.{IsOn, spanned};
-ghost use Rattle.ls_base.specs.Unions.{is_union_in};
+ghost use Rattle.ls_laws.specs.Spans.{IsOn, needed, spanned};
 
-use crate::unions::union_below;
+use crate::unions::is_union_of;
 use ls_set::ItemSet;
 use std::alloc::{AllocError, Global};
 use std::cmp::Ordering;
@@ -42,22 +41,31 @@ pub fn put_in_order(sets: &mut Vec<ItemSet>)
     sets.dedup();
 }
 
-// Whether the set is the union of the others of the list within it.
-#[tactic(auto, unfolding(ls_set::specs::ItemSet::is_same))]
-fn is_union_in(sets: &[ItemSet], set: ItemSet) -> bool
-    ensures { result ≡ is_union_in sets.now set }
+// The sets of a list in order that are not the union of the others within them, the last first. A
+// set that lies within another comes after it, and is a union of those that were kept.
+fn needed_last_first(alloc: Global, sets: &[ItemSet]) -> Result<Vec<ItemSet>, AllocError>
+    requires in_order { IsInOrder sets.now }
+    ensures { IfOk result (λ v. reverse v.items ≡ needed sets.now) }
 {
-    union_below(sets, set) == set
+    let mut found = Vec::new(alloc);
+    for place in (0..sets.len()).rev() {
+        let set = sets[place];
+        if !is_union_of(&found, set) {
+            found.push(set)?;
+        }
+    }
+    Ok(found)
 }
 
-// The sets that are not the union of the others of the list within them.
-fn needed_sets(alloc: Global, sets: &[ItemSet]) -> Result<Vec<ItemSet>, AllocError>
-    ensures { IfOk result (λ v. v.items ≡ filter (λ k. not (is_union_in sets.now k)) sets.now) }
+/// The sets of a list in order that are not the union of the others of it within them.
+pub fn needed_sets(alloc: Global, sets: &[ItemSet]) -> Result<Vec<ItemSet>, AllocError>
+    requires in_order { IsInOrder sets.now }
+    ensures needed { IfOk result (λ v. v.items ≡ needed sets.now) }
+    ensures few { IfOk result (λ v. length v.items ≤ length sets.now) }
 {
-    sets.iter()
-        .copied()
-        .filter(|set| !is_union_in(sets, *set))
-        .collect(alloc)
+    let mut found = needed_last_first(alloc, sets)?;
+    found.reverse();
+    Ok(found)
 }
 
 /// The base of the family of all unions of the sets: those that are not the union of others.

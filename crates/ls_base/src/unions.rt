@@ -1,8 +1,8 @@
 // Unions of the sets of a list that lie within a set.
 ghost use Rattle.std.specs.Prelude.{◌≡◌};
+ghost use Rattle.ls_set.specs.ItemSet.{is_same};
 ghost use Rattle.ls_theory.specs.Families.{interior};
-ghost use Rattle.ls_laws.specs.Spans.{is_proper};
-ghost use Rattle.ls_base.specs.Unions.{union_below};
+ghost use Rattle.ls_laws.specs.Spans.{is_proper, union_below};
 
 use ls_set::ItemSet;
 
@@ -28,6 +28,14 @@ pub fn union_within(sets: &[ItemSet], s: ItemSet) -> ItemSet
         }
     }
     union
+}
+
+/// Whether the set is the union of those sets of the list that lie within it.
+#[tactic(auto, unfolding(ls_set::specs::ItemSet::is_same))]
+pub fn is_union_of(sets: &[ItemSet], set: ItemSet) -> bool
+    ensures { result ≡ is_same (interior sets.now set) set }
+{
+    union_within(sets, set) == set
 }
 
 /// The union of those sets of the list that lie within `s` and are not `s`.

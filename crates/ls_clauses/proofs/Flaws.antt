@@ -93,6 +93,13 @@ flawless-to n clauses h =
     (none-or (first_some (lacking_in clauses) (numbers_from 0 n)) _ h.lacking
     (none-or (first_some (unclosed_in clauses) (numbers_from 0 n)) _ h.unclosed h.comparable))
 
+-- clauses of which none is comparable with a later one
+pub none-comparable : (clauses : List (List Items)) (q : ℕ) → ((i j : ℕ) → i < j → j < length (clauses_of clauses q) → are_comparable (clause_at clauses q i) (clause_at clauses q j) ≡ false) → comparable_in clauses q ≡ None
+none-comparable clauses q apart = first-none (comparable_at clauses q) (places_of clauses q) (λ i c.
+    none-map (λ j. Comparable q (i + 1) (j + 1)) _ (find-no_element (λ j. are_comparable (clause_at clauses q i) (clause_at clauses q j)) (places_after clauses q i) (λ j d.
+    let r = after-in clauses q i j (below-in (length (clauses_of clauses q)) i c) d in
+    apart i j r.0 r.1)))
+
 -- ---- clauses without a flaw, put in order
 
 module _ (n : ℕ) (clauses : List (List Items)) (each : length clauses ≡ n) (free : IsFlawless n clauses) where
@@ -206,16 +213,10 @@ module _ (n : ℕ) (clauses : List (List Items)) (surmise : IsSurmise n clauses)
       none-map (λ r. NotClosed q (j + 1) r) _ (find-no_element (λ r. not (has_clause_within clauses r s)) (items s) (λ r d.
       not_from_true (has_clause_within clauses r s) (surmise.closed q s r (clause-here q j c) (items-in s r d)))))
 
-  none-comparable : (q : ℕ) → comparable_in clauses q ≡ None
-  none-comparable q = first-none (comparable_at clauses q) (places_of clauses q) (λ i c.
-      none-map (λ j. Comparable q (i + 1) (j + 1)) _ (find-no_element (λ j. are_comparable (clause_at clauses q i) (clause_at clauses q j)) (places_after clauses q i) (λ j d.
-      let r = after-in clauses q i j (below-in (length (clauses_of clauses q)) i c) d in
-      surmise-apart q i j r.0 r.1)))
-
   pub surmise-flawless : flaw n clauses ≡ None
   surmise-flawless = flawless-to n clauses (record {
     bare = find-no_element (λ q. length (clauses_of clauses q) == 0) (numbers_from 0 n) (λ q c. some_clauses (clauses_of clauses q) (surmise.has_clause q (below-in n q c)));
     lacking = first-none (lacking_in clauses) (numbers_from 0 n) (λ q _. none-lacking q);
     unclosed = first-none (unclosed_in clauses) (numbers_from 0 n) (λ q _. none-unclosed q);
-    comparable = first-none (comparable_in clauses) (numbers_from 0 n) (λ q _. none-comparable q);
+    comparable = first-none (comparable_in clauses) (numbers_from 0 n) (λ q _. none-comparable clauses q (surmise-apart q));
   })

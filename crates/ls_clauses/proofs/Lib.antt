@@ -7,3 +7,4 @@ pub mod Flaws
 pub mod Lookups
 mod Small
 mod Examples
+pub mod BaseCovers

@@ -9,7 +9,7 @@ use crate::member::order_of;
 use crate::set_line::read_line;
 use ls_domain::Domain;
 use ls_files::FamilyFault;
-use ls_set::ItemSet;
+use ls_set::{ItemSet, PLACES};
 use std::alloc::Global;
 use std::marker::Model;
 
@@ -21,14 +21,13 @@ pub struct Family {
 }
 
 impl Model for Family {
-    ghost use Rattle.ls_family.specs.Members.{FamilyState};
-    ghost use Rattle.ls_set.specs.ItemSet.{IsInOrder};
+    ghost use Rattle.ls_family.specs.Members.{FamilyState, IsFamilyState};
 
     ghost Value = { FamilyState };
 
     ghost view = { λ f. record { item_count = f.items; sets = f.members.items } };
 
-    ghost invariant = { λ f. IsInOrder f.members.items };
+    ghost invariant = { λ f. IsFamilyState (record { item_count = f.items; sets = f.members.items }) };
 }
 
 impl Family {
@@ -49,7 +48,8 @@ impl Family {
 
     /// How many items there are.
     pub fn items(&self) -> u32
-        ensures { result ≡ self.now.item_count }
+        ensures count { result ≡ self.now.item_count }
+        ensures few { result ≤ PLACES }
     {
         self.items
     }

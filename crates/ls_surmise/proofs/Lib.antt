@@ -15,3 +15,4 @@ mod FaultItems
 mod Examples
 mod TextExamples
 mod Jumps
+mod Apart

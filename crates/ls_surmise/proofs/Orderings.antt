@@ -131,15 +131,10 @@ put-surmise n cs b each small none count members is_base =
 
 -- ---- clauses that are searched in order
 
-put-within : (n : ℕ) (cs : List (List Items)) → IsOn n (all_clauses cs) → (r : ℕ) (s : Items) → has_clause_within (map (in_order n) cs) r s ≡ has_clause_within cs r s
-put-within n cs small r s =
-    let own_small = λ (q : ℕ) (k : Items) (c : is_among (clauses_of cs q) k ≡ true). small k (among-all cs q k c) in
-    same_truth (has_clause_within (map (in_order n) cs) r s) (has_clause_within cs r s)
-    (λ h. let x = clause-within (map (in_order n) cs) r s h in within-clause cs r s x.0 (sym (same-at n cs r own_small x.0) ∙ x.1) x.2)
-    (λ h. let x = clause-within cs r s h in within-clause (map (in_order n) cs) r s x.0 (same-at n cs r own_small x.0 ∙ x.1) x.2)
+pub put-within : (cs put : List (List Items)) → IsPutInOrder cs put → (r : ℕ) (s : Items) → has_clause_within put r s ≡ has_clause_within cs r s
+put-within cs put is r s = same_truth (has_clause_within put r s) (has_clause_within cs r s)
+    (λ h. let x = clause-within put r s h in within-clause cs r s x.0 (sym (is.same r x.0) ∙ x.1) x.2)
+    (λ h. let x = clause-within cs r s h in within-clause put r s x.0 (is.same r x.0 ∙ x.1) x.2)
 
-pub searched-order : (n : ℕ) (cs put : List (List Items)) → put ≡ map (in_order n) cs → (r : ℕ) → IsInOrder (clauses_of put r)
-searched-order n cs put e r = subst (λ (p : List (List Items)). IsInOrder (clauses_of p r)) (sym e) (order-at n cs r)
-
-pub searched-same : (n : ℕ) (cs put : List (List Items)) → put ≡ map (in_order n) cs → IsOn n (all_clauses cs) → (r : ℕ) (s : Items) → has_clause_within put r s ≡ has_clause_within cs r s
-searched-same n cs put e small r s = ap (λ (p : List (List Items)). has_clause_within p r s) e ∙ put-within n cs small r s
+pub searched : (n : ℕ) (cs put : List (List Items)) → put ≡ map (in_order n) cs → IsOn n (all_clauses cs) → IsPutInOrder cs put
+searched n cs put e small = subst (IsPutInOrder cs) (sym e) (put-in_order n cs (λ q k c. small k (among-all cs q k c)))

@@ -1,5 +1,5 @@
 -- What is printed of a surmise function is read as the same function.
-use Rattle.std.proofs.Common.{◌≡◌, ℕ, suc, ◌<◌, ◌≤◌, ◌&&◌, true, false, List, [], ◌∷◌, map, length, Some, None, Ok, refl, sym, ap, ap₂, ◌∙◌, subst, arith, ltb-true, le-ltb}
+use Rattle.std.proofs.Common.{◌≡◌, ℕ, suc, ◌≤◌, ◌&&◌, true, false, List, [], ◌∷◌, map, length, Some, None, Ok, refl, sym, ap, ap₂, ◌∙◌, subst, arith, le-ltb}
 use Rattle.std.specs.Option.{option_map_or}
 use Rattle.std.specs.List.{AllByRecursion, IsDistinct, list_all}
 use Rattle.std.specs.Str.{bytes_eq}
@@ -7,10 +7,9 @@ use Rattle.std.proofs.lemmas.Bool.{and_parts, and_from, or_right}
 use Rattle.std.proofs.lemmas.Cmp.{nat_list_eq_equiv}
 use Rattle.std.proofs.lemmas.Slice.Eq.{bytes_eq-Decides}
 use Rattle.ls_lists.proofs.Bools.{same_truth}
-use Rattle.ls_lists.proofs.Every.{All-given, All-kept, All-list_all, each, list_all-All}
-use Rattle.ls_lists.proofs.Filters.{filter_true}
-use Rattle.ls_set.specs.ItemSet.{Items, full, has, items, bound, set_of, numbers_from, subsets, is_among, IsInOrder, IsWithin}
-use Rattle.ls_set.proofs.Sets.{same_set, has-full, is_within-from, and-true}
+use Rattle.ls_lists.proofs.Every.{All-list_all, each, list_all-All}
+use Rattle.ls_set.specs.ItemSet.{Items, full, subsets, is_among, IsInOrder}
+use Rattle.ls_set.proofs.Sets.{is_within-from}
 use Rattle.ls_set.proofs.Members.{among-here, among-there, among-filter}
 use Rattle.ls_set.proofs.Order.{among-subsets, subsets_from-in_order}
 use Rattle.ls_theory.specs.Starts.{Clauses}
@@ -19,57 +18,30 @@ use Rattle.ls_theory.specs.Bases.{base, most_base_sets}
 use Rattle.ls_theory.specs.Clauses.{all_clauses, clauses_of}
 use Rattle.ls_laws.specs.Spans.{IsOn}
 use Rattle.ls_laws.proofs.Lists.{IsInOrder-filter, same_members}
-use Rattle.ls_laws.proofs.ReadBack.{has-chosen}
 use Rattle.ls_clauses.specs.Surmise.{IsSurmise}
 use Rattle.ls_clauses.proofs.Clauses.{all-small, base-ordered}
 use Rattle.ls_clauses.proofs.Flaws.{surmise-flawless}
 use Rattle.ls_lines.specs.Lines.{Text}
-use Rattle.ls_domain.specs.Texts.{name_of, names_of_set}
-use Rattle.ls_domain.specs.Meanings.{is_named, item_of, items_of}
+use Rattle.ls_domain.specs.Texts.{names_of_set}
+use Rattle.ls_domain.specs.Meanings.{is_named, items_of}
 use Rattle.ls_domain.specs.Domains.{IsDomain}
-use Rattle.ls_domain.proofs.Numbers.{number_of-name_of, item_of-some, is_named-some}
+use Rattle.ls_domain.proofs.NamedSets.{set-back, set-named}
 use Rattle.ls_files.specs.SurmiseFiles.{Table, are_named, clauses_in, in_order, is_table_named, row_under, surmise_from, surmise_of, surmise_text, table_of, wide}
 use Rattle.ls_surmise.proofs.RowTables.{insert_row, row_of, table_from, lookup-here, lookup-other, each-row, read-table}
 use Rattle.ls_surmise.proofs.SurmiseValues.{value_of-surmise_text}
 
--- ---- a clause by its names
-
--- the items of a set of items below n are below n
-items-below : (n : ℕ) (c : Items) → IsWithin c (full n) → AllByRecursion (λ i. i < n) (items c)
-unfolding items
-items-below n c within =
-    All-kept (λ i. i < n) (has c) (numbers_from 0 (bound c)) (All-given (λ i. has c i ≡ true → i < n) (λ i h. ltb-true i n (sym (has-full n i) ∙ within i h)) (numbers_from 0 (bound c)))
-
-set_of-items : (c : Items) → set_of (items c) ≡ c
-set_of-items c = same_set (set_of (items c)) c (λ i. ap (λ is. has (set_of is) i) (sym (filter_true (items c))) ∙ has-chosen (λ _. true) c i ∙ and-true (has c i))
+-- ---- the clauses of an item by their names
 
 module _ (names : List Text) (distinct : IsDistinct bytes_eq names) where
-  numbers-back : (is : List ℕ) → AllByRecursion (λ i. i < length names) is → map (item_of names) (map (name_of names) is) ≡ is
-  numbers-back [] h = refl
-  numbers-back (i ∷ is) h = ap₂ (λ j js. j ∷ js) (item_of-some names (name_of names i) i (number_of-name_of names i distinct h.0)) (numbers-back is h.1)
-
-  clause-back : (c : Items) → IsWithin c (full (length names)) → items_of names (names_of_set names c) ≡ c
-  unfolding names_of_set
-  clause-back c within = ap set_of (numbers-back (items c) (items-below (length names) c within)) ∙ set_of-items c
-
-  names-named : (is : List ℕ) → AllByRecursion (λ i. i < length names) is → list_all (is_named names) (map (name_of names) is) ≡ true
-  names-named [] h = refl
-  names-named (i ∷ is) h =
-      and_from (is_named names (name_of names i)) (list_all (is_named names) (map (name_of names) is)) (is_named-some names (name_of names i) i (number_of-name_of names i distinct h.0)) (names-named is h.1)
-
-  clause-named : (c : Items) → IsWithin c (full (length names)) → list_all (is_named names) (names_of_set names c) ≡ true
-  unfolding names_of_set
-  clause-named c within = names-named (items c) (items-below (length names) c within)
-
   row-back : (own : List Items) → IsOn (length names) own → map (items_of names) (row_of names own) ≡ own
   row-back [] small = refl
   row-back (c ∷ own) small =
-      ap₂ (λ d ds. d ∷ ds) (clause-back c (small c (among-here c c own refl))) (row-back own (λ k a. small k (among-there k c own a)))
+      ap₂ (λ d ds. d ∷ ds) (set-back names distinct c (small c (among-here c c own refl))) (row-back own (λ k a. small k (among-there k c own a)))
 
   row-named : (own : List Items) → IsOn (length names) own → are_named names (row_of names own) ≡ true
   row-named [] small = refl
   row-named (c ∷ own) small =
-      and_from (list_all (is_named names) (names_of_set names c)) (are_named names (row_of names own)) (clause-named c (small c (among-here c c own refl))) (row-named own (λ k a. small k (among-there k c own a)))
+      and_from (list_all (is_named names) (names_of_set names c)) (are_named names (row_of names own)) (set-named names distinct c (small c (among-here c c own refl))) (row-named own (λ k a. small k (among-there k c own a)))
 
   -- ---- the table
 

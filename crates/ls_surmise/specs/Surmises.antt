@@ -1,12 +1,12 @@
 -- Surmise functions: what contracts see of them, and which one a base gives.
-use Rattle.std.specs.Prelude.{ℕ, ◌≡◌, List, [], Option, Some, Result, Ok, Err, ⊤}
+use Rattle.std.specs.Prelude.{ℕ, ◌<◌, ◌≡◌, false, List, [], length, slice_index_or, Option, Some, Result, Ok, Err, ⊤}
 use Rattle.std.specs.Option.{option_map_or}
-use Rattle.ls_set.specs.ItemSet.{Items}
+use Rattle.ls_set.specs.ItemSet.{Items, empty}
 use Rattle.ls_theory.specs.Starts.{Clauses}
 use Rattle.ls_theory.specs.Compatible.{compat}
 use Rattle.ls_theory.specs.Bases.{base, first_missing}
 use Rattle.ls_base.specs.Bases.{BaseState, family}
-use Rattle.ls_theory.specs.Clauses.{clauses_at}
+use Rattle.ls_theory.specs.Clauses.{clauses_at, are_comparable}
 use Rattle.ls_theory.specs.declared.surmise_fault.SurmiseFault.{SurmiseFault}
 use Rattle.ls_theory.specs.declared.surmise_fault.SurmiseFault.TheVariants as surmise
 use Rattle.ls_clauses.specs.Surmise.{IsSurmise}
@@ -27,6 +27,10 @@ pub record IsSurmiseOf (b : BaseState) (clauses : List (List Items)) : Type 0 wh
   pub surmise : IsSurmise b.item_count clauses
   pub same : compat b.item_count (Clauses clauses) [] ≡ family b
   pub is_base : base (family b) ≡ b.sets
+
+-- of any two sets of the list neither lies within the other
+abbrev pub AreApart : List Items → Type 0
+AreApart sets = (i j : ℕ) → i < j → j < length sets → are_comparable (slice_index_or sets i empty) (slice_index_or sets j empty) ≡ false
 
 -- the clauses that a base gives, each item being in some set: those of an item are the atoms at it
 abbrev pub surmised : BaseState → Result (List (List Items)) FromFault

@@ -1,7 +1,9 @@
 // What is wrong with clauses that are read.
-ghost use Rattle.std.specs.Prelude.{◌≡◌, ◌<◌, ◌≤◌, ℕ, length};
-ghost use Rattle.ls_set.specs.ItemSet.{Items, IsInOrder, most_items, numbers_from};
+ghost use Rattle.std.specs.Prelude.{◌≡◌, ◌<◌, ◌≤◌, true, length};
+ghost use Rattle.ls_set.specs.ItemSet.{IsInOrder, most_items, numbers_from};
 ghost use Rattle.ls_theory.specs.Clauses.{clauses_of, has_clause_within, first_some, no_clause, lacking_in, unclosed_at, unclosed_in, comparable_at, comparable_in, flaw, are_comparable};
+ghost use Rattle.ls_clauses.specs.Surmise.{IsPutInOrder};
+ghost use Rattle.ls_surmise.specs.Surmises.{AreApart};
 
 use crate::search::has_within;
 use ls_set::{ItemSet, PLACES, SetList};
@@ -60,23 +62,22 @@ fn lacking(n: u32, clauses: &[SetList]) -> Option<SurmiseFault>
 
 // ---- a clause with an item of which no clause lies within it
 
-fn has_clause_within(ordered: &[SetList], r: u32, set: ItemSet) -> bool
-    requires { (r : ℕ) → IsInOrder (clauses_of ordered.now r) }
-    ensures { result ≡ has_clause_within ordered.now r set }
+fn has_clause_within(clauses: &[SetList], ordered: &[SetList], r: u32, set: ItemSet) -> bool
+    requires { IsPutInOrder clauses.now ordered.now }
+    ensures { result ≡ has_clause_within clauses.now r set }
 {
+    let _ = clauses;
     has_within(clauses_of(ordered, r), set)
 }
 
 fn unclosed_at(clauses: &[SetList], ordered: &[SetList], q: u32, j: usize) -> Option<SurmiseFault>
     requires place { j < length (clauses_of clauses.now q) }
-    requires in_order { (r : ℕ) → IsInOrder (clauses_of ordered.now r) }
-    requires same { (r : ℕ) (s : Items) →
-        has_clause_within ordered.now r s ≡ has_clause_within clauses.now r s }
+    requires in_order { IsPutInOrder clauses.now ordered.now }
     ensures { result ≡ unclosed_at clauses.now q j }
 {
     let c = clauses_of(clauses, q)[j];
     for r in c.items() {
-        if !has_clause_within(ordered, r, c) {
+        if !has_clause_within(clauses, ordered, r, c) {
             return Some(SurmiseFault::NotClosed {
                 q,
                 clause: j + 1,
@@ -88,9 +89,7 @@ fn unclosed_at(clauses: &[SetList], ordered: &[SetList], q: u32, j: usize) -> Op
 }
 
 fn unclosed_in(clauses: &[SetList], ordered: &[SetList], q: u32) -> Option<SurmiseFault>
-    requires in_order { (r : ℕ) → IsInOrder (clauses_of ordered.now r) }
-    requires same { (r : ℕ) (s : Items) →
-        has_clause_within ordered.now r s ≡ has_clause_within clauses.now r s }
+    requires { IsPutInOrder clauses.now ordered.now }
     ensures { result ≡ unclosed_in clauses.now q }
 {
     for j in 0..clauses_of(clauses, q).len() {
@@ -103,9 +102,7 @@ fn unclosed_in(clauses: &[SetList], ordered: &[SetList], q: u32) -> Option<Surmi
 }
 
 fn unclosed(n: u32, clauses: &[SetList], ordered: &[SetList]) -> Option<SurmiseFault>
-    requires in_order { (r : ℕ) → IsInOrder (clauses_of ordered.now r) }
-    requires same { (r : ℕ) (s : Items) →
-        has_clause_within ordered.now r s ≡ has_clause_within clauses.now r s }
+    requires { IsPutInOrder clauses.now ordered.now }
     ensures { result ≡ first_some (unclosed_in clauses.now) (numbers_from 0 n) }
 {
     for q in 0..n {
@@ -143,7 +140,7 @@ fn comparable_at(clauses: &[SetList], q: u32, i: usize) -> Option<SurmiseFault>
     None
 }
 
-fn comparable_in(clauses: &[SetList], q: u32) -> Option<SurmiseFault>
+fn first_comparable(clauses: &[SetList], q: u32) -> Option<SurmiseFault>
     ensures { result ≡ comparable_in clauses.now q }
 {
     for i in 0..clauses_of(clauses, q).len() {
@@ -155,11 +152,37 @@ fn comparable_in(clauses: &[SetList], q: u32) -> Option<SurmiseFault>
     None
 }
 
-fn comparable(n: u32, clauses: &[SetList]) -> Option<SurmiseFault>
+// Whether no set lies within an earlier one. By the order none lies within a later one then.
+fn are_apart(sets: &[ItemSet]) -> bool
+    requires { IsInOrder sets.now }
+    ensures { result ≡ true → AreApart sets.now }
+{
+    for i in 0..sets.len() {
+        if has_within(&sets[i + 1..], sets[i]) {
+            return false;
+        }
+    }
+    true
+}
+
+// The clauses are looked at in pairs only where some are comparable, or one is repeated.
+fn comparable_in(clauses: &[SetList], ordered: &[SetList], q: u32) -> Option<SurmiseFault>
+    requires { IsPutInOrder clauses.now ordered.now }
+    ensures { result ≡ comparable_in clauses.now q }
+{
+    let sets = clauses_of(ordered, q);
+    if sets.len() == clauses_of(clauses, q).len() && are_apart(sets) {
+        return None;
+    }
+    first_comparable(clauses, q)
+}
+
+fn comparable(n: u32, clauses: &[SetList], ordered: &[SetList]) -> Option<SurmiseFault>
+    requires { IsPutInOrder clauses.now ordered.now }
     ensures { result ≡ first_some (comparable_in clauses.now) (numbers_from 0 n) }
 {
     for q in 0..n {
-        let found = comparable_in(clauses, q);
+        let found = comparable_in(clauses, ordered, q);
         if found.is_some() {
             return found;
         }
@@ -172,9 +195,7 @@ fn comparable(n: u32, clauses: &[SetList]) -> Option<SurmiseFault>
 #[tactic(auto, unfolding(ls_theory::specs::Clauses::flaw))]
 pub(crate) fn flaw(n: u32, clauses: &[SetList], ordered: &[SetList]) -> Option<SurmiseFault>
     requires few { n ≤ PLACES }
-    requires in_order { (r : ℕ) → IsInOrder (clauses_of ordered.now r) }
-    requires same { (r : ℕ) (s : Items) →
-        has_clause_within ordered.now r s ≡ has_clause_within clauses.now r s }
+    requires in_order { IsPutInOrder clauses.now ordered.now }
     ensures { result ≡ flaw n clauses.now }
 {
     let found = no_clause(n, clauses);
@@ -189,5 +210,5 @@ pub(crate) fn flaw(n: u32, clauses: &[SetList], ordered: &[SetList]) -> Option<S
     if found.is_some() {
         return found;
     }
-    comparable(n, clauses)
+    comparable(n, clauses, ordered)
 }

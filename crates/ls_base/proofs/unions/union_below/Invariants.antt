@@ -1,4 +1,4 @@
-use Rattle.ls_base.specs.Unions.{union_below}
+use Rattle.ls_laws.specs.Spans.{union_below}
 use Rattle.ls_base.proofs.Turns.{IsUnited}
 use Rattle.ls_base.proofs.unions.union_below.Given as goal
 

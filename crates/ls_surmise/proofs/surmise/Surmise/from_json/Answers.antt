@@ -1,11 +1,12 @@
-use Rattle.std.proofs.Common.{List, sym, ap, ◌∙◌, subst, arith}
+use Rattle.std.proofs.Common.{List, sym, ◌∙◌, subst, arith}
 use Rattle.std.proofs.lemmas.Grind.{common_steps}
 use Rattle.ls_set.specs.ItemSet.{Items}
-use Rattle.ls_theory.specs.Clauses.{all_clauses, has_clause_within}
+use Rattle.ls_theory.specs.Clauses.{all_clauses}
 use Rattle.ls_laws.specs.Spans.{IsOn}
+use Rattle.ls_clauses.specs.Surmise.{IsPutInOrder}
 use Rattle.ls_files.specs.SurmiseFiles.{surmise_of, IsSurmiseFaultOf}
 use Rattle.ls_surmise.proofs.Files.{put-of, form-fault, fault-as, fault-from, of_flaw, read-on, made, told-by, flawed, too_wide}
-use Rattle.ls_surmise.proofs.Orderings.{searched-order, searched-same}
+use Rattle.ls_surmise.proofs.Orderings.{searched}
 use Rattle.ls_surmise.proofs.FaultItems.{flaw-items}
 use Rattle.ls_surmise.proofs.surmise.Surmise.from_json.Goals as goal
 
@@ -58,11 +59,5 @@ returns-clause-surmise c =
 pub flaw-requires-clause-in_order : goal.flaw-requires-clause-in_order
 flaw-requires-clause-in_order c =
     let put = put-of c.args.d.now c.args.bytes.now c.count-n.result c.in_ok-read.read.items c.deref.result.now c.in-Ok.clauses.items c.count-n.ensures.value c.in_ok-read.ensures.read c.deref.ensures.value c.in-Ok.ensures in
-    searched-order c.count-n.result c.in_ok-read.read.items c.deref-3.result.now (c.deref-3.ensures.value ∙ put)
-
-pub flaw-requires-clause-same : goal.flaw-requires-clause-same
-flaw-requires-clause-same c = λ r s.
-    let put = put-of c.args.d.now c.args.bytes.now c.count-n.result c.in_ok-read.read.items c.deref.result.now c.in-Ok.clauses.items c.count-n.ensures.value c.in_ok-read.ensures.read c.deref.ensures.value c.in-Ok.ensures in
     let small = subst (λ m. IsOn m (all_clauses c.in_ok-read.read.items)) (sym c.count-n.ensures.value) (read-on c.args.d.now c.args.bytes.now c.in_ok-read.read.items c.in_ok-read.ensures.read) in
-    searched-same c.count-n.result c.in_ok-read.read.items c.deref-3.result.now (c.deref-3.ensures.value ∙ put) small r s
-    ∙ ap (λ (cs : List (List Items)). has_clause_within cs r s) (sym c.deref-2.ensures.value)
+    subst (λ (cs : List (List Items)). IsPutInOrder cs c.deref-3.result.now) (sym c.deref-2.ensures.value) (searched c.count-n.result c.in_ok-read.read.items c.deref-3.result.now (c.deref-3.ensures.value ∙ put) small)

@@ -1,0 +1,147 @@
+-- The items of a base set that no base set below it has: those at which it is an atom.
+use Rattle.std.proofs.Common.{ℕ, zero, suc, ◌+◌, ◌<◌, ◌≤◌, ◌≡◌, inl, inr, Bool, true, false, not, ◌&&◌, List, [], ◌∷◌, length, filter, drop, get_or, slice_get, take, length-drop, add-one, ◌-◌, Some, ltb, leb, refl, sym, ap, ◌∙◌, subst, arith, true≢false}
+use Rattle.std.specs.List.{list_any}
+use Rattle.std.proofs.lemmas.Bool.{cases_eq, and_parts, and_from, not_from_false, false_from_ne_true, true_from_ne_false, not-true}
+use Rattle.std.proofs.lemmas.Bool.Decides.{nat_tests}
+use Rattle.std.proofs.lemmas.List.{drop_all, take_all}
+use Rattle.std.proofs.lemmas.Option.{slice_get_read}
+use Rattle.ls_lists.proofs.Filters.{filter-both}
+use Rattle.ls_lists.proofs.Places.{drop-next}
+use Rattle.ls_set.specs.ItemSet.{Items, has, empty, bound, items, minus, union, len, set_of, numbers_from, is_among, is_same, is_within, IsWithin, IsInOrder}
+use Rattle.ls_set.proofs.Sets.{members, has-empty, has-minus, same_set, same_within, Decides-is_same}
+use Rattle.ls_set.proofs.Members.{among-here, among-there, among-filter}
+use Rattle.ls_set.proofs.Cursors.{has-set_of-filter}
+use Rattle.ls_set.proofs.Ascending.{bound-has}
+use Rattle.ls_theory.specs.Bases.{base, is_atom_at, atom_items}
+use Rattle.ls_laws.specs.Spans.{is_proper, union_below, needed}
+use Rattle.ls_laws.proofs.Lists.{some-filter, some-same}
+use Rattle.ls_laws.proofs.Counts.{as_many, len-zero}
+use Rattle.ls_laws.proofs.Interiors.{from-interior, to-interior, has-interior, interior-within}
+use Rattle.ls_laws.proofs.Atoms.{base-member, base-spans}
+use Rattle.ls_laws.proofs.Spans.{base-in_order, base-needed}
+use Rattle.ls_base.proofs.Below.{below-unites}
+use Rattle.ls_base.proofs.Spanned.{is_atom_at-base}
+use Rattle.ls_base.proofs.Reduced.{below-first, below-later}
+
+-- ---- a walk from the end
+
+-- what is left of s when the sets from a place on are taken away
+abbrev pub IsOwn : Items → Items → List Items → ℕ → Type 0
+IsOwn own s sets i = own ≡ minus s (union_below (drop i sets) s)
+
+minus-none : (s : Items) → s ≡ minus s empty
+minus-none s = same_set s (minus s empty) (λ i. grind (arith, members))
+
+minus-more : (s u k : Items) → minus (minus s u) k ≡ minus s (union k u)
+minus-more s u k = same_set (minus (minus s u) k) (minus s (union k u)) (λ i. grind (arith, members))
+
+pub own-none : (s : Items) (sets : List Items) → IsOwn s s sets (length sets)
+own-none s sets = minus-none s ∙ ap (minus s) (sym (below-unites s).none) ∙ ap (λ f. minus s (union_below f s)) (sym (drop_all (length sets) sets (omega arith)))
+
+module _ (s own next k : Items) (sets : List Items) (i : ℕ) (l : i < length sets) (e : k ≡ get_or sets i k) (had : IsOwn own s sets (i + 1)) where
+  pub own-taken : is_proper k s ≡ true → next ≡ minus own k → IsOwn next s sets i
+  own-taken t is =
+      is ∙ ap (λ u. minus u k) had ∙ minus-more s (union_below (drop (i + 1) sets) s) k ∙ ap (minus s) (sym ((below-unites s).taken k t (drop (i + 1) sets)))
+      ∙ ap (λ f. minus s (union_below f s)) (sym (drop-next sets i k l e))
+
+  pub own-passed : is_proper k s ≡ false → next ≡ own → IsOwn next s sets i
+  own-passed t is =
+      is ∙ had ∙ ap (minus s) (sym ((below-unites s).passed k t (drop (i + 1) sets))) ∙ ap (λ f. minus s (union_below f s)) (sym (drop-next sets i k l e))
+
+among-drop : (i : ℕ) (f : List Items) (k : Items) → is_among (drop i f) k ≡ true → is_among f k ≡ true
+among-drop zero f k c = c
+among-drop (suc i) [] k c = c
+among-drop (suc i) (t ∷ f) k c = among-there k t f (among-drop i f k c)
+
+below-drop : (i : ℕ) (f : List Items) (s : Items) → IsWithin (union_below (drop i f) s) (union_below f s)
+below-drop i f s j h =
+    let p = λ (l : Items). is_proper l s in
+    let r = from-interior (filter p (drop i f)) s j h in
+    let x = and_parts (is_among (drop i f) r.0) (p r.0) (sym (among-filter p (drop i f) r.0) ∙ r.1) in
+    to-interior (filter p f) s r.0 j (among-filter p f r.0 ∙ and_from (is_among f r.0) (p r.0) (among-drop i f r.0 x.0) x.1) r.2 r.3
+
+-- where one item is left, it stays
+pub own-one : (s own : Items) (sets : List Items) (i : ℕ) → IsOwn own s sets i → len own ≡ 1 → is_same (union_below sets s) s ≡ false → own ≡ minus s (union_below sets s)
+own-one s own sets i had one less =
+    let all = union_below sets s in
+    let left = minus s all in
+    let within : IsWithin left own = λ j h.
+    let x = and_parts (has s j) (not (has all j)) (sym (has-minus s all j) ∙ h) in
+    ap (λ u. has u j) had ∙ has-minus s (union_below (drop i sets) s) j ∙ and_from (has s j) (not (has (union_below (drop i sets) s) j)) x.0
+    (not_from_false _ (false_from_ne_true _ (λ y. true≢false (sym (below-drop i sets s j y) ∙ not-true (has all j) x.1)))) in
+    sym (as_many left own within (omega (arith, some_left s all (interior-within (filter (λ l. is_proper l s) sets) s) less)))
+  where
+    some_left : (s all : Items) → IsWithin all s → is_same all s ≡ false → 1 ≤ len (minus s all)
+    some_left s all small less = elim (cases_eq (len (minus s all)) 0) [
+      | inl e ↦ absurd (true≢false (sym ((Decides-is_same all s).1 (same_within all s small (λ j h.
+          true_from_ne_false (has all j) (λ y. true≢false (sym (has-minus s all j ∙ and_from (has s j) (not (has all j)) h (not_from_false (has all j) y)) ∙ ap (λ u. has u j) (len-zero (minus s all) e) ∙ has-empty j))))) ∙ less))
+      | inr n ↦ omega arith
+    ]
+
+pub own-all : (s own : Items) (sets : List Items) (i : ℕ) → i ≡ 0 → IsOwn own s sets i → own ≡ minus s (union_below sets s)
+own-all s own sets i z had = had ∙ ap (λ j. minus s (union_below (drop j sets) s)) z
+
+-- ---- the sets of a base
+
+among-place : (f : List Items) (p : ℕ) (k : Items) → slice_get f p ≡ Some k → is_among f k ≡ true
+among-place [] p k e = absurd (cc e)
+among-place (t ∷ f) zero k e = among-here k t f (let q : k ≡ t = cc in q)
+among-place (t ∷ f) (suc p) k e = among-there k t f (among-place f p k e)
+
+-- what lies below a set of a list in order lies after it
+pub below-place : (f : List Items) (p : ℕ) (k : Items) → IsInOrder f → slice_get f p ≡ Some k → union_below f k ≡ union_below (drop (suc p) f) k
+below-place [] p k order e = absurd (cc e)
+below-place (t ∷ f) zero k order e = let q : t ≡ k = cc in subst (λ x. union_below (x ∷ f) k ≡ union_below f k) (sym q) (below-first k f)
+below-place (t ∷ f) (suc p) k order e = below-later t f k order (among-place f p k e) ∙ below-place f p k order.1 e
+
+-- no base set is the union of those below it
+pub base-less : (f : List Items) (k : Items) → IsInOrder f → is_among (base f) k ≡ true → is_same (union_below (base f) k) k ≡ false
+unfolding needed
+base-less f k order c =
+    let is = base-needed f (base f) order (base-in_order f order) (base-member f) (base-spans f) in
+    let g = base f in
+    not-true (is_same (union_below g k) k) (and_parts (is_among g k) (not (is_same (union_below g k) k)) (sym (among-filter (λ l. not (is_same (union_below g l) l)) g k) ∙ ap (λ h. is_among h k) (sym is) ∙ c)).1
+
+has-below : (g : List Items) (k : Items) (i : ℕ) → has (union_below g k) i ≡ list_any (λ l. has l i && is_within l k && not (is_same l k)) g
+has-below g k i =
+    has-interior (filter (λ l. is_proper l k) g) k i ∙ some-filter (λ l. is_proper l k) (λ l. is_within l k && has l i) g
+    ∙ some-same (λ l. is_proper l k && (is_within l k && has l i)) (λ l. has l i && is_within l k && not (is_same l k)) g (λ l. turned (is_within l k) (not (is_same l k)) (has l i))
+  where
+    turned : (a b c : Bool) → ((a && b) && (a && c)) ≡ ((c && a) && b)
+    turned true true true = refl
+    turned true true false = refl
+    turned true false true = refl
+    turned true false false = refl
+    turned false true true = refl
+    turned false true false = refl
+    turned false false true = refl
+    turned false false false = refl
+
+has-atom_items : (f : List Items) (k : Items) (i : ℕ) → has (set_of (atom_items f k)) i ≡ is_atom_at f i k
+unfolding items
+has-atom_items f k i =
+    ap (λ is. has (set_of is) i) (filter-both (has k) (λ q. is_atom_at f q k) (numbers_from 0 (bound k)))
+    ∙ has-set_of-filter (λ q. has k q && is_atom_at f q k) 0 (bound k) i
+    ∙ within (has k i) (not (list_any (λ l. has l i && is_within l k && not (is_same l k)) f)) (bound-has k i)
+  where
+    within : (h r : Bool) → (h ≡ true → i < bound k) → (leb 0 i && ltb i (0 + bound k) && (h && (h && r))) ≡ (h && r)
+    within true r l = grind (arith, nat_tests, l refl)
+    within false r l = grind (arith, nat_tests)
+
+-- the items at which a base set is an atom
+pub own-atoms : (f : List Items) (k : Items) → minus k (union_below (base f) k) ≡ set_of (atom_items f k)
+own-atoms f k = same_set (minus k (union_below (base f) k)) (set_of (atom_items f k)) (λ i.
+    has-minus k (union_below (base f) k) i ∙ ap (λ b. has k i && not b) (has-below (base f) k i) ∙ is_atom_at-base f i k ∙ sym (has-atom_items f k i))
+
+-- what lies below the set at a place of the base lies in the part after it
+pub own-place : (f sets after : List Items) (p : ℕ) (k : Items) → IsInOrder f → base f ≡ sets → p < length sets → k ≡ get_or sets p k → after ≡ take (length sets - (p + 1)) (drop (p + 1) sets) → union_below after k ≡ union_below (base f) k
+own-place f sets after p k order is l e rest =
+    let at : slice_get sets p ≡ Some k = slice_get_read sets (length sets) p k refl l e in
+    let whole : after ≡ drop (suc p) sets = rest ∙ take_all (length sets - (p + 1)) (drop (p + 1) sets) (omega (arith, length-drop (p + 1) sets)) ∙ ap (λ i. drop i sets) (add-one p) in
+    ap (λ g. union_below g k) whole ∙ sym (below-place sets p k (subst IsInOrder is (base-in_order f order)) at) ∙ ap (λ g. union_below g k) (sym is)
+
+pub own-less : (f sets after : List Items) (p : ℕ) (k : Items) → IsInOrder f → base f ≡ sets → p < length sets → k ≡ get_or sets p k → after ≡ take (length sets - (p + 1)) (drop (p + 1) sets) → is_same (union_below after k) k ≡ false
+own-less f sets after p k order is l e rest =
+    let at : slice_get sets p ≡ Some k = slice_get_read sets (length sets) p k refl l e in
+    ap (λ u. is_same u k) (own-place f sets after p k order is l e rest)
+    ∙ base-less f k order (ap (λ g. is_among g k) is ∙ among-place sets p k at)

@@ -1,0 +1,7 @@
+use Rattle.std.proofs.Common.{length, arith, ap}
+use Rattle.std.proofs.lemmas.List.{length-reverse}
+use Rattle.ls_base.proofs.Reduced.{needed-few}
+use Rattle.ls_base.proofs.reduction.needed_sets.Goals as goal
+
+pub returns-clause-few : goal.returns-clause-few
+returns-clause-few c = omega (arith, ap length c.in_ok-found.ensures, ap length c.reverse.ensures.items, length-reverse c.in_ok-found.found.items, needed-few c.args.sets.now)

@@ -1,0 +1,60 @@
+-- The base of sets that have each item has each item, and an item that no set has is one of the items.
+use Rattle.std.proofs.Common.{◌≡◌, ◌<◌, ℕ, true, false, not, cond, ltb, List, [], length, Some, None, Ok, Err, refl, sym, ◌∙◌, subst, ltb-true, lt-ltb}
+use Rattle.std.specs.Option.{option_map_or}
+use Rattle.std.proofs.lemmas.Bool.{and_parts}
+use Rattle.ls_set.specs.ItemSet.{Items, has, full, minus, is_among}
+use Rattle.ls_set.proofs.Sets.{has-full, has-minus}
+use Rattle.ls_set.proofs.Ascending.{least-cases}
+use Rattle.ls_theory.specs.Families.{unions}
+use Rattle.ls_theory.specs.Starts.{Sets}
+use Rattle.ls_theory.specs.Compatible.{compat}
+use Rattle.ls_theory.specs.Bases.{base, based, limited, first_missing, most_base_sets}
+use Rattle.ls_theory.specs.declared.base_fault.BaseFault.TheVariants.{NotSpanning, Past}
+use Rattle.ls_laws.specs.Spans.{IsOn}
+use Rattle.ls_laws.proofs.Lists.{some-among}
+use Rattle.ls_laws.proofs.Interiors.{has-unions}
+use Rattle.ls_laws.proofs.Atoms.{atom_within, among-base, base-member}
+use Rattle.ls_laws.proofs.Compat.{compat-IsUnionFamily}
+use Rattle.ls_laws.proofs.BaseStarts.{compat-sets}
+use Rattle.ls_clauses.specs.Starts.{IsCover}
+use Rattle.ls_clauses.proofs.Covers.{cover-member, cover-least}
+
+base-cover : (n : ℕ) (sets : List Items) → IsCover n sets → IsCover n (base (compat n (Sets sets) []))
+base-cover n sets cover =
+    let f = compat n (Sets sets) [] in
+    let whole : is_among f (full n) ≡ true = subst (λ g. is_among g (full n) ≡ true) (sym (compat-sets n sets)) (cover-member n sets cover) in
+    record {
+      small = λ k m. (compat-IsUnionFamily n (Sets sets) []).small k (base-member f k m);
+      each_item = λ q l.
+          let a = atom_within f (full n) q whole (has-full n q ∙ lt-ltb q n l) in
+          has-unions (base f) q ∙ some-among (λ s. has s q) (base f) a.0 (among-base f q a.0 a.1) a.1.has_q;
+    }
+
+limited-ok : (sets made : List Items) → limited sets ≡ Ok made → sets ≡ made
+limited-ok sets made =
+    elim (ltb most_base_sets (length sets)) as (λ b. cond b (Err (Past (length sets))) (Ok sets) ≡ Ok made → sets ≡ made) [ true ↦ λ e. absurd (cc e) | false ↦ λ e. cc e ]
+
+limited-spans : (sets : List Items) (q : ℕ) → limited sets ≡ Err (NotSpanning q) → ⊥
+limited-spans sets q =
+    elim (ltb most_base_sets (length sets)) as (λ b. cond b (Err (Past (length sets))) (Ok sets) ≡ Err (NotSpanning q) → ⊥) [ true ↦ λ e. cc e | false ↦ λ e. cc e ]
+
+module _ (n : ℕ) (sets : List Items) where
+  -- a base that was found has each item
+  pub based-cover : (made : List Items) → IsOn n sets → based n sets ≡ Ok made → IsCover n made
+  based-cover made small e =
+      elim (first_missing n sets) as (λ o. first_missing n sets ≡ o → option_map_or (λ q. Err (NotSpanning q)) o (limited (base (compat n (Sets sets) []))) ≡ Ok made → IsCover n made) [
+        | None ↦ λ none at. subst (IsCover n) (limited-ok (base (compat n (Sets sets) [])) made at) (base-cover n sets ((cover-least n sets small).1 none))
+        | Some q ↦ λ some at. absurd (cc at)
+      ] refl e
+
+  -- an item that no set has is one of the items
+  pub missing-lt : (q : ℕ) → based n sets ≡ Err (NotSpanning q) → q < n
+  missing-lt q e =
+      elim (first_missing n sets) as (λ o. first_missing n sets ≡ o → option_map_or (λ p. Err (NotSpanning p)) o (limited (base (compat n (Sets sets) []))) ≡ Err (NotSpanning q) → q < n) [
+        | None ↦ λ none at. absurd (limited-spans (base (compat n (Sets sets) [])) q at)
+        | Some p ↦ λ some at.
+            let same : p ≡ q = cc at in
+            let held = (least-cases (minus (full n) (unions sets)) p some).0 in
+            let parts = and_parts (has (full n) p) (not (has (unions sets) p)) (sym (has-minus (full n) (unions sets) p) ∙ held) in
+            subst (λ i. i < n) same (ltb-true p n (sym (has-full n p) ∙ parts.0))
+      ] refl e

@@ -1,0 +1,7 @@
+use Rattle.std.proofs.Common.{◌≡◌, ℕ, ◌<◌, false, length, get_or}
+use Rattle.ls_set.specs.ItemSet.{empty}
+use Rattle.ls_theory.specs.Clauses.{are_comparable}
+use Rattle.ls_surmise.proofs.flaws.are_apart.Given as goal
+
+abbrev pub invariant-loop-i : goal.invariant-loop-i
+invariant-loop-i l = (i j : ℕ) → i < j → j < length l.sets → i < l.i → are_comparable (get_or l.sets i empty) (get_or l.sets j empty) ≡ false
