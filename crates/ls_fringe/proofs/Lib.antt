@@ -1,0 +1,4 @@
+pub mod Bars
+pub mod Chosen
+pub mod Lines
+pub mod Told

@@ -1,0 +1,19 @@
+-- The member that two fringes tell, by looking at the fringes of one.
+use Rattle.std.proofs.Common.{◌≡◌, ℕ, true, cond, ◌&&◌, eqb, List, Some, None, sym, ap, ap₂, ◌∙◌}
+use Rattle.ls_set.specs.ItemSet.{Items, full, minus, is_same}
+use Rattle.ls_theory.specs.Families.{interior}
+use Rattle.ls_theory.specs.Verdict.{is_learning_space}
+use Rattle.ls_theory.specs.Fringes.{fringes, state_of}
+use Rattle.ls_theory.specs.declared.fringe_pair.FringePair.{FringePair}
+use Rattle.ls_laws.specs.Spans.{IsOn}
+use Rattle.ls_laws.proofs.WellGraded.{learning-parts}
+use Rattle.ls_laws.proofs.ReadBack.{state_of-is}
+
+-- the greatest member without the outer items, where its fringes are the given ones
+pub told : (n : ℕ) (f : List Items) (inner outer k : Items) (x : FringePair) → IsOn n f → is_learning_space (full n) f ≡ true → k ≡ interior f (minus (full n) outer) → x ≡ fringes n f k
+    → cond (eqb x.inner.digits inner.digits && eqb x.outer.digits outer.digits) (Some k) None ≡ state_of n f inner outer
+unfolding is_same
+told n f inner outer k x small learning at is =
+    let p = learning-parts n f small learning in
+    ap₂ (λ (y : FringePair) (l : Items). cond (eqb y.inner.digits inner.digits && eqb y.outer.digits outer.digits) (Some l) None) (is ∙ ap (fringes n f) at) at
+    ∙ sym (state_of-is n f p.0 p.1 inner outer)

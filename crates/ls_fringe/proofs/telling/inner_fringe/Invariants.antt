@@ -1,0 +1,8 @@
+use Rattle.std.proofs.Common.{◌≡◌}
+use Rattle.ls_set.specs.ItemSet.{keep_before}
+use Rattle.ls_theory.specs.Fringes.{inner_fringe}
+use Rattle.ls_fringe.proofs.telling.inner_fringe.Given as goal
+
+-- the items so far are those of the fringe
+abbrev pub invariant-loop-item : goal.invariant-loop-item
+invariant-loop-item g l = l.fringe ≡ keep_before (inner_fringe (g.F.Inside.members l.f) l.k) l.item

@@ -1,0 +1,4 @@
+pub mod Growths
+pub mod PathOrder
+pub mod Levels
+pub mod Added

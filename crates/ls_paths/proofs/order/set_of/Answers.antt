@@ -1,0 +1,25 @@
+use Rattle.std.proofs.Common.{get_or, sym, ap, subst, ◌∙◌, arith}
+use Rattle.std.proofs.lemmas.List.{take_all}
+use Rattle.ls_set.specs.ItemSet.{Items, full, empty, with, IsWithin}
+use Rattle.ls_set.specs.declared.item_set.TheConstants.{PLACES}
+use Rattle.ls_growths.specs.Levels.{reached}
+use Rattle.ls_growths.proofs.Levels.{reached-next, reached-all}
+use Rattle.ls_paths.proofs.Written.{place-small}
+use Rattle.ls_paths.proofs.order.set_of.Goals as goal
+
+pub returns-then-item-ge-PLACES-clause-within : goal.returns-then-item-ge-PLACES-clause-within
+returns-then-item-ge-PLACES-clause-within c = λ within.
+    let items = c.args.items.now in
+    let l = place-small PLACES items c.loop-item.item-index (subst (λ (s : Items). IsWithin s (full PLACES)) (sym (reached-all items)) within) c.loop-item-test.true in
+    absurd (omega (arith, l, c.if-item-ge-PLACES.true))
+
+pub loop-item-preserved : goal.loop-item-preserved
+loop-item-preserved c =
+    let items = c.args.items.now in
+    let i = c.loop-item.item-index in
+    c.with-set.ensures ∙ ap (λ s. with s (get_or items i 0)) c.loop-item.invariant ∙ sym (reached-next empty items i c.loop-item-test.true)
+
+pub returns-clause-value : goal.returns-clause-value
+returns-clause-value c =
+    let items = c.args.items.now in
+    c.loop-item.invariant ∙ ap (reached empty) (take_all c.loop-item.item-index items (omega arith)) ∙ reached-all items

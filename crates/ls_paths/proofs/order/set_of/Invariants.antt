@@ -1,0 +1,8 @@
+use Rattle.std.proofs.Common.{◌≡◌, take}
+use Rattle.ls_set.specs.ItemSet.{empty}
+use Rattle.ls_growths.specs.Levels.{reached}
+use Rattle.ls_paths.proofs.order.set_of.Given as goal
+
+-- the set of the items so far
+abbrev pub invariant-loop-item : goal.invariant-loop-item
+invariant-loop-item l = l.set ≡ reached empty (take l.item-index l.items)

@@ -1,0 +1,16 @@
+use Rattle.std.proofs.Common.{◌≡◌, take}
+use Rattle.ls_set.specs.ItemSet.{empty, full, IsWithin}
+use Rattle.ls_growths.specs.Levels.{reached, leaves_below}
+use Rattle.ls_paths.proofs.steps.leave.Given as goal
+
+-- no growth leaves the list from the place on
+abbrev pub invariant-loop-place : goal.invariant-loop-place
+invariant-loop-place g l =
+    let n = g.F.Inside.item_count l.f in
+    let f = g.F.Inside.members l.f in
+    record {
+      passed : leaves_below n f empty l.fn.order l.level ≡ leaves_below n f empty l.fn.order l.place;
+      same : l.order ≡ l.fn.order;
+      set : l.reached ≡ reached empty (take l.place l.fn.order);
+      small : IsWithin l.reached (full n);
+    }

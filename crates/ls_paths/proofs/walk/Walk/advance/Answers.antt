@@ -1,0 +1,42 @@
+use Rattle.std.proofs.Common.{◌≡◌, sym, ap, ◌∙◌, true, arith}
+use Rattle.std.proofs.lemmas.List.{take_all}
+use Rattle.ls_set.specs.ItemSet.{empty, full}
+use Rattle.ls_growths.specs.Levels.{reached, is_whole}
+use Rattle.ls_growths.proofs.Growths.{learning-from}
+use Rattle.ls_growths.proofs.Levels.{grown-fresh, whole-parts, whole-reaches}
+use Rattle.ls_paths.proofs.Walks.{follows-path}
+use Rattle.ls_paths.proofs.walk.Walk.advance.Goals as goal
+
+pub leave-self-requires-clause-fresh : goal.leave-self-requires-clause-fresh
+leave-self-requires-clause-fresh g c =
+    let n = g.F.Inside.item_count c.args.self.now.family.now in
+    let f = g.F.Inside.members c.args.self.now.family.now in
+    let learning = learning-from n f (g.met.F.Inside.is_family c.args.self.now.family.now).small c.args.self.now.learning in
+    let whole : is_whole n f c.args.self.now.order ≡ true = c.args.self.now.whole c.if-self.true in
+    grown-fresh f empty c.args.self.now.order (whole-parts n f c.args.self.now.order whole).grown
+
+pub leave-self-requires-clause-set : goal.leave-self-requires-clause-set
+leave-self-requires-clause-set g c =
+    let n = g.F.Inside.item_count c.args.self.now.family.now in
+    let f = g.F.Inside.members c.args.self.now.family.now in
+    let learning = learning-from n f (g.met.F.Inside.is_family c.args.self.now.family.now).small c.args.self.now.learning in
+    let whole : is_whole n f c.args.self.now.order ≡ true = c.args.self.now.whole c.if-self.true in
+    c.full.ensures ∙ ap full c.items-n.ensures.count ∙ sym (whole-reaches n f c.args.self.now.order learning whole) ∙ ap (reached empty) (sym (take_all c.items-n.result c.args.self.now.order (omega (arith, (whole-parts n f c.args.self.now.order whole).long, c.items-n.ensures.count))))
+
+pub invariant_of-self : goal.invariant_of-self
+invariant_of-self g c =
+    let n = g.F.Inside.item_count c.args.self.now.family.now in
+    let f = g.F.Inside.members c.args.self.now.family.now in
+    let learning = learning-from n f (g.met.F.Inside.is_family c.args.self.now.family.now).small c.args.self.now.learning in
+    let whole : is_whole n f c.args.self.now.order ≡ true = c.args.self.now.whole c.if-self.true in
+    let follow = follows-path n f c.items-n.result c.leave-self.result c.args.self.now.order c.leave-self.new.self _ learning whole c.items-n.ensures.count c.leave-self.ensures in
+    record { learning = c.args.self.now.learning; whole = follow.whole }
+
+pub returns-then-self-clause-left : goal.returns-then-self-clause-left
+returns-then-self-clause-left g c =
+    let n = g.F.Inside.item_count c.args.self.now.family.now in
+    let f = g.F.Inside.members c.args.self.now.family.now in
+    let learning = learning-from n f (g.met.F.Inside.is_family c.args.self.now.family.now).small c.args.self.now.learning in
+    let whole : is_whole n f c.args.self.now.order ≡ true = c.args.self.now.whole c.if-self.true in
+    let follow = follows-path n f c.items-n.result c.leave-self.result c.args.self.now.order c.leave-self.new.self _ learning whole c.items-n.ensures.count c.leave-self.ensures in
+    rw c.if-self.true follow.left

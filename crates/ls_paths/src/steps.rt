@@ -1,0 +1,119 @@
+// Steps of a walk through the learning paths, in place.
+ghost use Rattle.std.specs.Prelude.{◌≡◌, ◌<◌, ◌≤◌, true, None, Some, length, take, IfSome, MatchBool};
+ghost use Rattle.ls_set.specs.ItemSet.{empty, full, with, is_among, most_items, IsWithin};
+ghost use Rattle.ls_theory.specs.Verdict.{is_learning_space};
+ghost use Rattle.ls_growths.specs.Growths.{first_next, next_after, first_growth, next_growth};
+ghost use Rattle.ls_growths.specs.Levels.{reached, is_fresh, leaves_below};
+
+use ls_interior::{Inside, is_member};
+use ls_set::ItemSet;
+
+// The least item that can be added to a member; 0 where it has all items. Of the items outside it
+// some can be added, so the last of them is not asked for.
+fn least_item<F: Inside>(f: &F, k: ItemSet) -> u32
+    requires learning { is_learning_space (full (F.item_count f.now)) (F.members f.now) ≡ true }
+    requires member { is_among (F.members f.now) k ≡ true }
+    requires some { 0 < F.item_count f.now }
+    ensures value { result ≡ first_next (F.item_count f.now) (F.members f.now) k }
+    ensures member { is_among (F.members f.now) (with k result) ≡ true }
+    ensures place { result < most_items }
+{
+    let outside = ItemSet::full(f.items()).minus(k);
+    let Some(first) = outside.least() else {
+        return 0;
+    };
+    let mut item = first;
+    while let Some(next) = outside.next_member(item) {
+        if is_member(f, k.with(item)) {
+            return item;
+        }
+        item = next;
+    }
+    item
+}
+
+// The least item above the given one that can be added to the set.
+fn next_item<F: Inside>(f: &F, k: ItemSet, above: u32) -> Option<u32>
+    requires small { IsWithin k (full (F.item_count f.now)) }
+    requires item { above < F.item_count f.now }
+    ensures value { result ≡ next_after (F.item_count f.now) (F.members f.now) k above }
+    ensures place { IfSome result (λ i. i < most_items) }
+{
+    let outside = ItemSet::full(f.items()).minus(k);
+    let mut item = above;
+    while let Some(next) = outside.next_member(item) {
+        if is_member(f, k.with(next)) {
+            return Some(next);
+        }
+        item = next;
+    }
+    None
+}
+
+// Writes into the list the items by which a member grows first: at each step the least that can be
+// added.
+pub fn grow<F: Inside>(f: &F, k: ItemSet, order: &mut [u32])
+    requires learning { is_learning_space (full (F.item_count f.now)) (F.members f.now) ≡ true }
+    requires member { is_among (F.members f.now) k ≡ true }
+    requires fits { length order.old ≤ F.item_count f.now }
+    ensures { order.new
+        ≡ first_growth (F.item_count f.now) (F.members f.now) (length order.old) k }
+{
+    let mut reached = k;
+    for slot in order.iter_mut() {
+        let item = least_item(f, reached);
+        *slot = item;
+        reached = reached.with(item);
+    }
+}
+
+// How many of the list's first items are to be taken back for the next growth of the empty set
+// after it, and the set of them: all of them, or those up to the first that cannot be added.
+pub fn first_level<F: Inside>(f: &F, order: &[u32]) -> (usize, ItemSet)
+    requires fresh { is_fresh empty order.now ≡ true }
+    requires small { IsWithin (reached empty order.now) (full (F.item_count f.now)) }
+    ensures level { result.0 ≤ length order.now }
+    ensures set { result.1 ≡ reached empty (take result.0 order.now) }
+    ensures small { IsWithin result.1 (full (F.item_count f.now)) }
+    ensures leaves { next_growth (F.item_count f.now) (F.members f.now) order.now empty
+        ≡ leaves_below (F.item_count f.now) (F.members f.now) empty order.now result.0 }
+{
+    let _ = f.items();
+    let mut reached = ItemSet::empty();
+    for (place, item) in order.iter().enumerate() {
+        reached = reached.with(*item);
+        if !is_member(f, reached) {
+            return (place + 1, reached);
+        }
+    }
+    (order.len(), reached)
+}
+
+// Makes of the list the growth that leaves it at the last place below the level at which one can,
+// or leaves the list as it is where none can. `k` is the set of the items before the level.
+pub fn leave<F: Inside>(f: &F, k: ItemSet, level: usize, order: &mut [u32]) -> bool
+    requires learning { is_learning_space (full (F.item_count f.now)) (F.members f.now) ≡ true }
+    requires fresh { is_fresh empty order.old ≡ true }
+    requires fits { length order.old ≤ F.item_count f.now }
+    requires level { level ≤ length order.old }
+    requires set { k ≡ reached empty (take level order.old) }
+    requires small { IsWithin k (full (F.item_count f.now)) }
+    ensures { MatchBool result
+        (leaves_below (F.item_count f.now) (F.members f.now) empty order.old level
+        ≡ Some order.new)
+        ((leaves_below (F.item_count f.now) (F.members f.now) empty order.old level ≡ None)
+        × (order.new ≡ order.old)) }
+{
+    let _ = f.items();
+    let mut reached = k;
+    for place in (0..level).rev() {
+        let item = order[place];
+        reached = reached.without(item);
+        if let Some(next) = next_item(f, reached, item) {
+            order[place] = next;
+            grow(f, reached.with(next), &mut order[place + 1..]);
+            return true;
+        }
+    }
+    false
+}

@@ -1,0 +1,71 @@
+-- The verdict on a space, by a walk over its base.
+use Rattle.std.proofs.Common.{ℕ, ◌+◌, ◌-◌, ◌<◌, ◌≤◌, ◌≡◌, true, false, nat_lt, List, [], length, take, drop, get_or, slice_index, Some, None, unwrap_or, refl, sym, ap, ◌∙◌, lt-ltb, le-ltb}
+use Rattle.std.specs.Option.{option_map_or}
+use Rattle.std.proofs.lemmas.List.{drop_all}
+use Rattle.std.proofs.lemmas.Option.{unwrap_or-slice_get}
+use Rattle.ls_lists.proofs.Places.{drop-next, no_first}
+use Rattle.ls_set.specs.ItemSet.{Items, minus, without, len, least, items, is_same, IsInOrder}
+use Rattle.ls_set.proofs.Firsts.{items-least}
+use Rattle.ls_theory.specs.declared.verdict.BaseVerdict.{BaseVerdict}
+use Rattle.ls_theory.specs.declared.verdict.BaseVerdict.TheVariants.{NotGraded, Learning}
+use Rattle.ls_theory.specs.Families.{unions, is_space}
+use Rattle.ls_theory.specs.Bases.{base}
+use Rattle.ls_laws.specs.Spans.{union_below, needed, spanned}
+use Rattle.ls_laws.proofs.Interiors.{space-to, unions-member}
+use Rattle.ls_laws.proofs.Atoms.{base-member, base-spans}
+use Rattle.ls_laws.proofs.Spans.{spanned-has, spanned-IsUnionFamily, base-in_order, base-needed}
+use Rattle.ls_base.proofs.Spanned.{base-on}
+use Rattle.ls_base.proofs.OwnItems.{own-place, own-less}
+use Rattle.ls_spans.specs.Verdicts.{own_by, first_double, not_graded, graded_by}
+use Rattle.ls_spans.proofs.Below.{base-below}
+
+-- ---- the two least items
+
+pub two-least : (own : Items) (i : ℕ) → least own ≡ Some i → (slice_index (items own) 0 ≡ i) × (slice_index (items own) 1 ≡ unwrap_or (least (without own i)) 0)
+unfolding least
+two-least own i e =
+    let first = items-least own i e in
+    (ap (λ l. get_or l 0 0) first, ap (λ l. get_or l 1 0) first ∙ sym (unwrap_or-slice_get (items (without own i)) 0 0))
+
+pub none-least : (own : Items) → least own ≡ None → items own ≡ []
+unfolding least
+none-least own e = no_first (items own) e
+
+-- ---- the walk
+
+module _ (b : List Items) (order : IsInOrder b) (whole : needed b ≡ b) where
+  itself : base b ≡ b
+  itself = base-below b order ∙ whole
+
+  module _ (after : List Items) (i : ℕ) (k : Items) (l : i < length b) (e : k ≡ get_or b i k) (rest : after ≡ take (length b - (i + 1)) (drop (i + 1) b)) where
+    pub judged-less : is_same (union_below after k) k ≡ false
+    judged-less = own-less b b after i k order itself l e rest
+
+    judged-own : (own : Items) → own ≡ minus k (union_below after k) → own ≡ own_by b k
+    judged-own own is = is ∙ ap (minus k) (own-place b b after i k order itself l e rest ∙ ap (λ g. union_below g k) itself)
+
+    pub judged-double : (own : Items) → own ≡ minus k (union_below after k) → 1 < len own → first_double b b ≡ first_double b (drop i b) → (v : BaseVerdict) → v ≡ NotGraded k (slice_index (items own) 0) (slice_index (items own) 1) → v ≡ graded_by b b
+    judged-double own is many had v told =
+        let same = judged-own own is in
+        let here : nat_lt 1 (len (own_by b k)) ≡ true = ap (λ s. nat_lt 1 (len s)) (sym same) ∙ lt-ltb 1 (len own) many in
+        let found : first_double b b ≡ Some k = had ∙ ap (first_double b) (drop-next b i k l e) ∙ rw here refl in
+        told ∙ ap (λ s. NotGraded k (slice_index (items s) 0) (slice_index (items s) 1)) same ∙ sym (ap (λ o. option_map_or (not_graded b) o Learning) found)
+
+    pub judged-passed : (own : Items) → own ≡ minus k (union_below after k) → len own ≤ 1 → first_double b b ≡ first_double b (drop i b) → first_double b b ≡ first_double b (drop (i + 1) b)
+    judged-passed own is few had =
+        let here : nat_lt 1 (len (own_by b k)) ≡ false = ap (λ s. nat_lt 1 (len s)) (sym (judged-own own is)) ∙ le-ltb 1 (len own) few in
+        had ∙ ap (first_double b) (drop-next b i k l e) ∙ rw here refl
+
+  pub judged-all : (i : ℕ) → length b ≤ i → first_double b b ≡ first_double b (drop i b) → Learning ≡ graded_by b b
+  judged-all i l had = sym (ap (λ o. option_map_or (not_graded b) o Learning) (had ∙ ap (first_double b) (drop_all i b l)))
+
+-- ---- the base of a family
+
+pub needed-base : (f : List Items) → IsInOrder f → needed (base f) ≡ base f
+needed-base f order = sym (base-needed f (base f) order (base-in_order f order) (base-member f) (base-spans f))
+
+-- what a base spans is a space on the items of its sets
+pub spanned-space : (n : ℕ) (b : List Items) → base (spanned n b) ≡ b → is_space (unions b) (spanned n b) ≡ true
+spanned-space n b e =
+    let family = spanned-IsUnionFamily n b in
+    space-to (unions b) (spanned n b) family.holds_empty (unions-member (spanned n b) family.holds_empty family.holds_unions b (spanned-has n b (base-on n b e))) family.holds_unions

@@ -1,0 +1,6 @@
+use Rattle.std.proofs.Common.{◌≡◌, drop}
+use Rattle.ls_spans.specs.Verdicts.{first_double}
+use Rattle.ls_space.proofs.gradation.judge.Given as goal
+
+abbrev pub invariant-loop-place : goal.invariant-loop-place
+invariant-loop-place l = first_double l.base l.base ≡ first_double l.base (drop l.place l.base)

@@ -1,0 +1,6 @@
+use Rattle.std.proofs.Common.{take}
+use Rattle.ls_space.proofs.Adding.{IsClean}
+use Rattle.ls_space.proofs.unions.first_lacking.Given as goal
+
+abbrev pub invariant-loop-place : goal.invariant-loop-place
+invariant-loop-place l = IsClean l.f.sets l.base (take l.place l.f.sets)

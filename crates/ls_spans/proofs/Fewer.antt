@@ -1,0 +1,84 @@
+-- Whether a union of a member with a set of a list is missing, by fewer unions.
+use Rattle.std.proofs.Common.{ℕ, ◌≡◌, inl, inr, Bool, true, false, not, List, ◌∷◌, ◌++◌, refl, sym, ap, ◌∙◌, true≢false, eqb, eqb-true, arith}
+use Rattle.std.specs.List.{list_any}
+use Rattle.std.proofs.lemmas.Bool.{cases_Bool, and_parts, or_cases, or_right, not-true, not_from_true, false_from_ne_true}
+use Rattle.std.proofs.lemmas.Bool.Decides.{nat_tests}
+use Rattle.ls_lists.proofs.Bools.{same_truth}
+use Rattle.ls_set.specs.ItemSet.{Items, has, empty, union, meet, with, is_same, is_within, is_among, comes_before, IsWithin, IsInOrder}
+use Rattle.ls_set.proofs.Sets.{members, has-with, has-meet, same_set, Decides-is_same, IsWithin-from}
+use Rattle.ls_set.proofs.Members.{among-here, among-cases, among-append, Each-among}
+use Rattle.ls_set.proofs.Order.{comes_before-irreflexive, comes_before-asymmetric}
+use Rattle.ls_laws.specs.Spans.{touches}
+use Rattle.ls_laws.proofs.Lists.{some-among, some-from}
+use Rattle.ls_laws.proofs.Counts.{some_item}
+use Rattle.ls_spans.specs.Unions.{is_missing, is_apart, lacks_apart, IsGrown}
+use Rattle.ls_spans.proofs.Unclosed.{before-part}
+
+-- an item of two sets
+touched : (s t : Items) → touches s t ≡ true → (i : ℕ) × (has s i ≡ true) × (has t i ≡ true)
+touched s t h = elim (some_item (meet s t)) [
+  | inl e ↦ absurd (true≢false (sym ((Decides-is_same (meet s t) empty).1 e) ∙ not-true (is_same (meet s t) empty) h))
+  | inr r ↦ let p = and_parts (has s r.0) (has t r.0) (sym (has-meet s t r.0) ∙ r.1) in (r.0, p.0, p.1)
+]
+
+-- ---- unions with one item more
+
+with-left : (k : Items) (i : ℕ) → IsWithin k (with k i)
+with-left k i j h = has-with k i j ∙ rw h refl
+
+with-here : (k : Items) (i : ℕ) → has (with k i) i ≡ true
+with-here k i = grind (arith, nat_tests, members)
+
+with-other : (k b : Items) (i : ℕ) → has b i ≡ true → union (with k i) b ≡ union k b
+with-other k b i h = same_set (union (with k i) b) (union k b) (λ j.
+    let same : eqb j i ≡ true → has b j ≡ true = λ e. ap (has b) (eqb-true j i e) ∙ h in
+    grind (arith, members, same))
+
+union-whole : (k b : Items) → IsWithin b k → union k b ≡ k
+union-whole k b w = same_set (union k b) k (λ j. let h = w j in grind (arith, members, h))
+
+-- two tests that agree on the sets of a list
+any-same : (p q : Items → Bool) (g : List Items) → ((b : Items) → is_among g b ≡ true → p b ≡ q b) → list_any p g ≡ list_any q g
+any-same p q g same = same_truth (list_any p g) (list_any q g)
+    (λ h. let r = some-from p g h in some-among q g r.0 r.1 (sym (same r.0 r.1) ∙ r.2))
+    (λ h. let r = some-from q g h in some-among p g r.0 r.1 (same r.0 r.1 ∙ r.2))
+
+-- ---- a member before which no union is missing
+
+module _ (f g before xs : List Items) (k s : Items) (e : before ++ k ∷ xs ≡ f) (order : IsInOrder (k ∷ xs))
+    (clean : (y : Items) → is_among before y ≡ true → list_any (is_missing f y) g ≡ false) (grown : IsGrown f k s) where
+  member : is_among f k ≡ true
+  member = ap (λ ss. is_among ss k) (sym e) ∙ among-append before (k ∷ xs) k ∙ or_right (is_among before k) (is_among (k ∷ xs) k) (among-here k k xs refl)
+
+  earlier : (y : Items) → is_among f y ≡ true → comes_before y k ≡ true → is_among before y ≡ true
+  earlier y a b = elim (or_cases (is_among before y) (is_among (k ∷ xs) y) (sym (among-append before (k ∷ xs) y) ∙ ap (λ ss. is_among ss y) e ∙ a)) [
+    | inl h ↦ h
+    | inr h ↦ elim (among-cases y k xs h) [
+      | inl s ↦ absurd (true≢false (sym b ∙ ap (λ t. comes_before t k) s ∙ comes_before-irreflexive k))
+      | inr s ↦ absurd (true≢false (sym b ∙ comes_before-asymmetric k y (Each-among (λ t. comes_before k t ≡ true) xs y order.0 s)))
+    ]
+  ]
+
+  -- the union with a set that has an item of s is that of an earlier member
+  there : (b : Items) → is_among g b ≡ true → touches b s ≡ true → is_missing f k b ≡ false
+  there b c t =
+      let x = touched b s t in
+      let i = x.0 in
+      let out = grown i x.2 in
+      elim (before-part k (with k i) (with-left k i)) [
+        | inl same ↦ absurd (true≢false (sym (with-here k i) ∙ ap (λ u. has u i) same ∙ out.0))
+        | inr first ↦ false_from_ne_true (is_missing f k b) (λ m.
+            true≢false (sym (some-among (is_missing f (with k i)) g b c (ap (λ u. not (is_among f u)) (with-other k b i x.1) ∙ m)) ∙ clean (with k i) (earlier (with k i) out.1 first)))
+      ]
+
+  apart : (b : Items) → is_among g b ≡ true → is_missing f k b ≡ is_apart f s k b
+  apart b c = elim (cases_Bool (touches b s)) [
+    | inl t ↦ rw t (there b c t)
+    | inr t ↦ elim (cases_Bool (is_within b k)) [
+      | inl w ↦ rw (t, w) (not_from_true (is_among f (union k b)) (ap (is_among f) (union-whole k b (IsWithin-from b k w)) ∙ member))
+      | inr w ↦ rw (t, w) refl
+    ]
+  ]
+
+  pub missing-apart : list_any (is_missing f k) g ≡ lacks_apart f g s k
+  missing-apart = any-same (is_missing f k) (is_apart f s k) g apart

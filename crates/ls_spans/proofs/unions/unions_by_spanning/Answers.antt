@@ -1,0 +1,12 @@
+use Rattle.ls_theory.specs.Bases.{base}
+use Rattle.ls_laws.proofs.Atoms.{base-member, base-spans}
+use Rattle.ls_spans.proofs.Unclosed.{closed-spanning, pair-spanning}
+use Rattle.ls_spans.proofs.unions.unions_by_spanning.Goals as goal
+
+pub returns : goal.returns
+returns c = record {
+  closed = closed-spanning;
+  closed_by_base = λ f. closed-spanning f (base f) (base-member f) (base-spans f);
+  pair = pair-spanning;
+  pair_by_base = λ f order. pair-spanning f (base f) order (base-member f) (base-spans f);
+}

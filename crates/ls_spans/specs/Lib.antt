@@ -1,0 +1,4 @@
+pub mod Traces
+pub mod Speaking
+pub mod Unions
+pub mod Verdicts
