@@ -29,31 +29,30 @@ module _ (names : List Text) where
   pub first_unnamed-lt : (ws : List Text) (i : ℕ) → first_unnamed names ws ≡ Some i → i < length ws
   first_unnamed-lt ws i e = position-lt names_none ws i e
 
+  -- ---- words, one after the other
+
+  module _ (front rest : List (ℕ × Text)) where
+    unnamed-both : unnamed names (front ++ rest) ≡ unnamed names front ++ unnamed names rest
+    unnamed-both =
+        ap (map (λ w. w.0)) (filter-append (λ w. names_none w.1) front rest)
+        ∙ map-append (λ w. w.0) (filter (λ w. names_none w.1) front) (filter (λ w. names_none w.1) rest)
+
+    -- the first at fault is in front
+    pub in_front : (place : ℕ) → slice_get (unnamed names front) 0 ≡ Some place → slice_get (unnamed names (front ++ rest)) 0 ≡ Some place
+    in_front place e = ap (λ ps. slice_get ps 0) unnamed-both ∙ first-front (unnamed names front) _ place e
+
+    -- those in front name items
+    pub in_rest : unnamed names front ≡ [] → unnamed names (front ++ rest) ≡ unnamed names rest
+    in_rest e = unnamed-both ∙ ap (λ ps. ps ++ unnamed names rest) e
+
   -- ---- the words of a query
 
   module _ (ws : List Text) (item : Text) where
-    unnamed-query : unnamed names (query_words ws item) ≡ unnamed names (placed 2 ws) ++ unnamed names ((length ws + 3, item) ∷ [])
-    unnamed-query =
-        ap (map (λ w. w.0)) (filter-append (λ w. names_none w.1) (placed 2 ws) ((length ws + 3, item) ∷ []))
-        ∙ map-append (λ w. w.0) (filter (λ w. names_none w.1) (placed 2 ws)) (filter (λ w. names_none w.1) ((length ws + 3, item) ∷ []))
-
-    pub query-first : (place : ℕ) → Some place ≡ slice_get (unnamed names (placed 2 ws)) 0 → Some place ≡ slice_get (unnamed names (query_words ws item)) 0
-    query-first place e = sym (ap (λ ps. slice_get ps 0) unnamed-query ∙ first-front (unnamed names (placed 2 ws)) _ place (sym e))
-
-    query-last : None ≡ slice_get (unnamed names (placed 2 ws)) 0 → slice_get (unnamed names (query_words ws item)) 0 ≡ slice_get (unnamed names ((length ws + 3, item) ∷ [])) 0
-    query-last e = ap (λ ps. slice_get ps 0) unnamed-query ∙ first-rest (unnamed names (placed 2 ws)) _ (sym e)
-
     named-is : (o : Option ℕ) → o ≡ number_of names item → is_named names item ≡ is_some o
     named-is o e = sym (ap is_some e ∙ is_some-position _ names)
 
     -- every name names an item
-    pub query-item : (o : Option ℕ) → None ≡ slice_get (unnamed names (placed 2 ws)) 0 → o ≡ number_of names item
-        → slice_get (unnamed names (query_words ws item)) 0 ≡ cond (is_some o) None (Some (length ws + 3))
-    query-item None e f = query-last e ∙ rw (named-is None f) refl
-    query-item (Some i) e f = query-last e ∙ rw (named-is (Some i) f) refl
-
-    -- all words name items
-    pub query-named : unnamed names (placed 2 ws) ≡ [] → is_some (number_of names item) ≡ true → unnamed names (query_words ws item) ≡ []
-    query-named e f =
-        unnamed-query ∙ ap (λ ps. ps ++ unnamed names ((length ws + 3, item) ∷ [])) e
-        ∙ rw (sym (is_some-position _ names) ∙ f) refl
+    pub query-item : (o : Option ℕ) → unnamed names (placed 2 ws) ≡ [] → o ≡ number_of names item
+        → unnamed names (query_words ws item) ≡ cond (is_some o) [] ((length ws + 3) ∷ [])
+    query-item None e f = in_rest (placed 2 ws) ((length ws + 3, item) ∷ []) e ∙ rw (named-is None f) refl
+    query-item (Some i) e f = in_rest (placed 2 ws) ((length ws + 3, item) ∷ []) e ∙ rw (named-is (Some i) f) refl

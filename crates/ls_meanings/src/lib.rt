@@ -2,9 +2,9 @@
 //! it out speaks of items.
 #![tactic(auto)]
 
-mod query;
+mod names;
 mod request;
 mod unnamed;
 
 pub use request::{asks, resolve};
-pub use unnamed::Unnamed;
+pub use unnamed::ResolveFault;

@@ -1,16 +1,22 @@
 // What commands ask of an interview.
-ghost use Rattle.std.specs.Prelude.{◌≡◌, ◌≤◌, [], Some, is_some, length, slice_get, IfOk, IfErr, OnOk};
+ghost use Rattle.std.specs.Prelude.{◌≡◌, ◌≤◌, [], Some, false, is_some, map, length, slice_get, option_map, IfOk, IfErr, OnOk};
 ghost use Rattle.std.specs.Option.{ForSome};
 ghost use Rattle.ls_set.specs.ItemSet.{full, IsWithin};
-ghost use Rattle.ls_reply.specs.Meanings.{unnamed_places, request_of, after_of};
-ghost use Rattle.ls_meanings.specs.Asked.{IsAskedOn};
+ghost use Rattle.ls_domain.specs.Meanings.{item_of, items_of};
+ghost use Rattle.ls_reply.specs.Meanings.{placed, projected_place, sets_words, order_words, unnamed, unnamed_places, request_of, after_of};
+ghost use Rattle.ls_reply.specs.declared.request.View.TheVariants as view;
+ghost use Rattle.ls_meanings.specs.Asked.{IsOn, IsAskedOn, IsResolveFault, is_edit};
 
-use crate::query::read_query;
-use crate::unnamed::Unnamed;
+use crate::names::{FIRST_NAME, read_names, read_order, read_query};
+use crate::unnamed::{ResolveFault, Unnamed};
 use ls_domain::Domain;
-use ls_lines::{Command, Word};
+use ls_lines::{Command, Word, WordList};
 use ls_reply::{Edit, Request, View};
-use ls_set::{CursorFault, ItemSet, PLACES};
+use ls_set::{CursorFault, ItemList, ItemSet, PLACES};
+use std::alloc::Global;
+
+// The first place of the names after which learning paths are listed.
+const FIRST_OF_PATH: usize = 4;
 
 /// Whether the command asks something of an interview.
 pub fn asks(command: &Command) -> bool
@@ -27,42 +33,86 @@ pub fn asks(command: &Command) -> bool
             | Command::States { .. }
             | Command::Base
             | Command::Surmise
+            | Command::Learning
+            | Command::Project { .. }
+            | Command::ProjectBase { .. }
+            | Command::Fringes { .. }
+            | Command::StateOf { .. }
+            | Command::Paths { .. }
     )
 }
 
 /// What the command asks of the interview on a domain's items, or `None` where it asks nothing of
-/// one. The error is the first of its words that must name an item and doesn't.
-pub fn resolve(domain: &Domain, command: &Command) -> Result<Option<Request>, Unnamed>
+/// one. The error is the first of its words that must name an item and doesn't; or memory ran out.
+pub fn resolve(
+    alloc: Global,
+    domain: &Domain,
+    command: &Command,
+) -> Result<Option<Request>, ResolveFault>
     ensures request { IfOk result (λ r. r ≡ request_of domain.now command.now) }
     ensures on { IfOk result (IsAskedOn (length domain.now)) }
     ensures named { OnOk result (unnamed_places domain.now command.now ≡ []) }
-    ensures unnamed { IfErr result (λ u.
-        slice_get (unnamed_places domain.now command.now) 0 ≡ Some u.place) }
+    ensures unnamed { IfErr result (IsResolveFault (unnamed_places domain.now command.now)) }
 {
-    let request = match command {
-        Command::Blocks { size } => Request::Edit(Edit::Blocks { size: *size }),
-        Command::Yes { names, item } => Request::Edit(Edit::Answer {
+    let edit = match command {
+        Command::Blocks { size } => Edit::Blocks { size: *size },
+        Command::Yes { names, item } => Edit::Answer {
             query: read_query(domain, names, item)?,
             yes: true,
-        }),
-        Command::No { names, item } => Request::Edit(Edit::Answer {
+        },
+        Command::No { names, item } => Edit::Answer {
             query: read_query(domain, names, item)?,
             yes: false,
-        }),
-        Command::Retract { number } => Request::Edit(Edit::Retract { number: *number }),
-        Command::Known { names, item } => Request::View(View::Known {
+        },
+        Command::Retract { number } => Edit::Retract { number: *number },
+        _ => return read_view(alloc, domain, command),
+    };
+    Ok(Some(Request::Edit(edit)))
+}
+
+// What a command asks that changes nothing.
+fn read_view(
+    alloc: Global,
+    domain: &Domain,
+    command: &Command,
+) -> Result<Option<Request>, ResolveFault>
+    requires { is_edit command.now ≡ false }
+    ensures request { IfOk result (λ r. r ≡ request_of domain.now command.now) }
+    ensures on { IfOk result (IsAskedOn (length domain.now)) }
+    ensures named { OnOk result (unnamed_places domain.now command.now ≡ []) }
+    ensures unnamed { IfErr result (IsResolveFault (unnamed_places domain.now command.now)) }
+{
+    let view = match command {
+        Command::Known { names, item } => View::Known {
             query: read_query(domain, names, item)?,
-        }),
-        Command::Ask => Request::View(View::Ask),
-        Command::States { count, after } => Request::View(View::States {
+        },
+        Command::Ask => View::Ask,
+        Command::States { count, after } => View::States {
             count: *count,
             after: read_after(domain.count(), after),
-        }),
-        Command::Base => Request::View(View::Base),
-        Command::Surmise => Request::View(View::Surmise),
+        },
+        Command::Base => View::Base,
+        Command::Surmise => View::Surmise,
+        Command::Learning => View::Learning,
+        Command::Fringes { names } => View::Fringes {
+            set: read_names(domain, names, FIRST_NAME)?,
+        },
+        Command::StateOf { inner, outer } => read_fringes(domain, inner, outer)?,
+        Command::Project {
+            count,
+            after,
+            names,
+        } => read_projection(domain, *count, after, names)?,
+        Command::ProjectBase { names } => View::ProjectBase {
+            part: read_names(domain, names, FIRST_NAME)?,
+        },
+        Command::Paths { count, after } => View::Paths {
+            count: *count,
+            after: read_path(alloc, domain, after)?,
+        },
         _ => return Ok(None),
     };
-    Ok(Some(request))
+    Ok(Some(Request::View(view)))
 }
 
 // The set of the cursor after which a page of sets of `n` items begins, if there is one.
@@ -74,5 +124,67 @@ fn read_after(n: u32, after: &Option<Word>) -> Result<Option<ItemSet>, CursorFau
     match after {
         None => Ok(None),
         Some(word) => Ok(Some(ItemSet::from_cursor(n, word.as_str().as_bytes())?)),
+    }
+}
+
+// The place of the first name of a projection.
+fn projected_place(after: &Option<Word>) -> usize
+    ensures { result ≡ projected_place after.now }
+{
+    if after.is_some() { 6 } else { 4 }
+}
+
+// `project COUNT : NAMES` and `project COUNT after CURSOR : NAMES`
+fn read_projection(
+    domain: &Domain,
+    count: u32,
+    after: &Option<Word>,
+    names: &WordList,
+) -> Result<View, Unnamed>
+    ensures view { IfOk result (λ v. v ≡ view.Project (items_of domain.now names.now) count
+        (after_of (length domain.now) after.now)) }
+    ensures on { IfOk result (IsOn (length domain.now)) }
+    ensures named { OnOk result
+        (unnamed domain.now (placed (projected_place after.now) names.now) ≡ []) }
+    ensures unnamed { IfErr result (λ u. slice_get (unnamed domain.now
+        (placed (projected_place after.now) names.now)) 0 ≡ Some u.place) }
+{
+    let part = read_names(domain, names, projected_place(after))?;
+    let after = read_after(domain.count(), after);
+    Ok(View::Project { part, count, after })
+}
+
+// `state-of NAMES | NAMES`
+fn read_fringes(domain: &Domain, inner: &WordList, outer: &WordList) -> Result<View, Unnamed>
+    ensures view { IfOk result (λ v. v ≡ view.StateOf (items_of domain.now inner.now)
+        (items_of domain.now outer.now)) }
+    ensures on { IfOk result (IsOn (length domain.now)) }
+    ensures named { OnOk result
+        (unnamed domain.now (sets_words inner.now outer.now) ≡ []) }
+    ensures unnamed { IfErr result (λ u. slice_get (unnamed domain.now
+        (sets_words inner.now outer.now)) 0 ≡ Some u.place) }
+{
+    let first_outer = inner.as_slice().len() + 3;
+    let inner = match read_names(domain, inner, FIRST_NAME) {
+        Ok(inner) => inner,
+        Err(unnamed) => return Err(unnamed),
+    };
+    let outer = read_names(domain, outer, first_outer)?;
+    Ok(View::StateOf { inner, outer })
+}
+
+// The items of the names after which a page of learning paths begins, if it has some.
+fn read_path(
+    alloc: Global,
+    domain: &Domain,
+    after: &Option<WordList>,
+) -> Result<Option<ItemList>, ResolveFault>
+    ensures path { IfOk result (λ p. p ≡ option_map (map (item_of domain.now)) after.now) }
+    ensures named { OnOk result (unnamed domain.now (order_words after.now) ≡ []) }
+    ensures unnamed { IfErr result (IsResolveFault (unnamed domain.now (order_words after.now))) }
+{
+    match after {
+        None => Ok(None),
+        Some(names) => Ok(Some(read_order(alloc, domain, names, FIRST_OF_PATH)?)),
     }
 }

@@ -54,15 +54,16 @@ asked_effect-without (Some request) = refl
 -- ---- commands and lines
 
 pub command_effect-asked : (s : Session) (calls : Calls) (c : Command) → (c ≡ command.Nothing → ⊥) → ((names : List Text) → c ≡ command.Items names → ⊥) → ((file : Text) → c ≡ command.LoadItems file → ⊥)
-    → ((file : Text) → c ≡ command.StartSurmise file → ⊥) → ((file : Text) → c ≡ command.StartBase file → ⊥)
+    → ((file : Text) → c ≡ command.StartSurmise file → ⊥) → ((file : Text) → c ≡ command.StartBase file → ⊥) → ((file : Text) → c ≡ command.Test file → ⊥)
     → command_effect s calls c ≡ asked_effect s (unnamed_at s c) (request_of s.names c)
 unfolding command_effect
-command_effect-asked s calls command.Nothing a b d e f = absurd (a refl)
-command_effect-asked s calls (command.Items names) a b d e f = absurd (b names refl)
-command_effect-asked s calls (command.LoadItems file) a b d e f = absurd (d file refl)
-command_effect-asked s calls (command.StartSurmise file) a b d e f = absurd (e file refl)
-command_effect-asked s calls (command.StartBase file) a b d e f = absurd (f file refl)
-command_effect-asked s calls c a b d e f = refl
+command_effect-asked s calls command.Nothing a b d e f g = absurd (a refl)
+command_effect-asked s calls (command.Items names) a b d e f g = absurd (b names refl)
+command_effect-asked s calls (command.LoadItems file) a b d e f g = absurd (d file refl)
+command_effect-asked s calls (command.StartSurmise file) a b d e f g = absurd (e file refl)
+command_effect-asked s calls (command.StartBase file) a b d e f g = absurd (f file refl)
+command_effect-asked s calls (command.Test file) a b d e f g = absurd (g file refl)
+command_effect-asked s calls c a b d e f g = refl
 
 module _ (s : Session) (calls : Calls) (line : List ℕ) where
   abbrev pub long : Effect

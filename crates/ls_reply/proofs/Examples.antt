@@ -2,12 +2,15 @@
 use Rattle.std.proofs.Common.{◌≡◌, refl, true, false, [], ◌∷◌, codes, decimal, replicate}
 use Rattle.std.specs.Fmt.{digits}
 use Rattle.std.specs.Prelude.{ℕ, List, map as map_of}
-use Rattle.ls_set.specs.ItemSet.{has, empty, full, with, union, meet, minus, single, differing, is_within, is_same, bound, items, least, comes_before, len}
+use Rattle.ls_set.specs.ItemSet.{has, empty, full, with, without, union, meet, minus, single, differing, is_within, is_same, bound, items, least, comes_before, len}
 use Rattle.ls_set.specs.Cursor.{cursor, cursor_set, read_cursor}
 use Rattle.ls_theory.specs.Compatible.{compat}
 use Rattle.ls_theory.specs.Queries.{blocks, block_before, query_before, queries}
 use Rattle.ls_theory.specs.Families.{families, interior}
 use Rattle.ls_theory.specs.Bases.{base, peak}
+use Rattle.ls_theory.specs.Verdict.{verdict, is_well_graded, is_joined}
+use Rattle.ls_theory.specs.Fringes.{inner_fringe, outer_fringe, state_of}
+use Rattle.ls_theory.specs.Paths.{orders_of, paths}
 use Rattle.ls_theory.specs.Fitting.{fitting_spaces}
 use Rattle.ls_theory.specs.declared.known.Known.{Known}
 use Rattle.ls_theory.specs.Forced.{known, next_question}
@@ -34,7 +37,7 @@ use Rattle.ls_reply.specs.Transcripts.{replies, refuses, transcript, is_some_ref
 
 -- an example that opens this opens each word
 unfoldable answering : ℕ
-unfolding escape_byte minus interior line_read found_from sets_of surmise_text members_from digits has empty full with union meet single differing is_within is_same bound items least comes_before cursor cursor_set read_cursor compat lines words is_of spelling parts command forms cut is_begun command_of fault_place line_of bytes_of names_of_set names_from command_effect line_effect replies refuses is_too_wide made blocks len families fitting_spaces known next_question queries query_before block_before base peak
+unfolding escape_byte minus interior line_read found_from sets_of surmise_text members_from digits has empty full with without union meet single differing is_within is_same bound items least comes_before cursor cursor_set read_cursor compat lines words is_of spelling parts command forms cut is_begun command_of fault_place line_of bytes_of names_of_set names_from command_effect line_effect replies refuses is_too_wide made blocks len families fitting_spaces known next_question queries query_before block_before base peak verdict is_well_graded is_joined inner_fringe outer_fringe state_of orders_of paths
 answering = 0
 
 -- three items, the answer that who fails a fails b, and the six states that it leaves
@@ -46,11 +49,11 @@ not_refused : is_some_refused map.empty (codes "items a b c\nyes a : b\nstates\n
 unfolding answering
 not_refused = refl
 
-refused : transcript map.empty (codes "items a a\nitems a b\nitems c\nyes a : a\nyes z : a\nlearning") ≡ codes "no 12 repeat 2 1\nok 2\nno 11\nno 18\nno 15 2\nno 49\n"
+refused : transcript map.empty (codes "items a a\nitems a b\nitems c\nyes a : a\nyes z : a\nodds 8 8") ≡ codes "no 12 repeat 2 1\nok 2\nno 11\nno 18\nno 15 2\nno 49\n"
 unfolding answering
 refused = refl
 
-some_refused : is_some_refused map.empty (codes "items a a\nitems a b\nitems c\nyes a : a\nyes z : a\nlearning") ≡ true
+some_refused : is_some_refused map.empty (codes "items a a\nitems a b\nitems c\nyes a : a\nyes z : a\nodds 8 8") ≡ true
 unfolding answering
 some_refused = refl
 
@@ -119,7 +122,7 @@ unfolding answering
 no_cursors = refl
 
 -- what isn't built yet comes before the domain
-not_built : transcript map.empty (codes "learning\nitems a\nlearning\npaths 1 after\nload-items a b") ≡ codes "no 49\nok 1\nno 49\nno 49\nno 10 3\n"
+not_built : transcript map.empty (codes "odds 8 8\nitems a\nodds 8 8\nclose p\nload-items a b") ≡ codes "no 49\nok 1\nno 49\nno 49\nno 10 3\n"
 unfolding answering
 not_built = refl
 
@@ -165,3 +168,53 @@ not_started = refl
 clauses_shown : transcript map.empty (codes "items b a\nyes a : b\nsurmise") ≡ codes "ok 2\nok 1\nsurmise {\"a\":[[\"a\"]],\"b\":[[\"b\",\"a\"]]}\n"
 unfolding answering
 clauses_shown = refl
+
+-- a learning space, its projections, its fringes and its learning paths
+learned : transcript map.empty (codes "learning\nitems a b c\nyes a : b\nlearning\nproject 10 : b c\nproject 9 :\nproject 1 after 6 : b c\nproject-base b c")
+    ≡ codes "no 15 0\nok 3\nok 1\nlearning yes\nset 6 {b c}\nset 4 {b}\nset 2 {c}\nset 0 {}\nmore no\nset 0 {}\nmore no\nset 4 {b}\nmore yes\nset 4 {b}\nset 2 {c}\nbase 2\nlearning yes\n"
+unfolding answering
+learned = refl
+
+fringed : transcript map.empty (codes "items a b c\nyes a : b\nfringes a\nstate-of a | b c\nstate-of c | b c\nfringes\nstate-of | a c\nfringes b\nfringes z\nstate-of a | z")
+    ≡ codes "ok 3\nok 1\nfringes a | b c\nstate {a}\nno 32\nfringes | a c\nstate {}\nno 30\nno 15 2\nno 15 4\n"
+unfolding answering
+fringed = refl
+
+learned_in_order : transcript map.empty (codes "items a b c\nyes a : b\npaths 10\npaths 1 after b a c\npaths 1 after a b\npaths 0\npaths 1 after a z\nproject 1 : z\nproject 1 after 0 : z")
+    ≡ codes "ok 3\nok 1\npath a b c\npath a c b\npath c a b\nmore no\npath c a b\nmore no\nno 33\nmore yes\nno 15 5\nno 15 4\nno 15 6\n"
+unfolding answering
+learned_in_order = refl
+
+-- the space of two items that are always known together is no learning space
+together : transcript map.empty (codes "items a b\nyes a : b\nyes b : a\nlearning\nstate-of | a\npaths 1\nproject-base a\nproject-base a b")
+    ≡ codes "ok 2\nok 1\nok 2\nlearning no {a b} a b\nno 31 {a b} a b\nno 31 {a b} a b\nset 8 {a}\nbase 1\nlearning yes\nset c {a b}\nbase 1\nlearning no {a b} a b\n"
+unfolding answering
+together = refl
+
+-- the verdicts on the family of a file
+abbrev test_reply : List ℕ → List ℕ
+test_reply bytes = reply_of (line_effect (started (codes "a" ∷ codes "b" ∷ codes "c" ∷ [])) (record { file = λ name. Bytes bytes; failed = false }) (codes "test f"))
+
+not_graded : test_reply (codes "{}\n{a b}\n{a b c}\n") ≡ codes "test not-graded {a b} a b\n"
+unfolding answering
+not_graded = refl
+
+not_closed : test_reply (codes "{}\n{a}\n{b}\n{a b c}\n") ≡ codes "test not-closed {a} {b}\n"
+unfolding answering
+not_closed = refl
+
+no_empty : test_reply (codes "{a b c}\n") ≡ codes "test no-empty\n"
+unfolding answering
+no_empty = refl
+
+no_full : test_reply (codes "{}\n") ≡ codes "test no-full\n"
+unfolding answering
+no_full = refl
+
+a_learning_space : test_reply (codes "{a b c}\n{a b}\n{a c}\n{a}\n{c}\n{}\n") ≡ codes "test learning 3\n"
+unfolding answering
+a_learning_space = refl
+
+repeated_in_test : test_reply (codes "{a}\n{a}\n") ≡ codes "no 29 repeat 2 1\n"
+unfolding answering
+repeated_in_test = refl

@@ -1,8 +1,12 @@
 -- A reply begins with `no ` exactly where the response is a refusal.
-use Rattle.std.proofs.Common.{◌≡◌, Bool, true, false, List, [], ◌∷◌, Some, None, codes, refl}
+use Rattle.std.proofs.Common.{◌≡◌, ℕ, Bool, true, false, List, [], ◌∷◌, ◌++◌, length, Some, None, codes, refl, sym, ap, ◌∙◌, append-nil}
 use Rattle.ls_set.specs.ItemSet.{Items, comes_before}
 use Rattle.ls_set.specs.declared.cursor.CursorFault.TheVariants as cursor
 use Rattle.ls_theory.specs.Pages.{page}
+use Rattle.ls_theory.specs.Words.{is_lex_before}
+use Rattle.ls_theory.specs.Projections.{projection}
+use Rattle.ls_theory.specs.Paths.{paths}
+use Rattle.ls_theory.specs.declared.verdict.BaseVerdict.TheVariants as of_verdict
 use Rattle.ls_theory.specs.Bases.{base}
 use Rattle.ls_theory.specs.declared.known.Known.TheVariants as known
 use Rattle.ls_theory.specs.declared.answer_fault.AnswerFault.TheVariants as answer
@@ -12,13 +16,14 @@ use Rattle.ls_theory.specs.declared.surmise_fault.SurmiseFault.TheVariants as su
 use Rattle.ls_lines.specs.Lines.{Text}
 use Rattle.ls_domain.specs.declared.domain_fault.DomainFault.TheVariants as domain
 use Rattle.ls_files.specs.declared.family_fault.FamilyFault.TheVariants as sets
+use Rattle.ls_domain.specs.Texts.{fringe_words}
 use Rattle.ls_reply.specs.Texts.{line_of, bytes_of}
 use Rattle.ls_reply.specs.Sessions.{Session, states}
 use Rattle.ls_reply.specs.Refusals.{refusal_words}
-use Rattle.ls_reply.specs.Lines.{lines_of, shown_lines, base_lines, page_lines}
+use Rattle.ls_reply.specs.Lines.{lines_of, shown_lines, base_lines, page_lines, path_lines, learning_words, verdict_words}
 use Rattle.ls_reply.specs.Replies.{is_refusal, is_refused}
 use Rattle.ls_reply.specs.declared.refusal.Refusal.{Refusal}
-use Rattle.ls_reply.specs.declared.refusal.Refusal.TheVariants.{NoCommand, LongLine, DomainStands, Domain, AnswersStand, StartSurmise, StartSets, StartBase, Unnamed, Block, Answer, NotStanding, Cursor, Past, NoFile, FileFailed, LargeFile, NotBuilt}
+use Rattle.ls_reply.specs.declared.refusal.Refusal.TheVariants.{NoCommand, LongLine, DomainStands, Domain, AnswersStand, StartSurmise, StartSets, StartBase, Unnamed, Block, Answer, NotStanding, Cursor, Past, NoFile, FileFailed, LargeFile, TestedSets, NotState, NotLearning, NoState, NotOrder, NotBuilt}
 use Rattle.ls_reply.specs.declared.response.Response.{Response}
 use Rattle.ls_reply.specs.declared.response.Response.TheVariants.{Silence, Refused, Done, Shown}
 use Rattle.ls_reply.specs.declared.response.Shown.{Shown as Showing}
@@ -80,19 +85,44 @@ some_words names (Past position count) = refl
 some_words names NoFile = refl
 some_words names FileFailed = refl
 some_words names (LargeFile bytes) = refl
+some_words names (TestedSets (sets.BadLine row)) = refl
+some_words names (TestedSets (sets.UnknownItem row)) = refl
+some_words names (TestedSets (sets.Repeat row first)) = refl
+some_words names (TestedSets (sets.TooMany row)) = refl
+some_words names (TestedSets (sets.Memory e)) = refl
+some_words names NotState = refl
+some_words names (NotLearning k first second) = refl
+some_words names NoState = refl
+some_words names NotOrder = refl
 some_words names NotBuilt = refl
 
 -- ---- what is shown is no refusal
+
+path_shown : (names : List Text) (orders : List (List ℕ)) (more : Bool) → is_refusal (bytes_of (path_lines names (record { members = orders; more = more }))) ≡ false
+unfolding bytes_of line_of
+path_shown names [] more = refl
+path_shown names ([] ∷ os) more = refl
+path_shown names ((i ∷ is) ∷ os) more = refl
 
 page_shown : (names : List Text) (sets : List Items) (more : Bool) → is_refusal (bytes_of (page_lines names (record { members = sets; more = more }))) ≡ false
 unfolding bytes_of line_of
 page_shown names [] more = refl
 page_shown names (k ∷ ks) more = refl
 
-base_shown : (names : List Text) (sets : List Items) → is_refusal (bytes_of (base_lines names sets)) ≡ false
+fringes_shown : (ws : List Text) → is_refusal (bytes_of ((codes "fringes" ∷ ws) ∷ [])) ≡ false
 unfolding bytes_of line_of
-base_shown names [] = refl
-base_shown names (k ∷ ks) = refl
+fringes_shown [] = refl
+fringes_shown (w ∷ ws) = refl
+
+verdict_shown : (ws : List Text) → is_refusal (bytes_of ((codes "test" ∷ ws) ∷ [])) ≡ false
+unfolding bytes_of line_of
+verdict_shown [] = refl
+verdict_shown (w ∷ ws) = refl
+
+base_shown : (names : List Text) (sets : List Items) (after : List (List Text)) → is_refusal (bytes_of (base_lines names sets ++ after)) ≡ false
+unfolding bytes_of line_of
+base_shown names [] after = refl
+base_shown names (k ∷ ks) after = refl
 
 shown_is_no_refusal : (s : Session) (what : Showing) → is_refusal (bytes_of (shown_lines s what)) ≡ false
 unfolding bytes_of line_of
@@ -103,8 +133,18 @@ shown_is_no_refusal s (shown.Question None) = refl
 shown_is_no_refusal s (shown.Question (Some r)) = refl
 shown_is_no_refusal s (shown.States count after) =
     let p = page comes_before (states s) after count in page_shown s.names p.members p.more
-shown_is_no_refusal s shown.Base = base_shown s.names (base (states s))
-shown_is_no_refusal s shown.Surmise = refl
+shown_is_no_refusal s shown.Base = ap (λ ls. is_refusal (bytes_of ls)) (sym (append-nil (base_lines s.names (base (states s))))) ∙ base_shown s.names (base (states s)) []
+shown_is_no_refusal s (shown.Surmise atoms) = refl
+shown_is_no_refusal s (shown.Learning of_verdict.Learning) = refl
+shown_is_no_refusal s (shown.Learning (of_verdict.NotGraded k first second)) = refl
+shown_is_no_refusal s (shown.Projected part count after) =
+    let p = page comes_before (projection (length s.names) part (states s)) after count in page_shown s.names p.members p.more
+shown_is_no_refusal s (shown.ProjectedBase sets verdict) = base_shown s.names sets (learning_words s.names verdict ∷ [])
+shown_is_no_refusal s (shown.Fringes fringes) = fringes_shown (fringe_words s.names fringes.inner fringes.outer)
+shown_is_no_refusal s (shown.State k) = refl
+shown_is_no_refusal s (shown.Paths count after) =
+    let p = page is_lex_before (paths (length s.names) (states s)) after count in path_shown s.names p.members p.more
+shown_is_no_refusal s (shown.Tested verdict) = verdict_shown (verdict_words s.names verdict)
 
 pub is_refusal-lines_of : (s : Session) (r : Response) → is_refusal (bytes_of (lines_of s r)) ≡ is_refused r
 unfolding bytes_of line_of

@@ -1,5 +1,5 @@
 -- What a command's words mean, where a list of names gives the items.
-use Rattle.std.specs.Prelude.{ℕ, suc, ◌+◌, true, false, not, List, [], ◌∷◌, ◌++◌, map, filter, length, Option, Some, None, Result, Ok, Err}
+use Rattle.std.specs.Prelude.{ℕ, suc, ◌+◌, true, false, not, List, [], ◌∷◌, ◌++◌, map, filter, length, Option, Some, None, option_map, Result, Ok, Err}
 use Rattle.ls_set.specs.ItemSet.{Items}
 use Rattle.ls_set.specs.Cursor.{read_cursor}
 use Rattle.ls_set.specs.declared.cursor.CursorFault.{CursorFault}
@@ -22,11 +22,30 @@ placed p (w ∷ ws) = (p, w) ∷ placed (suc p) ws
 abbrev pub query_words : List Text → Text → List (ℕ × Text)
 query_words names item = placed 2 names ++ (length names + 3, item) ∷ []
 
+-- those of two sets, with a bar between
+abbrev pub sets_words : List Text → List Text → List (ℕ × Text)
+sets_words inner outer = placed 2 inner ++ placed (length inner + 3) outer
+
+-- those of an order, behind `after`
+abbrev pub order_words : Option (List Text) → List (ℕ × Text)
+order_words None = []
+order_words (Some names) = placed 4 names
+
+-- the place of the first name of a projection: behind the count, the cursor, if there is one, and the colon
+abbrev pub projected_place : Option Text → ℕ
+projected_place None = 4
+projected_place (Some w) = 6
+
 -- the words of a command that must name an item, with their places in the line
 abbrev pub item_words : Command → List (ℕ × Text)
 item_words (command.Yes names item) = query_words names item
 item_words (command.No names item) = query_words names item
 item_words (command.Known names item) = query_words names item
+item_words (command.Project count after names) = placed (projected_place after) names
+item_words (command.ProjectBase names) = placed 2 names
+item_words (command.Fringes names) = placed 2 names
+item_words (command.StateOf inner outer) = sets_words inner outer
+item_words (command.Paths count after) = order_words after
 item_words c = []
 
 -- the places of those of some words that don't
@@ -61,4 +80,10 @@ request_of names command.Ask = Some (View view.Ask)
 request_of names (command.States count after) = Some (View (view.States count (after_of (length names) after)))
 request_of names command.Base = Some (View view.Base)
 request_of names command.Surmise = Some (View view.Surmise)
+request_of names command.Learning = Some (View view.Learning)
+request_of names (command.Project count after ws) = Some (View (view.Project (items_of names ws) count (after_of (length names) after)))
+request_of names (command.ProjectBase ws) = Some (View (view.ProjectBase (items_of names ws)))
+request_of names (command.Fringes ws) = Some (View (view.Fringes (items_of names ws)))
+request_of names (command.StateOf inner outer) = Some (View (view.StateOf (items_of names inner) (items_of names outer)))
+request_of names (command.Paths count after) = Some (View (view.Paths count (option_map (map (item_of names)) after)))
 request_of names c = None

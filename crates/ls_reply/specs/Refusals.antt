@@ -1,5 +1,6 @@
 -- The words of a refusal: its code, and its details. Want of memory refuses no line, so the rows of `Memory` are never told.
 use Rattle.std.specs.Prelude.{ℕ, List, [], ◌∷◌, codes, decimal}
+use Rattle.ls_set.specs.ItemSet.{Items, items}
 use Rattle.ls_set.specs.declared.cursor.CursorFault.{CursorFault}
 use Rattle.ls_set.specs.declared.cursor.CursorFault.TheVariants as cursor
 use Rattle.ls_theory.specs.declared.answer_fault.AnswerFault.{AnswerFault}
@@ -13,12 +14,12 @@ use Rattle.ls_theory.specs.declared.surmise_fault.SurmiseFault.TheVariants as su
 use Rattle.ls_lines.specs.Lines.{Text}
 use Rattle.ls_domain.specs.declared.domain_fault.DomainFault.{DomainFault}
 use Rattle.ls_domain.specs.declared.domain_fault.DomainFault.TheVariants as domain
-use Rattle.ls_domain.specs.Texts.{name_of}
+use Rattle.ls_domain.specs.Texts.{name_of, set_text}
 use Rattle.ls_files.specs.SurmiseFiles.{surmise_items}
 use Rattle.ls_files.specs.declared.family_fault.FamilyFault.{FamilyFault}
 use Rattle.ls_files.specs.declared.family_fault.FamilyFault.TheVariants as sets
 use Rattle.ls_reply.specs.declared.refusal.Refusal.{Refusal}
-use Rattle.ls_reply.specs.declared.refusal.Refusal.TheVariants.{NoCommand, LongLine, DomainStands, Domain, AnswersStand, StartSurmise, StartSets, StartBase, Unnamed, Block, Answer, NotStanding, Cursor, Past, NoFile, FileFailed, LargeFile, NotBuilt}
+use Rattle.ls_reply.specs.declared.refusal.Refusal.TheVariants.{NoCommand, LongLine, DomainStands, Domain, AnswersStand, StartSurmise, StartSets, StartBase, Unnamed, Block, Answer, NotStanding, Cursor, Past, NoFile, FileFailed, LargeFile, TestedSets, NotState, NotLearning, NoState, NotOrder, NotBuilt}
 
 -- names that are no domain
 abbrev pub domain_words : DomainFault → List Text
@@ -75,6 +76,10 @@ base_words names (base.NotSpanning q) = codes "14" ∷ codes "not-spanning" ∷ 
 base_words names (base.Past count) = codes "14" ∷ codes "wide" ∷ decimal count ∷ []
 base_words names (base.Memory e) = codes "14" ∷ []
 
+-- a set that is an atom at two items, and these
+abbrev pub double_words : List Text → Items → ℕ → ℕ → List Text
+double_words names k first second = set_text names k ∷ name_of names first ∷ name_of names second ∷ []
+
 -- where the names are those of the items
 abbrev pub refusal_words : List Text → Refusal → List Text
 refusal_words names (NoCommand place) = codes "10" ∷ decimal place ∷ []
@@ -94,6 +99,11 @@ refusal_words names (Past position count) = codes "25" ∷ decimal position ∷ 
 refusal_words names NoFile = codes "26" ∷ []
 refusal_words names FileFailed = codes "27" ∷ []
 refusal_words names (LargeFile bytes) = codes "28" ∷ decimal bytes ∷ []
+refusal_words names (TestedSets fault) = sets_words (codes "29") fault
+refusal_words names NotState = codes "30" ∷ []
+refusal_words names (NotLearning k first second) = codes "31" ∷ double_words names k first second
+refusal_words names NoState = codes "32" ∷ []
+refusal_words names NotOrder = codes "33" ∷ []
 refusal_words names NotBuilt = codes "49" ∷ []
 
 -- ---- the items that a refusal names
@@ -105,4 +115,5 @@ base_items fault = []
 abbrev pub refusal_items : Refusal → List ℕ
 refusal_items (StartSurmise fault) = surmise_items fault
 refusal_items (StartBase fault) = base_items fault
+refusal_items (NotLearning k first second) = first ∷ second ∷ items k
 refusal_items refusal = []

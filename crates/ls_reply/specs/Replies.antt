@@ -12,7 +12,7 @@ use Rattle.ls_reply.specs.Scenes.{Calls}
 use Rattle.ls_reply.specs.Meanings.{unnamed_places, request_of}
 use Rattle.ls_reply.specs.Lines.{lines_of}
 use Rattle.ls_reply.specs.Effects.{Effect, Change, answers, changes, changes_interview}
-use Rattle.ls_reply.specs.Rows.{items_row, load_items_row, start_row, view_row, edit_row}
+use Rattle.ls_reply.specs.Rows.{items_row, load_items_row, start_row, test_row, view_row, edit_row}
 use Rattle.ls_reply.specs.declared.refusal.Refusal.TheVariants.{NoCommand, LongLine, Unnamed, NotBuilt}
 use Rattle.ls_reply.specs.declared.request.StartFile.TheVariants as start_file
 use Rattle.ls_reply.specs.declared.request.Request.{Request}
@@ -43,6 +43,10 @@ asked_effect s places (Some request) = named_effect s places request
 abbrev pub file_effect : Session → Change Interview → Effect
 file_effect s c = if has_domain s then changes_interview s c else answers s (Refused (Unnamed 0))
 
+-- what a file shows, where a domain stands
+abbrev pub file_shown : Session → Response → Effect
+file_shown s response = answers s (if has_domain s then response else Refused (Unnamed 0))
+
 -- a command; the first three need no domain
 unfoldable pub command_effect : Session → Calls → Command → Effect
 command_effect s calls command.Nothing = answers s Silence
@@ -50,6 +54,7 @@ command_effect s calls (command.Items names) = changes (items_row s names)
 command_effect s calls (command.LoadItems file) = changes (load_items_row s (calls.file file))
 command_effect s calls (command.StartSurmise file) = file_effect s (start_row start_file.Surmise s (calls.file file))
 command_effect s calls (command.StartBase file) = file_effect s (start_row start_file.Base s (calls.file file))
+command_effect s calls (command.Test file) = file_shown s (test_row s.names (calls.file file))
 command_effect s calls c = asked_effect s (unnamed_at s c) (request_of s.names c)
 
 -- words, which may be no command

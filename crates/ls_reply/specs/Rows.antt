@@ -1,17 +1,24 @@
 -- The row of each command: its refusals in their order, otherwise what it does.
-use Rattle.std.specs.Prelude.{ℕ, Bool, not, ◌==◌, is_none, List, [], ◌∷◌, ◌++◌, length, Option, Some, None, Result, Ok, Err}
-use Rattle.ls_set.specs.ItemSet.{Items}
+use Rattle.std.specs.Prelude.{ℕ, Bool, true, not, ◌==◌, is_none, List, [], ◌∷◌, ◌++◌, length, Option, Some, None, Result, Ok, Err}
+use Rattle.std.specs.Option.{option_map_or}
+use Rattle.ls_set.specs.ItemSet.{Items, full, is_among}
 use Rattle.ls_set.specs.Query.{is_good}
 use Rattle.ls_set.specs.declared.query.Query.{Query}
 use Rattle.ls_set.specs.declared.cursor.CursorFault.{CursorFault}
 use Rattle.ls_theory.specs.Starts.{Start, Clauses, Sets}
 use Rattle.ls_theory.specs.Interviews.{Interview, accepted, retracted}
-use Rattle.ls_theory.specs.Compatible.{compat}
+use Rattle.ls_theory.specs.Compatible.{compat, compatible_sets}
 use Rattle.ls_theory.specs.Queries.{blocks}
 use Rattle.ls_theory.specs.Blocks.{BlockRange, made}
 use Rattle.ls_theory.specs.Answering.{refusal, answer_with}
 use Rattle.ls_theory.specs.Forced.{known, next_question}
-use Rattle.ls_theory.specs.Bases.{Peak, peak_of, base, based}
+use Rattle.ls_theory.specs.Bases.{Peak, peak_of, base, based, atom_sets}
+use Rattle.ls_theory.specs.Verdict.{base_verdict, verdict}
+use Rattle.ls_theory.specs.Projections.{projection}
+use Rattle.ls_theory.specs.Fringes.{fringes, state_of}
+use Rattle.ls_theory.specs.Paths.{is_order}
+use Rattle.ls_theory.specs.declared.verdict.BaseVerdict.{BaseVerdict}
+use Rattle.ls_theory.specs.declared.verdict.BaseVerdict.TheVariants.{NotGraded, Learning}
 use Rattle.ls_theory.specs.declared.answer_fault.AnswerFault.TheVariants.{BadQuery}
 use Rattle.ls_theory.specs.declared.block_fault.BlockFault.{BlockFault}
 use Rattle.ls_theory.specs.declared.base_fault.BaseFault.{BaseFault}
@@ -29,7 +36,6 @@ use Rattle.ls_reply.specs.declared.refusal.Refusal.{Refusal}
 use Rattle.ls_reply.specs.declared.refusal.Refusal.TheVariants as refusal_of
 use Rattle.ls_reply.specs.declared.response.Response.{Response}
 use Rattle.ls_reply.specs.declared.response.Response.TheVariants.{Refused, Done, Shown}
-use Rattle.ls_reply.specs.declared.response.Shown.{Shown as Showing}
 use Rattle.ls_reply.specs.declared.response.Shown.TheVariants as shown
 use Rattle.ls_reply.specs.declared.request.View.{View}
 use Rattle.ls_reply.specs.declared.request.View.TheVariants as view
@@ -138,16 +144,64 @@ abbrev pub past_refusal : Peak → Refusal
 past_refusal p = refusal_of.Past p.position p.count
 
 -- what stands on the base
-abbrev pub based_row : Interview → Showing → Response
-based_row i what = refuse_fault past_refusal (peak_of i) otherwise Shown what
+abbrev pub based_row : Interview → Response → Response
+based_row i response = refuse_fault past_refusal (peak_of i) otherwise response
 
 -- `base`
 abbrev pub base_row : Interview → Response
-base_row i = based_row i shown.Base
+base_row i = based_row i (Shown shown.Base)
 
 -- `surmise`
 abbrev pub surmise_row : Interview → Response
-surmise_row i = based_row i shown.Surmise
+surmise_row i = based_row i (Shown (shown.Surmise (atom_sets (compatible_sets i))))
+
+-- `learning`
+abbrev pub learning_row : Interview → Response
+learning_row i = based_row i (Shown (shown.Learning (base_verdict (compatible_sets i))))
+
+-- `project`: the sets of the projection, as those of `states`
+abbrev pub project_row : Items → ℕ → Result (Option Items) CursorFault → Response
+project_row part count (Ok after) = Shown (shown.Projected part count after)
+project_row part count (Err fault) = Refused (refusal_of.Cursor fault)
+
+-- `project-base`
+abbrev pub project_base_row : Interview → Items → Response
+project_base_row i part =
+    let f = projection i.count part (compatible_sets i) in
+    based_row i (Shown (shown.ProjectedBase (base f) (base_verdict f)))
+
+-- `fringes`
+abbrev pub fringes_row : Interview → Items → Response
+fringes_row i k =
+    let f = compatible_sets i in
+    refuse refusal_of.NotState (not (is_among f k)) otherwise Shown (shown.Fringes (fringes i.count f k))
+
+-- the refusal of states that are no learning space
+abbrev pub learning_refusals : BaseVerdict → List Refusal
+learning_refusals Learning = []
+learning_refusals (NotGraded k first second) = refusal_of.NotLearning k first second ∷ []
+
+-- what stands on a learning space
+abbrev pub learned : List Items → Response → Response
+learned f response = learning_refusals (base_verdict f) otherwise response
+
+-- `state-of`
+abbrev pub state_shown : Option Items → Response
+state_shown None = Refused refusal_of.NoState
+state_shown (Some k) = Shown (shown.State k)
+
+abbrev pub state_row : Interview → Items → Items → Response
+state_row i inner outer =
+    let f = compatible_sets i in
+    based_row i (learned f (state_shown (state_of i.count f inner outer)))
+
+-- `paths`: as many as are asked for, those after an order of the n items or the first ones
+abbrev pub paths_shown : ℕ → ℕ → Option (List ℕ) → Response
+paths_shown n count after = refuse refusal_of.NotOrder (not (option_map_or (is_order n) after true)) otherwise Shown (shown.Paths count after)
+
+abbrev pub paths_row : Interview → ℕ → Option (List ℕ) → Response
+paths_row i count after =
+    based_row i (learned (compatible_sets i) (paths_shown i.count count after))
 
 abbrev pub view_row : Interview → View → Response
 view_row i (view.Known r) = known_row i r
@@ -155,6 +209,31 @@ view_row i view.Ask = ask_row i
 view_row i (view.States count after) = states_row count after
 view_row i view.Base = base_row i
 view_row i view.Surmise = surmise_row i
+view_row i view.Learning = learning_row i
+view_row i (view.Project part count after) = project_row part count after
+view_row i (view.ProjectBase part) = project_base_row i part
+view_row i (view.Fringes k) = fringes_row i k
+view_row i (view.StateOf inner outer) = state_row i inner outer
+view_row i (view.Paths count after) = paths_row i count after
+
+-- ---- what a file shows
+
+-- the sets that were read, or the fault of the reading
+abbrev pub sets_read : Result (List Items) FamilyFault → List Items
+sets_read (Ok sets) = sets
+sets_read (Err fault) = []
+
+abbrev pub sets_refusals : Result (List Items) FamilyFault → List Refusal
+sets_refusals (Ok sets) = []
+sets_refusals (Err fault) = refusal_of.TestedSets fault ∷ []
+
+-- `test`: the verdict on the sets that were read, after these refusals
+abbrev pub tested_by : ℕ → List Refusal → Result (List Items) FamilyFault → Response
+tested_by n refusals reading =
+    (refusals ++ sets_refusals reading) otherwise Shown (shown.Tested (verdict (full n) (sets_read reading)))
+
+abbrev pub test_row : List Text → Fetched → Response
+test_row names fetched = tested_by (length names) (file_refusals fetched) (sets_of names (bytes_fetched fetched))
 
 -- ---- how an interview changes
 

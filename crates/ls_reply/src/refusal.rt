@@ -1,16 +1,20 @@
 // Refusals.
 use ls_domain::DomainFault;
 use ls_files::FamilyFault;
-use ls_set::CursorFault;
+use ls_set::{CursorFault, ItemSet};
 use ls_theory::{AnswerFault, BaseFault, BlockFault, SurmiseFault};
 
 /// Why a line is refused.
 #[derive(Clone, Copy, Debug)]
 pub enum Refusal {
     /// The line is no command: no command begins with its words up to this place, counted from 1.
-    NoCommand { place: u32 },
+    NoCommand {
+        place: u32,
+    },
     /// The line has so many bytes, more than a line that is read.
-    LongLine { bytes: u64 },
+    LongLine {
+        bytes: u64,
+    },
     /// A domain stands already.
     DomainStands,
     /// The names are no domain.
@@ -24,7 +28,9 @@ pub enum Refusal {
     /// The sets of the base file give no start.
     StartBase(BaseFault),
     /// The word at this place must name an item and doesn't; at place 0, no domain stands.
-    Unnamed { place: usize },
+    Unnamed {
+        place: usize,
+    },
     /// The blocks can't be made.
     Block(BlockFault),
     /// The answer can't be taken, or the query can't be asked.
@@ -34,13 +40,32 @@ pub enum Refusal {
     /// The text is no cursor.
     Cursor(CursorFault),
     /// The base had too many sets under the first `position` Yes answers, and `count` then.
-    Past { position: usize, count: usize },
+    Past {
+        position: usize,
+        count: usize,
+    },
     /// The folder lacks the file.
     NoFile,
     /// A call on the folder failed.
     FileFailed,
     /// The file has so many bytes, more than a file that is read.
-    LargeFile { bytes: u64 },
+    LargeFile {
+        bytes: u64,
+    },
+    /// The file that is tested is no list of sets.
+    TestedSets(FamilyFault),
+    /// The set is no state.
+    NotState,
+    /// The states are no learning space: a set of the base is an atom at both items.
+    NotLearning {
+        set: ItemSet,
+        first: u32,
+        second: u32,
+    },
+    /// No state has these two fringes.
+    NoState,
+    /// The words aren't all items, each once.
+    NotOrder,
     /// The command isn't built yet.
     NotBuilt,
 }

@@ -1,15 +1,15 @@
 // Commands whose names are resolved.
-use ls_set::{CursorFault, ItemSet, Query};
+use ls_set::{CursorFault, ItemList, ItemSet, Query};
 
 /// What a command asks of a domain's interview, in the items' numbers.
-#[derive(Clone, Copy, Debug)]
+#[derive(Debug, Drop)]
 pub enum Request {
     View(View),
     Edit(Edit),
 }
 
 /// What is asked of an interview that stays as it is.
-#[derive(Clone, Copy, Debug)]
+#[derive(Debug, Drop)]
 pub enum View {
     /// What the answers tell of a query.
     Known {
@@ -27,6 +27,33 @@ pub enum View {
     Base,
     /// The surmise function of the states.
     Surmise,
+    /// Whether the states are a learning space.
+    Learning,
+    /// At most `count` states of the projection on a part of the items: those after a set, or the
+    /// first ones; or why the cursor's text is none.
+    Project {
+        part: ItemSet,
+        count: u32,
+        after: Result<Option<ItemSet>, CursorFault>,
+    },
+    /// The base of the projection on a part of the items, and whether it is a learning space.
+    ProjectBase {
+        part: ItemSet,
+    },
+    /// The fringes of a state.
+    Fringes {
+        set: ItemSet,
+    },
+    /// The state with these two fringes.
+    StateOf {
+        inner: ItemSet,
+        outer: ItemSet,
+    },
+    /// At most `count` learning paths: those after an order of the items, or the first ones.
+    Paths {
+        count: u32,
+        after: Option<ItemList>,
+    },
 }
 
 /// How an interview is to change.

@@ -1,10 +1,10 @@
 // Replies as values.
 use crate::refusal::Refusal;
-use ls_set::{ItemSet, Query};
-use ls_theory::Known;
+use ls_set::{ItemList, ItemSet, Query, SetList};
+use ls_theory::{BaseVerdict, FringePair, Known, Verdict};
 
 /// What a line is answered. The lines of the reply follow from it and from the session.
-#[derive(Clone, Copy, Debug)]
+#[derive(Debug, Drop)]
 pub enum Response {
     /// No line.
     Silence,
@@ -26,8 +26,8 @@ impl Response {
     }
 }
 
-/// What is shown of an interview.
-#[derive(Clone, Copy, Debug)]
+/// What is shown of an interview, or of a file.
+#[derive(Debug, Drop)]
 pub enum Shown {
     /// What the answers tell of a query.
     Known(Known),
@@ -35,9 +35,41 @@ pub enum Shown {
     Question(Option<Query>),
     /// At most `count` states, those after a set or the first ones, and whether a further one
     /// follows.
-    States { count: u32, after: Option<ItemSet> },
+    States {
+        count: u32,
+        after: Option<ItemSet>,
+    },
     /// The base of the states.
     Base,
-    /// The surmise function of the states: for each item the atoms at it.
-    Surmise,
+    /// The surmise function of the states: for each item the atoms at it. For each set of the base
+    /// the items at which it is an atom are told.
+    Surmise {
+        atoms: SetList,
+    },
+    /// Whether the states are a learning space.
+    Learning(BaseVerdict),
+    /// At most `count` states of the projection on a part of the items, those after a set or the
+    /// first ones, and whether a further one follows.
+    Projected {
+        part: ItemSet,
+        count: u32,
+        after: Option<ItemSet>,
+    },
+    /// The base of a projection, and whether that is a learning space.
+    ProjectedBase {
+        base: SetList,
+        verdict: BaseVerdict,
+    },
+    /// The fringes of a state.
+    Fringes(FringePair),
+    /// A state.
+    State(ItemSet),
+    /// At most `count` learning paths, those after an order of the items or the first ones, and
+    /// whether a further one follows.
+    Paths {
+        count: u32,
+        after: Option<ItemList>,
+    },
+    /// The verdict on the family of a file.
+    Tested(Verdict),
 }

@@ -1,16 +1,21 @@
 -- The names of a set's items, group by group.
-use Rattle.std.proofs.Common.{◌≡◌, ℕ, zero, suc, ◌+◌, ◌-◌, ◌*◌, ◌/◌, ◌%◌, ◌<◌, ◌≤◌, min, Bool, true, false, cond, eqb, List, [], ◌∷◌, ◌++◌, length, map, filter, drop, get_or, refl, sym, ap, ap₂, ◌∙◌, append-nil, arith}
+use Rattle.std.proofs.Common.{◌≡◌, ℕ, zero, suc, ◌+◌, ◌-◌, ◌*◌, ◌/◌, ◌%◌, ◌^◌, ◌<◌, ◌≤◌, ◌≢◌, inl, inr, min, Bool, true, false, cond, eqb, List, [], ◌∷◌, ◌++◌, length, map, filter, drop, get_or, refl, sym, ap, ap₂, ◌∙◌, append-nil, arith, eq-eqb, ne_eqb, eqb-true}
+use Rattle.std.proofs.Math.ListN.{drop_of_length-le}
 use Rattle.std.specs.Int.{bit_at}
 use Rattle.std.specs.List.{flat_map, join_with_byte}
+use Rattle.std.proofs.lemmas.Bool.{cases_lt, agree_below_at}
+use Rattle.std.proofs.lemmas.Bool.Decides.{nat_tests}
 use Rattle.std.proofs.lemmas.List.{map-append}
 use Rattle.std.proofs.lemmas.List.Elements.{filter-append}
 use Rattle.std.proofs.lemmas.Grind.{flat_map-append}
 use Rattle.std.proofs.lemmas.Nat.Bits.{bit_at-zero}
-use Rattle.ls_set.specs.ItemSet.{Items, has, items, full, numbers_from, IsWithin}
+use Rattle.ls_set.specs.ItemSet.{Items, has, single, items, full, numbers_from, IsWithin}
+use Rattle.ls_set.proofs.Sets.{has-single}
 use Rattle.ls_set.proofs.Sizes.{numbers_from-add, filter-none, items-within}
 use Rattle.ls_lines.specs.Lines.{Text}
 use Rattle.ls_domain.specs.Texts.{name_of, names_of_set, joined_names}
 use Rattle.ls_writing.specs.SetTexts.{group_count, group_items, spaced_names, group_text, group_texts}
+use Rattle.ls_lists.specs.Lists.{spaced}
 use Rattle.ls_lists.proofs.Joins.{join-spaced-one}
 
 -- ---- numbers in a row
@@ -31,6 +36,32 @@ same-filter : (p q : ℕ → Bool) (i m : ℕ) → ((j : ℕ) → i ≤ j → j 
 same-filter p q i zero h = refl
 same-filter p q i (suc m) h =
     ap₂ (λ b l. cond b (i ∷ l) l) (h i (omega arith) (omega arith)) (same-filter p q (suc i) m (λ j l k. h j (omega arith) (omega arith)))
+
+-- one number passes
+filter-one : (p : ℕ → Bool) (a m i : ℕ) → a ≤ i → i < a + m → p i ≡ true → ((j : ℕ) → j ≢ i → p j ≡ false) → filter p (numbers_from a m) ≡ i ∷ []
+filter-one p a zero i l h passes others = absurd (omega arith)
+filter-one p a (suc m) i l h passes others =
+    elim (cases_lt a i) [
+      | inl less ↦ rw (others a (λ e. omega arith)) (filter-one p (suc a) m i (omega arith) (omega arith) passes others)
+      | inr le ↦
+          let e : a ≡ i = omega arith in
+          rw (ap p e ∙ passes) (ap₂ (λ j js. j ∷ js) e (filter-none p (suc a) m (λ j l h. others j (λ e. omega arith))))
+    ]
+
+-- ---- digits
+
+-- a power of two is a byte's pattern
+pub byte_pow : (k : ℕ) → k < 8 → 1 * 2 ^ k % 256 ≡ 2 ^ k
+byte_pow k h = eqb-true _ _ (agree_below_at (λ k. eqb (1 * 2 ^ k % 256) (2 ^ k)) (λ _. true) 8 k refl h)
+
+-- the digit of an item alone in the pattern of its group
+single-digit : (i j : ℕ) → j < 8 → eqb (bit_at (2 ^ (i % 8)) j) 1 ≡ has (single i) (8 * (i / 8) + j)
+unfolding has single
+single-digit i j h =
+    let one : eqb (bit_at (2 ^ (i % 8)) j) 1 ≡ eqb j (i % 8) = has-single (i % 8) j in
+    let other : eqb (bit_at (2 ^ i) (8 * (i / 8) + j)) 1 ≡ eqb (8 * (i / 8) + j) i = has-single i (8 * (i / 8) + j) in
+    let same : eqb j (i % 8) ≡ eqb (8 * (i / 8) + j) i = grind (arith, nat_tests) in
+    one ∙ same ∙ sym other
 
 -- ---- names, each behind a space
 
@@ -61,16 +92,26 @@ module _ (names : List Text) where
       let none : spaced_names names p (item ∷ []) ≡ [] = rw fails refl in
       sym (spaced-next p first item h ∙ ap (λ l. spaced_names names p (numbers_from first (item - first)) ++ l) none ∙ append-nil (spaced_names names p (numbers_from first (item - first))))
 
-  -- the names of a set's items, without the space before the first
-  pub joined-spaced : (s : Items) → IsWithin s (full (length names)) → drop 1 (spaced_names names (has s) (numbers_from 0 (length names))) ≡ joined_names names s
+  -- the names of a set's items
+  pub all-spaced : (s : Items) → IsWithin s (full (length names)) → spaced_names names (has s) (numbers_from 0 (length names)) ≡ spaced (name_of names) (items s)
+  all-spaced s h = ap (spaced (name_of names)) (sym (items-within s (length names) h))
+
+  -- without the space before the first
+  pub joined-spaced : (s : Items) → drop 1 (spaced (name_of names) (items s)) ≡ joined_names names s
   unfolding names_of_set
-  joined-spaced s h = ap (λ is. drop 1 (flat_map (λ i. 32 ∷ name_of names i) is)) (sym (items-within s (length names) h)) ∙ drop-spaced (name_of names) (items s)
+  joined-spaced s = drop-spaced (name_of names) (items s)
 
   -- ---- groups
 
   -- the names of the set's items in the groups below g
   abbrev pub names_before : Items → ℕ → Text
   names_before s g = spaced_names names (has s) (numbers_from 0 (min (length names) (8 * g)))
+
+  pub names_before-none : (s : Items) → names_before s 0 ≡ []
+  names_before-none s = let none : min (length names) (8 * 0) ≡ 0 = omega arith in ap (λ m. spaced_names names (has s) (numbers_from 0 m)) none
+
+  pub names_before-dropped : (s : Items) (k : ℕ) → [] ≡ drop k (names_before s 0)
+  names_before-dropped s k = sym (drop_of_length-le [] (omega arith)) ∙ ap (drop k) (sym (names_before-none s))
 
   pub names_before-next : (s : Items) (g : ℕ) → 8 * g < length names → names_before s g ++ spaced_names names (has s) (group_items (length names) g) ≡ names_before s (g + 1)
   names_before-next s g h =
@@ -92,6 +133,14 @@ module _ (names : List Text) where
     pub group_text-none : pattern ≡ 0 → spaced_names names (has s) (group_items (length names) g) ≡ []
     group_text-none none = ap (flat_map (λ i. 32 ∷ name_of names i)) (filter-none (has s) (8 * g) (min 8 (length names - 8 * g)) (λ i l h.
         sym (pattern-has i l h) ∙ ap (λ (n : ℕ). eqb n 1) (ap (λ (n : ℕ). bit_at n (i % 8)) none ∙ bit_at-zero (i % 8))))
+
+  -- the text of the pattern of one item
+  pub group_text-single : (i pattern : ℕ) → i < length names → pattern ≡ 2 ^ (i % 8) → group_text names (i / 8) pattern ≡ 32 ∷ name_of names i
+  group_text-single i pattern lt e =
+      let g = i / 8 in
+      group_text-of_set (single i) g pattern (λ j h. ap (λ n. eqb (bit_at n j) 1) e ∙ single-digit i j h)
+      ∙ ap (spaced (name_of names)) (filter-one (has (single i)) (8 * g) (min 8 (length names - 8 * g)) i (omega arith) (omega arith) (has-single i i ∙ eq-eqb i i refl) (λ j ne. has-single i j ∙ ne_eqb j i ne))
+      ∙ append-nil (32 ∷ name_of names i)
 
   -- ---- the texts of all patterns
 

@@ -1,18 +1,21 @@
 -- Names in quotes, and items in the order of their names.
-use Rattle.std.proofs.Common.{◌≡◌, ℕ, zero, suc, ◌+◌, ◌-◌, ◌<◌, ◌≤◌, Bool, true, false, cond, List, [], ◌∷◌, ◌++◌, inl, inr, length, get_or, refl, sym, ap, ap₂, ◌∙◌, arith}
+use Rattle.std.proofs.Common.{◌≡◌, ℕ, zero, suc, ◌+◌, ◌-◌, ◌<◌, ◌≤◌, Bool, true, false, cond, List, [], ◌∷◌, ◌++◌, inl, inr, length, filter, get_or, refl, sym, ap, ap₂, ◌∙◌, arith}
 use Rattle.std.specs.List.{All, insert, list_all}
 use Rattle.std.specs.Ordering.{nat_cmp, is_lt}
 use Rattle.std.specs.Cmp.Lexicographic.{slice_cmp}
 use Rattle.std.proofs.lemmas.Bool.{cases_Bool, and_parts}
 use Rattle.std.proofs.lemmas.Bool.Decides.{nat_tests}
-use Rattle.std.proofs.lemmas.List.Elements.{All-nil, All-cons, All-head, All-tail}
+use Rattle.std.proofs.lemmas.List.Elements.{All-nil, All-cons, All-head, All-tail, All-same, All-filter}
 use Rattle.std.proofs.lemmas.List.Folds.{list_all_at}
 use Rattle.json.specs.Print.{escape, escape_byte}
-use Rattle.ls_set.specs.ItemSet.{numbers_from}
+use Rattle.ls_set.specs.ItemSet.{Items, has, items, numbers_from}
+use Rattle.ls_set.proofs.Sizes.{items-within}
 use Rattle.ls_lines.specs.Lines.{Text}
 use Rattle.ls_lines.specs.Kinds.{is_of, is_name_byte}
 use Rattle.ls_domain.specs.Domains.{is_name, IsDomain}
 use Rattle.ls_domain.specs.Texts.{name_of}
+use Rattle.ls_spans.specs.Speaking.{IsDoubleOn}
+use Rattle.ls_writing.specs.Names.{AreNamed}
 use Rattle.ls_writing.specs.SurmiseTexts.{insert_by_name, by_name, items_by_name, quoted_name}
 
 -- ---- quotes
@@ -91,3 +94,21 @@ module _ (names : List Text) where
   -- all items
   pub items-below : All (λ j. j < length names) (items_by_name names)
   items-below = by_name-All (λ j. j < length names) (numbers_from 0 (length names)) (numbers-All (λ j. j < length names) 0 (length names) (λ j l h. omega arith))
+
+-- ---- named items
+
+-- an item of a list of named items has a name
+pub listed-named : (n : ℕ) (before : List ℕ) (i : ℕ) (rest is : List ℕ) → All (λ j. j < n) is → before ++ i ∷ rest ≡ is → i < n
+listed-named n before i rest is all e = parted before (All-same (λ j. j < n) (before ++ i ∷ rest) is e all) where
+  parted : (bs : List ℕ) → All (λ j. j < n) (bs ++ i ∷ rest) → i < n
+  parted [] h = All-head (λ j. j < n) i rest h
+  parted (b ∷ bs) h = parted bs (All-tail (λ j. j < n) b (bs ++ i ∷ rest) h)
+
+-- the items of a set and two more
+pub double-named : (names : List Text) (k : Items) (first second : ℕ) → IsDoubleOn (length names) k first second → AreNamed names (first ∷ second ∷ items k)
+double-named names k first second h =
+    let n = length names in
+    let P : ℕ → Type 0 = λ j. j < n in
+    let inside : All P (items k) = All-same P (items k) (filter (has k) (numbers_from 0 n)) (items-within k n h.set)
+    (All-filter (has k) P (numbers_from 0 n) (numbers-All P 0 n (λ j l lt. omega arith))) in
+    All-cons P first (second ∷ items k) h.first_item (All-cons P second (items k) h.second_item inside)

@@ -1,5 +1,5 @@
 -- The bytes of a page, line by line.
-use Rattle.std.proofs.Common.{◌≡◌, ℕ, ◌+◌, ◌-◌, ◌<◌, ◌≤◌, Bool, false, cond, ltb, lt-ltb, List, [], ◌∷◌, ◌++◌, length, map, take, find, is_some, codes, Some, None, sym, ap, ap₂, ◌∙◌, arith}
+use Rattle.std.proofs.Common.{◌≡◌, ℕ, ◌+◌, ◌-◌, ◌<◌, ◌≤◌, Bool, false, ltb, lt-ltb, List, [], ◌∷◌, ◌++◌, length, map, take, find, is_some, Some, None, sym, ap, ap₂, ◌∙◌, arith}
 use Rattle.std.specs.declared.option.Option.{Option}
 use Rattle.ls_set.specs.ItemSet.{Items, comes_before, IsInOrder}
 use Rattle.ls_theory.specs.Pages.{Page, comes_after, page}
@@ -7,7 +7,7 @@ use Rattle.ls_enum.specs.Listings.{left_after}
 use Rattle.ls_enum.proofs.Left.{left-first, left-none, take-left, more-left, take-ended, more-ended, take-full}
 use Rattle.ls_lines.specs.Lines.{Text}
 use Rattle.ls_reply.specs.Texts.{line_of, bytes_of}
-use Rattle.ls_reply.specs.Lines.{set_words, page_lines}
+use Rattle.ls_reply.specs.Lines.{set_words, page_lines, more_words}
 use Rattle.ls_writing.proofs.Joins.{bytes_of-one, bytes_of-append}
 
 -- ---- pages
@@ -16,9 +16,6 @@ module _ (names : List Text) (f : List Items) where
   -- the bytes of the page of k sets after a cursor
   abbrev pub page_bytes : Option Items → ℕ → List ℕ
   page_bytes cursor k = bytes_of (page_lines names (page comes_before f cursor k))
-
-  abbrev pub more_words : Bool → List Text
-  more_words more = codes "more" ∷ cond more (codes "yes") (codes "no") ∷ []
 
   abbrev page_of : List Items → Bool → List ℕ
   page_of sets more = bytes_of (page_lines names (let p : Page Items = record { members = sets; more = more } in p))

@@ -6,6 +6,7 @@ ghost use Rattle.ls_reply.specs.Refusals.{refusal_words};
 ghost use Rattle.ls_writing.specs.Rooms.{Says};
 ghost use Rattle.ls_writing.specs.Names.{names_in, CanRefuse};
 
+use crate::item_names::put_double;
 use crate::start_refusals::{put_base_fault, put_sets_fault, put_surmise_fault};
 use crate::{Room, put_line, put_numbered};
 use ls_domain::{Domain, DomainFault};
@@ -46,7 +47,7 @@ pub fn put_refusal<K: Sink>(
         Refusal::Domain(fault) => put_domain_fault(*fault, room, out),
         Refusal::AnswersStand => put_line(&[b"no", b"13"], room, out),
         Refusal::StartSurmise(fault) => put_surmise_fault(domain, *fault, room, out),
-        Refusal::StartSets(fault) => put_sets_fault(*fault, room, out),
+        Refusal::StartSets(fault) => put_sets_fault(b"14", *fault, room, out),
         Refusal::StartBase(fault) => put_base_fault(domain, *fault, room, out),
         Refusal::Unnamed { place } => put_numbered(&[b"no", b"15"], &[*place as u64], room, out),
         Refusal::Block(fault) => put_block_fault(*fault, room, out),
@@ -60,6 +61,14 @@ pub fn put_refusal<K: Sink>(
         Refusal::NoFile => put_line(&[b"no", b"26"], room, out),
         Refusal::FileFailed => put_line(&[b"no", b"27"], room, out),
         Refusal::LargeFile { bytes } => put_numbered(&[b"no", b"28"], &[*bytes], room, out),
+        Refusal::TestedSets(fault) => put_sets_fault(b"29", *fault, room, out),
+        Refusal::NotState => put_line(&[b"no", b"30"], room, out),
+        Refusal::NotLearning { set, first, second } => {
+            room.put(b"no 31", out);
+            put_double(domain, *set, *first, *second, room, out);
+        }
+        Refusal::NoState => put_line(&[b"no", b"32"], room, out),
+        Refusal::NotOrder => put_line(&[b"no", b"33"], room, out),
         Refusal::NotBuilt => put_line(&[b"no", b"49"], room, out),
     }
 }

@@ -1,9 +1,10 @@
 // The names of sets, joined beforehand.
 ghost use Rattle.std.specs.Prelude.{◌≡◌, ◌+◌, ◌-◌, ◌*◌, ◌<◌, ◌≤◌, ◌++◌, ◌∷◌, length, drop, IfOk, OnOk};
 ghost use Rattle.std.specs.List.{All, insert};
-ghost use Rattle.ls_set.specs.ItemSet.{has, full, IsWithin};
+ghost use Rattle.ls_lists.specs.Lists.{spaced};
+ghost use Rattle.ls_set.specs.ItemSet.{has, items, full, IsWithin};
 ghost use Rattle.ls_domain.specs.Domains.{IsDomain};
-ghost use Rattle.ls_domain.specs.Texts.{joined_names};
+ghost use Rattle.ls_domain.specs.Texts.{name_of, joined_names, set_text};
 ghost use Rattle.ls_reply.specs.Texts.{line_of};
 ghost use Rattle.ls_reply.specs.Lines.{set_words};
 ghost use Rattle.ls_writing.specs.Rooms.{Says};
@@ -93,10 +94,46 @@ impl SetTexts {
         ensures { Says (K.written out.old) (K.faults out.old) room.old (K.written out.new)
             (K.faults out.new) room.new (joined_names self.now s) }
     {
-        let mut skipped = 1;
+        self.put_spaced(s, 1, room, out);
+    }
+
+    // Says a set, its names within braces, behind a space.
+    pub(crate) fn put_set<K: Sink>(&self, s: ItemSet, room: &mut Room, out: &mut K)
+        requires { IsWithin s (full (length self.now)) }
+        ensures { Says (K.written out.old) (K.faults out.old) room.old (K.written out.new)
+            (K.faults out.new) room.new (32 ∷ set_text self.now s) }
+    {
+        room.put(b" {", out);
+        self.put_names(s, room, out);
+        room.put(b"}", out);
+    }
+
+    // Says the names of the set's items, in the order of items, each behind a space, but for as
+    // many bytes as are to be skipped.
+    pub(crate) fn put_spaced<K: Sink>(
+        &self,
+        s: ItemSet,
+        skipped: usize,
+        room: &mut Room,
+        out: &mut K,
+    )
+        requires { IsWithin s (full (length self.now)) }
+        ensures { Says (K.written out.old) (K.faults out.old) room.old (K.written out.new)
+            (K.faults out.new) room.new (drop skipped (spaced (name_of self.now) (items s))) }
+    {
+        let mut left = skipped;
         for group in 0..self.domain.count().div_ceil(8) {
-            skipped = self.put_group(s, group, skipped, room, out);
+            left = self.put_group(s, group, left, room, out);
         }
+    }
+
+    // Says the name of an item behind a space.
+    pub(crate) fn put_name<K: Sink>(&self, item: u32, room: &mut Room, out: &mut K)
+        requires { item < length self.now }
+        ensures { Says (K.written out.old) (K.faults out.old) room.old (K.written out.new)
+            (K.faults out.new) room.new (32 ∷ name_of self.now item) }
+    {
+        room.put(self.group_text(item / 8, 1 << (item % 8)), out);
     }
 
     /// Says the line of a set: its cursor and its names.

@@ -1,6 +1,5 @@
 // The lines of refusals of starts.
-ghost use Rattle.std.specs.Prelude.{◌≡◌, ◌<◌, ◌∷◌, [], length, codes, decimal, option_copied};
-ghost use Rattle.ls_domain.specs.Texts.{name_of};
+ghost use Rattle.std.specs.Prelude.{◌∷◌, [], codes, decimal, option_copied};
 ghost use Rattle.ls_reply.specs.Texts.{line_of};
 ghost use Rattle.ls_files.specs.SurmiseFiles.{surmise_items};
 ghost use Rattle.ls_reply.specs.Refusals.{surmise_words, sets_words, base_words, base_items};
@@ -8,22 +7,12 @@ ghost use Rattle.ls_writing.specs.Rooms.{Says};
 ghost use Rattle.ls_writing.specs.Names.{names_in, AreNamed};
 
 use crate::Room;
+use crate::item_names::name_in;
 use crate::lines::{put_between, put_line, put_numbered};
 use ls_domain::Domain;
 use ls_edge::Sink;
 use ls_files::FamilyFault;
 use ls_theory::{BaseFault, SurmiseFault};
-
-// The name of an item of the domain, as its bytes.
-fn name_in(domain: Option<&Domain>, q: u32) -> &[u8]
-    requires { q < length (names_in (option_copied domain)) }
-    ensures { result.now ≡ name_of (names_in (option_copied domain.entry)) q }
-{
-    match domain {
-        Some(domain) => domain.name(q).as_bytes(),
-        None => b"",
-    }
-}
 
 /// Says the refusal of a surmise file.
 pub(crate) fn put_surmise_fault<K: Sink>(
@@ -60,27 +49,27 @@ pub(crate) fn put_surmise_fault<K: Sink>(
     }
 }
 
-/// Says the refusal of a file that is no list of sets.
-pub(crate) fn put_sets_fault<K: Sink>(fault: FamilyFault, room: &mut Room, out: &mut K)
+/// Says the refusal of a file that is no list of sets, behind the code.
+pub(crate) fn put_sets_fault<K: Sink>(code: &[u8], fault: FamilyFault, room: &mut Room, out: &mut K)
     ensures { Says (K.written out.old) (K.faults out.old) room.old
         (K.written out.new) (K.faults out.new) room.new
-        (line_of (codes "no" ∷ sets_words (codes "14") fault)) }
+        (line_of (codes "no" ∷ sets_words code.now fault)) }
 {
     match fault {
         FamilyFault::BadLine { row } => {
-            put_numbered(&[b"no", b"14", b"line"], &[row as u64], room, out);
+            put_numbered(&[b"no", code, b"line"], &[row as u64], room, out);
         }
         FamilyFault::UnknownItem { row } => {
-            put_numbered(&[b"no", b"14", b"unknown-item"], &[row as u64], room, out);
+            put_numbered(&[b"no", code, b"unknown-item"], &[row as u64], room, out);
         }
         FamilyFault::Repeat { row, first } => {
             let rows = [row as u64, first as u64];
-            put_numbered(&[b"no", b"14", b"repeat"], &rows, room, out);
+            put_numbered(&[b"no", code, b"repeat"], &rows, room, out);
         }
         FamilyFault::TooMany { row } => {
-            put_numbered(&[b"no", b"14", b"many"], &[row as u64], room, out);
+            put_numbered(&[b"no", code, b"many"], &[row as u64], room, out);
         }
-        FamilyFault::Memory(_) => put_line(&[b"no", b"14"], room, out),
+        FamilyFault::Memory(_) => put_line(&[b"no", code], room, out),
     }
 }
 

@@ -2,9 +2,9 @@ use Rattle.std.proofs.Common.{◌≡◌, Bool, Some, [], ◌+◌, ◌-◌, ◌++
 use Rattle.ls_set.specs.ItemSet.{full, IsWithin}
 use Rattle.ls_enum.proofs.Left.{more_steps}
 use Rattle.ls_reply.specs.Texts.{line_of}
-use Rattle.ls_reply.specs.Lines.{set_words}
+use Rattle.ls_reply.specs.Lines.{set_words, more_words}
 use Rattle.ls_writing.proofs.Saying.{says_then, says_as, says_nothing, says_void}
-use Rattle.ls_writing.proofs.Pages.{page_bytes, page-left, page-ended, page-full, more_words}
+use Rattle.ls_writing.proofs.Pages.{page_bytes, page-left, page-ended, page-full}
 use Rattle.ls_writing.proofs.listing.put_listing.Goals as goal
 
 pub loop-done-init : goal.loop-done-init
@@ -55,4 +55,4 @@ returns-clause-says g c =
     let given = c.loop-done.invariant.0 in
     let before = c.loop-done.invariant.1 in
     let full = page-full names f given (page_bytes names f c.args.after c.args.count) c.loop-done.cursor c.first_left-2.result c.args.count c.loop-done._done (g.met.I.Interior.is_family c.args.f.now).in_order c.first_left-2.ensures.first c.loop-done-test.false before.whole in
-    says_as (ap (λ (m : Bool). given ++ line_of (more_words names f m)) c.is_some-is_more.ensures ∙ full) (says_then before.said c.put_more-2.ensures)
+    says_as (ap (λ (m : Bool). given ++ line_of (more_words m)) c.is_some-is_more.ensures ∙ full) (says_then before.said c.put_more-2.ensures)

@@ -2,7 +2,7 @@ use Rattle.std.proofs.Common.{◌+◌, ℕ, option_map, ap, ◌∙◌}
 use Rattle.std.specs.declared.option.Option.{Option}
 use Rattle.ls_lists.proofs.Places.{no_first}
 use Rattle.ls_meanings.proofs.Placing.{unnamed-placed}
-use Rattle.ls_meanings.proofs.query.read_names.Goals as goal
+use Rattle.ls_meanings.proofs.names.read_names.Goals as goal
 
 pub returns-in-Ok-clause-named : goal.returns-in-Ok-clause-named
 returns-in-Ok-clause-named c =

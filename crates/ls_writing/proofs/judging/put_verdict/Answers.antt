@@ -1,0 +1,45 @@
+use Rattle.std.proofs.Common.{◌∷◌, [], ◌++◌, List, length, codes, ap, sym, subst, ◌∙◌, arith}
+use Rattle.ls_lists.specs.Lists.{spaced}
+use Rattle.ls_set.specs.ItemSet.{items}
+use Rattle.ls_lines.specs.Lines.{Text}
+use Rattle.ls_domain.specs.Texts.{set_text}
+use Rattle.ls_theory.specs.declared.verdict.Verdict.{Verdict}
+use Rattle.ls_reply.specs.Texts.{line_of}
+use Rattle.ls_reply.specs.Refusals.{double_words}
+use Rattle.ls_reply.specs.Lines.{verdict_words}
+use Rattle.ls_spans.specs.Speaking.{IsVerdictOn}
+use Rattle.ls_writing.specs.Names.{AreNamed}
+use Rattle.ls_writing.proofs.Names.{double-named}
+use Rattle.ls_writing.proofs.Saying.{says_then, says_as}
+use Rattle.ls_writing.proofs.Joins.{line-spaced, line-pair}
+use Rattle.ls_writing.proofs.judging.put_verdict.Goals as goal
+
+pub put_double-requires : goal.put_double-requires
+put_double-requires g c =
+    let w = c.in-NotGraded in
+    let names = c.args.texts.now in
+    subst (λ (l : List Text). AreNamed l (w.first ∷ w.second ∷ items w.set)) (sym c.domain.ensures) (double-named names w.set w.first w.second (subst (IsVerdictOn (length names)) w.is c.requires))
+
+pub put_set-requires : goal.put_set-requires
+put_set-requires g c = (subst (IsVerdictOn (length c.args.texts.now)) c.in-NotClosed.is c.requires).0
+
+pub put_set-requires-in-NotClosed : goal.put_set-requires-in-NotClosed
+put_set-requires-in-NotClosed g c = (subst (IsVerdictOn (length c.args.texts.now)) c.in-NotClosed.is c.requires).1
+
+pub returns-in-NotClosed : goal.returns-in-NotClosed
+returns-in-NotClosed g c =
+    let w = c.in-NotClosed in
+    let names = c.args.texts.now in
+    says_as
+    (line-pair (set_text names w.left) (set_text names w.right) ∙ ap (λ (v : Verdict). line_of (codes "test" ∷ verdict_words names v)) (sym w.is))
+    (says_then (says_then (says_then c.put.ensures.says c.put_set.ensures) c.put_set-in-NotClosed.ensures) c.end_line.ensures)
+
+pub returns-in-NotGraded : goal.returns-in-NotGraded
+returns-in-NotGraded g c =
+    let w = c.in-NotGraded in
+    let names = c.args.texts.now in
+    says_as
+    (ap (λ (l : List Text). codes "test not-graded" ++ (spaced (λ v. v) (double_words l w.set w.first w.second) ++ 10 ∷ [])) c.domain.ensures
+    ∙ line-spaced (codes "test" ∷ codes "not-graded" ∷ []) (double_words names w.set w.first w.second) (omega arith)
+    ∙ ap (λ (v : Verdict). line_of (codes "test" ∷ verdict_words names v)) (sym w.is))
+    (says_then c.put-in-NotGraded.ensures.says c.put_double.ensures)
