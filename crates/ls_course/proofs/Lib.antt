@@ -1,2 +1,2 @@
 mod Trailed
-mod BaseCovers
+mod Told

@@ -1,10 +1,12 @@
 -- What is followed over the first Yes answers, where the interview changes.
-use Rattle.std.proofs.Common.{◌≡◌, ◌≤◌, ℕ, Bool, true, false, List, [], Option, Some, refl, sym, ap, ◌∙◌, subst, take, arith}
+use Rattle.std.proofs.Common.{◌≡◌, ◌≤◌, ℕ, Bool, true, false, List, [], Option, Some, None, refl, sym, ap, ◌∙◌, subst, take, arith}
 use Rattle.std.specs.Option.{option_map_or}
 use Rattle.ls_set.specs.declared.query.Query.{Query}
 use Rattle.ls_theory.specs.declared.answer.Answer.{Answer}
 use Rattle.ls_theory.specs.Interviews.{Interview, accepted, retracted, yes_queries}
 use Rattle.ls_theory.specs.Answering.{answer_with}
+use Rattle.ls_theory.specs.Compatible.{compatible_sets}
+use Rattle.ls_theory.specs.Bases.{base, peak_of}
 use Rattle.ls_laws.specs.Forced.{IsNumbered}
 use Rattle.ls_base.specs.Followed.{IsFollowed, followed_sets}
 use Rattle.ls_base.specs.declared.followed.Followed.{Followed}
@@ -13,12 +15,7 @@ use Rattle.ls_base.specs.declared.trail.Entry.{Entry}
 use Rattle.ls_base.proofs.Trails.{IsTrail-more}
 use Rattle.ls_expert.specs.Held.{rules_before}
 use Rattle.ls_expert.proofs.AnswerLists.{yes_queries-yes, yes_queries-no, yes_queries-without_no, take-yes_queries-without_yes}
-use Rattle.ls_reply.specs.Sessions.{Session}
-use Rattle.ls_reply.specs.Rows.{based_row}
-use Rattle.ls_reply.specs.declared.response.Response.{Response}
-use Rattle.ls_reply.specs.declared.response.Shown.{Shown}
-use Rattle.ls_views.specs.Views.{CanSay, IsBased}
-use Rattle.ls_views.proofs.Saying.{can-based}
+use Rattle.ls_views.proofs.Saying.{followed-base}
 use Rattle.ls_course.specs.States.{IsTrailOf}
 
 pub trail-accepted : (i : Interview) (r : Query) (yes : Bool) (t : List Entry) → IsTrailOf i t → IsTrailOf (accepted i r yes) t
@@ -32,12 +29,14 @@ module _ (i : Interview) (a : Answer) (numbered : IsNumbered i) (stands : answer
   pub first-kept : (k : ℕ) → a.yes ≡ true → k ≡ rules_before i.answers a.number → take k (yes_queries (retracted i a.number).answers) ≡ take k (yes_queries i.answers)
   first-kept k is_yes e = take-yes_queries-without_yes i a numbered stands k is_yes (omega arith)
 
--- ---- what stands on the base of the last entry can be told
+-- ---- what stands on the base of the last entry
 
-pub told-based : (s : Session) (t : List Entry) (what : Shown) (f : Followed) (r : Response) → IsBased what → EndsAt s.interview.count s.interview.start (yes_queries s.interview.answers) t → Some f ≡ last_followed t
-    → ((i : Interview) → IsFollowed i.count i.start (yes_queries i.answers) f → r ≡ based_row i what) → CanSay s (trail_sets t) r
-told-based s t what f r can ends last row =
-    let is : Some f ≡ Some ends.end = last ∙ ends.is_last in
-    let same : f ≡ ends.end = cc is in
-    let followed = subst (λ (e : Followed). IsFollowed s.interview.count s.interview.start (yes_queries s.interview.answers) e) (sym same) ends.is_followed in
-    can-based s (trail_sets t) what f r can (ap (λ (o : Option Followed). option_map_or followed_sets o []) (sym last)) followed (row s.interview followed)
+module _ (i : Interview) (t : List Entry) (f : Followed) (ends : EndsAt i.count i.start (yes_queries i.answers) t) (last : Some f ≡ last_followed t) where
+  pub last-followed : IsFollowed i.count i.start (yes_queries i.answers) f
+  last-followed =
+      let is : Some f ≡ Some ends.end = last ∙ ends.is_last in
+      let same : f ≡ ends.end = cc is in
+      subst (λ (e : Followed). IsFollowed i.count i.start (yes_queries i.answers) e) (sym same) ends.is_followed
+
+  pub last-sets : peak_of i ≡ None → trail_sets t ≡ base (compatible_sets i)
+  last-sets e = ap (λ (o : Option Followed). option_map_or followed_sets o []) (sym last) ∙ followed-base i f last-followed e

@@ -6,7 +6,11 @@ use Rattle.ls_base.specs.Trail.{IsTrail}
 use Rattle.ls_base.specs.declared.trail.Entry.{Entry}
 use Rattle.ls_lines.specs.Lines.{Text}
 use Rattle.ls_reply.specs.Sessions.{Session}
+use Rattle.ls_spans.specs.Speaking.{IsVerdictOn}
+use Rattle.ls_writing.specs.Names.{CanRefuse}
 use Rattle.ls_reply.specs.declared.response.Response.{Response}
+use Rattle.ls_reply.specs.declared.response.Response.TheVariants as response
+use Rattle.ls_reply.specs.declared.response.Shown.TheVariants as shown
 use Rattle.ls_views.specs.Views as views
 
 -- the session that it is; and the sets of the base as far as it was followed, none where it had too many or was not asked for
@@ -17,6 +21,12 @@ pub record CourseState : Type 0 where
 -- what is told of the interview speaks of the items alone, and of a base that was found
 abbrev pub CanTell : CourseState → Response → Type 0
 CanTell c response = views.CanSay c.session c.followed response
+
+-- the verdict that is told of a family speaks of the items alone
+abbrev pub CanTestOn : List Text → Response → Type 0
+CanTestOn names (response.Shown (shown.Tested verdict)) = IsVerdictOn (length names) verdict
+CanTestOn names (response.Refused refusal) = CanRefuse names refusal
+CanTestOn names r = ⊥
 
 -- what is followed over the first Yes answers of the interview
 abbrev pub IsTrailOf : Interview → List Entry → Type 0

@@ -1,32 +1,35 @@
 // A domain, and the interview on its items.
-ghost use Rattle.std.specs.Prelude.{◌≡◌, ◌<◌, ◌==◌, not, [], length, IfOk, OnOk, OnErr};
+ghost use Rattle.std.specs.Prelude.{◌≡◌, ◌<◌, ◌==◌, true, not, [], length, IfOk, OnOk, OnErr};
 ghost use Rattle.ls_reply.specs.Texts.{bytes_of};
 ghost use Rattle.ls_reply.specs.Sessions.{started};
 ghost use Rattle.ls_reply.specs.Meanings.{request_of};
 ghost use Rattle.ls_reply.specs.Lines.{shown_lines};
-ghost use Rattle.ls_reply.specs.Rows.{view_row, based_row, edit_row, starts_by, start_read};
+ghost use Rattle.ls_reply.specs.Rows.{view_row, edit_row, starts_by, start_read, tested_by};
+ghost use Rattle.ls_files.specs.SetFiles.{sets_of};
 ghost use Rattle.ls_reply.specs.Replies.{asked_effect, unnamed_at};
 ghost use Rattle.ls_writing.specs.Rooms.{Says};
 ghost use Rattle.ls_meanings.specs.Asked.{IsOn};
-ghost use Rattle.ls_views.specs.Views.{CanShow, IsBased, is_based};
+ghost use Rattle.ls_views.specs.Views.{CanShow, is_based};
 ghost use Rattle.ls_course.specs.States.{CanTell};
 
 use crate::changing::{set_blocks, take, take_back};
 use crate::following::follow;
 use crate::starting::{begin_with, read_start};
+use crate::testing::test_sets;
 use ls_base::Trail;
 use ls_domain::Domain;
 use ls_edge::Sink;
 use ls_expert::{Inquiry, Start};
 use ls_interior::Steps;
 use ls_lines::Command;
-use ls_meanings::{Unnamed, resolve};
+use ls_meanings::{ResolveFault, resolve};
 use ls_reply::{Edit, Refusal, Request, Response, Shown, StartFile, View};
-use ls_views::{based, decide, put_shown};
+use ls_views::{decide, decide_based, is_based, put_shown};
 use ls_writing::{Room, SetTexts};
 use std::alloc::{AllocError, Global};
 use std::marker::Model;
 use std::sync::ledger::Ledger;
+use std::thread::Threads;
 
 /// A domain, and the interview on its items. Its base is followed when it is asked for.
 #[derive(Drop)]
@@ -94,11 +97,14 @@ impl Course {
         ensures said { IfOk result (CanTell self.new) }
         ensures err { OnErr result (self.new.session ≡ self.old.session) }
     {
-        match resolve(self.texts.domain(), command) {
-            Ok(Some(Request::View(view))) => self.view(&view, steps),
+        match resolve(self.alloc, self.texts.domain(), command) {
+            Ok(Some(Request::View(view))) => self.view(view, steps),
             Ok(Some(Request::Edit(edit))) => self.edit(&edit, steps),
             Ok(None) => Ok(Response::Refused(Refusal::NotBuilt)),
-            Err(Unnamed { place }) => Ok(Response::Refused(Refusal::Unnamed { place })),
+            Err(ResolveFault::Unnamed { place }) => {
+                Ok(Response::Refused(Refusal::Unnamed { place }))
+            }
+            Err(ResolveFault::Memory(e)) => Err(e),
         }
     }
 
@@ -158,30 +164,43 @@ impl Course {
         }
     }
 
+    /// The verdict on the family that the bytes of a file give, or the refusal of a file that gives
+    /// none.
+    pub fn test<R: Threads + Sync>(&self, rt: &R, bytes: &[u8]) -> Result<Response, AllocError>
+        ensures response { let names = self.now.session.names in IfOk result (λ r.
+            r ≡ tested_by (length names) [] (sets_of names bytes.now)) }
+        ensures said { IfOk result (CanTell self.now) }
+    {
+        test_sets(rt, self.alloc, self.texts.domain(), bytes)
+    }
+
     // What is shown. The base is followed where it is asked for.
-    fn view<L: Ledger>(&mut self, view: &View, steps: &mut Steps<L>) -> Result<Response, AllocError>
-        requires { IsOn (length self.old.session.names) view.now }
-        ensures response { IfOk result (λ r. r ≡ view_row self.old.session.interview view.now) }
+    fn view<L: Ledger>(&mut self, view: View, steps: &mut Steps<L>) -> Result<Response, AllocError>
+        requires { IsOn (length self.old.session.names) view }
+        ensures response { IfOk result (λ r. r ≡ view_row self.old.session.interview view) }
         ensures session { self.new.session ≡ self.old.session }
         ensures said { IfOk result (CanTell self.new) }
     {
-        match view {
-            View::Base => self.based(Shown::Base),
-            View::Surmise => self.based(Shown::Surmise),
-            _ => Ok(decide(&self.inquiry, view, steps)),
+        let _ = self.inquiry.standing();
+        if is_based(&view) {
+            self.based(view)
+        } else {
+            Ok(decide(&self.inquiry, &view, steps))
         }
     }
 
     // What stands on the base.
-    fn based(&mut self, what: Shown) -> Result<Response, AllocError>
-        requires { IsBased what }
-        ensures response { IfOk result (λ r. r ≡ based_row self.old.session.interview what) }
+    fn based(&mut self, view: View) -> Result<Response, AllocError>
+        requires on { IsOn (length self.old.session.names) view }
+        requires based { is_based view ≡ true }
+        ensures response { IfOk result (λ r. r ≡ view_row self.old.session.interview view) }
         ensures session { self.new.session ≡ self.old.session }
         ensures said { IfOk result (CanTell self.new) }
     {
+        let _ = self.inquiry.standing();
         follow(&mut self.trail, &self.inquiry)?;
         match self.trail.last() {
-            Some(followed) => Ok(based(followed, what)),
+            Some(followed) => decide_based(self.alloc, &self.inquiry, followed, view),
             None => unreachable!(),
         }
     }

@@ -5,5 +5,6 @@ mod changing;
 mod course;
 mod following;
 mod starting;
+mod testing;
 
 pub use course::Course;

@@ -10,7 +10,7 @@ use Rattle.ls_theory.specs.Interviews.{Interview}
 use Rattle.ls_lines.specs.Lines.{Text}
 use Rattle.ls_reply.specs.Scenes.{Calls, Bytes, Missing, TooLarge, Failed, fetched_from, calls_of}
 use Rattle.ls_reply.specs.Sessions.{Session, has_domain}
-use Rattle.ls_reply.specs.Effects.{Effect, Change, changes_interview}
+use Rattle.ls_reply.specs.Effects.{Effect, Change, answers, changes_interview}
 use Rattle.ls_reply.specs.Replies.{asked_effect}
 use Rattle.ls_reply.specs.declared.request.Request.{Request}
 use Rattle.ls_reply.specs.declared.request.Request.TheVariants.{View, Edit}
@@ -69,6 +69,11 @@ asked_names s [] (Some (Edit edit)) = refl
 pub asked_named : (s new : Session) (places : List ℕ) (r : Option Request) (x : Result Response AllocError) → 0 < length s.names → OnOk x (new ≡ (asked_effect s places r).session) → OnErr x (new ≡ s) → 0 < length new.names
 asked_named s new places r (Ok x) some at undone = subst (λ (ns : List Text). 0 < length ns) (sym (ap (λ (y : Session). y.names) at ∙ asked_names s places r)) some
 asked_named s new places r (Err x) some at undone = subst (λ (y : Session). 0 < length y.names) (sym undone) some
+
+-- a response, and nothing else
+pub shown_only : (s : Session) (response : Response) (r : Result Response AllocError) → IfOk r (λ x. x ≡ response) → Makes (answers s response) s s r
+shown_only s response (Ok x) h = record { response = h; session = refl; undone = tt }
+shown_only s response (Err e) h = record { response = tt; session = tt; undone = refl }
 
 -- no answer stands
 pub no_answers : (answers : List Answer) → not (length answers == 0) ≡ false → answers ≡ []

@@ -7,12 +7,12 @@ ghost use Rattle.ls_reply.specs.Texts.{bytes_of};
 ghost use Rattle.ls_reply.specs.Scenes.{Fetched};
 ghost use Rattle.ls_reply.specs.Meanings.{request_of};
 ghost use Rattle.ls_reply.specs.Lines.{lines_of};
-ghost use Rattle.ls_reply.specs.Effects.{changes, changes_interview};
+ghost use Rattle.ls_reply.specs.Effects.{answers, changes, changes_interview};
 ghost use Rattle.ls_reply.specs.Refusals.{refusal_items};
 ghost use Rattle.ls_reply.specs.Rows.{items_row, load_items_row, started_by};
 ghost use Rattle.ls_reply.specs.Rows.{start_row, starts_by, start_read};
-ghost use Rattle.ls_reply.specs.Rows.{file_refusals, bytes_fetched};
-ghost use Rattle.ls_reply.specs.Replies.{line_effect, command_effect, asked_effect, file_effect, unnamed_at};
+ghost use Rattle.ls_reply.specs.Rows.{file_refusals, bytes_fetched, test_row};
+ghost use Rattle.ls_reply.specs.Replies.{line_effect, command_effect, asked_effect, file_effect, file_shown, unnamed_at};
 ghost use Rattle.ls_reply.specs.declared.refusal.Refusal.TheVariants.{Unnamed, NotBuilt};
 ghost use Rattle.ls_writing.specs.Rooms.{Says};
 ghost use Rattle.ls_writing.specs.Names.{names_in};
@@ -30,6 +30,7 @@ use ls_reply::{Refusal, Response, StartFile};
 use ls_writing::{Room, put_done, put_refusal};
 use std::alloc::{AllocError, Global};
 use std::sync::ledger::Ledger;
+use std::thread::Threads;
 
 /// The domain with its interview, if one stands. It decides what lines do, and says their replies.
 #[derive(Drop)]
@@ -85,6 +86,23 @@ fn start_from<L: Ledger>(
     }
 }
 
+// The verdict on the family of the file that was fetched.
+fn test_fetched<R: Threads + Sync>(
+    rt: &R,
+    course: &Course,
+    fetched: Result<Vec<u8>, FetchFault>,
+) -> Result<Response, AllocError>
+    ensures makes { let s = course.now.session in
+        (given : Fetched) → IsFetched given fetched →
+        Makes (answers s (test_row s.names given)) s s result }
+    ensures said { IfOk result (CanTell course.now) }
+{
+    match fetched {
+        Ok(bytes) => course.test(rt, &bytes),
+        Err(fault) => Ok(Response::Refused(refusal_of(fault)?)),
+    }
+}
+
 impl Decider {
     /// No domain.
     pub fn new(alloc: Global) -> Decider
@@ -97,8 +115,9 @@ impl Decider {
     }
 
     /// Decides what a line does.
-    pub fn decide_line<H: Shelf, L: Ledger>(
+    pub fn decide_line<R: Threads + Sync, H: Shelf, L: Ledger>(
         &mut self,
+        rt: &R,
         line: &[u8],
         shelf: &mut H,
         steps: &mut Steps<L>,
@@ -114,15 +133,16 @@ impl Decider {
             return Ok(Response::Refused(Refusal::LongLine { bytes }));
         }
         match read_command(self.alloc, line) {
-            Ok(command) => self.decide(&command, shelf, steps),
+            Ok(command) => self.decide(rt, &command, shelf, steps),
             Err(LineFault::Shape { place }) => Ok(Response::Refused(Refusal::NoCommand { place })),
             Err(LineFault::Memory(e)) => Err(e),
         }
     }
 
     // Decides what a command does.
-    fn decide<H: Shelf, L: Ledger>(
+    fn decide<R: Threads + Sync, H: Shelf, L: Ledger>(
         &mut self,
+        rt: &R,
         command: &Command,
         shelf: &mut H,
         steps: &mut Steps<L>,
@@ -141,6 +161,7 @@ impl Decider {
                 self.load_start(StartFile::Surmise, file, shelf, steps)
             }
             Command::StartBase { file } => self.load_start(StartFile::Base, file, shelf, steps),
+            Command::Test { file } => self.load_test(rt, file, shelf),
             _ => self.ask(command, steps),
         }
     }
@@ -264,6 +285,26 @@ impl Decider {
             return Ok(Response::Refused(Refusal::AnswersStand));
         }
         start_from(course, kind, shelf.fetch(file.as_str()), steps)
+    }
+
+    // `test FILE`. It is not made part of its callers, as `load` isn't.
+    #[inline(never)]
+    fn load_test<R: Threads + Sync, H: Shelf>(
+        &self,
+        rt: &R,
+        file: &Word,
+        shelf: &mut H,
+    ) -> Result<Response, AllocError>
+        ensures decides { let s = session_of self.now.course in
+            Decides (λ calls. file_shown s (test_row s.names (calls.file file.now))) s s
+            (H.files shelf.old) (H.files shelf.new)
+            (H.faults shelf.old) (H.faults shelf.new) result }
+        ensures said { IfOk result (IsSayable self.now.course) }
+    {
+        let Some(course) = &self.course else {
+            return Ok(Response::Refused(Refusal::Unnamed { place: 0 }));
+        };
+        test_fetched(rt, course, shelf.fetch(file.as_str()))
     }
 
     // The names of the items, where a domain stands.

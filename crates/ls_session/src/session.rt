@@ -66,8 +66,7 @@ impl Session {
             (H.files shelf.old) (H.files shelf.new) (H.faults shelf.old) (H.faults shelf.new)
             (K.written out.old) (K.written out.new) (K.faults out.old) (K.faults out.new) result }
     {
-        let _ = rt;
-        self.answer::<K, H, Brand>(line, out, shelf, Blank::new(1))
+        self.answer::<R, K, H, Brand>(rt, line, out, shelf, Blank::new(1))
     }
 
     /// Answers a line that is too long to be read, of which the number of bytes is known alone.
@@ -87,8 +86,9 @@ impl Session {
     }
 
     // Answers one line. Its interiors are counted from the blank on.
-    fn answer<K: Sink, H: Shelf, L: Ledger>(
+    fn answer<R: Threads + Sync, K: Sink, H: Shelf, L: Ledger>(
         &mut self,
+        rt: &R,
         line: &[u8],
         out: &mut K,
         shelf: &mut H,
@@ -104,7 +104,7 @@ impl Session {
     {
         let mut steps = Steps::<L>::new(blank);
         let mut room = self.take_room()?;
-        let response = self.decider.decide_line(line, shelf, &mut steps)?;
+        let response = self.decider.decide_line(rt, line, shelf, &mut steps)?;
         self.decider.put(&response, &mut room, out, &mut steps);
         self.finish(room, out)?;
         Ok(response.is_refused())

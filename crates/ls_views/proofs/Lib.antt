@@ -1,3 +1,5 @@
 mod Shown
-mod Replying
+pub mod Replying
+mod Listing
+mod OnBases
 pub mod Saying

@@ -11,7 +11,7 @@ use Rattle.ls_reply.specs.Meanings.{unnamed_places, request_of}
 use Rattle.ls_reply.specs.Lines.{lines_of}
 use Rattle.ls_reply.specs.Effects.{answers}
 use Rattle.ls_reply.specs.Rows.{view_row}
-use Rattle.ls_reply.specs.Replies.{asked_effect, command_effect, reply_of}
+use Rattle.ls_reply.specs.Replies.{asked_effect, unnamed_at, command_effect, reply_of}
 use Rattle.ls_reply.specs.declared.request.View.{View}
 use Rattle.ls_reply.specs.declared.request.Request.TheVariants as request
 use Rattle.ls_reply.specs.declared.response.Response.{Response}
@@ -26,10 +26,16 @@ pub reply_is : {names : List Text} {i j : Interview} {r : Response} (calls : Cal
     → bytes_of (lines_of (session_on names j) r) ≡ reply_of (command_effect (session_on names i) calls c)
 reply_is {names} {i} {j} {r} calls c same e = ap reply_of (sym e) ∙ ap (λ (k : Interview). reply_of (command_effect (session_on names k) calls c)) same
 
+-- what a command asks of an interview that stays as it is
+pub asked-view : (s : Session) (c : Command) (v : View) → 0 < length s.names → unnamed_places s.names c ≡ [] → request_of s.names c ≡ Some (request.View v)
+    → asked_effect s (unnamed_at s c) (request_of s.names c) ≡ answers s (view_row s.interview v)
+asked-view s c v some named asked =
+    ap (λ ps. asked_effect s ps (request_of s.names c)) (ap (λ (b : Bool). cond b (unnamed_places s.names c) (0 ∷ [])) (has_domain-some s some) ∙ named)
+    ∙ ap (asked_effect s []) asked
+
 pub reading-effect : (s : Session) (calls : Calls) (c : Command) (v : View) → is_reading c ≡ true → 0 < length s.names → unnamed_places s.names c ≡ [] → request_of s.names c ≡ Some (request.View v)
     → command_effect s calls c ≡ answers s (view_row s.interview v)
 reading-effect s calls c v reading some named asked =
     command_effect-asked s calls c (λ e. true≢false (sym reading ∙ ap is_reading e)) (λ names e. true≢false (sym reading ∙ ap is_reading e)) (λ file e. true≢false (sym reading ∙ ap is_reading e))
-    (λ file e. true≢false (sym reading ∙ ap is_reading e)) (λ file e. true≢false (sym reading ∙ ap is_reading e))
-    ∙ ap (λ ps. asked_effect s ps (request_of s.names c)) (ap (λ (b : Bool). cond b (unnamed_places s.names c) (0 ∷ [])) (has_domain-some s some) ∙ named)
-    ∙ ap (asked_effect s []) asked
+    (λ file e. true≢false (sym reading ∙ ap is_reading e)) (λ file e. true≢false (sym reading ∙ ap is_reading e)) (λ file e. true≢false (sym reading ∙ ap is_reading e))
+    ∙ asked-view s c v some named asked

@@ -1,24 +1,43 @@
 -- What can be said of an interview.
-use Rattle.std.proofs.Common.{◌≡◌, [], Bool, true, false, not, List, length, Some, None, IfSome, Ok, Err, refl, sym, ap, ◌∙◌, subst, arith}
+use Rattle.std.proofs.Common.{inl, inr, ◌≡◌, ◌<◌, ℕ, zero, suc, [], ◌∷◌, Bool, true, false, not, ◌&&◌, cond, List, length, Some, None, IfSome, Ok, Err, refl, sym, ap, ◌∙◌, subst, arith}
+use Rattle.std.specs.Prelude.{slice_index, slice_index_or}
+use Rattle.std.specs.List.{All}
+use Rattle.std.proofs.lemmas.Bool.{cases_Bool, and_from}
+use Rattle.std.proofs.lemmas.List.Elements.{All-contains_itself}
 use Rattle.std.specs.declared.option.Option.{Option}
 use Rattle.std.specs.Option.{ForSome}
-use Rattle.ls_set.specs.ItemSet.{Items}
+use Rattle.ls_set.specs.ItemSet.{Items, full, items as items_in, is_among, IsWithin}
+use Rattle.ls_set.specs.declared.cursor.CursorFault.{CursorFault}
+use Rattle.ls_set.proofs.Sets.{members, is_within-from}
+use Rattle.ls_set.proofs.Listed.{Contains-items}
+use Rattle.std.specs.declared.result.Result.{Result}
 use Rattle.ls_set.specs.Query.{is_good}
 use Rattle.ls_set.specs.declared.query.Query.{Query}
 use Rattle.ls_theory.specs.Interviews.{yes_queries}
-use Rattle.ls_theory.specs.Bases.{Peak}
+use Rattle.ls_theory.specs.Bases.{Peak, peak_of, base, atom_items, atom_sets}
+use Rattle.ls_theory.specs.Families.{is_space}
+use Rattle.ls_theory.specs.Projections.{projection}
+use Rattle.ls_theory.specs.Fringes.{outer_fringe, fringes, state_of}
+use Rattle.ls_theory.specs.Paths.{is_order}
+use Rattle.ls_theory.specs.Verdict.{is_well_graded, is_learning_space, double_atom, base_verdict}
+use Rattle.ls_theory.specs.declared.verdict.BaseVerdict.{BaseVerdict}
+use Rattle.ls_theory.specs.declared.verdict.BaseVerdict.TheVariants as of_base
+use Rattle.ls_laws.specs.Spans.{IsOn}
+use Rattle.ls_laws.specs.Forced.{IsSound}
+use Rattle.ls_laws.proofs.Compat.{compat-IsUnionFamily}
+use Rattle.ls_laws.proofs.Atoms.{base-member}
+use Rattle.ls_laws.proofs.Projecting.{projection-space}
+use Rattle.ls_spans.specs.Speaking.{IsDoubleOn, IsBaseVerdictOn}
+use Rattle.ls_spans.proofs.Spoken.{base_verdict-on, inner-within, outer-within, state_of-within, projection-within}
 use Rattle.ls_theory.specs.declared.known.Known.{Known}
 use Rattle.ls_theory.specs.Forced.{known, next_question}
 use Rattle.ls_theory.specs.declared.answer_fault.AnswerFault.TheVariants.{BadQuery}
-use Rattle.ls_base.specs.Followed.{IsFollowed, followed_sets}
-use Rattle.ls_base.specs.declared.followed.Followed.{Followed}
-use Rattle.ls_base.specs.declared.followed.Followed.TheVariants.{Within, Past}
 use Rattle.ls_expert.proofs.Ruling.{question-good}
 use Rattle.ls_lines.specs.Lines.{Text}
 use Rattle.ls_reply.specs.Refusals.{refusal_items}
-use Rattle.ls_reply.specs.Sessions.{Session}
+use Rattle.ls_reply.specs.Sessions.{Session, states}
 use Rattle.ls_reply.specs.Effects.{refuse, refuse_fault, ◌otherwise◌}
-use Rattle.ls_reply.specs.Rows.{view_row, based_row, past_refusal}
+use Rattle.ls_reply.specs.Rows.{view_row, based_row, states_row, project_row, past_refusal, learning_refusals, learned, state_shown, paths_shown}
 use Rattle.ls_reply.specs.declared.refusal.Refusal.{Refusal}
 use Rattle.ls_reply.specs.declared.refusal.Refusal.TheVariants as refusal_of
 use Rattle.ls_reply.specs.declared.response.Response.{Response}
@@ -27,23 +46,21 @@ use Rattle.ls_reply.specs.declared.response.Shown.{Shown as Showing}
 use Rattle.ls_reply.specs.declared.response.Shown.TheVariants as shown
 use Rattle.ls_reply.specs.declared.request.View.{View}
 use Rattle.ls_reply.specs.declared.request.View.TheVariants as view
-use Rattle.ls_meanings.specs.Asked.{IsOn}
+use Rattle.ls_meanings.specs.Asked as asked_on
+use Rattle.ls_meanings.specs.Asked.{IsAfter}
 use Rattle.ls_writing.specs.Names.{AreNamed, CanRefuse}
-use Rattle.ls_views.specs.Views.{CanSay, IsBased, is_based}
+use Rattle.ls_writing.proofs.Names.{double-named}
+use Rattle.ls_views.specs.Views.{CanSay, is_based}
+use Rattle.ls_views.proofs.OnBases.{compatible-space}
+use Rattle.ls_base.specs.Followed.{IsFollowed, followed_sets}
+use Rattle.ls_base.specs.declared.followed.Followed.{Followed}
+use Rattle.ls_base.specs.declared.followed.Followed.TheVariants.{Within, Past}
+use Rattle.ls_theory.specs.Interviews.{Interview}
+use Rattle.ls_theory.specs.Compatible.{compatible_sets}
 
 -- a refusal that names no item can be told
 pub names_none : (names : List Text) (r : Refusal) → refusal_items r ≡ [] → CanRefuse names r
 names_none names r e = subst (AreNamed names) (sym e) (λ i d l. absurd (omega arith))
-
--- what stands on the base that was followed can be shown
-pub can-based : (s : Session) (sets : List Items) (what : Showing) (f : Followed) (r : Response) → IsBased what → sets ≡ followed_sets f
-    → IsFollowed s.interview.count s.interview.start (yes_queries s.interview.answers) f → r ≡ based_row s.interview what → CanSay s sets r
-can-based s sets what (Within b) r can same h e =
-    let row : based_row s.interview what ≡ Shown what = ap (λ (p : Option Peak). refuse_fault past_refusal p otherwise Shown what) h.no_peak in
-    subst (CanSay s sets) (sym (e ∙ row)) (can s sets (same ∙ h.is_base))
-can-based s sets what (Past position count) r can same h e =
-    let row : based_row s.interview what ≡ Refused (refusal_of.Past position count) = ap (λ (p : Option Peak). refuse_fault past_refusal p otherwise Shown what) h in
-    subst (CanSay s sets) (sym (e ∙ row)) (names_none s.names (refusal_of.Past position count) refl)
 
 can-known : (s : Session) (sets : List Items) (good : Bool) (k : Known) → CanSay s sets (refuse (refusal_of.Answer BadQuery) (not good) otherwise Shown (shown.Known k))
 can-known s sets true k = tt
@@ -53,19 +70,89 @@ asked : (P : Query → Type 0) (o : Option Query) → IfSome o P → ForSome o P
 asked P None h = λ x e. absurd (cc e)
 asked P (Some q) h = λ x e. let same : q ≡ x = cc in subst P same h
 
-pub not-based : (v : View) → (v ≡ view.Base → ⊥) → (v ≡ view.Surmise → ⊥) → is_based v ≡ false
-not-based (view.Known q) a b = refl
-not-based view.Ask a b = refl
-not-based (view.States count after) a b = refl
-not-based view.Base a b = absurd (a refl)
-not-based view.Surmise a b = absurd (b refl)
+-- ---- what is told of a space
 
--- what else is asked for can be shown
-pub can-view : (s : Session) (sets : List Items) (v : View) (r : Response) → length s.names ≡ s.interview.count → IsOn (length s.names) v → is_based v ≡ false → r ≡ view_row s.interview v → CanSay s sets r
-can-view s sets (view.Known q) r items on other e = subst (CanSay s sets) (sym e) (can-known s sets (is_good s.interview.count q) (known s.interview q))
-can-view s sets view.Ask r items on other e =
-    subst (CanSay s sets) (sym e) (subst (λ n. ForSome (next_question s.interview None) (λ q. is_good n q ≡ true)) (sym items) (asked (λ q. is_good s.interview.count q ≡ true) (next_question s.interview None) (question-good s.interview None)))
-can-view s sets (view.States count (Ok after)) r items on other e = subst (CanSay s sets) (sym e) on
-can-view s sets (view.States count (Err fault)) r items on other e = subst (CanSay s sets) (sym e) (names_none s.names (refusal_of.Cursor fault) refl)
-can-view s sets view.Base r items on other e = absurd (cc other)
-can-view s sets view.Surmise r items on other e = absurd (cc other)
+module _ (n : ℕ) (f : List Items) (on : IsOn n f) where
+  -- the refusal of a space that is no learning space names its items
+  told-double : (names : List Text) (k : Items) (i j : ℕ) → length names ≡ n → IsDoubleOn n k i j → CanRefuse names (refusal_of.NotLearning k i j)
+  told-double names k i j e d = double-named names k i j (subst (λ m. IsDoubleOn m k i j) (sym e) d)
+
+  can-learned : (s : Session) (sets : List Items) (r : Response) → length s.names ≡ n → is_space (full n) f ≡ true → (is_learning_space (full n) f ≡ true → CanSay s sets r) → CanSay s sets (learned f r)
+  can-learned s sets r e space can = go (base_verdict f) refl (base_verdict-on n f (full n) on space)
+    where
+      go : (v : BaseVerdict) → base_verdict f ≡ v → IsBaseVerdictOn n v → CanSay s sets (learning_refusals v otherwise r)
+      go (of_base.NotGraded k i j) h d = told-double s.names k i j e d
+      go of_base.Learning h d = can (and_from (is_space (full n) f) (is_well_graded f) space (graded h))
+        where
+          graded : base_verdict f ≡ of_base.Learning → is_well_graded f ≡ true
+          graded h = elim (cases_Bool (is_well_graded f)) [
+            | inl a ↦ a
+            | inr a ↦ absurd (let k = double_atom f in let z : of_base.NotGraded k (slice_index (atom_items f k) 0) (slice_index (atom_items f k) 1) ≡ of_base.Learning = rw a at h in cc)
+          ]
+
+-- ---- what is shown of an interview that stands
+
+module _ (s : Session) (sets : List Items) (items : length s.names ≡ s.interview.count) (sound : IsSound s.interview) where
+  abbrev n : ℕ
+  n = length s.names
+
+  abbrev f : List Items
+  f = states s
+
+  on : IsOn n f
+  on = λ k m. subst (λ c. IsWithin k (full c)) (sym items) ((compat-IsUnionFamily s.interview.count s.interview.start (yes_queries s.interview.answers)).small k m)
+
+  space : is_space (full n) f ≡ true
+  space = subst (λ c. is_space (full c) f ≡ true) (sym items) (compatible-space s.interview sound)
+
+  -- what stands on the base
+  can-based : (r : Response) → (peak_of s.interview ≡ None → CanSay s sets r) → CanSay s sets (based_row s.interview r)
+  can-based r can = go (peak_of s.interview) refl
+    where
+      go : (p : Option Peak) → peak_of s.interview ≡ p → CanSay s sets (refuse_fault past_refusal p otherwise r)
+      go None e = can e
+      go (Some p) e = names_none s.names (refusal_of.Past p.position p.count) refl
+
+  can-after : (count : ℕ) (after : Result (Option Items) CursorFault) → IsAfter n after → CanSay s sets (states_row count after)
+  can-after count (Ok after) h = h
+  can-after count (Err fault) h = names_none s.names (refusal_of.Cursor fault) refl
+
+  can-projected : (part : Items) (count : ℕ) (after : Result (Option Items) CursorFault) → IsAfter n after → CanSay s sets (project_row part count after)
+  can-projected part count (Ok after) h = h
+  can-projected part count (Err fault) h = names_none s.names (refusal_of.Cursor fault) refl
+
+  pub can-view : (v : View) → asked_on.IsOn n v → (is_based v ≡ true → peak_of s.interview ≡ None → sets ≡ base f) → CanSay s sets (view_row s.interview v)
+  can-view (view.Known q) h same = can-known s sets (is_good s.interview.count q) (known s.interview q)
+  can-view view.Ask h same = subst (λ m. ForSome (next_question s.interview None) (λ q. is_good m q ≡ true)) (sym items) (asked (λ q. is_good s.interview.count q ≡ true) (next_question s.interview None) (question-good s.interview None))
+  can-view (view.States count after) h same = can-after count after h
+  can-view view.Base h same = can-based (Shown shown.Base) (same refl)
+  can-view view.Surmise h same = can-based (Shown (shown.Surmise (atom_sets f))) (λ e. (same refl e, refl))
+  can-view view.Learning h same = can-based (Shown (shown.Learning (base_verdict f))) (λ e. base_verdict-on n f (full n) on space)
+  can-view (view.Project part count after) h same = can-projected part count after h.1
+  can-view (view.ProjectBase part) h same =
+      let g = projection s.interview.count part f in
+      can-based (Shown (shown.ProjectedBase (base g) (base_verdict g))) (λ e. subst (λ m. let g = projection m part f in IsOn n (base g) × IsBaseVerdictOn n (base_verdict g)) items
+      (λ k m. projection-within n part f h k (base-member (projection n part f) k m), base_verdict-on n (projection n part f) part (projection-within n part f h) (projection-space n part f (is_within-from part (full n) h) space)))
+  can-view (view.Fringes k) h same = can-fringes (is_among f k)
+    where
+      can-fringes : (b : Bool) → CanSay s sets (refuse refusal_of.NotState (not b) otherwise Shown (shown.Fringes (fringes s.interview.count f k)))
+      can-fringes true = (inner-within n f on k h, subst (λ m. IsWithin (outer_fringe m f k) (full n)) items (outer-within n f on k))
+      can-fringes false = names_none s.names refusal_of.NotState refl
+  can-view (view.StateOf inner outer) h same = can-based _ (λ e. can-learned n f on s sets _ refl space (λ l. subst (λ m. CanSay s sets (state_shown (state_of m f inner outer))) items (can-state (state_of n f inner outer) refl)))
+    where
+      can-state : (o : Option Items) → state_of n f inner outer ≡ o → CanSay s sets (state_shown o)
+      can-state None e = names_none s.names refusal_of.NoState refl
+      can-state (Some k) e = state_of-within n f on inner outer k e
+  can-view (view.Paths count after) h same = can-based _ (λ e. can-learned n f on s sets _ refl space (λ l. subst (λ m. CanSay s sets (paths_shown m count after)) items (can-paths l after)))
+    where
+      can-paths : is_learning_space (full n) f ≡ true → (after : Option (List ℕ)) → CanSay s sets (paths_shown n count after)
+      can-paths l None = (l, λ x e. absurd (cc e))
+      can-paths l (Some order) = elim (is_order n order) as (λ b. is_order n order ≡ b → CanSay s sets (refuse refusal_of.NotOrder (not b) otherwise Shown (shown.Paths count (Some order)))) [
+        | true ↦ λ e. (l, λ x h. let same : order ≡ x = cc h in subst (λ o. is_order n o ≡ true) same e)
+        | false ↦ λ e. names_none s.names refusal_of.NotOrder refl
+      ] refl
+
+-- where the base had never too many sets, what is followed has its sets
+pub followed-base : (i : Interview) (f : Followed) → IsFollowed i.count i.start (yes_queries i.answers) f → peak_of i ≡ None → followed_sets f ≡ base (compatible_sets i)
+followed-base i (Within b) h e = h.is_base
+followed-base i (Past position count) h e = absurd (let z : None ≡ Some (record { position = position; count = count }) = sym e ∙ h in cc)

@@ -2,13 +2,14 @@
 use Rattle.std.proofs.Common.{◌≡◌, ◌<◌, ℕ, zero, suc, List, [], ◌∷◌, ◌++◌, map, codes, true, refl, ap, sym, subst, ◌∙◌, length, append_assoc, arith}
 use Rattle.std.specs.Prelude.{slice_index_or}
 use Rattle.std.specs.List.{All}
-use Rattle.ls_set.specs.ItemSet.{Items, full, IsWithin, is_among, numbers_from}
+use Rattle.ls_set.specs.ItemSet.{Items, full, IsWithin, is_among, set_of, numbers_from}
 use Rattle.ls_theory.specs.Interviews.{Interview, yes_queries}
 use Rattle.ls_theory.specs.Compatible.{compatible_sets}
-use Rattle.ls_theory.specs.Bases.{base, atoms_at}
+use Rattle.ls_theory.specs.Bases.{base, atoms_at, atom_items, atom_sets}
 use Rattle.ls_theory.specs.Clauses.{clauses_at}
 use Rattle.ls_set.proofs.Members.{among-here, among-there}
-use Rattle.ls_laws.proofs.Atoms.{base-member}
+use Rattle.ls_laws.proofs.Atoms.{base-member, base-spans}
+use Rattle.ls_spans.proofs.Spanning.{atom_items-spanning}
 use Rattle.ls_laws.proofs.Compat.{compat-IsUnionFamily, compat-in_order}
 use Rattle.ls_base.proofs.Spanned.{atoms_at-base}
 use Rattle.ls_reply.specs.Texts.{line_of, bytes_of}
@@ -30,6 +31,9 @@ all-among n [] h i d l = absurd (omega arith)
 all-among n (t ∷ f) h zero d l = h t (among-here t t f refl)
 all-among n (t ∷ f) h (suc i) d l = all-among n f (λ k c. h k (among-there k t f c)) i d (omega arith)
 
+pub all-within : (n : ℕ) (f : List Items) → ((k : Items) → is_among f k ≡ true → IsWithin k (full n)) → All (λ k. IsWithin k (full n)) f
+all-within n f h = all-among n f h
+
 -- the sets of the base are sets of the items
 pub base-within : (i : Interview) (n : ℕ) (sets : List Items) → n ≡ i.count → sets ≡ base (compatible_sets i) → All (λ k. IsWithin k (full n)) sets
 base-within i n sets en e =
@@ -46,3 +50,10 @@ pub base-clauses : (i : Interview) (n : ℕ) (sets : List Items) → sets ≡ ba
 base-clauses i n sets e =
     ap (clauses_at n) e
     ∙ map-same (atoms_at (base (compatible_sets i))) (atoms_at (compatible_sets i)) (numbers_from 0 n) (λ q. atoms_at-base (compatible_sets i) q (compat-in_order i.count i.start (yes_queries i.answers)))
+
+-- the items at which a set of the base is an atom, among these sets as among the states
+pub base-atoms : (i : Interview) (sets : List Items) → sets ≡ base (compatible_sets i) → atom_sets (compatible_sets i) ≡ map (λ k. set_of (atom_items sets k)) sets
+base-atoms i sets e =
+    let f = compatible_sets i in
+    map-same (λ k. set_of (atom_items f k)) (λ k. set_of (atom_items (base f) k)) (base f) (λ k. ap set_of (sym (atom_items-spanning f (base f) (base-member f) (base-spans f) k)))
+    ∙ ap (λ (ks : List Items). map (λ k. set_of (atom_items ks k)) ks) (sym e)

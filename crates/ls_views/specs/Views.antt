@@ -4,7 +4,14 @@ use Rattle.std.specs.Option.{ForSome}
 use Rattle.ls_set.specs.ItemSet.{Items, full, IsWithin}
 use Rattle.ls_set.specs.Query.{is_good}
 use Rattle.ls_theory.specs.Interviews.{Interview}
-use Rattle.ls_theory.specs.Bases.{base}
+use Rattle.ls_theory.specs.Bases.{base, atom_sets}
+use Rattle.ls_theory.specs.Projections.{projection}
+use Rattle.ls_theory.specs.Verdict.{base_verdict, is_learning_space}
+use Rattle.ls_theory.specs.Fringes.{state_of}
+use Rattle.ls_theory.specs.Paths.{is_order}
+use Rattle.ls_laws.specs.Spans.{IsOn}
+use Rattle.ls_spans.specs.Speaking.{IsBaseVerdictOn, IsVerdictOn}
+use Rattle.ls_reply.specs.Rows.{learned, state_shown, paths_shown}
 use Rattle.ls_lines.specs.Lines.{Text}
 use Rattle.ls_lines.specs.declared.command.Command.{Command}
 use Rattle.ls_lines.specs.declared.command.Command.TheVariants as command
@@ -27,25 +34,48 @@ is_reading command.Ask = true
 is_reading (command.States count after) = true
 is_reading command.Base = true
 is_reading command.Surmise = true
+is_reading command.Learning = true
+is_reading (command.Project count after names) = true
+is_reading (command.ProjectBase names) = true
+is_reading (command.Fringes names) = true
+is_reading (command.StateOf inner outer) = true
+is_reading (command.Paths count after) = true
 is_reading c = false
 
 -- whether what is asked for stands on the base
 abbrev pub is_based : View → Bool
 is_based view.Base = true
 is_based view.Surmise = true
+is_based view.Learning = true
+is_based (view.ProjectBase part) = true
+is_based (view.StateOf inner outer) = true
+is_based (view.Paths count after) = true
 is_based v = false
 
--- What is shown speaks of the items alone; and of the base, where these are its sets.
+-- what is shown then of states f of n items, where the base did not have too many sets
+abbrev pub based_on : ℕ → List Items → View → Response
+based_on n f view.Base = response.Shown shown.Base
+based_on n f view.Surmise = response.Shown (shown.Surmise (atom_sets f))
+based_on n f view.Learning = response.Shown (shown.Learning (base_verdict f))
+based_on n f (view.ProjectBase part) = let g = projection n part f in response.Shown (shown.ProjectedBase (base g) (base_verdict g))
+based_on n f (view.StateOf inner outer) = learned f (state_shown (state_of n f inner outer))
+based_on n f (view.Paths count after) = learned f (paths_shown n count after)
+based_on n f v = response.Silence
+
+-- What is shown speaks of the items alone; of the base, where these are its sets; and of learning paths in a learning space.
 abbrev pub CanShow : Session → List Items → Shown → Type 0
 CanShow s sets (shown.Known known) = ⊤
 CanShow s sets (shown.Question next) = ForSome next (λ r. is_good (length s.names) r ≡ true)
 CanShow s sets (shown.States count after) = ForSome after (λ k. IsWithin k (full (length s.names)))
 CanShow s sets shown.Base = sets ≡ base (states s)
-CanShow s sets shown.Surmise = sets ≡ base (states s)
-
--- what is shown can be said by the sets of the base
-abbrev pub IsBased : Shown → Type 0
-IsBased what = (s : Session) (sets : List Items) → sets ≡ base (states s) → CanShow s sets what
+CanShow s sets (shown.Surmise atoms) = (sets ≡ base (states s)) × (atoms ≡ atom_sets (states s))
+CanShow s sets (shown.Learning verdict) = IsBaseVerdictOn (length s.names) verdict
+CanShow s sets (shown.Projected part count after) = ForSome after (λ k. IsWithin k (full (length s.names)))
+CanShow s sets (shown.ProjectedBase found verdict) = IsOn (length s.names) found × IsBaseVerdictOn (length s.names) verdict
+CanShow s sets (shown.Fringes fringes) = IsWithin fringes.inner (full (length s.names)) × IsWithin fringes.outer (full (length s.names))
+CanShow s sets (shown.State k) = IsWithin k (full (length s.names))
+CanShow s sets (shown.Paths count after) = (is_learning_space (full (length s.names)) (states s) ≡ true) × ForSome after (λ order. is_order (length s.names) order ≡ true)
+CanShow s sets (shown.Tested verdict) = IsVerdictOn (length s.names) verdict
 
 -- and a refusal speaks of items that have names
 abbrev pub CanSay : Session → List Items → Response → Type 0
@@ -61,6 +91,7 @@ view_steps v = 0
 -- how many interiors what is shown takes at most, on n items
 abbrev pub shown_steps : Shown → ℕ → ℕ
 shown_steps (shown.States count after) n = (count + 1) * (n + 1)
+shown_steps (shown.Projected part count after) n = (count + 1) * (n + 1)
 shown_steps s n = 0
 
 abbrev pub response_steps : Response → ℕ → ℕ
@@ -71,4 +102,5 @@ response_steps r n = 0
 abbrev pub command_steps : Command → ℕ → ℕ
 command_steps (command.Known names item) n = 1
 command_steps (command.States count after) n = (count + 1) * (n + 1)
+command_steps (command.Project count after names) n = (count + 1) * (n + 1)
 command_steps c n = 0

@@ -1,50 +1,47 @@
 // What is shown of an interview, decided.
-ghost use Rattle.std.specs.Prelude.{◌≡◌, ◌≤◌, ◌+◌, false, length};
-ghost use Rattle.ls_theory.specs.Interviews.{Interview, yes_queries};
-ghost use Rattle.ls_base.specs.Followed.{IsFollowed};
-ghost use Rattle.ls_reply.specs.Rows.{known_row, based_row, view_row};
+ghost use Rattle.std.specs.Prelude.{◌≡◌, ◌≤◌, ◌+◌, false};
+ghost use Rattle.ls_set.specs.ItemSet.{full, IsWithin};
+ghost use Rattle.ls_meanings.specs.Asked.{IsOn};
+ghost use Rattle.ls_reply.specs.Rows.{known_row, states_row, project_row, fringes_row, view_row};
 ghost use Rattle.ls_views.specs.Views.{is_based, view_steps};
 
-use ls_base::Followed;
 use ls_expert::{AnswerFault, BadQuery, Inquiry};
-use ls_interior::Steps;
+use ls_fringe::fringes;
+use ls_interior::{Steps, is_member};
 use ls_reply::{Refusal, Response, Shown, View};
-use ls_set::Query;
+use ls_set::{CursorFault, ItemSet, Query};
 use std::sync::ledger::Ledger;
 
+/// Whether what is asked stands on the base of the interview.
+pub fn is_based(view: &View) -> bool
+    ensures { result ≡ is_based view.now }
+{
+    matches!(
+        view,
+        View::Base
+            | View::Surmise
+            | View::Learning
+            | View::ProjectBase { .. }
+            | View::StateOf { .. }
+            | View::Paths { .. }
+    )
+}
+
 /// What is shown where something that doesn't stand on the base is asked of the interview. It takes
-/// at most one interior for a query, and none for the others.
+/// at most one counted interior for a query, and none for the others.
 pub fn decide<L: Ledger>(inquiry: &Inquiry, view: &View, steps: &mut Steps<L>) -> Response
-    requires { is_based view.now ≡ false }
+    requires other { is_based view.now ≡ false }
+    requires on { IsOn inquiry.now.count view.now }
     ensures response { result ≡ view_row inquiry.now view.now }
     ensures cost { steps.new ≤ steps.old + view_steps view.now }
 {
     match view {
         View::Known { query } => known(inquiry, query, steps),
         View::Ask => Response::Shown(Shown::Question(inquiry.next_question(None))),
-        View::States { count, after } => match after {
-            Ok(after) => Response::Shown(Shown::States {
-                count: *count,
-                after: *after,
-            }),
-            Err(fault) => Response::Refused(Refusal::Cursor(*fault)),
-        },
-        View::Base | View::Surmise => unreachable!(),
-    }
-}
-
-/// The response where `what` is asked for, which stands on the base that was followed over the Yes
-/// answers.
-pub fn based(followed: &Followed, what: Shown) -> Response
-    ensures { (i : Interview) → IsFollowed i.count i.start (yes_queries i.answers) followed.now →
-        result ≡ based_row i what }
-{
-    match followed {
-        Followed::Within(_) => Response::Shown(what),
-        Followed::Past { position, count } => Response::Refused(Refusal::Past {
-            position: *position,
-            count: *count,
-        }),
+        View::States { count, after } => states(*count, after),
+        View::Project { part, count, after } => projected(*part, *count, after),
+        View::Fringes { set } => fringes_at(inquiry, *set),
+        _ => unreachable!(),
     }
 }
 
@@ -56,5 +53,38 @@ fn known<L: Ledger>(inquiry: &Inquiry, query: &Query, steps: &mut Steps<L>) -> R
     match inquiry.known(query, steps) {
         Ok(known) => Response::Shown(Shown::Known(known)),
         Err(BadQuery) => Response::Refused(Refusal::Answer(AnswerFault::BadQuery)),
+    }
+}
+
+// A page of states.
+fn states(count: u32, after: &Result<Option<ItemSet>, CursorFault>) -> Response
+    ensures { result ≡ states_row count after.now }
+{
+    match *after {
+        Ok(after) => Response::Shown(Shown::States { count, after }),
+        Err(fault) => Response::Refused(Refusal::Cursor(fault)),
+    }
+}
+
+// A page of states of a projection.
+fn projected(part: ItemSet, count: u32, after: &Result<Option<ItemSet>, CursorFault>) -> Response
+    ensures { result ≡ project_row part count after.now }
+{
+    match *after {
+        Ok(after) => Response::Shown(Shown::Projected { part, count, after }),
+        Err(fault) => Response::Refused(Refusal::Cursor(fault)),
+    }
+}
+
+// The fringes of a set, if it is a state.
+fn fringes_at(inquiry: &Inquiry, set: ItemSet) -> Response
+    requires { IsWithin set (full inquiry.now.count) }
+    ensures { result ≡ fringes_row inquiry.now set }
+{
+    let family = inquiry.family();
+    if is_member(family, set) {
+        Response::Shown(Shown::Fringes(fringes(family, set)))
+    } else {
+        Response::Refused(Refusal::NotState)
     }
 }

@@ -1,5 +1,5 @@
 // The commands that look at an interview and change nothing.
-ghost use Rattle.std.specs.Prelude.{◌≡◌, ◌≤◌, ◌+◌, ℕ, List, true, [], length, IfOk, OnOk};
+ghost use Rattle.std.specs.Prelude.{◌≡◌, ◌≤◌, ◌+◌, ℕ, List, true, [], length, IfOk, OnOk, OnErr};
 ghost use Rattle.std.specs.Io.KnownBytes.{Appends};
 ghost use Rattle.ls_edge.specs.Causes.{AppendsFront, HasSinkCause};
 ghost use Rattle.ls_reply.specs.Scenes.{Calls};
@@ -15,7 +15,8 @@ ghost use Rattle.ls_meanings.specs.Asked.{IsOn};
 ghost use Rattle.ls_writing.specs.Rooms.{Says, Wrote, no_reply};
 ghost use Rattle.ls_views.specs.Views.{CanSay, is_reading, command_steps, response_steps, view_steps, session_on};
 
-use crate::deciding::{based, decide};
+use crate::based::decide_based;
+use crate::deciding::{decide, is_based};
 use crate::showing::put_shown;
 use ls_base::Followed;
 use ls_domain::Domain;
@@ -23,8 +24,8 @@ use ls_edge::{Sink, SinkFault};
 use ls_expert::{Inquiry, Interview};
 use ls_interior::Steps;
 use ls_lines::Command;
-use ls_meanings::resolve;
-use ls_reply::{Request, Response, Shown, View};
+use ls_meanings::{ResolveFault, resolve};
+use ls_reply::{Request, Response, View};
 use ls_set::ItemSet;
 use ls_writing::{Room, SetTexts, put_done, put_refusal};
 use std::alloc::{AllocError, Global};
@@ -57,49 +58,54 @@ pub fn put_response<K: Sink, L: Ledger>(
 
 // What the command shows.
 fn respond<L: Ledger>(
+    alloc: Global,
     domain: &Domain,
     inquiry: &Inquiry,
     followed: &Followed,
     command: &Command,
     steps: &mut Steps<L>,
-) -> Response
+) -> Result<Response, AllocError>
     requires items { length domain.now ≡ inquiry.now.count }
     requires reading { is_reading command.now ≡ true }
     requires named { unnamed_places domain.now command.now ≡ [] }
     requires followed { let i = inquiry.now in IsFollowed i.count i.start (yes_queries i.answers)
         followed.now }
     ensures response { (calls : Calls) → let s = session_on domain.now inquiry.now in
-        command_effect s calls command.now ≡ answers s result }
-    ensures said { CanSay (session_on domain.now inquiry.now) (followed_sets followed.now) result }
+        IfOk result (λ r. command_effect s calls command.now ≡ answers s r) }
+    ensures said { IfOk result
+        (CanSay (session_on domain.now inquiry.now) (followed_sets followed.now)) }
     ensures cost { let n = inquiry.now.count in
-        steps.new + response_steps result n ≤ steps.old + command_steps command.now n }
+        IfOk result (λ r.
+        steps.new + response_steps r n ≤ steps.old + command_steps command.now n) }
+    ensures err { OnErr result (steps.new ≤ steps.old + command_steps command.now inquiry.now.count) }
 {
     prove!(domain.count() > 0);
-    match resolve(domain, command) {
-        Ok(Some(Request::View(view))) => show(inquiry, followed, &view, steps),
+    let _ = inquiry.standing();
+    match resolve(alloc, domain, command) {
+        Ok(Some(Request::View(view))) => show(alloc, inquiry, followed, view, steps),
+        Err(ResolveFault::Memory(e)) => Err(e),
         _ => unreachable!(),
     }
 }
 
 // What is shown.
 fn show<L: Ledger>(
+    alloc: Global,
     inquiry: &Inquiry,
     followed: &Followed,
-    view: &View,
+    view: View,
     steps: &mut Steps<L>,
-) -> Response
-    requires { let i = inquiry.now in IsFollowed i.count i.start (yes_queries i.answers)
+) -> Result<Response, AllocError>
+    requires on { IsOn inquiry.now.count view }
+    requires followed { let i = inquiry.now in IsFollowed i.count i.start (yes_queries i.answers)
         followed.now }
-    ensures response { result ≡ view_row inquiry.now view.now }
-    ensures said { (names : List (List ℕ)) → length names ≡ inquiry.now.count → IsOn (length names)
-        view.now →
-        CanSay (session_on names inquiry.now) (followed_sets followed.now) result }
-    ensures cost { steps.new ≤ steps.old + view_steps view.now }
+    ensures response { IfOk result (λ r. r ≡ view_row inquiry.now view) }
+    ensures cost { steps.new ≤ steps.old + view_steps view }
 {
-    match view {
-        View::Base => based(followed, Shown::Base),
-        View::Surmise => based(followed, Shown::Surmise),
-        _ => decide(inquiry, view, steps),
+    if is_based(&view) {
+        decide_based(alloc, inquiry, followed, view)
+    } else {
+        Ok(decide(inquiry, &view, steps))
     }
 }
 
@@ -161,7 +167,10 @@ pub fn view<K: Sink, L: Ledger>(
     let texts = set_texts(alloc, domain).map_err(SinkFault::Memory)?;
     let inquiry = interview.inquiry();
     let followed = interview.base();
-    let response = respond(domain, inquiry, followed, command, steps);
+    let response = match respond(alloc, domain, inquiry, followed, command, steps) {
+        Ok(response) => response,
+        Err(e) => return Err(SinkFault::Memory(e)),
+    };
     write(
         &texts,
         inquiry,

@@ -7,12 +7,17 @@ ghost use Rattle.ls_reply.specs.Lines.{known_words, question_words, shown_lines}
 ghost use Rattle.ls_writing.specs.Rooms.{Says};
 ghost use Rattle.ls_views.specs.Views.{CanShow, session_on, shown_steps};
 
+use crate::walking::put_paths;
 use ls_edge::Sink;
 use ls_expert::{Inquiry, Known};
 use ls_interior::{Counted, Steps};
+use ls_project::Trace;
 use ls_reply::Shown;
 use ls_set::{ItemSet, Query};
-use ls_writing::{Room, SetTexts, put_base, put_line, put_listing, put_numbered, put_surmise};
+use ls_writing::{
+    Room, SetTexts, put_base, put_fringes, put_learning, put_line, put_listing, put_numbered,
+    put_state, put_surmise, put_verdict,
+};
 use std::sync::ledger::Ledger;
 
 /// Says what is shown of the interview on named items. `sets` are those of its base, where that is
@@ -40,8 +45,24 @@ pub fn put_shown<K: Sink, L: Ledger>(
             let states = Counted::new(inquiry.family());
             put_listing(&states, texts, *after, *count, room, out, steps);
         }
+        Shown::Projected { part, count, after } => {
+            let projection = Trace::new(inquiry.family(), *part);
+            let states = Counted::new(&projection);
+            put_listing(&states, texts, *after, *count, room, out, steps);
+        }
         Shown::Base => put_base(texts, sets, room, out),
-        Shown::Surmise => put_surmise(texts, sets, room, out),
+        Shown::Surmise { atoms } => put_surmise(texts, sets, atoms.as_slice(), room, out),
+        Shown::Learning(verdict) => put_learning(texts, *verdict, room, out),
+        Shown::ProjectedBase { base, verdict } => {
+            put_base(texts, base.as_slice(), room, out);
+            put_learning(texts, *verdict, room, out);
+        }
+        Shown::Fringes(fringes) => put_fringes(texts, *fringes, room, out),
+        Shown::State(set) => put_state(texts, *set, room, out),
+        Shown::Paths { count, after } => {
+            put_paths(inquiry.family(), texts, after, *count, room, out);
+        },
+        Shown::Tested(verdict) => put_verdict(texts, verdict, room, out),
     }
 }
 

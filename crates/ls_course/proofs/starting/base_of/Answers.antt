@@ -1,9 +1,32 @@
-use Rattle.std.proofs.Common.{rules, ◌≡◌, Ok, length, ap, sym, ◌∙◌, subst}
+use Rattle.std.proofs.Common.{◌≡◌, ◌<◌, ℕ, zero, suc, rules, List, [], ◌∷◌, length, Ok, Err, refl, ap, sym, ◌∙◌, subst, arith}
+use Rattle.std.specs.declared.alloc.AllocError.{AllocError}
+use Rattle.ls_set.specs.ItemSet.{Items}
 use Rattle.ls_theory.specs.Bases.{based}
+use Rattle.ls_theory.specs.declared.base_fault.BaseFault.{BaseFault}
+use Rattle.ls_theory.specs.declared.base_fault.BaseFault.TheVariants.{NotSpanning, Past, Memory}
 use Rattle.ls_base.specs.Bases.{IsFaultOf}
+use Rattle.ls_clauses.proofs.BaseCovers.{based-cover, missing-lt}
+use Rattle.ls_lines.specs.Lines.{Text}
 use Rattle.ls_reply.specs.Rows.{start_of_base}
-use Rattle.ls_course.proofs.BaseCovers.{based-cover, fault-named, fault-read}
+use Rattle.ls_reply.specs.declared.refusal.Refusal.TheVariants.{StartBase}
+use Rattle.ls_writing.specs.Names.{AreNamed, CanRefuse}
 use Rattle.ls_course.proofs.starting.base_of.Goals as goal
+
+one-named : (names : List Text) (q : ℕ) → q < length names → AreNamed names (q ∷ [])
+one-named names q l zero d m = l
+one-named names q l (suc k) d m = absurd (omega arith)
+
+-- why there is no base can be told
+fault-named : (names : List Text) (sets : List Items) (fault : BaseFault) → IsFaultOf (based (length names) sets) fault → CanRefuse names (StartBase fault)
+fault-named names sets (NotSpanning q) e = one-named names q (missing-lt (length names) sets q e)
+fault-named names sets (Past count) e = λ k d m. absurd (omega arith)
+fault-named names sets (Memory x) e = λ k d m. absurd (omega arith)
+
+-- and it is that of the definition, where memory did not run out
+fault-read : (n : ℕ) (sets : List Items) (fault : BaseFault) → ((e : AllocError) → fault ≡ Memory e → ⊥) → IsFaultOf (based n sets) fault → based n sets ≡ Err fault
+fault-read n sets (NotSpanning q) other e = e
+fault-read n sets (Past count) other e = e
+fault-read n sets (Memory x) other e = absurd (other x refl)
 
 pub returns-in-Ok : goal.returns-in-Ok
 returns-in-Ok c =

@@ -1,9 +1,19 @@
-use Rattle.std.proofs.Common.{ap, sym, ◌∙◌, option_copied}
-use Rattle.ls_views.specs.Views.{session_on}
-use Rattle.ls_course.proofs.Trailed.{told-based}
+use Rattle.std.proofs.Common.{length, ap, sym, ◌∙◌, subst, option_copied}
+use Rattle.std.proofs.lemmas.Result.{IfOk-weaker}
+use Rattle.ls_base.specs.Trail.{trail_sets}
+use Rattle.ls_meanings.specs.Asked.{IsOn}
+use Rattle.ls_views.specs.Views.{CanSay, session_on}
+use Rattle.ls_views.proofs.Saying.{can-view}
+use Rattle.ls_course.specs.States.{CourseState}
+use Rattle.ls_course.proofs.Trailed.{last-sets}
 use Rattle.ls_course.proofs.course.Course.based.Goals as goal
 
 pub returns-clause-said : goal.returns-clause-said
 returns-clause-said c =
-    told-based (session_on c.self.inside.texts c.self.inside.inquiry) c.follow.new.trail c.args.what c.in-Some.followed.now c.based.result c.requires c.in_ok-follow.ensures.followed
-    (ap (λ o. option_copied o) (sym c.in-Some.is) ∙ c.last.ensures) c.based.ensures
+    let i = c.self.inside.inquiry in
+    let s = session_on c.self.inside.texts i in
+    let sets = trail_sets c.follow.new.trail in
+    let on = subst (λ (x : CourseState). IsOn (length x.session.names) c.args.view) (sym c.self.view_is) c.requires.on in
+    let last = ap (λ o. option_copied o) (sym c.in-Some.is) ∙ c.last.ensures in
+    IfOk-weaker c.decide_based.result _ _ (λ r e. subst (CanSay s sets) (sym e)
+    (can-view s sets c.self.invariant.items c.standing.ensures.standing.sound c.args.view on (λ b. last-sets i c.follow.new.trail c.in-Some.followed.now c.in_ok-follow.ensures.followed last))) c.decide_based.ensures

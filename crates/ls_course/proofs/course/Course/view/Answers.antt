@@ -1,11 +1,14 @@
-use Rattle.std.proofs.Common.{◌≡◌, length, refl, ap, ◌∙◌, subst}
+use Rattle.std.proofs.Common.{◌≡◌, length, sym, ap, ◌∙◌, subst, true≢false}
+use Rattle.ls_expert.specs.Held.{IsStanding}
 use Rattle.ls_reply.specs.Rows.{view_row}
-use Rattle.ls_course.specs.States.{CourseState}
-use Rattle.ls_views.proofs.Saying.{can-view, not-based}
+use Rattle.ls_course.specs.States.{CourseState, CanTell}
+use Rattle.ls_views.proofs.Saying.{can-view}
 use Rattle.ls_course.proofs.course.Course.view.Goals as goal
 
-pub returns-in_default : goal.returns-in_default
-returns-in_default g c =
-    let row = c.decide.ensures.response ∙ ap (λ (s : CourseState). view_row s.session.interview c.args.view.now) c.self.view_is in
-    let items = subst (λ (s : CourseState). length s.session.names ≡ s.session.interview.count) c.self.view_is c.self.invariant.items in
-    record { response = row; session = refl; said = can-view c.args.self.now.session c.args.self.now.followed c.args.view.now c.decide.result items c.requires (not-based c.args.view.now c.in_default.not-Base c.in_default.not-Surmise) row }
+pub returns-else-is_based-clause-said : goal.returns-else-is_based-clause-said
+returns-else-is_based-clause-said g c =
+    let old = c.args.self.now in
+    let row = c.decide.ensures.response ∙ ap (λ (x : CourseState). view_row x.session.interview c.args.view) c.self.view_is in
+    let items = subst (λ (x : CourseState). length x.session.names ≡ x.session.interview.count) c.self.view_is c.self.invariant.items in
+    let standing = subst (λ (x : CourseState). IsStanding x.session.interview) c.self.view_is c.standing.ensures.standing in
+    subst (CanTell old) (sym row) (can-view old.session old.followed items standing.sound c.args.view c.requires (λ b. absurd (true≢false (sym b ∙ sym c.is_based.ensures ∙ c.if-is_based.false))))

@@ -32,12 +32,17 @@ unfolding command_effect
 returns-in-StartBase-clause-decides g c =
     decides_as _ (λ calls. ap (command_effect (session_of c.args.self.now.course) calls) c.in-StartBase.is) c.load_start-in-StartBase.ensures.decides
 
+pub returns-in-Test-clause-decides : goal.returns-in-Test-clause-decides
+unfolding command_effect
+returns-in-Test-clause-decides g c =
+    decides_as _ (λ calls. ap (command_effect (session_of c.args.self.now.course) calls) c.in-Test.is) c.load_test.ensures.decides
+
 pub returns-in_default : goal.returns-in_default
 returns-in_default g c =
     let s = session_of c.args.self.now.course in
     let command = c.args.command.now in
     record {
-      decides = decides_made _ _ _ (λ calls. command_effect-asked s calls command c.in_default.not-Nothing c.in_default.not-Items c.in_default.not-LoadItems c.in_default.not-StartSurmise c.in_default.not-StartBase)
+      decides = decides_made _ _ _ (λ calls. command_effect-asked s calls command c.in_default.not-Nothing c.in_default.not-Items c.in_default.not-LoadItems c.in_default.not-StartSurmise c.in_default.not-StartBase c.in_default.not-Test)
           (asked_effect-stored s (unnamed_at s command) (request_of s.names command)) c.ask.ensures.makes;
       said = c.ask.ensures.said;
     }

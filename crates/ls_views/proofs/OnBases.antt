@@ -1,0 +1,63 @@
+-- What stands on the base of an interview, by the family of the base.
+use Rattle.std.proofs.Common.{◌≡◌, true, List, sym, ap, ap₂, ◌∙◌, refl}
+use Rattle.std.specs.declared.option.Option.{Option}
+use Rattle.ls_set.specs.ItemSet.{Items, full}
+use Rattle.ls_theory.specs.Interviews.{Interview, yes_queries}
+use Rattle.ls_theory.specs.Compatible.{compatible_sets}
+use Rattle.ls_theory.specs.Families.{is_space}
+use Rattle.ls_theory.specs.Projections.{projection}
+use Rattle.ls_theory.specs.Bases.{Peak, base}
+use Rattle.ls_laws.specs.Spans.{spanned}
+use Rattle.ls_laws.specs.Forced.{IsSound}
+use Rattle.ls_laws.proofs.Spans.{spanned-base}
+use Rattle.ls_laws.proofs.Interiors.{space-to}
+use Rattle.ls_laws.proofs.Answering.{compatible_fit, compat_family}
+use Rattle.ls_laws.proofs.Compat.{compat-in_order}
+use Rattle.ls_laws.proofs.Families.{family_sets, spanned-IsFamily}
+use Rattle.ls_spans.proofs.Traces.{projection-IsFamily}
+use Rattle.ls_base.specs.Bases.{BaseState, family}
+use Rattle.ls_base.specs.Followed.{IsFollowedBase}
+use Rattle.ls_reply.specs.Effects.{refuse_fault, ◌otherwise◌}
+use Rattle.ls_reply.specs.Rows.{view_row, based_row, past_refusal}
+use Rattle.ls_reply.specs.declared.response.Response.{Response}
+use Rattle.ls_reply.specs.declared.request.View.{View}
+use Rattle.ls_reply.specs.declared.request.View.TheVariants as view
+use Rattle.ls_views.specs.Views.{is_based, based_on}
+
+pub compatible-space : (i : Interview) → IsSound i → is_space (full i.count) (compatible_sets i) ≡ true
+compatible-space i sound =
+    let family = compat_family i in
+    space-to (full i.count) (compatible_sets i) family.holds_empty (compatible_fit i sound.some_fits).holds_full family.holds_unions
+
+module _ (i : Interview) (b : BaseState) (h : IsFollowedBase i.count i.start (yes_queries i.answers) b) where
+  followed-family : family b ≡ compatible_sets i
+  followed-family = ap₂ spanned h.items h.is_base ∙ spanned-base i.count (compatible_sets i) (compat-in_order i.count i.start (yes_queries i.answers)) (compat_family i)
+
+  pub followed-space : IsSound i → is_space (full b.item_count) (family b) ≡ true
+  followed-space sound = ap₂ (λ n (f : List Items). is_space (full n) f) h.items followed-family ∙ compatible-space i sound
+
+  unrefused : (r : Response) → r ≡ based_row i r
+  unrefused r = sym (ap (λ (p : Option Peak). refuse_fault past_refusal p otherwise r) h.no_peak)
+
+  row : (v : View) → is_based v ≡ true → based_on i.count (compatible_sets i) v ≡ view_row i v
+  row view.Base e = unrefused _
+  row view.Surmise e = unrefused _
+  row view.Learning e = unrefused _
+  row (view.ProjectBase part) e = unrefused _
+  row (view.StateOf inner outer) e = unrefused _
+  row (view.Paths count after) e = unrefused _
+  row (view.Known q) e = absurd (cc e)
+  row view.Ask e = absurd (cc e)
+  row (view.States count after) e = absurd (cc e)
+  row (view.Project part count after) e = absurd (cc e)
+  row (view.Fringes k) e = absurd (cc e)
+
+  pub followed-row : (v : View) → is_based v ≡ true → based_on b.item_count (family b) v ≡ view_row i v
+  followed-row v e = ap₂ (λ n (f : List Items). based_on n f v) h.items followed-family ∙ row v e
+
+-- the base of a projection gives the projection
+pub projected-family : (b p : BaseState) (part : Items) → p.item_count ≡ b.item_count → p.sets ≡ base (projection b.item_count part (family b)) → family p ≡ projection b.item_count part (family b)
+projected-family b p part items sets =
+    let n = b.item_count in
+    let is = projection-IsFamily n part (family b) (spanned-IsFamily n b.sets) in
+    ap₂ spanned items sets ∙ spanned-base n (projection n part (family b)) is.in_order (family_sets n (projection n part (family b)) is)

@@ -1,0 +1,16 @@
+use Rattle.std.proofs.Common.{◌≡◌, List, ap, ap₂, ◌∙◌}
+use Rattle.ls_set.specs.ItemSet.{Items}
+use Rattle.ls_theory.specs.Verdict.{base_verdict}
+use Rattle.ls_theory.specs.declared.verdict.BaseVerdict.{BaseVerdict}
+use Rattle.ls_reply.specs.declared.response.Response.TheVariants as response
+use Rattle.ls_reply.specs.declared.response.Shown.TheVariants as shown
+use Rattle.ls_views.proofs.OnBases.{projected-family}
+use Rattle.ls_views.proofs.based.projected_base.Goals as goal
+
+pub returns : goal.returns
+returns c =
+    let b = c.args.base.now in
+    let p = c.in_ok-projected.projected in
+    let sets = c.in_ok-base.ensures ∙ c.sets.ensures.value ∙ c.in_ok-projected.ensures.sets in
+    let verdict = c.test_base-verdict.ensures.verdict ∙ ap base_verdict (projected-family b p c.args.part c.in_ok-projected.ensures.item_count c.in_ok-projected.ensures.sets) in
+    ap₂ (λ (ks : List Items) (v : BaseVerdict). response.Shown (shown.ProjectedBase ks v)) sets verdict
