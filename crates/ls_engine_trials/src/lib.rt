@@ -4,6 +4,8 @@
 #[cfg(test)]
 mod bases;
 #[cfg(test)]
+mod fringes;
+#[cfg(test)]
 mod helpers;
 #[cfg(test)]
 mod interiors;

@@ -1,62 +1,62 @@
 // Items that are read from a file of the folder.
-use crate::trial::{Trial, answered, check, check_in_pieces};
+use crate::trial::{Trial, answered, check, check_calls, check_files};
 use ls_edge::LONGEST_FILE;
 use std::process::Abort;
 use std::test::Fail;
 use std::thread::Threads;
 
-// Each table is the file `t`, from which this script begins.
-const LOAD: &str = "load-items t\nstates 1\n";
+// The script that begins from a table.
+const LOAD: &str = "load-items f\nstates 1\n";
 
 // A table, and the replies.
 const TABLES: [(&str, &str); 22] = [
     // A name in each row, in order.
-    ("sub\nadd\nmul\n", "ok 3\nset e {sub add mul}\nmore yes\n"),
+    ("sub\nadd\nmul\n", "ok 3\nset e {sub add mul}\nmore yes"),
     // Further fields are passed over, and the last row needs no line end.
     (
         "add,addition\nsub,subtraction",
-        "ok 2\nset c {add sub}\nmore yes\n",
+        "ok 2\nset c {add sub}\nmore yes",
     ),
-    ("add\r\nsub\r\n", "ok 2\nset c {add sub}\nmore yes\n"),
+    ("add\r\nsub\r\n", "ok 2\nset c {add sub}\nmore yes"),
     // Empty lines are no rows.
-    ("\n\nadd\n\nsub\n", "ok 2\nset c {add sub}\nmore yes\n"),
+    ("\n\nadd\n\nsub\n", "ok 2\nset c {add sub}\nmore yes"),
     // Quotes round a name, and round a comma, a quote and a line end.
     (
         "\"add\",\"a, b\"\n\"sub\",\"\"\"x\n\"\n",
-        "ok 2\nset c {add sub}\nmore yes\n",
+        "ok 2\nset c {add sub}\nmore yes",
     ),
     // A byte order mark at the front is passed over.
-    ("\u{feff}add\n", "ok 1\nset 8 {add}\nmore yes\n"),
+    ("\u{feff}add\n", "ok 1\nset 8 {add}\nmore yes"),
     // No row.
-    ("", "no 12 none\nno 15 0\n"),
-    ("\n\n", "no 12 none\nno 15 0\n"),
-    ("\u{feff}", "no 12 none\nno 15 0\n"),
+    ("", "no 12 none\nno 15 0"),
+    ("\n\n", "no 12 none\nno 15 0"),
+    ("\u{feff}", "no 12 none\nno 15 0"),
     // Another number of fields than the first record.
     (
         "add,addition\nsub,subtraction, with a comma\nmul\n",
-        "no 12 csv 2\nno 15 0\n",
+        "no 12 csv 2\nno 15 0",
     ),
     (
         "add,addition\nsub,subtraction\nmul\n",
-        "no 12 csv 3\nno 15 0\n",
+        "no 12 csv 3\nno 15 0",
     ),
     // Texts that are no names; nothing is trimmed.
-    ("add\nsub mul\n", "no 12 name 2\nno 15 0\n"),
-    (" add\n", "no 12 name 1\nno 15 0\n"),
-    (",add\n", "no 12 name 1\nno 15 0\n"),
-    ("\u{feff}\u{feff}add\n", "no 12 name 1\nno 15 0\n"),
-    ("add\n\"\"\"sub\"\"\"\n", "no 12 name 2\nno 15 0\n"),
+    ("add\nsub mul\n", "no 12 name 2\nno 15 0"),
+    (" add\n", "no 12 name 1\nno 15 0"),
+    (",add\n", "no 12 name 1\nno 15 0"),
+    ("\u{feff}\u{feff}add\n", "no 12 name 1\nno 15 0"),
+    ("add\n\"\"\"sub\"\"\"\n", "no 12 name 2\nno 15 0"),
     (
         "a234567890123456789012345678901234567890\nb2345678901234567890123456789012345678901\n",
-        "no 12 name 2\nno 15 0\n",
+        "no 12 name 2\nno 15 0",
     ),
     // A name that an earlier row has.
-    ("add\nsub\nadd\n", "no 12 repeat 3 1\nno 15 0\n"),
-    ("add\nsub\nmul\n\nsub\n", "no 12 repeat 4 2\nno 15 0\n"),
+    ("add\nsub\nadd\n", "no 12 repeat 3 1\nno 15 0"),
+    ("add\nsub\nmul\n\nsub\n", "no 12 repeat 4 2\nno 15 0"),
     // The first row with a fault is told, and at one row the number of fields comes first.
-    ("add\nadd\na b\n", "no 12 repeat 2 1\nno 15 0\n"),
-    ("add\na b\nadd,x\n", "no 12 name 2\nno 15 0\n"),
-    ("add\n,\nadd\n", "no 12 csv 2\nno 15 0\n"),
+    ("add\nadd\na b\n", "no 12 repeat 2 1\nno 15 0"),
+    ("add\na b\nadd,x\n", "no 12 name 2\nno 15 0"),
+    ("add\n,\nadd\n", "no 12 csv 2\nno 15 0"),
 ];
 
 // The folder of the scripts below.
@@ -110,43 +110,14 @@ const SCRIPTS: [(&[u64], &str, &str); 9] = [
     ),
 ];
 
-fn check_tables<R: Threads + Sync + AllocGlobal + Abort>(
-    rt: &R,
-    tables: &[(&str, &str)],
-) -> Result<(), Fail> {
-    for (table, replies) in tables {
-        let trial = Trial {
-            files: &[("t", *table)],
-            ..answered(LOAD, replies)
-        };
-        check(rt, &trial)?;
-    }
-    Ok(())
-}
-
 #[test]
 fn items_are_read_from_a_table(rt: HostRuntime) -> Result<(), Fail> {
-    check_tables(&rt, &TABLES)
-}
-
-fn check_calls<R: Threads + Sync + AllocGlobal + Abort>(
-    rt: &R,
-    scripts: &[(&[u64], &str, &str)],
-) -> Result<(), Fail> {
-    for (failing_calls, script, replies) in scripts {
-        let trial = Trial {
-            files: &FILES,
-            failing_calls: *failing_calls,
-            ..answered(script, replies)
-        };
-        check_in_pieces(rt, &trial)?;
-    }
-    Ok(())
+    check_files(&rt, LOAD, "", &TABLES)
 }
 
 #[test]
 fn files_are_refused_and_the_next_line_is_answered(rt: HostRuntime) -> Result<(), Fail> {
-    check_calls(&rt, &SCRIPTS)
+    check_calls(&rt, &FILES, &SCRIPTS)
 }
 
 // A table of one name of so many bytes.
@@ -158,7 +129,7 @@ fn check_length<R: Threads + Sync + AllocGlobal + Abort>(
 ) -> Result<(), Fail> {
     let text = "a".repeat(rt.alloc(), length)?;
     let trial = Trial {
-        files: &[("t", text.as_str())],
+        files: &[("f", text.as_str())],
         failing_calls,
         ..answered(LOAD, replies)
     };

@@ -8,13 +8,19 @@ mod files;
 #[cfg(test)]
 mod interviews;
 #[cfg(test)]
+mod learning;
+#[cfg(test)]
 mod many_sets;
+#[cfg(test)]
+mod projecting;
 #[cfg(test)]
 mod scripts;
 #[cfg(test)]
 mod starts;
 #[cfg(test)]
 mod statuses;
+#[cfg(test)]
+mod testing;
 #[cfg(test)]
 mod trial;
 #[cfg(test)]

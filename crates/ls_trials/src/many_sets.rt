@@ -9,6 +9,11 @@ use std::thread::Threads;
 // Sixteen items, and one more.
 const ITEMS: &str = "items i0 i1 i2 i3 i4 i5 i6 i7 i8 i9 i10 i11 i12 i13 i14 i15 z\n";
 
+// Scripts that test a family on these items, and on the first sixteen of them.
+const TESTED: &str = "items i0 i1 i2 i3 i4 i5 i6 i7 i8 i9 i10 i11 i12 i13 i14 i15 z\ntest f\n";
+
+const TESTED_WHOLE: &str = "items i0 i1 i2 i3 i4 i5 i6 i7 i8 i9 i10 i11 i12 i13 i14 i15\ntest f\n";
+
 // The names of the items that are the binary digits of a number, each between two marks.
 fn names_of(alloc: Global, number: u32, before: &str, after: &str) -> Result<String, AllocError> {
     let mut names = String::new(alloc);
@@ -61,7 +66,21 @@ fn clauses_of_sixes(alloc: Global) -> Result<String, AllocError> {
     format!(in alloc; "{{{own}{ways}]}}")
 }
 
-fn check_start<R: Threads + Sync + AllocGlobal + Abort>(
+fn check_file<R: Threads + Sync + AllocGlobal + Abort>(
+    rt: &R,
+    script: &str,
+    text: &str,
+    replies: &str,
+) -> Result<(), Fail> {
+    let trial = Trial {
+        files: &[("f", text)],
+        ..answered(script, replies)
+    };
+    check(rt, &trial)
+}
+
+// A command on the file, which is refused.
+fn check_refused<R: Threads + Sync + AllocGlobal + Abort>(
     rt: &R,
     command: &str,
     text: &str,
@@ -69,35 +88,41 @@ fn check_start<R: Threads + Sync + AllocGlobal + Abort>(
 ) -> Result<(), Fail> {
     let script = format!(in rt.alloc(); "{ITEMS}{command} f\n")?;
     let replies = format!(in rt.alloc(); "ok 17\nno {details}\n")?;
-    let trial = Trial {
-        files: &[("f", text)],
-        ..answered(&script, &replies)
-    };
-    check(rt, &trial)
+    check_file(rt, &script, text, &replies)
 }
 
 #[test]
 fn a_base_file_has_a_limit(rt: HostRuntime) -> Result<(), Fail> {
     let mut text = all_sets(rt.alloc())?;
-    check_start(&rt, "start base", &text, "14 not-spanning z")?;
+    check_refused(&rt, "start base", &text, "14 not-spanning z")?;
     text.push_str("{z}")?;
-    check_start(&rt, "start base", &text, "14 many 65537")
+    check_refused(&rt, "start base", &text, "14 many 65537")
+}
+
+#[test]
+fn a_family_that_is_tested_has_a_limit(rt: HostRuntime) -> Result<(), Fail> {
+    let mut text = all_sets(rt.alloc())?;
+    check_file(&rt, TESTED, &text, "ok 17\ntest no-full\n")?;
+    check_file(&rt, TESTED_WHOLE, &text, "ok 16\ntest learning 16\n")?;
+    text.push_str("{z}")?;
+    check_refused(&rt, "test", &text, "29 many 65537")
 }
 
 #[test]
 fn a_start_has_at_most_as_many_sets_as_a_base(rt: HostRuntime) -> Result<(), Fail> {
-    check_start(&rt, "start base", &sixes(rt.alloc())?, "14 wide 8024")?;
+    check_refused(&rt, "start base", &sixes(rt.alloc())?, "14 wide 8024")?;
     let clauses = clauses_of_sixes(rt.alloc())?;
-    check_start(&rt, "start surmise", &clauses, "14 wide 8024")
+    check_refused(&rt, "start surmise", &clauses, "14 wide 8024")
 }
 
 // A file of the greatest length is read, and one of a byte more isn't.
 #[test]
 fn a_file_of_a_start_has_a_limit(rt: HostRuntime) -> Result<(), Fail> {
     let mut text = "\n".repeat(rt.alloc(), LONGEST_FILE)?;
-    check_start(&rt, "start base", &text, "14 not-spanning i0")?;
-    check_start(&rt, "start surmise", &text, "14 json")?;
+    check_refused(&rt, "start base", &text, "14 not-spanning i0")?;
+    check_refused(&rt, "start surmise", &text, "14 json")?;
     text.push_str("\n")?;
-    check_start(&rt, "start base", &text, "28 16777217")?;
-    check_start(&rt, "start surmise", &text, "28 16777217")
+    check_refused(&rt, "test", &text, "28 16777217")?;
+    check_refused(&rt, "start base", &text, "28 16777217")?;
+    check_refused(&rt, "start surmise", &text, "28 16777217")
 }

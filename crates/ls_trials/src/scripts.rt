@@ -5,16 +5,22 @@ use std::test::Fail;
 use std::thread::Threads;
 
 // A script, and its replies.
-const SCRIPTS: [(&str, &str); 16] = [
+const SCRIPTS: [(&str, &str); 17] = [
     // Three items, a Yes, and the six states that it leaves.
     (
         "items a b c\nyes a : b\nstates\n",
         "ok 3\nok 1\nset e {a b c}\nset c {a b}\nset a {a c}\nset 8 {a}\nset 2 {c}\nset 0 {}\n\
          more no\n",
     ),
+    // A base of ten items, whose sets have three digits.
+    (
+        "items b a c d e f g h it j\nyes it : j\nbase\n",
+        "ok 10\nok 1\nset 800 {b}\nset 400 {a}\nset 200 {c}\nset 100 {d}\nset 080 {e}\nset 040 {f}\n\
+         set 020 {g}\nset 010 {h}\nset 00c {it j}\nset 008 {it}\nbase 10\n",
+    ),
     // Refusals, each with its cause.
     (
-        "items a a\nitems a b\nitems c\nyes a : a\nyes : b\nyes z : a\nyes a : z\nlearning\n",
+        "items a a\nitems a b\nitems c\nyes a : a\nyes : b\nyes z : a\nyes a : z\nodds 8 8\n",
         "no 12 repeat 2 1\nok 2\nno 11\nno 18\nno 18\nno 15 2\nno 15 4\nno 49\n",
     ),
     (
@@ -68,16 +74,7 @@ const SCRIPTS: [(&str, &str); 16] = [
 ];
 
 // The forms of commands that aren't built.
-const UNBUILT: [&str; 21] = [
-    "learning",
-    "project 10 : b c",
-    "project 10 after c : b c",
-    "project-base b c",
-    "test f",
-    "fringes a",
-    "state-of a | b c",
-    "paths 10",
-    "paths 1 after a b c",
+const UNBUILT: [&str; 12] = [
     "odds 8 8",
     "odds a 8 8",
     "limits 30 90",

@@ -1,42 +1,40 @@
 // Interviews that begin with the space of a file.
-use crate::trial::{Trial, answered, check, check_in_pieces};
-use std::process::Abort;
+use crate::trial::{check_calls, check_files};
 use std::test::Fail;
-use std::thread::Threads;
 
 // A surmise file of the items a, b and c, and the replies to `start surmise` and `surmise`.
 const CLAUSES: [(&str, &str); 6] = [
     // The clauses of an item in the order of sets, their names in the order of items.
     (
         "{\"a\":[[\"a\"]],\"b\":[[\"a\",\"b\"],[\"c\",\"b\"]],\"c\":[[\"c\"]]}",
-        "ok 4\nsurmise {\"a\":[[\"a\"]],\"b\":[[\"a\",\"b\"],[\"b\",\"c\"]],\"c\":[[\"c\"]]}\n",
+        "ok 4\nsurmise {\"a\":[[\"a\"]],\"b\":[[\"a\",\"b\"],[\"b\",\"c\"]],\"c\":[[\"c\"]]}",
     ),
     // Blanks and line ends, another order of keys and of clauses.
     (
         "\n{ \"c\" : [ [ \"c\" ] ] ,\r\n\t\"b\":[[\"c\",\"b\"],[\"b\",\"a\"]],\
          \"a\": [[\"a\"]] }\n",
-        "ok 4\nsurmise {\"a\":[[\"a\"]],\"b\":[[\"a\",\"b\"],[\"b\",\"c\"]],\"c\":[[\"c\"]]}\n",
+        "ok 4\nsurmise {\"a\":[[\"a\"]],\"b\":[[\"a\",\"b\"],[\"b\",\"c\"]],\"c\":[[\"c\"]]}",
     ),
     // Escapes, in keys and in names.
     (
         "{\"\\u0061\":[[\"\\u0061\"]],\"b\":[[\"b\"]],\"c\":[[\"\\u0063\",\"a\"]]}",
-        "ok 3\nsurmise {\"a\":[[\"a\"]],\"b\":[[\"b\"]],\"c\":[[\"a\",\"c\"]]}\n",
+        "ok 3\nsurmise {\"a\":[[\"a\"]],\"b\":[[\"b\"]],\"c\":[[\"a\",\"c\"]]}",
     ),
     // Of a repeated key the last value counts.
     (
         "{\"a\":[[\"b\"]],\"b\":[[\"b\"]],\"c\":[[\"c\"]],\"a\":[[\"a\"]]}",
-        "ok 3\nsurmise {\"a\":[[\"a\"]],\"b\":[[\"b\"]],\"c\":[[\"c\"]]}\n",
+        "ok 3\nsurmise {\"a\":[[\"a\"]],\"b\":[[\"b\"]],\"c\":[[\"c\"]]}",
     ),
     // A repeated name in a clause is harmless.
     (
         "{\"a\":[[\"a\",\"a\"]],\"b\":[[\"b\",\"a\",\"b\"]],\"c\":[[\"c\"]]}",
-        "ok 3\nsurmise {\"a\":[[\"a\"]],\"b\":[[\"a\",\"b\"]],\"c\":[[\"c\"]]}\n",
+        "ok 3\nsurmise {\"a\":[[\"a\"]],\"b\":[[\"a\",\"b\"]],\"c\":[[\"c\"]]}",
     ),
     // One set is a clause of each item.
     (
         "{\"a\":[[\"a\",\"b\",\"c\"]],\"b\":[[\"a\",\"b\",\"c\"]],\"c\":[[\"a\",\"b\",\"c\"]]}",
         "ok 1\nsurmise {\"a\":[[\"a\",\"b\",\"c\"]],\"b\":[[\"a\",\"b\",\"c\"]],\
-         \"c\":[[\"a\",\"b\",\"c\"]]}\n",
+         \"c\":[[\"a\",\"b\",\"c\"]]}",
     ),
 ];
 
@@ -119,27 +117,27 @@ const FLAWS: [(&str, &str); 27] = [
 const BASES: [(&str, &str); 5] = [
     (
         "{a b}\n{a b c}\n",
-        "ok 2\nset e {a b c}\nset c {a b}\nbase 2\n",
+        "ok 2\nset e {a b c}\nset c {a b}\nbase 2",
     ),
     // The empty set and unions do no harm; the sets of the base stand in order.
     (
         "{}\n{c}\n{a b c}\n{b}\n{a}\n{a,c}\n",
-        "ok 3\nset 8 {a}\nset 4 {b}\nset 2 {c}\nbase 3\n",
+        "ok 3\nset 8 {a}\nset 4 {b}\nset 2 {c}\nbase 3",
     ),
     // Blanks, commas, carriage returns, empty lines and notes; the last line needs no end.
     (
         "\t{ a }\r\n \r\n# {d}\n{,}\n  {b,,a , b} \n{c\ta}",
-        "ok 3\nset c {a b}\nset a {a c}\nset 8 {a}\nbase 3\n",
+        "ok 3\nset c {a b}\nset a {a c}\nset 8 {a}\nbase 3",
     ),
-    ("{a b c}\n", "ok 1\nset e {a b c}\nbase 1\n"),
+    ("{a b c}\n", "ok 1\nset e {a b c}\nbase 1"),
     (
         "{a}\n{a b}\n{a b c}\n\n\n",
-        "ok 3\nset e {a b c}\nset c {a b}\nset 8 {a}\nbase 3\n",
+        "ok 3\nset e {a b c}\nset c {a b}\nset 8 {a}\nbase 3",
     ),
 ];
 
 // What is no base file of the items a, b and c, and why.
-const BASE_FAULTS: [(&str, &str); 19] = [
+const BASE_FAULTS: [(&str, &str); 24] = [
     ("", "not-spanning a"),
     ("{}\n", "not-spanning a"),
     ("{a b}\n", "not-spanning c"),
@@ -157,6 +155,12 @@ const BASE_FAULTS: [(&str, &str); 19] = [
     ("{z a;b}\n", "line 1"),
     ("{a}\n{b z}\n{c\n", "unknown-item 2"),
     ("{A}\n", "unknown-item 1"),
+    ("{a}\n{a:}\n{d}", "line 2"),
+    ("{{a}}", "line 1"),
+    ("{a", "line 1"),
+    // Of the carriage returns at a line's end only the last is passed over, and no byte order mark.
+    ("{a}\r\r\n", "line 1"),
+    ("\u{feff}{a}", "line 1"),
     // A repeat names the first line of the set.
     ("{a b}\n{c}\n\n{b,a}\n{c}\n", "repeat 4 1"),
     ("{}\n# nothing\n{ }\n", "repeat 3 1"),
@@ -252,72 +256,29 @@ const SCRIPTS: [(&[u64], &str, &str); 11] = [
     ),
 ];
 
-// A file, and a script that begins with the space of it.
-fn check_files<R: Threads + Sync + AllocGlobal + Abort>(
-    rt: &R,
-    script: &str,
-    files: &[(&str, &str)],
-) -> Result<(), Fail> {
-    for (text, told) in files {
-        let replies = format!(in rt.alloc(); "ok 3\n{told}")?;
-        let trial = Trial {
-            files: &[("f", *text)],
-            ..answered(script, &replies)
-        };
-        check(rt, &trial)?;
-    }
-    Ok(())
-}
-
 #[test]
 fn surmise_files_are_read_in_any_layout(rt: HostRuntime) -> Result<(), Fail> {
-    check_files(&rt, "items a b c\nstart surmise f\nsurmise", &CLAUSES)
+    check_files(
+        &rt,
+        "items a b c\nstart surmise f\nsurmise",
+        "ok 3\n",
+        &CLAUSES,
+    )
 }
 
 #[test]
 fn base_files_are_read(rt: HostRuntime) -> Result<(), Fail> {
-    check_files(&rt, "items a b c\nstart base f\nbase", &BASES)
-}
-
-// A file, and the details of its refusal.
-fn check_refused<R: Threads + Sync + AllocGlobal + Abort>(
-    rt: &R,
-    script: &str,
-    files: &[(&str, &str)],
-) -> Result<(), Fail> {
-    for (text, details) in files {
-        let replies = format!(in rt.alloc(); "ok 3\nno 14 {details}\n")?;
-        let trial = Trial {
-            files: &[("f", *text)],
-            ..answered(script, &replies)
-        };
-        check(rt, &trial)?;
-    }
-    Ok(())
+    check_files(&rt, "items a b c\nstart base f\nbase", "ok 3\n", &BASES)
 }
 
 #[test]
 fn files_that_give_no_start_are_refused(rt: HostRuntime) -> Result<(), Fail> {
-    check_refused(&rt, "items a b c\nstart surmise f", &FLAWS)?;
-    check_refused(&rt, "items a b c\nstart base f", &BASE_FAULTS)
-}
-
-fn check_calls<R: Threads + Sync + AllocGlobal + Abort>(
-    rt: &R,
-    scripts: &[(&[u64], &str, &str)],
-) -> Result<(), Fail> {
-    for (failing_calls, script, replies) in scripts {
-        let trial = Trial {
-            files: &FILES,
-            failing_calls: *failing_calls,
-            ..answered(script, replies)
-        };
-        check_in_pieces(rt, &trial)?;
-    }
-    Ok(())
+    let refused = "ok 3\nno 14 ";
+    check_files(&rt, "items a b c\nstart surmise f", refused, &FLAWS)?;
+    check_files(&rt, "items a b c\nstart base f", refused, &BASE_FAULTS)
 }
 
 #[test]
 fn interviews_go_on_from_the_start_of_a_file(rt: HostRuntime) -> Result<(), Fail> {
-    check_calls(&rt, &SCRIPTS)
+    check_calls(&rt, &FILES, &SCRIPTS)
 }

@@ -125,6 +125,43 @@ pub fn check_scripts<R: Threads + Sync + AllocGlobal + Abort>(
     Ok(())
 }
 
+/// Does so with each script and its replies over the files of a folder, where the calls on the
+/// folder with these numbers fail.
+pub fn check_calls<'a, R: Threads + Sync + AllocGlobal + Abort>(
+    rt: &R,
+    files: &'a [(&'a str, &'a str)],
+    scripts: &'a [(&'a [u64], &'a str, &'a str)],
+) -> Result<(), Fail> {
+    for (failing_calls, script, replies) in scripts {
+        let trial = Trial {
+            files,
+            failing_calls: *failing_calls,
+            ..answered(script, replies)
+        };
+        check_in_pieces(rt, &trial)?;
+    }
+    Ok(())
+}
+
+/// Runs a script over each text as the file `f`: the replies are the front and what is told of the
+/// text, with a line end.
+pub fn check_files<R: Threads + Sync + AllocGlobal + Abort>(
+    rt: &R,
+    script: &str,
+    front: &str,
+    texts: &[(&str, &str)],
+) -> Result<(), Fail> {
+    for (text, told) in texts {
+        let replies = format!(in rt.alloc(); "{front}{told}\n")?;
+        let trial = Trial {
+            files: &[("f", *text)],
+            ..answered(script, &replies)
+        };
+        check(rt, &trial)?;
+    }
+    Ok(())
+}
+
 /// Runs a script of whose replies one is a refusal: what is written begins with a front, has these
 /// parts one after another, and ends with the last of them.
 pub fn check_parts<R: Threads + Sync + AllocGlobal + Abort>(
