@@ -1,9 +1,9 @@
-use Rattle.std.proofs.Common.{◌≡◌, ◌∷◌, ◌+◌, ◌-◌, ◌++◌, [], ℕ, List, Bool, filter, drop, length, is_some, sym, ap, ap₂, ◌∙◌, subst, arith, rules, append_assoc, MatchOption}
+use Rattle.std.proofs.Common.{◌≡◌, ◌∷◌, ◌+◌, ◌-◌, ◌++◌, [], ℕ, List, filter, drop, sym, ap, ap₂, ◌∙◌, subst, arith, rules, append_assoc, MatchOption}
 use Rattle.ls_theory.specs.Words.{is_lex_before}
 use Rattle.ls_theory.specs.Paths.{paths}
 use Rattle.ls_paths.specs.Left.{paths_left}
 use Rattle.ls_reply.specs.Texts.{line_of}
-use Rattle.ls_reply.specs.Lines.{more_words, path_words}
+use Rattle.ls_reply.specs.Lines.{path_words}
 use Rattle.ls_writing.specs.PathTexts.{IsTextOf}
 use Rattle.ls_writing.proofs.Saying.{says_then, says_as, says_nothing, says_void}
 use Rattle.ls_views.specs.PathPages.{paths_after, left_bytes}
