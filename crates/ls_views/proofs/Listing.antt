@@ -1,9 +1,8 @@
 -- The bytes of a page of learning paths, line by line.
-use Rattle.std.proofs.Common.{◌≡◌, ℕ, zero, suc, ◌+◌, ◌-◌, ◌<◌, ◌≤◌, Bool, true, false, cond, ltb, lt-ltb, List, [], ◌∷◌, ◌++◌, length, map, take, filter, is_some, Some, None, MatchOption, refl, sym, ap, ap₂, ◌∙◌, subst, arith}
+use Rattle.std.proofs.Common.{◌≡◌, ℕ, zero, suc, ◌+◌, ◌-◌, ◌<◌, ◌≤◌, Bool, true, false, ltb, lt-ltb, List, [], ◌∷◌, ◌++◌, length, map, take, filter, is_some, Some, None, MatchOption, refl, sym, ap, ap₂, ◌∙◌, arith}
 use Rattle.std.specs.declared.option.Option.{Option}
 use Rattle.ls_set.specs.ItemSet.{Items}
-use Rattle.ls_theory.specs.Pages.{Page, comes_after, page}
-use Rattle.ls_theory.specs.Words.{is_lex_before}
+use Rattle.ls_theory.specs.Pages.{Page}
 use Rattle.ls_theory.specs.Paths.{paths}
 use Rattle.ls_lines.specs.Lines.{Text}
 use Rattle.ls_reply.specs.Texts.{line_of, bytes_of}

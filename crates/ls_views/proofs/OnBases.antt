@@ -1,5 +1,5 @@
 -- What stands on the base of an interview, by the family of the base.
-use Rattle.std.proofs.Common.{◌≡◌, true, List, sym, ap, ap₂, ◌∙◌, refl}
+use Rattle.std.proofs.Common.{◌≡◌, true, List, sym, ap, ap₂, ◌∙◌}
 use Rattle.std.specs.declared.option.Option.{Option}
 use Rattle.ls_set.specs.ItemSet.{Items, full}
 use Rattle.ls_theory.specs.Interviews.{Interview, yes_queries}

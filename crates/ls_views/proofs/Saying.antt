@@ -1,15 +1,12 @@
 -- What can be said of an interview.
-use Rattle.std.proofs.Common.{inl, inr, ◌≡◌, ◌<◌, ℕ, zero, suc, [], ◌∷◌, Bool, true, false, not, ◌&&◌, cond, List, length, Some, None, IfSome, Ok, Err, refl, sym, ap, ◌∙◌, subst, arith}
-use Rattle.std.specs.Prelude.{slice_index, slice_index_or}
-use Rattle.std.specs.List.{All}
+use Rattle.std.proofs.Common.{inl, inr, ◌≡◌, ℕ, [], Bool, true, false, not, List, length, Some, None, IfSome, Ok, Err, refl, sym, ◌∙◌, subst, arith}
+use Rattle.std.specs.Prelude.{slice_index}
 use Rattle.std.proofs.lemmas.Bool.{cases_Bool, and_from}
-use Rattle.std.proofs.lemmas.List.Elements.{All-contains_itself}
 use Rattle.std.specs.declared.option.Option.{Option}
 use Rattle.std.specs.Option.{ForSome}
-use Rattle.ls_set.specs.ItemSet.{Items, full, items as items_in, is_among, IsWithin}
+use Rattle.ls_set.specs.ItemSet.{Items, full, is_among, IsWithin}
 use Rattle.ls_set.specs.declared.cursor.CursorFault.{CursorFault}
-use Rattle.ls_set.proofs.Sets.{members, is_within-from}
-use Rattle.ls_set.proofs.Listed.{Contains-items}
+use Rattle.ls_set.proofs.Sets.{is_within-from}
 use Rattle.std.specs.declared.result.Result.{Result}
 use Rattle.ls_set.specs.Query.{is_good}
 use Rattle.ls_set.specs.declared.query.Query.{Query}
@@ -41,8 +38,7 @@ use Rattle.ls_reply.specs.Rows.{view_row, based_row, states_row, project_row, pa
 use Rattle.ls_reply.specs.declared.refusal.Refusal.{Refusal}
 use Rattle.ls_reply.specs.declared.refusal.Refusal.TheVariants as refusal_of
 use Rattle.ls_reply.specs.declared.response.Response.{Response}
-use Rattle.ls_reply.specs.declared.response.Response.TheVariants.{Refused, Shown}
-use Rattle.ls_reply.specs.declared.response.Shown.{Shown as Showing}
+use Rattle.ls_reply.specs.declared.response.Response.TheVariants.{Shown}
 use Rattle.ls_reply.specs.declared.response.Shown.TheVariants as shown
 use Rattle.ls_reply.specs.declared.request.View.{View}
 use Rattle.ls_reply.specs.declared.request.View.TheVariants as view

@@ -16,7 +16,7 @@ use ls_edge::Sink;
 use ls_interior::Inside;
 use ls_paths::{Order, Walk};
 use ls_set::{ItemList, PLACES};
-use ls_writing::{Room, SetTexts, put_more, put_path};
+use ls_writing::{PathText, Room, SetTexts, put_more, put_path};
 
 // The walk over the paths after an order of all items, or over all of them.
 fn walk_after<'a, F: Inside>(f: &'a F, after: &Option<ItemList>) -> Walk<'a, F>
@@ -55,6 +55,7 @@ pub fn put_paths<F: Inside, K: Sink>(
         (page is_lex_before (paths (F.item_count f.now) (F.members f.now)) after.now count))) }
 {
     let mut walk = walk_after(f, after);
+    let mut shared = PathText::new();
     for _done in 0..count {
         if room.has_failed() {
             return;
@@ -63,7 +64,7 @@ pub fn put_paths<F: Inside, K: Sink>(
             put_more(false, room, out);
             return;
         };
-        put_path(texts, path, room, out);
+        put_path(texts, path, &mut shared, room, out);
         walk.advance();
     }
     put_more(walk.path().is_some(), room, out);

@@ -133,7 +133,15 @@ impl SetTexts {
         ensures { Says (K.written out.old) (K.faults out.old) room.old (K.written out.new)
             (K.faults out.new) room.new (32 ∷ name_of self.now item) }
     {
-        room.put(self.group_text(item / 8, 1 << (item % 8)), out);
+        room.put(self.name_text(item), out);
+    }
+
+    // The name of an item behind a space.
+    pub(crate) fn name_text(&self, item: u32) -> &[u8]
+        requires { item < length self.now }
+        ensures { result.now ≡ 32 ∷ name_of self.now item }
+    {
+        self.group_text(item / 8, 1 << (item % 8))
     }
 
     /// Says the line of a set: its cursor and its names.

@@ -1,4 +1,4 @@
-use Rattle.std.proofs.Common.{◌≡◌, List, ap, ap₂, ◌∙◌}
+use Rattle.std.proofs.Common.{List, ap, ap₂, ◌∙◌}
 use Rattle.ls_set.specs.ItemSet.{Items}
 use Rattle.ls_theory.specs.Verdict.{base_verdict}
 use Rattle.ls_theory.specs.declared.verdict.BaseVerdict.{BaseVerdict}

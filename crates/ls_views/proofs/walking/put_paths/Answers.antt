@@ -1,9 +1,10 @@
-use Rattle.std.proofs.Common.{◌≡◌, ◌∷◌, ◌+◌, ◌-◌, ◌++◌, [], ℕ, List, Bool, filter, drop, length, is_some, sym, ap, ap₂, ◌∙◌, subst, arith, append_assoc, MatchOption}
+use Rattle.std.proofs.Common.{◌≡◌, ◌∷◌, ◌+◌, ◌-◌, ◌++◌, [], ℕ, List, filter, drop, sym, ap, ap₂, ◌∙◌, subst, arith, rules, append_assoc, MatchOption}
 use Rattle.ls_theory.specs.Words.{is_lex_before}
 use Rattle.ls_theory.specs.Paths.{paths}
 use Rattle.ls_paths.specs.Left.{paths_left}
 use Rattle.ls_reply.specs.Texts.{line_of}
-use Rattle.ls_reply.specs.Lines.{more_words, path_words}
+use Rattle.ls_reply.specs.Lines.{path_words}
+use Rattle.ls_writing.specs.PathTexts.{IsTextOf}
 use Rattle.ls_writing.proofs.Saying.{says_then, says_as, says_nothing, says_void}
 use Rattle.ls_views.specs.PathPages.{paths_after, left_bytes}
 use Rattle.ls_views.proofs.Listing.{path-left, path-ended, path-full, more-left}
@@ -14,6 +15,7 @@ loop-done-init g c = (
   [],
   record {
     said = says_nothing _ _ _;
+    shared = let e : IsTextOf c.args.texts.now c.new-shared.result = search rules in e;
     family = c.walk_after-walk.ensures.family;
     whole = ap₂ (left_bytes c.args.texts.now) c.walk_after-walk.ensures.left (let e : c.args.count - 0 ≡ c.args.count = omega arith in e);
   },
@@ -40,7 +42,8 @@ loop-done-preserved g c =
     subst (λ x. paths_left (n x) (f x) next.has_path next.order ≡ drop 1 (paths_left (n x) (f x) walk.has_path walk.order)) before.family c.advance.ensures.left ∙ ap (λ (l : List (List ℕ)). drop 1 l) at in (
       given ++ line,
       record {
-        said = says_then before.said c.put_path.ensures;
+        said = says_then before.said c.put_path.ensures.says;
+        shared = c.put_path.ensures.shared;
         family = c.advance.ensures.family ∙ before.family;
         whole = ap (λ (l : List (List ℕ)). (given ++ line) ++ left_bytes names l (count - (done + 1))) left
             ∙ append_assoc given line (left_bytes names rest (count - (done + 1)))

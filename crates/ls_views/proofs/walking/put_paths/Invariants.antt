@@ -1,5 +1,6 @@
 use Rattle.std.proofs.Common.{◌≡◌, ◌-◌, ◌++◌, ℕ, List}
 use Rattle.ls_writing.specs.Rooms.{Says}
+use Rattle.ls_writing.specs.PathTexts.{IsTextOf}
 use Rattle.ls_paths.specs.Left.{paths_left}
 use Rattle.ls_views.specs.PathPages.{paths_after, left_bytes}
 use Rattle.ls_views.proofs.walking.put_paths.Given as goal
@@ -11,6 +12,7 @@ invariant-loop-done g l =
     let f = g.F.Inside.members l.f in
     (given : List ℕ) × record {
       said : Says (g.K.Sink.written l.fn.out) (g.K.Sink.faults l.fn.out) l.fn.room (g.K.Sink.written l.out) (g.K.Sink.faults l.out) l.room given;
+      shared : IsTextOf l.texts l.shared;
       family : l.walk.family.now ≡ l.f;
       whole : given ++ left_bytes l.texts (paths_left n f l.walk.has_path l.walk.order) (l.count - l._done) ≡ left_bytes l.texts (paths_after n f l.fn.after) l.count;
     }

@@ -5,4 +5,4 @@ use Rattle.ls_writing.specs.Rooms.{Says}
 use Rattle.ls_writing.proofs.judging.put_path.Given as goal
 
 abbrev pub invariant-loop-item : goal.invariant-loop-item
-invariant-loop-item g l = Says (g.K.Sink.written l.fn.out) (g.K.Sink.faults l.fn.out) l.fn.room (g.K.Sink.written l.out) (g.K.Sink.faults l.out) l.room (codes "path" ++ spaced (name_of l.texts) (take l.item-index l.order))
+invariant-loop-item g l = Says (g.K.Sink.written l.fn.out) (g.K.Sink.faults l.fn.out) l.fn.room (g.K.Sink.written l.out) (g.K.Sink.faults l.out) l.room ((codes "path" ++ l.shared.text) ++ spaced (name_of l.texts) (take l.item-index l.rest))
