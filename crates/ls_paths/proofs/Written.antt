@@ -1,19 +1,27 @@
 -- Steps of a walk: a list that is written from a place on, and the sets that its items give.
 use Rattle.std.proofs.Common.{◌≡◌, ℕ, zero, suc, ◌+◌, ◌-◌, ◌<◌, ◌≤◌, Bool, true, false, not, ◌&&◌, List, [], ◌∷◌, ◌++◌, append_assoc, append-nil, length, take, drop, set, get_or, Some, None, refl, sym, ap, ap₂, ◌∙◌, subst, arith, inl, inr, eqb-true, lt-ltb, ltb-true}
 use Rattle.std.proofs.lemmas.Bool.{or_cases, and_from, and_parts, not_from_false}
+use Rattle.std.proofs.lemmas.Bool.Decides.{nat_tests}
 use Rattle.std.proofs.lemmas.List.{take_all, drop_all, take_more_set, length-drop, length-set, length-take-le}
 use borrow.Rule.Slice.PartMut.{put_mid}
 use Rattle.ls_lists.proofs.Finds.{found-passes}
 use Rattle.ls_set.specs.ItemSet.{Items, has, empty, full, minus, with, without, is_among, IsWithin}
-use Rattle.ls_set.proofs.Sets.{has-with, has-full, without-within}
+use Rattle.ls_set.proofs.Sets.{has-with, has-full, without-within, same_set, members}
 use Rattle.ls_growths.specs.Growths.{is_next, first_next, next_after, first_growth, next_growth}
 use Rattle.ls_growths.specs.Levels.{reached, is_grown, is_fresh, leaves_below}
 use Rattle.ls_growths.proofs.Levels.{next-whole, next-broken, reached-has, grown-next, fresh-at, taken-back, leaves-found, leaves-passed}
 
 -- ---- sets of items below n
 
-pub outside-is : (n m : ℕ) (all outside k : Items) → m ≡ n → all ≡ full m → outside ≡ minus all k → outside ≡ minus (full n) k
-outside-is n m all outside k count is out = out ∙ ap (λ s. minus s k) (is ∙ ap full count)
+-- the items outside a set, where one is added to it, or taken back
+pub outside-all : (n : ℕ) → full n ≡ minus (full n) empty
+outside-all n = same_set _ _ (λ i. grind (arith, members, nat_tests))
+
+pub outside-less : (n : ℕ) (k out : Items) (i : ℕ) → out ≡ minus (full n) k → without out i ≡ minus (full n) (with k i)
+outside-less n k out i e = ap (λ s. without s i) e ∙ same_set (without (minus (full n) k) i) (minus (full n) (with k i)) (λ j. grind (arith, members, nat_tests))
+
+pub outside-more : (n : ℕ) (k out : Items) (i : ℕ) → i < n → out ≡ minus (full n) k → with out i ≡ minus (full n) (without k i)
+outside-more n k out i l e = ap (λ s. with s i) e ∙ same_set (with (minus (full n) k) i) (minus (full n) (without k i)) (λ j. grind (arith, members, nat_tests, l))
 
 pub with-small : (n : ℕ) (k : Items) (i : ℕ) → IsWithin k (full n) → i < n → IsWithin (with k i) (full n)
 with-small n k i small l j h = elim (or_cases (has k j) _ (sym (has-with k i j) ∙ h)) [
@@ -104,13 +112,24 @@ leave-past n f order j m k e kk none =
     ap (leaves_below n f empty order) e ∙ leaves-passed n f empty order j (ap (λ s. next_after n f s (get_or order j 0)) (sym kk) ∙ none)
 
 -- the item before the level is taken back
-pub back-at : (order : List ℕ) (j m : ℕ) (k : Items) → m ≡ suc j → is_fresh empty order ≡ true → j < length order → k ≡ reached empty (take m order) → without k (get_or order j 0) ≡ reached empty (take j order)
-back-at order j m k e fresh l kk =
-    ap (λ s. without s (get_or order j 0)) (kk ∙ ap (λ x. reached empty (take x order)) (let q : m ≡ j + 1 = omega arith in q)) ∙ taken-back empty order j fresh l
+pub record TakenBack (n : ℕ) (order was : List ℕ) (j : ℕ) (k out : Items) : Type 0 where
+  pub less : get_or was j 0 < n
+  pub set : without k (get_or was j 0) ≡ reached empty (take j order)
+  pub outside : with out (get_or was j 0) ≡ minus (full n) (without k (get_or was j 0))
+  pub small : IsWithin (without k (get_or was j 0)) (full n)
 
-pub item-at : (n : ℕ) (order : List ℕ) (j m : ℕ) (k : Items) → m ≡ suc j → j < length order → k ≡ reached empty (take m order) → IsWithin k (full n) → get_or order j 0 < n
-item-at n order j m k e l kk small =
-    item-small n k (get_or order j 0) small (ap (λ s. has s (get_or order j 0)) (kk ∙ ap (λ x. reached empty (take x order)) (let q : m ≡ j + 1 = omega arith in q)) ∙ reached-has empty order j l)
+pub taken-at : (n : ℕ) (order was : List ℕ) (j m : ℕ) (k out : Items) → m ≡ suc j → j < length order → is_fresh empty order ≡ true → was ≡ order → k ≡ reached empty (take m order) → out ≡ minus (full n) k → IsWithin k (full n) → TakenBack n order was j k out
+taken-at n order was j m k out e l fresh same set outside small =
+    let item : get_or was j 0 ≡ get_or order j 0 = ap (λ (xs : List ℕ). get_or xs j 0) same in
+    let whole : k ≡ reached empty (take (j + 1) order) = set ∙ ap (λ x. reached empty (take x order)) (let q : m ≡ j + 1 = omega arith in q) in
+    let in_k : has k (get_or was j 0) ≡ true = ap₂ has whole item ∙ reached-has empty order j l in
+    let less = item-small n k (get_or was j 0) small in_k in
+    record {
+      less = less;
+      set = ap₂ without whole item ∙ taken-back empty order j fresh l;
+      outside = outside-more n k out (get_or was j 0) less outside;
+      small = without-small n k (get_or was j 0) small;
+    }
 
 -- the list with the next item at the place, and the growth behind it
 pub leave-write : (n : ℕ) (f : List Items) (order was : List ℕ) (j m : ℕ) (k : Items) (next : ℕ) (ys : List ℕ) (w : Items)

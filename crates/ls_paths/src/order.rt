@@ -82,8 +82,9 @@ impl Order {
             ≡ first_growth (F.item_count f.now) (F.members f.now) (F.item_count f.now) empty }
     {
         let mut places = [0; PLACES as usize];
-        let count = f.items() as usize;
-        grow(f, ItemSet::empty(), &mut places[..count]);
+        let n = f.items();
+        let count = n as usize;
+        grow(f, ItemSet::empty(), ItemSet::full(n), &mut places[..count]);
         Order {
             items: places,
             count,

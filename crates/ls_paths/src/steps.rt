@@ -1,6 +1,6 @@
 // Steps of a walk through the learning paths, in place.
 ghost use Rattle.std.specs.Prelude.{◌≡◌, ◌<◌, ◌≤◌, true, None, Some, length, take, IfSome, MatchBool};
-ghost use Rattle.ls_set.specs.ItemSet.{empty, full, with, is_among, most_items, IsWithin};
+ghost use Rattle.ls_set.specs.ItemSet.{empty, full, minus, with, is_among, most_items, IsWithin};
 ghost use Rattle.ls_theory.specs.Verdict.{is_learning_space};
 ghost use Rattle.ls_growths.specs.Growths.{first_next, next_after, first_growth, next_growth};
 ghost use Rattle.ls_growths.specs.Levels.{reached, is_fresh, leaves_below};
@@ -9,8 +9,10 @@ use ls_interior::{Inside, is_member};
 use ls_set::ItemSet;
 
 // The least item that can be added to a member; 0 where it has all items. Of the items outside it
-// some can be added, so the last of them is not asked for.
-fn least_item<F: Inside>(f: &F, k: ItemSet) -> u32
+// some can be added, so the last of them is not asked for. `outside` are those items.
+fn least_item<F: Inside>(f: &F, k: ItemSet, outside: ItemSet) -> u32
+    requires few { F.item_count f.now ≤ most_items }
+    requires outside { outside ≡ minus (full (F.item_count f.now)) k }
     requires learning { is_learning_space (full (F.item_count f.now)) (F.members f.now) ≡ true }
     requires member { is_among (F.members f.now) k ≡ true }
     requires some { 0 < F.item_count f.now }
@@ -18,7 +20,6 @@ fn least_item<F: Inside>(f: &F, k: ItemSet) -> u32
     ensures member { is_among (F.members f.now) (with k result) ≡ true }
     ensures place { result < most_items }
 {
-    let outside = ItemSet::full(f.items()).minus(k);
     let Some(first) = outside.least() else {
         return 0;
     };
@@ -32,14 +33,16 @@ fn least_item<F: Inside>(f: &F, k: ItemSet) -> u32
     item
 }
 
-// The least item above the given one that can be added to the set.
-fn next_item<F: Inside>(f: &F, k: ItemSet, above: u32) -> Option<u32>
+// The least item above the given one that can be added to the set. `outside` are the items that the
+// set has not.
+fn next_item<F: Inside>(f: &F, k: ItemSet, outside: ItemSet, above: u32) -> Option<u32>
+    requires few { F.item_count f.now ≤ most_items }
+    requires outside { outside ≡ minus (full (F.item_count f.now)) k }
     requires small { IsWithin k (full (F.item_count f.now)) }
     requires item { above < F.item_count f.now }
     ensures value { result ≡ next_after (F.item_count f.now) (F.members f.now) k above }
     ensures place { IfSome result (λ i. i < most_items) }
 {
-    let outside = ItemSet::full(f.items()).minus(k);
     let mut item = above;
     while let Some(next) = outside.next_member(item) {
         if is_member(f, k.with(next)) {
@@ -51,8 +54,10 @@ fn next_item<F: Inside>(f: &F, k: ItemSet, above: u32) -> Option<u32>
 }
 
 // Writes into the list the items by which a member grows first: at each step the least that can be
-// added.
-pub fn grow<F: Inside>(f: &F, k: ItemSet, order: &mut [u32])
+// added. `outside` are the items that the member has not.
+pub fn grow<F: Inside>(f: &F, k: ItemSet, outside: ItemSet, order: &mut [u32])
+    requires few { F.item_count f.now ≤ most_items }
+    requires outside { outside ≡ minus (full (F.item_count f.now)) k }
     requires learning { is_learning_space (full (F.item_count f.now)) (F.members f.now) ≡ true }
     requires member { is_among (F.members f.now) k ≡ true }
     requires fits { length order.old ≤ F.item_count f.now }
@@ -60,10 +65,12 @@ pub fn grow<F: Inside>(f: &F, k: ItemSet, order: &mut [u32])
         ≡ first_growth (F.item_count f.now) (F.members f.now) (length order.old) k }
 {
     let mut reached = k;
+    let mut left = outside;
     for slot in order.iter_mut() {
-        let item = least_item(f, reached);
+        let item = least_item(f, reached, left);
         *slot = item;
         reached = reached.with(item);
+        left = left.without(item);
     }
 }
 
@@ -104,14 +111,16 @@ pub fn leave<F: Inside>(f: &F, k: ItemSet, level: usize, order: &mut [u32]) -> b
         ((leaves_below (F.item_count f.now) (F.members f.now) empty order.old level ≡ None)
         × (order.new ≡ order.old)) }
 {
-    let _ = f.items();
     let mut reached = k;
+    let mut outside = ItemSet::full(f.items()).minus(k);
     for place in (0..level).rev() {
         let item = order[place];
         reached = reached.without(item);
-        if let Some(next) = next_item(f, reached, item) {
+        outside = outside.with(item);
+        if let Some(next) = next_item(f, reached, outside, item) {
             order[place] = next;
-            grow(f, reached.with(next), &mut order[place + 1..]);
+            let rest = &mut order[place + 1..];
+            grow(f, reached.with(next), outside.without(next), rest);
             return true;
         }
     }

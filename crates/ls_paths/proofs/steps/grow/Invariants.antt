@@ -1,5 +1,5 @@
 use Rattle.std.proofs.Common.{◌≡◌, ◌-◌, ◌++◌, true, length, take}
-use Rattle.ls_set.specs.ItemSet.{is_among}
+use Rattle.ls_set.specs.ItemSet.{full, minus, is_among}
 use Rattle.ls_growths.specs.Growths.{first_growth}
 use Rattle.ls_paths.proofs.steps.grow.Given as goal
 
@@ -10,5 +10,6 @@ invariant-loop-slot g l =
     let f = g.F.Inside.members l.f in
     record {
       grows : first_growth n f (length l.fn.order) l.fn.k ≡ take l.slot-index l.order ++ first_growth n f (length l.fn.order - l.slot-index) l.reached;
+      outside : l.left ≡ minus (full n) l.reached;
       member : is_among f l.reached ≡ true;
     }

@@ -1,5 +1,5 @@
 use Rattle.std.proofs.Common.{◌≡◌, take}
-use Rattle.ls_set.specs.ItemSet.{empty, full, IsWithin}
+use Rattle.ls_set.specs.ItemSet.{empty, full, minus, IsWithin}
 use Rattle.ls_growths.specs.Levels.{reached, leaves_below}
 use Rattle.ls_paths.proofs.steps.leave.Given as goal
 
@@ -12,5 +12,6 @@ invariant-loop-place g l =
       passed : leaves_below n f empty l.fn.order l.level ≡ leaves_below n f empty l.fn.order l.place;
       same : l.order ≡ l.fn.order;
       set : l.reached ≡ reached empty (take l.place l.fn.order);
+      outside : l.outside ≡ minus (full n) l.reached;
       small : IsWithin l.reached (full n);
     }
