@@ -1,15 +1,16 @@
 -- Steps of a walk: a list that is written from a place on, and the sets that its items give.
-use Rattle.std.proofs.Common.{◌≡◌, ℕ, zero, suc, ◌+◌, ◌-◌, ◌<◌, ◌≤◌, Bool, true, false, not, ◌&&◌, List, [], ◌∷◌, ◌++◌, append_assoc, append-nil, length, take, drop, set, get_or, Some, None, refl, sym, ap, ap₂, ◌∙◌, subst, arith, inl, inr, eqb-true, lt-ltb, ltb-true}
+use Rattle.std.proofs.Common.{◌≡◌, ℕ, zero, suc, ◌+◌, ◌-◌, ◌<◌, ◌≤◌, Bool, true, false, not, ◌&&◌, List, [], ◌∷◌, ◌++◌, append_assoc, append-nil, length, take, drop, set, get_or, Option, Some, None, refl, sym, ap, ap₂, ◌∙◌, subst, arith, inl, inr, eqb-true, lt-ltb, ltb-true}
 use Rattle.std.proofs.lemmas.Bool.{or_cases, and_from, and_parts, not_from_false}
 use Rattle.std.proofs.lemmas.Bool.Decides.{nat_tests}
 use Rattle.std.proofs.lemmas.List.{take_all, drop_all, take_more_set, length-drop, length-set, length-take-le}
 use borrow.Rule.Slice.PartMut.{put_mid}
 use Rattle.ls_lists.proofs.Finds.{found-passes}
-use Rattle.ls_set.specs.ItemSet.{Items, has, empty, full, minus, with, without, is_among, IsWithin}
+use Rattle.ls_set.specs.ItemSet.{Items, has, empty, full, minus, with, without, next_item, is_among, IsWithin}
 use Rattle.ls_set.proofs.Sets.{has-with, has-full, without-within, same_set, members}
 use Rattle.ls_growths.specs.Growths.{is_next, first_next, next_after, first_growth, next_growth}
 use Rattle.ls_growths.specs.Levels.{reached, is_grown, is_fresh, leaves_below}
-use Rattle.ls_growths.proofs.Levels.{next-whole, next-broken, reached-has, grown-next, fresh-at, taken-back, leaves-found, leaves-passed}
+use Rattle.ls_growths.proofs.Added.{next-small, next-above}
+use Rattle.ls_growths.proofs.Levels.{next-whole, next-broken, reached-has, reached-next, grown-next, fresh-at, taken-back, leaves-found, leaves-passed}
 
 -- ---- sets of items below n
 
@@ -22,6 +23,17 @@ outside-less n k out i e = ap (λ s. without s i) e ∙ same_set (without (minus
 
 pub outside-more : (n : ℕ) (k out : Items) (i : ℕ) → i < n → out ≡ minus (full n) k → with out i ≡ minus (full n) (without k i)
 outside-more n k out i l e = ap (λ s. with s i) e ∙ same_set (with (minus (full n) k) i) (minus (full n) (without k i)) (λ j. grind (arith, members, nat_tests, l))
+
+-- what is looked up among the items outside
+pub outside-next : (n : ℕ) (k out : Items) (i : ℕ) (r x : Option ℕ) → out ≡ minus (full n) k → r ≡ next_item out i → r ≡ x → next_item (minus (full n) k) i ≡ x
+outside-next n k out i r x e v is = ap (λ s. next_item s i) (sym e) ∙ sym v ∙ is
+
+pub goes-up : (n : ℕ) (k : Items) (item next : ℕ) → next_item (minus (full n) k) item ≡ Some next → n - next < n - item
+goes-up n k item next e = omega (arith, next-small n k item next e, next-above n k item next e)
+
+-- what is asked of a set with one more item
+pub asked-of : (f : List Items) (k w : Items) (i : ℕ) (r b : Bool) → w ≡ with k i → r ≡ is_among f w → r ≡ b → is_among f (with k i) ≡ b
+asked-of f k w i r b e v is = ap (is_among f) (sym e) ∙ sym v ∙ is
 
 pub with-small : (n : ℕ) (k : Items) (i : ℕ) → IsWithin k (full n) → i < n → IsWithin (with k i) (full n)
 with-small n k i small l j h = elim (or_cases (has k j) _ (sym (has-with k i j) ∙ h)) [
@@ -76,6 +88,10 @@ written order j next ys post l e =
     ap₂ (λ t r. t ++ r) (take_more_set order j next l) (ap (λ p. ys ++ p) e ∙ append-nil ys) ∙ append_assoc (take j order) (next ∷ []) ys
 
 -- ---- where the next growth leaves a list
+
+-- one more item is reached
+pub level-more : (order : List ℕ) (j : ℕ) (k w : Items) → j < length order → k ≡ reached empty (take j order) → w ≡ with k (get_or order j 0) → w ≡ reached empty (take (j + 1) order)
+level-more order j k w l e ww = ww ∙ ap (λ s. with s (get_or order j 0)) e ∙ sym (reached-next empty order j l)
 
 -- all its items could be added so far, and the next cannot
 pub level-found : (n : ℕ) (f : List Items) (order : List ℕ) (j : ℕ) (k : Items) → j < length order → is_grown f empty (take j order) ≡ true → k ≡ reached empty (take j order) → is_among f (with k (get_or order j 0)) ≡ false → next_growth n f order empty ≡ leaves_below n f empty order (j + 1)

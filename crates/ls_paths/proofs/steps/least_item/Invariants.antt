@@ -1,10 +1,12 @@
-use Rattle.std.proofs.Common.{◌-◌}
+use Rattle.std.proofs.Common.{◌<◌, ◌-◌}
 use Rattle.ls_growths.proofs.Added.{Least}
 use Rattle.ls_paths.proofs.steps.least_item.Given as goal
 
 -- no item below can be added
 abbrev pub invariant-loop-next : goal.invariant-loop-next
-invariant-loop-next g l = Least (g.F.Inside.item_count l.f) (g.F.Inside.members l.f) l.k l.item
+invariant-loop-next g l =
+    let n = g.F.Inside.item_count l.f in
+    record { least : Least n (g.F.Inside.members l.f) l.k l.item; less : l.item < n }
 
 abbrev pub decreases-loop-next : goal.decreases-loop-next
 decreases-loop-next g l = g.F.Inside.item_count l.f - l.item
