@@ -5,13 +5,14 @@ use Rattle.std.proofs.lemmas.Bool.{cases_Bool}
 use Rattle.std.proofs.lemmas.List.Sums.{sum_by-cons}
 use Rattle.std.proofs.lemmas.List.Filters.{sum_by-filter_both}
 use Rattle.ls_set.specs.ItemSet.{Items, has}
-use Rattle.ls_theory.specs.declared.odds.Odds.{Odds}
+use Rattle.ls_theory.specs.declared.ratio.Ratios.{Ratios}
 use Rattle.ls_theory.specs.declared.reply.Reply.{Reply}
 use Rattle.ls_theory.specs.declared.asked.Asked.TheVariants.{Item, Over}
 use Rattle.ls_theory.specs.declared.reason.Reason.TheVariants.{Share, Budget}
 use Rattle.ls_theory.specs.Words.{product}
 use Rattle.ls_theory.specs.Weights.{weight, factor, total, mass}
-use Rattle.ls_theory.specs.Assessment.{Settings, asked, has_share, half_split}
+use Rattle.ls_theory.specs.Settings.{Settings}
+use Rattle.ls_theory.specs.Assessment.{asked, has_share, half_split}
 
 -- ---- masses
 
@@ -26,11 +27,11 @@ sum-kept w p (k ∷ f) =
     ])
     ∙ sym (sum_by-cons g k f)
 
-pub mass-sum : (odds : List Odds) (replies : List Reply) (f : List Items) (q : ℕ) → mass odds replies f q ≡ sum_by (λ k. cond (has k q) (weight odds replies k) 0) f
-mass-sum odds replies f q = sum-kept (weight odds replies) (λ k. has k q) f
+pub mass-sum : (ratios : List Ratios) (replies : List Reply) (f : List Items) (q : ℕ) → mass ratios replies f q ≡ sum_by (λ k. cond (has k q) (weight ratios replies k) 0) f
+mass-sum ratios replies f q = sum-kept (weight ratios replies) (λ k. has k q) f
 
-pub mass-rest : (odds : List Odds) (replies : List Reply) (f : List Items) (q : ℕ) → mass odds replies f q + total odds replies (filter (λ k. not (has k q)) f) ≡ total odds replies f
-mass-rest odds replies f q = sum_by-filter_both (λ k. has k q) (λ k. not (has k q)) (λ k. refl) (weight odds replies) f
+pub mass-rest : (ratios : List Ratios) (replies : List Reply) (f : List Items) (q : ℕ) → mass ratios replies f q + total ratios replies (filter (λ k. not (has k q)) f) ≡ total ratios replies f
+mass-rest ratios replies f q = sum_by-filter_both (λ k. has k q) (λ k. not (has k q)) (λ k. refl) (weight ratios replies) f
 
 -- ---- weights
 
@@ -38,10 +39,10 @@ product-append : (xs ys : List ℕ) → product (xs ++ ys) ≡ product xs * prod
 product-append [] ys = omega arith
 product-append (x ∷ xs) ys = rw (product-append xs ys) (omega arith)
 
-pub weight-more : (odds : List Odds) (replies : List Reply) (r : Reply) (k : Items) → weight odds (replies ++ (r ∷ [])) k ≡ weight odds replies k * factor odds k r
+pub weight-more : (ratios : List Ratios) (replies : List Reply) (r : Reply) (k : Items) → weight ratios (replies ++ (r ∷ [])) k ≡ weight ratios replies k * factor ratios k r
 unfolding weight
-weight-more odds [] r k = omega arith
-weight-more odds (x ∷ replies) r k = ap (λ n. factor odds k x * n) (weight-more odds replies r k) ∙ omega arith
+weight-more ratios [] r k = omega arith
+weight-more ratios (x ∷ replies) r k = ap (λ n. factor ratios k x * n) (weight-more ratios replies r k) ∙ omega arith
 
 -- ---- when an assessment is over
 
@@ -52,7 +53,7 @@ over-share s f replies = (
     | inl a ↦ a
     | inr a ↦ elim (cases_Bool (eqb (length replies) s.budget)) [
       | inl b ↦ absurd (let z : Over Budget ≡ Over Share = rw (a, b) at e in cc)
-      | inr b ↦ absurd (let z : Item (half_split s.odds replies f) ≡ Over Share = rw (a, b) at e in cc)
+      | inr b ↦ absurd (let z : Item (half_split s.ratios replies f) ≡ Over Share = rw (a, b) at e in cc)
     ]
   ],
   λ h. rw h refl,
@@ -65,12 +66,12 @@ over-budget s f replies = (
     | inl a ↦ absurd (let z : Over Share ≡ Over Budget = rw a at e in cc)
     | inr a ↦ elim (cases_Bool (eqb (length replies) s.budget)) [
       | inl b ↦ (a, eqb-true (length replies) s.budget b)
-      | inr b ↦ absurd (let z : Item (half_split s.odds replies f) ≡ Over Budget = rw (a, b) at e in cc)
+      | inr b ↦ absurd (let z : Item (half_split s.ratios replies f) ≡ Over Budget = rw (a, b) at e in cc)
     ]
   ],
   λ h. rw (h.0, eq-eqb (length replies) s.budget h.1) refl,
 )
 
-pub asked-item : (s : Settings) (f : List Items) (replies : List Reply) → has_share s f replies ≡ false → length replies ≢ s.budget → asked s f replies ≡ Item (half_split s.odds replies f)
+pub asked-item : (s : Settings) (f : List Items) (replies : List Reply) → has_share s f replies ≡ false → length replies ≢ s.budget → asked s f replies ≡ Item (half_split s.ratios replies f)
 unfolding asked
 asked-item s f replies h ne = rw (h, ne_eqb (length replies) s.budget ne) refl

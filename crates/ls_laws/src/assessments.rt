@@ -1,23 +1,24 @@
 // Laws of weights, and of when an assessment is over.
 ghost use Rattle.std.specs.Prelude.{◌≡◌, ◌≢◌, ◌↔◌, ◌+◌, ◌*◌, ℕ, true, false, not, if◌then◌else◌, List, [], ◌∷◌, ◌++◌, filter, length, sum_by};
 ghost use Rattle.ls_set.specs.ItemSet.{Items, has};
-ghost use Rattle.ls_theory.specs.declared.odds.Odds.{Odds};
+ghost use Rattle.ls_theory.specs.declared.ratio.Ratios.{Ratios};
 ghost use Rattle.ls_theory.specs.declared.reply.Reply.{Reply};
 ghost use Rattle.ls_theory.specs.declared.asked.Asked.TheVariants.{Item, Over};
 ghost use Rattle.ls_theory.specs.declared.reason.Reason.TheVariants.{Share, Budget};
 ghost use Rattle.ls_theory.specs.Weights.{weight, factor, total, mass};
-ghost use Rattle.ls_theory.specs.Assessment.{Settings, asked, has_share, half_split};
+ghost use Rattle.ls_theory.specs.Settings.{Settings};
+ghost use Rattle.ls_theory.specs.Assessment.{asked, has_share, half_split};
 
 /// The mass of an item is the sum of the weights of the members with it, and with the weights of
 /// the others it makes the total; a further reply multiplies each weight by its factor.
 pub fn masses_are_sums()
-    ensures sum { (odds : List Odds) (replies : List Reply) (f : List Items) (q : ℕ) →
-        mass odds replies f q ≡ sum_by (λ k. if has k q then weight odds replies k else 0) f }
-    ensures rest { (odds : List Odds) (replies : List Reply) (f : List Items) (q : ℕ) →
-        mass odds replies f q + total odds replies (filter (λ k. not (has k q)) f)
-        ≡ total odds replies f }
-    ensures reply { (odds : List Odds) (replies : List Reply) (r : Reply) (k : Items) →
-        weight odds (replies ++ (r ∷ [])) k ≡ weight odds replies k * factor odds k r }
+    ensures sum { (ratios : List Ratios) (replies : List Reply) (f : List Items) (q : ℕ) →
+        mass ratios replies f q ≡ sum_by (λ k. if has k q then weight ratios replies k else 0) f }
+    ensures rest { (ratios : List Ratios) (replies : List Reply) (f : List Items) (q : ℕ) →
+        mass ratios replies f q + total ratios replies (filter (λ k. not (has k q)) f)
+        ≡ total ratios replies f }
+    ensures reply { (ratios : List Ratios) (replies : List Reply) (r : Reply) (k : Items) →
+        weight ratios (replies ++ (r ∷ [])) k ≡ weight ratios replies k * factor ratios k r }
 {}
 
 /// An assessment is over by share where the leader has it, and by budget only where the leader
@@ -30,5 +31,5 @@ pub fn share_comes_before_budget()
         ↔ ((has_share s f replies ≡ false) × (length replies ≡ s.budget)) }
     ensures item { (s : Settings) (f : List Items) (replies : List Reply) →
         has_share s f replies ≡ false → length replies ≢ s.budget →
-        asked s f replies ≡ Item (half_split s.odds replies f) }
+        asked s f replies ≡ Item (half_split s.ratios replies f) }
 {}

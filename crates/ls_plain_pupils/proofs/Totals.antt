@@ -7,27 +7,27 @@ use Rattle.ls_lists.proofs.Filters.{sum_by-filter-le}
 use Rattle.ls_theory.specs.Words.{first_greatest}
 use Rattle.ls_theory.specs.Assessment.{imbalance, leader}
 use Rattle.ls_set.specs.ItemSet.{Items, has, empty}
-use Rattle.ls_theory.specs.declared.odds.Odds.{Odds}
+use Rattle.ls_theory.specs.declared.ratio.Ratios.{Ratios}
 use Rattle.ls_theory.specs.declared.reply.Reply.{Reply}
 use Rattle.ls_theory.specs.Weights.{weight, total, mass}
 
 -- a mass is at most the total
-pub mass-le : (odds : List Odds) (replies : List Reply) (f : List Items) (q : ℕ) → mass odds replies f q ≤ total odds replies f
-mass-le odds replies f q = sum_by-filter-le (weight odds replies) (λ k. has k q) f
+pub mass-le : (ratios : List Ratios) (replies : List Reply) (f : List Items) (q : ℕ) → mass ratios replies f q ≤ total ratios replies f
+mass-le ratios replies f q = sum_by-filter-le (weight ratios replies) (λ k. has k q) f
 
 -- each weight is below a bound on the total
-pub weights_below : (odds : List Odds) (replies : List Reply) (f : List Items) (m : ℕ) → total odds replies f < m → All (λ k. weight odds replies k < m) f
-weights_below odds replies f m h = λ i d l. let e = get_or-le-sum_by (weight odds replies) f i d l in omega (arith, e)
+pub weights_below : (ratios : List Ratios) (replies : List Reply) (f : List Items) (m : ℕ) → total ratios replies f < m → All (λ k. weight ratios replies k < m) f
+weights_below ratios replies f m h = λ i d l. let e = get_or-le-sum_by (weight ratios replies) f i d l in omega (arith, e)
 
 -- ---- what the question and the leader are
 
-pub imbalance-is : (odds : List Odds) (replies : List Reply) (f : List Items) (q : ℕ) → imbalance odds replies f q ≡ abs_diff (2 * mass odds replies f q) (total odds replies f)
+pub imbalance-is : (ratios : List Ratios) (replies : List Reply) (f : List Items) (q : ℕ) → imbalance ratios replies f q ≡ abs_diff (2 * mass ratios replies f q) (total ratios replies f)
 unfolding imbalance
-imbalance-is odds replies f q = refl
+imbalance-is ratios replies f q = refl
 
-pub leader-is : (odds : List Odds) (replies : List Reply) (f : List Items) → leader odds replies f ≡ unwrap_or (first_greatest (weight odds replies) f) empty
+pub leader-is : (ratios : List Ratios) (replies : List Reply) (f : List Items) → leader ratios replies f ≡ unwrap_or (first_greatest (weight ratios replies) f) empty
 unfolding leader
-leader-is odds replies f = refl
+leader-is ratios replies f = refl
 
 pub ruleset mass_facts = (mass-le, imbalance-is)
 

@@ -2,7 +2,8 @@
 use Rattle.std.proofs.Common.{ℕ, zero, suc, ◌-◌, ◌<◌, ◌≡◌, List, arith}
 use Rattle.ls_set.specs.ItemSet.{Items}
 use Rattle.ls_theory.specs.declared.reply.Reply.{Reply}
-use Rattle.ls_theory.specs.Assessment.{Settings, asked}
+use Rattle.ls_theory.specs.Settings.{Settings}
+use Rattle.ls_theory.specs.Assessment.{asked}
 use Rattle.ls_theory.specs.Classes.{turn, replies_in}
 use Rattle.ls_theory.specs.Bounds.{FitsNow, FitsFor}
 

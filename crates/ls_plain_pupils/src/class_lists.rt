@@ -1,6 +1,6 @@
 // The results of a class, in the order of its table.
 ghost use Rattle.std.specs.Prelude.{◌≡◌, ◌≤◌, [], All, IfOk, length, map};
-ghost use Rattle.ls_theory.specs.Assessment.{settings_of};
+ghost use Rattle.ls_theory.specs.Settings.{settings_of};
 ghost use Rattle.ls_theory.specs.Bounds.{FitsFor};
 ghost use Rattle.ls_theory.specs.Classes.{class_results, replies_in, result_from, result_of, row_of};
 
@@ -16,7 +16,7 @@ fn pupil_result(
     f: &[ItemSet],
     row: &ListedRow,
 ) -> Result<ListedResult, AllocError>
-    requires few { length s.now.odds.items ≤ PLACES }
+    requires few { length s.now.ratios.items ≤ PLACES }
     requires fits { FitsFor s.now.budget (settings_of s.now) f.now row.now.right [] }
     ensures { IfOk result (λ r. let row = row_of row.now in let settings = settings_of s.now in
         result_of r ≡ result_from settings f.now row.name
@@ -42,7 +42,7 @@ pub fn class_results(
     f: &[ItemSet],
     table: &[ListedRow],
 ) -> Result<Vec<ListedResult>, AllocError>
-    requires few { length s.now.odds.items ≤ PLACES }
+    requires few { length s.now.ratios.items ≤ PLACES }
     requires fits { All (λ row.
         FitsFor s.now.budget (settings_of s.now) f.now row.right []) table.now }
     ensures { IfOk result (λ v. map result_of v.items ≡

@@ -1,7 +1,8 @@
 // The assessment of a pupil whose questions a table answers.
 ghost use Rattle.std.specs.Prelude.{◌≡◌, ◌≤◌, ℕ, List, [], length, IfOk, if◌then◌else◌, IsTrue, ◌↔◌};
 ghost use Rattle.ls_theory.specs.declared.reason.Reason.TheVariants as Reason;
-ghost use Rattle.ls_theory.specs.Assessment.{has_share, settings_of};
+ghost use Rattle.ls_theory.specs.Assessment.{has_share};
+ghost use Rattle.ls_theory.specs.Settings.{settings_of};
 ghost use Rattle.ls_theory.specs.Classes.{turn, replies_in, result_from};
 ghost use Rattle.ls_theory.specs.Bounds.{FitsNow, FitsFor};
 
@@ -36,7 +37,7 @@ pub fn replies_in(
     right: ItemSet,
     replies: Vec<Reply>,
 ) -> Result<Vec<Reply>, AllocError>
-    requires few { length s.now.odds.items ≤ PLACES }
+    requires few { length s.now.ratios.items ≤ PLACES }
     requires fits { FitsFor turns (settings_of s.now) f.now right replies.items }
     ensures { IfOk result (λ v.
         v.items ≡ replies_in turns (settings_of s.now) f.now right replies.items) }
@@ -59,7 +60,7 @@ pub fn fits_for(
     right: ItemSet,
     replies: Vec<Reply>,
 ) -> Result<bool, AllocError>
-    requires { length s.now.odds.items ≤ PLACES }
+    requires { length s.now.ratios.items ≤ PLACES }
     ensures { IfOk result (λ b.
         IsTrue b ↔ FitsFor turns (settings_of s.now) f.now right replies.items) }
 {
@@ -97,7 +98,7 @@ pub fn replay_of(
     f: &[ItemSet],
     right: ItemSet,
 ) -> Result<Replay, AllocError>
-    requires few { length s.now.odds.items ≤ PLACES }
+    requires few { length s.now.ratios.items ≤ PLACES }
     requires fits { FitsFor s.now.budget (settings_of s.now) f.now right [] }
     ensures { IfOk result (λ r. (name : List ℕ) → let settings = settings_of s.now in
         result_from settings f.now name (replies_in s.now.budget settings f.now right []) ≡
@@ -107,6 +108,6 @@ pub fn replay_of(
     Ok(Replay {
         replies: replies.len() as u64,
         reason: reason_of(s, f, &replies),
-        state: leader(&s.odds, &replies, f),
+        state: leader(&s.ratios, &replies, f),
     })
 }

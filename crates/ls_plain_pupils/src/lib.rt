@@ -12,4 +12,4 @@ pub use assessing::{half_split, has_share, imbalance, leader, next_asked, outcom
 pub use bounds::{checked_total, checked_weight, fits_now};
 pub use class_lists::class_results;
 pub use class_turns::{fits_for, replay_of, replies_in};
-pub use weighing::{agrees, factor, mass, odds_for, total, weight};
+pub use weighing::{agrees, factor, mass, ratio_for, total, weight};

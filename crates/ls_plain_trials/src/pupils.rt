@@ -1,14 +1,17 @@
 // The plain programs of assessments, on the items a b c.
 use crate::programs::{all_sets, six_states};
 use ls_plain_pupils::{class_results, fits_for, fits_now, next_asked, outcome_of, replay_of};
-use ls_theory::{Asked, ListedRow, ListedSettings, Odds, Reason, Replay, Reply};
+use ls_theory::{Asked, ListedRow, ListedSettings, Ratio, Ratios, Reason, Replay, Reply};
 use std::alloc::{AllocError, Global};
 use std::test::Fail;
+
+// Odds 8.
+const ODDS: Ratio = Ratio { a: 8, b: 1 };
 
 // Odds 8 and 8 for each of the three items, at most 30 replies, and the share 90.
 fn settings(alloc: Global) -> Result<ListedSettings, AllocError> {
     Ok(ListedSettings {
-        odds: vec![in alloc; Odds { right: 8, wrong: 8 }; 3]?,
+        ratios: vec![in alloc; Ratios { right: ODDS, wrong: ODDS }; 3]?,
         budget: 30,
         share: 90,
     })
@@ -18,7 +21,7 @@ fn settings(alloc: Global) -> Result<ListedSettings, AllocError> {
 fn assesses_pupils(rt: HostRuntime) -> Result<(), Fail> {
     let states = six_states(&rt);
     let s = settings(rt.alloc())?;
-    assert!(rt; s.odds.len() == 3);
+    assert!(rt; s.ratios.len() == 3);
     let mut replies: Vec<Reply> = Vec::new(rt.alloc());
     // Ann is right on a and c, and wrong on b: the total, the leader's weight, and what is asked.
     for (q, total, weight) in [
@@ -44,7 +47,7 @@ fn replays_assessments(rt: HostRuntime) -> Result<(), Fail> {
     let [_, _, ac, _, _, _, _, none] = all_sets(&rt);
     let states = six_states(&rt);
     let s = settings(rt.alloc())?;
-    assert!(rt; s.odds.len() == 3 && s.budget == 30);
+    assert!(rt; s.ratios.len() == 3 && s.budget == 30);
     for (right, replies) in [(ac, 6), (none, 4)] {
         let fits = fits_for(30, &s, &states, right, Vec::new(rt.alloc()))?;
         assert!(rt; fits);
@@ -63,7 +66,7 @@ fn assesses_a_class(rt: HostRuntime) -> Result<(), Fail> {
     let [_, _, ac, _, _, _, _, _] = all_sets(&rt);
     let states = six_states(&rt);
     let s = settings(rt.alloc())?;
-    assert!(rt; s.odds.len() == 3 && s.budget == 30);
+    assert!(rt; s.ratios.len() == 3 && s.budget == 30);
     let name = String::from_str(rt.alloc(), "Ann")?;
     let table = [ListedRow { name, right: ac }];
     assert!(rt; fits_for(30, &s, &states, ac, Vec::new(rt.alloc()))?);

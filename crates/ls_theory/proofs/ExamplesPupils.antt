@@ -1,17 +1,17 @@
 -- Examples: two pupils assessed on the six states, reply by reply.
-use Rattle.std.proofs.Common.{ℕ, ◌≡◌, refl, true, false, List, [], ◌∷◌, map, take, replicate}
+use Rattle.std.proofs.Common.{ℕ, ◌≡◌, refl, true, false, List, [], ◌∷◌, map, take, Some, None}
+use Rattle.ls_theory.specs.declared.ratio.Ratio.{Ratio}
 use Rattle.ls_theory.specs.declared.reply.Reply.{Reply}
 use Rattle.ls_theory.specs.declared.reason.Reason.TheVariants.{Share, Budget}
+use Rattle.ls_theory.specs.declared.reply_fault.ReplyFault.TheVariants as fault
+use Rattle.ls_theory.specs.declared.reply_fault.ReplyFault.TheVariants.{WrongItem}
 use Rattle.ls_theory.specs.declared.asked.Asked.{Asked}
 use Rattle.ls_theory.specs.declared.asked.Asked.TheVariants.{Item, Over}
 use Rattle.ls_theory.specs.Weights.{weight, mass, total}
-use Rattle.ls_theory.specs.Assessment.{Settings, asked, outcome}
+use Rattle.ls_theory.specs.Settings.{Settings, odds, standard, with_all, with_limits, are_settings, heavy_after}
+use Rattle.ls_theory.specs.Assessment.{asked, outcome, reply_fault}
 use Rattle.ls_theory.specs.Classes.{class_results}
 use Rattle.ls_theory.proofs.Small.{words, ∅, a, ac, six_states}
-
--- odds 8 and 8, budget 30, share 90
-abbrev standard : Settings
-standard = record { odds = replicate 3 (record { right = 8; wrong = 8 }); budget = 30; share = 90 }
 
 abbrev right : ℕ → Reply
 right q = record { q = q; right = true }
@@ -26,8 +26,11 @@ record Line : Type 0 where
   masses : List ℕ
   next : Asked
 
+abbrev line_by : Settings → List Reply → Line
+line_by s rs = record { weights = map (weight s.ratios rs) six_states; total = total s.ratios rs six_states; masses = map (mass s.ratios rs six_states) (0 ∷ 1 ∷ 2 ∷ []); next = asked s six_states rs }
+
 abbrev line : List Reply → Line
-line rs = record { weights = map (weight standard.odds rs) six_states; total = total standard.odds rs six_states; masses = map (mass standard.odds rs six_states) (0 ∷ 1 ∷ 2 ∷ []); next = asked standard six_states rs }
+line = line_by (standard 3)
 
 abbrev ann : List Reply
 ann = right 2 ∷ right 0 ∷ wrong 1 ∷ right 2 ∷ right 0 ∷ wrong 1 ∷ []
@@ -59,11 +62,11 @@ ann_5 : line (take 5 ann) ≡ record { weights = 4096 ∷ 64 ∷ 32768 ∷ 512 �
 unfolding words
 ann_5 = refl
 
-ann_over : asked standard six_states ann ≡ Over Share
+ann_over : asked (standard 3) six_states ann ≡ Over Share
 unfolding words
 ann_over = refl
 
-ann_outcome : outcome standard six_states ann ≡ record { state = ac; weight = 262144; total = 274560; replies = 6 }
+ann_outcome : outcome (standard 3) six_states ann ≡ record { state = ac; weight = 262144; total = 274560; replies = 6 }
 unfolding words
 ann_outcome = refl
 
@@ -79,18 +82,18 @@ bob_3 : line (take 3 bob) ≡ record { weights = 1 ∷ 8 ∷ 1 ∷ 8 ∷ 64 ∷ 
 unfolding words
 bob_3 = refl
 
-bob_outcome : outcome standard six_states bob ≡ record { state = ∅; weight = 4096; total = 4290; replies = 4 }
+bob_outcome : outcome (standard 3) six_states bob ≡ record { state = ∅; weight = 4096; total = 4290; replies = 4 }
 unfolding words
 bob_outcome = refl
 
 -- with one reply allowed, the budget ends it
-budget : asked (record standard { budget = 1 }) six_states (take 1 ann) ≡ Over Budget
+budget : asked (with_limits (standard 3) 1 90) six_states (take 1 ann) ≡ Over Budget
 unfolding words
 budget = refl
 
 -- one item with odds 3: the leader has three quarters of the total
 abbrev at_share : ℕ → Settings
-at_share n = record { odds = record { right = 3; wrong = 3 } ∷ []; budget = 30; share = n }
+at_share n = record { ratios = record { right = odds 3; wrong = odds 3 } ∷ []; budget = 30; share = n }
 
 enough : asked (at_share 75) (a ∷ ∅ ∷ []) (right 0 ∷ []) ≡ Over Share
 unfolding words
@@ -101,7 +104,32 @@ unfolding words
 too_little = refl
 
 -- the class of both
-class : class_results standard six_states (record { name = 97 ∷ []; right = ac } ∷ record { name = 98 ∷ []; right = ∅ } ∷ [])
+class : class_results (standard 3) six_states (record { name = 97 ∷ []; right = ac } ∷ record { name = 98 ∷ []; right = ∅ } ∷ [])
     ≡ record { name = 97 ∷ []; replies = 6; reason = Share; state = ac } ∷ record { name = 98 ∷ []; replies = 4; reason = Share; state = ∅ } ∷ []
 unfolding words
 class = refl
+
+-- ratios 3 to 2 for all: one reply, right on c
+abbrev by_halves : Settings
+by_halves = let r : Ratio = record { a = 3; b = 2 } in with_all (standard 3) (record { right = r; wrong = r })
+
+ratio : line_by by_halves (right 2 ∷ []) ≡ record { weights = 3 ∷ 2 ∷ 3 ∷ 2 ∷ 3 ∷ 2 ∷ []; total = 15; masses = 10 ∷ 5 ∷ 9 ∷ []; next = Item 2 }
+unfolding words
+ratio = refl
+
+-- which settings can be set: a ratio is above 1, and of small numbers
+fit : map (are_settings 3) (standard 3 ∷ by_halves ∷ at_share 75 ∷ with_limits (standard 3) 41 90 ∷ with_limits (standard 3) 30 50 ∷ with_all (standard 3) (record { right = odds 65; wrong = odds 2 }) ∷ with_all (standard 3) (record { right = odds 2; wrong = record { a = 2; b = 2 } }) ∷ []) ≡ true ∷ true ∷ false ∷ false ∷ false ∷ false ∷ false ∷ []
+fit = refl
+
+-- six states stand 39 replies of odds 8, and not 40
+light : heavy_after (with_limits (standard 3) 39 90) 6 ≡ None
+unfolding heavy_after
+light = refl
+
+heavy : heavy_after (with_limits (standard 3) 40 90) 6 ≡ Some 40
+unfolding heavy_after
+heavy = refl
+
+-- why replies are refused
+refused : reply_fault (Item 2) 0 ∷ reply_fault (Item 2) 2 ∷ reply_fault (Over Share) 0 ∷ [] ≡ Some (WrongItem 2) ∷ None ∷ Some (fault.Over Share) ∷ []
+refused = refl

@@ -8,7 +8,8 @@ use Rattle.ls_theory.specs.declared.asked.Asked.{Asked}
 use Rattle.ls_theory.specs.declared.asked.Asked.TheVariants.{Item, Over}
 use Rattle.ls_theory.specs.declared.listed_row.ListedRow.{ListedRow}
 use Rattle.ls_theory.specs.declared.listed_result.ListedResult.{ListedResult}
-use Rattle.ls_theory.specs.Assessment.{Settings, asked, has_share, leader}
+use Rattle.ls_theory.specs.Settings.{Settings}
+use Rattle.ls_theory.specs.Assessment.{asked, has_share, leader}
 
 -- a pupil's row of the table: its name, and the items that it gets right
 pub record Row : Type 0 where
@@ -44,7 +45,7 @@ result_of r = record { name = string_bytes r.name; replies = r.replies; reason =
 abbrev pub result_from : Settings → List Items → List ℕ → List Reply → PupilResult
 result_from s f name replies =
     let reason = if has_share s f replies then Share else Budget in
-    record { name = name; replies = length replies; reason = reason; state = leader s.odds replies f }
+    record { name = name; replies = length replies; reason = reason; state = leader s.ratios replies f }
 
 -- the results of a class, in the order of the table; each pupil begins with no replies and has at most `budget` turns
 unfoldable pub class_results : Settings → List Items → List Row → List PupilResult

@@ -16,6 +16,7 @@ pub mod Fringes
 pub mod Projections
 pub mod Paths
 pub mod Weights
+pub mod Settings
 pub mod Assessment
 pub mod Classes
 pub mod Bounds

@@ -1,7 +1,8 @@
 -- Weights of states after replies: the multiplicative rule, with prior 1.
 use Rattle.std.specs.Prelude.{ℕ, Bool, not, if◌then◌else◌, List, map, filter, slice_index_or, sum_by}
 use Rattle.ls_set.specs.ItemSet.{Items, has}
-use Rattle.ls_theory.specs.declared.odds.Odds.{Odds}
+use Rattle.ls_theory.specs.declared.ratio.Ratio.{Ratio}
+use Rattle.ls_theory.specs.declared.ratio.Ratios.{Ratios}
 use Rattle.ls_theory.specs.declared.reply.Reply.{Reply}
 use Rattle.ls_theory.specs.Words.{product}
 
@@ -10,25 +11,25 @@ abbrev pub agrees : Items → Reply → Bool
 agrees k r = if r.right then has k r.q else not (has k r.q)
 
 -- those of a number that is no item
-abbrev pub no_odds : Odds
-no_odds = record { right = 1; wrong = 1 }
+abbrev pub no_ratios : Ratios
+no_ratios = let one : Ratio = record { a = 1; b = 1 } in record { right = one; wrong = one }
 
--- the item's odds for the reply
-abbrev pub odds_for : List Odds → Reply → ℕ
-odds_for odds r = let o = slice_index_or odds r.q no_odds in if r.right then o.right else o.wrong
+-- the item's ratio for the reply
+abbrev pub ratio_for : List Ratios → Reply → Ratio
+ratio_for ratios r = let own = slice_index_or ratios r.q no_ratios in if r.right then own.right else own.wrong
 
--- what one reply multiplies a set's weight by: the odds where the set agrees, and else 1
-abbrev pub factor : List Odds → Items → Reply → ℕ
-factor odds k r = if agrees k r then odds_for odds r else 1
+-- what one reply multiplies a set's weight by
+abbrev pub factor : List Ratios → Items → Reply → ℕ
+factor ratios k r = let ratio = ratio_for ratios r in if agrees k r then ratio.a else ratio.b
 
 -- the weight of a set: the product over the whole list of replies
-unfoldable pub weight : List Odds → List Reply → Items → ℕ
-weight odds replies k = product (map (factor odds k) replies)
+unfoldable pub weight : List Ratios → List Reply → Items → ℕ
+weight ratios replies k = product (map (factor ratios k) replies)
 
 -- the total: the weights of all members
-abbrev pub total : List Odds → List Reply → List Items → ℕ
-total odds replies f = sum_by (weight odds replies) f
+abbrev pub total : List Ratios → List Reply → List Items → ℕ
+total ratios replies f = sum_by (weight ratios replies) f
 
 -- the mass of q: the weights of the members with q
-abbrev pub mass : List Odds → List Reply → List Items → ℕ → ℕ
-mass odds replies f q = total odds replies (filter (λ k. has k q) f)
+abbrev pub mass : List Ratios → List Reply → List Items → ℕ → ℕ
+mass ratios replies f q = total ratios replies (filter (λ k. has k q) f)

@@ -1,11 +1,11 @@
 // Settings of an assessment as lists.
-use crate::odds::Odds;
+use crate::ratio::Ratios;
 
-/// The odds of each item in turn, the most replies, and the share of the total, in hundredths, that
+/// The ratios of each item in turn, the most replies, and the share of the total, in hundredths, that
 /// ends it.
 #[derive(Debug, Drop)]
 pub struct ListedSettings {
-    pub odds: Vec<Odds>,
+    pub ratios: Vec<Ratios>,
     pub budget: u64,
     pub share: u64,
 }

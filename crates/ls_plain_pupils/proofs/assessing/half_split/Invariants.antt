@@ -7,5 +7,5 @@ use Rattle.ls_plain_pupils.proofs.assessing.half_split.Given as goal
 -- the first that is found among the items that are left
 abbrev pub invariant-loop-q : goal.invariant-loop-q
 invariant-loop-q l =
-    let all = numbers_from 0 (length l.odds) in
-    unwrap_or (find (λ q. list_all (λ r. nat_le (imbalance l.odds l.replies l.f q) (imbalance l.odds l.replies l.f r)) all) (numbers_from l.q (length l.odds - l.q))) 0 ≡ half_split l.odds l.replies l.f
+    let all = numbers_from 0 (length l.ratios) in
+    unwrap_or (find (λ q. list_all (λ r. nat_le (imbalance l.ratios l.replies l.f q) (imbalance l.ratios l.replies l.f r)) all) (numbers_from l.q (length l.ratios - l.q))) 0 ≡ half_split l.ratios l.replies l.f

@@ -1,5 +1,5 @@
 use Rattle.std.proofs.Common.{◌≡◌, map, take}
-use Rattle.ls_theory.specs.Assessment.{settings_of}
+use Rattle.ls_theory.specs.Settings.{settings_of}
 use Rattle.ls_theory.specs.Classes.{class_results, result_of, row_of}
 use Rattle.ls_plain_pupils.proofs.class_lists.class_results.Given as goal
 
