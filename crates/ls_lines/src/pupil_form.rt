@@ -12,6 +12,8 @@ use std::alloc::AllocError;
 pub enum PupilForm {
     OddsAll,
     OddsItem,
+    RatioAll,
+    RatioItem,
     Limits,
     Pupil,
     Question,
@@ -32,6 +34,17 @@ impl PupilForm {
         match self {
             Self::OddsAll => &[Part::Fixed(Keyword::Odds), NUMBER, NUMBER],
             Self::OddsItem => &[Part::Fixed(Keyword::Odds), ITEM, NUMBER, NUMBER],
+            Self::RatioAll => &[Part::Fixed(Keyword::Ratio), NUMBER, NUMBER, NUMBER, NUMBER],
+            Self::RatioItem => {
+                &[
+                    Part::Fixed(Keyword::Ratio),
+                    ITEM,
+                    NUMBER,
+                    NUMBER,
+                    NUMBER,
+                    NUMBER,
+                ]
+            }
             Self::Limits => &[Part::Fixed(Keyword::Limits), NUMBER, NUMBER],
             Self::Pupil => &[Part::Fixed(Keyword::Pupil), NAME],
             Self::Question => &[Part::Fixed(Keyword::Question), NAME],
@@ -57,6 +70,19 @@ impl PupilForm {
                 item: cut.one(1)?,
                 right: u64::from(cut.number(2)),
                 wrong: u64::from(cut.number(3)),
+            },
+            Self::RatioAll => Command::RatioAll {
+                right_a: u64::from(cut.number(1)),
+                right_b: u64::from(cut.number(2)),
+                wrong_a: u64::from(cut.number(3)),
+                wrong_b: u64::from(cut.number(4)),
+            },
+            Self::RatioItem => Command::RatioItem {
+                item: cut.one(1)?,
+                right_a: u64::from(cut.number(2)),
+                right_b: u64::from(cut.number(3)),
+                wrong_a: u64::from(cut.number(4)),
+                wrong_b: u64::from(cut.number(5)),
             },
             Self::Limits => Command::Limits {
                 budget: u64::from(cut.number(1)),
