@@ -55,6 +55,8 @@ fn lines_are_read(rt: HostRuntime) -> Result<(), Fail> {
         ("paths 3 after a b", "paths 3 after a b"),
         ("odds 8 8", "odds 8 8"),
         ("odds 8 8 9", "odds 8 8 9"),
+        ("ratio 3 2 3 2", "ratio 3 2 3 2"),
+        ("ratio a 9 2 5 4", "ratio a 9 2 5 4"),
         ("limits 30 90", "limits 30 90"),
         ("pupil ann", "pupil ann"),
         ("question ann", "question ann"),
@@ -85,6 +87,7 @@ fn lines_are_read(rt: HostRuntime) -> Result<(), Fail> {
         ("yes a b", "fault 4"),
         ("yes a : b c", "fault 5"),
         ("yes a|b", "fault 3"),
+        ("ratio 3 2 3", "fault 5"),
         ("items é", "fault 2"),
         (
             "items aaaaaaaaaaaaaaaaaaaaaaaaaaaaaaaaaaaaaaaa",

@@ -46,6 +46,15 @@ item_after : command_of (words (codes "project 3 : after")) ≡ Some (commands.P
 unfolding words command_of forms parts command cut is_of spelling
 item_after = refl
 
+-- four numbers are for all items, and five words are an item and four numbers
+ratio_of_all : command_of (words (codes "ratio 3 2 5 4")) ≡ Some (commands.RatioAll 3 2 5 4)
+unfolding words command_of forms parts command cut is_of spelling
+ratio_of_all = refl
+
+ratio_of_item : command_of (words (codes "ratio 7 3 2 5 4")) ≡ Some (commands.RatioItem (codes "7") 3 2 5 4)
+unfolding words command_of forms parts command cut is_of spelling
+ratio_of_item = refl
+
 -- a printed command
 abbrev printed : Command → List ℕ
 printed c = words_joined (spelled c)
@@ -74,6 +83,10 @@ plain_page = refl
 plain_odds : is_plain (commands.OddsItem (codes "a") 999999999 0) ≡ true
 unfolding is_plain form_of operands parts is_of
 plain_odds = refl
+
+plain_ratio : is_plain (commands.RatioItem (codes "a") 9 2 999999999 0) ≡ true
+unfolding is_plain form_of operands parts is_of
+plain_ratio = refl
 
 plain_reply : is_plain (commands.Reply (codes "ann") (codes "a") false) ≡ true
 unfolding is_plain form_of operands parts is_of
@@ -106,6 +119,10 @@ no_colon = refl
 colon_twice : place (codes "known a : :") ≡ 4
 unfolding words fault_place is_begun forms parts is_of spelling
 colon_twice = refl
+
+three_of_four : place (codes "ratio 3 2 3") ≡ 5
+unfolding words fault_place is_begun forms parts is_of spelling
+three_of_four = refl
 
 too_many_words : place (codes "states x") ≡ 2
 unfolding words fault_place is_begun forms parts is_of spelling

@@ -41,6 +41,7 @@ spelling word.Fringes = codes "fringes"
 spelling word.StateOf = codes "state-of"
 spelling word.Paths = codes "paths"
 spelling word.Odds = codes "odds"
+spelling word.Ratio = codes "ratio"
 spelling word.Limits = codes "limits"
 spelling word.Pupil = codes "pupil"
 spelling word.Question = codes "question"
@@ -84,6 +85,8 @@ parts (form.Structure structure.Paths) = Fixed word.Paths ∷ One kind.Count ∷
 parts (form.Structure structure.PathsAfter) = Fixed word.Paths ∷ One kind.Count ∷ Fixed word.After ∷ Many kind.Item ∷ []
 parts (form.Pupil pupil.OddsAll) = Fixed word.Odds ∷ One kind.Number ∷ One kind.Number ∷ []
 parts (form.Pupil pupil.OddsItem) = Fixed word.Odds ∷ One kind.Item ∷ One kind.Number ∷ One kind.Number ∷ []
+parts (form.Pupil pupil.RatioAll) = Fixed word.Ratio ∷ One kind.Number ∷ One kind.Number ∷ One kind.Number ∷ One kind.Number ∷ []
+parts (form.Pupil pupil.RatioItem) = Fixed word.Ratio ∷ One kind.Item ∷ One kind.Number ∷ One kind.Number ∷ One kind.Number ∷ One kind.Number ∷ []
 parts (form.Pupil pupil.Limits) = Fixed word.Limits ∷ One kind.Number ∷ One kind.Number ∷ []
 parts (form.Pupil pupil.Pupil) = Fixed word.Pupil ∷ One kind.Name ∷ []
 parts (form.Pupil pupil.Question) = Fixed word.Question ∷ One kind.Name ∷ []
@@ -142,6 +145,8 @@ command (form.Structure structure.Paths) given = commands.Paths (count given 1) 
 command (form.Structure structure.PathsAfter) given = commands.Paths (count given 1) (Some (all given 3))
 command (form.Pupil pupil.OddsAll) given = commands.OddsAll (number given 1) (number given 2)
 command (form.Pupil pupil.OddsItem) given = commands.OddsItem (one given 1) (number given 2) (number given 3)
+command (form.Pupil pupil.RatioAll) given = commands.RatioAll (number given 1) (number given 2) (number given 3) (number given 4)
+command (form.Pupil pupil.RatioItem) given = commands.RatioItem (one given 1) (number given 2) (number given 3) (number given 4) (number given 5)
 command (form.Pupil pupil.Limits) given = commands.Limits (number given 1) (number given 2)
 command (form.Pupil pupil.Pupil) given = commands.Pupil (one given 1)
 command (form.Pupil pupil.Question) given = commands.Question (one given 1)
@@ -152,4 +157,4 @@ command (form.Pupil pupil.Class) given = commands.Class (one given 1)
 
 -- all forms; the order is of no account, since no line has two of them (the law `forms_are_told_apart`)
 unfoldable pub forms : List Form
-forms = form.Nothing ∷ (form.Setting setting.Items) ∷ (form.Setting setting.LoadItems) ∷ (form.Setting setting.StartSurmise) ∷ (form.Setting setting.StartBase) ∷ (form.Setting setting.Save) ∷ (form.Setting setting.Reopen) ∷ (form.Interview interview.Blocks) ∷ (form.Interview interview.Yes) ∷ (form.Interview interview.No) ∷ (form.Interview interview.Retract) ∷ (form.Interview interview.Known) ∷ (form.Interview interview.Ask) ∷ (form.Listing listing.States) ∷ (form.Listing listing.StatesUpTo) ∷ (form.Listing listing.StatesAfter) ∷ (form.Listing listing.Base) ∷ (form.Listing listing.Surmise) ∷ (form.Listing listing.Learning) ∷ (form.Listing listing.Project) ∷ (form.Listing listing.ProjectAfter) ∷ (form.Listing listing.ProjectBase) ∷ (form.Structure structure.Test) ∷ (form.Structure structure.Fringes) ∷ (form.Structure structure.StateOf) ∷ (form.Structure structure.Paths) ∷ (form.Structure structure.PathsAfter) ∷ (form.Pupil pupil.OddsAll) ∷ (form.Pupil pupil.OddsItem) ∷ (form.Pupil pupil.Limits) ∷ (form.Pupil pupil.Pupil) ∷ (form.Pupil pupil.Question) ∷ (form.Pupil pupil.Reply) ∷ (form.Pupil pupil.Report) ∷ (form.Pupil pupil.Close) ∷ (form.Pupil pupil.Class) ∷ []
+forms = form.Nothing ∷ (form.Setting setting.Items) ∷ (form.Setting setting.LoadItems) ∷ (form.Setting setting.StartSurmise) ∷ (form.Setting setting.StartBase) ∷ (form.Setting setting.Save) ∷ (form.Setting setting.Reopen) ∷ (form.Interview interview.Blocks) ∷ (form.Interview interview.Yes) ∷ (form.Interview interview.No) ∷ (form.Interview interview.Retract) ∷ (form.Interview interview.Known) ∷ (form.Interview interview.Ask) ∷ (form.Listing listing.States) ∷ (form.Listing listing.StatesUpTo) ∷ (form.Listing listing.StatesAfter) ∷ (form.Listing listing.Base) ∷ (form.Listing listing.Surmise) ∷ (form.Listing listing.Learning) ∷ (form.Listing listing.Project) ∷ (form.Listing listing.ProjectAfter) ∷ (form.Listing listing.ProjectBase) ∷ (form.Structure structure.Test) ∷ (form.Structure structure.Fringes) ∷ (form.Structure structure.StateOf) ∷ (form.Structure structure.Paths) ∷ (form.Structure structure.PathsAfter) ∷ (form.Pupil pupil.OddsAll) ∷ (form.Pupil pupil.OddsItem) ∷ (form.Pupil pupil.RatioAll) ∷ (form.Pupil pupil.RatioItem) ∷ (form.Pupil pupil.Limits) ∷ (form.Pupil pupil.Pupil) ∷ (form.Pupil pupil.Question) ∷ (form.Pupil pupil.Reply) ∷ (form.Pupil pupil.Report) ∷ (form.Pupil pupil.Close) ∷ (form.Pupil pupil.Class) ∷ []

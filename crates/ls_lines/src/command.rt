@@ -79,6 +79,19 @@ pub enum Command {
         right: u64,
         wrong: u64,
     },
+    RatioAll {
+        right_a: u64,
+        right_b: u64,
+        wrong_a: u64,
+        wrong_b: u64,
+    },
+    RatioItem {
+        item: Word,
+        right_a: u64,
+        right_b: u64,
+        wrong_a: u64,
+        wrong_b: u64,
+    },
     Limits {
         budget: u64,
         share: u64,

@@ -18,7 +18,7 @@ pub enum Form {
 }
 
 /// All forms.
-pub const FORMS: [Form; 36] = [
+pub const FORMS: [Form; 38] = [
     Form::Nothing,
     Form::Setting(SettingForm::Items),
     Form::Setting(SettingForm::LoadItems),
@@ -48,6 +48,8 @@ pub const FORMS: [Form; 36] = [
     Form::Structure(StructureForm::PathsAfter),
     Form::Pupil(PupilForm::OddsAll),
     Form::Pupil(PupilForm::OddsItem),
+    Form::Pupil(PupilForm::RatioAll),
+    Form::Pupil(PupilForm::RatioItem),
     Form::Pupil(PupilForm::Limits),
     Form::Pupil(PupilForm::Pupil),
     Form::Pupil(PupilForm::Question),

@@ -1,6 +1,7 @@
 // The forms of the commands that assess pupils.
 ghost use Rattle.std.specs.Prelude.{◌≡◌, All, IfOk};
 ghost use Rattle.std.specs.Str.{IsAscii};
+ghost use Rattle.ls_lines.specs.Forms.{parts, command};
 
 use crate::cut::Cut;
 use crate::part::{FILE, ITEM, NAME, NUMBER, RIGHT};
@@ -12,6 +13,8 @@ use std::alloc::AllocError;
 pub enum PupilForm {
     OddsAll,
     OddsItem,
+    RatioAll,
+    RatioItem,
     Limits,
     Pupil,
     Question,
@@ -22,8 +25,6 @@ pub enum PupilForm {
 }
 
 impl PupilForm {
-    ghost use Rattle.ls_lines.specs.Forms.{parts, command};
-
     // The parts of the form's lines.
     #[tactic(auto, unfolding(crate::specs::Forms::parts))]
     pub(crate) fn parts(self) -> &'static [Part]
@@ -32,6 +33,17 @@ impl PupilForm {
         match self {
             Self::OddsAll => &[Part::Fixed(Keyword::Odds), NUMBER, NUMBER],
             Self::OddsItem => &[Part::Fixed(Keyword::Odds), ITEM, NUMBER, NUMBER],
+            Self::RatioAll => &[Part::Fixed(Keyword::Ratio), NUMBER, NUMBER, NUMBER, NUMBER],
+            Self::RatioItem => {
+                &[
+                    Part::Fixed(Keyword::Ratio),
+                    ITEM,
+                    NUMBER,
+                    NUMBER,
+                    NUMBER,
+                    NUMBER,
+                ]
+            }
             Self::Limits => &[Part::Fixed(Keyword::Limits), NUMBER, NUMBER],
             Self::Pupil => &[Part::Fixed(Keyword::Pupil), NAME],
             Self::Question => &[Part::Fixed(Keyword::Question), NAME],
@@ -58,6 +70,8 @@ impl PupilForm {
                 right: u64::from(cut.number(2)),
                 wrong: u64::from(cut.number(3)),
             },
+            Self::RatioAll => ratio_for_all(cut),
+            Self::RatioItem => ratio_for_one(cut)?,
             Self::Limits => Command::Limits {
                 budget: u64::from(cut.number(1)),
                 share: u64::from(cut.number(2)),
@@ -74,4 +88,32 @@ impl PupilForm {
             Self::Class => Command::Class { file: cut.one(1)? },
         })
     }
+}
+
+// The ratios of all items, from the words at the parts.
+#[tactic(auto, unfolding(crate::specs::Forms::command))]
+fn ratio_for_all(cut: &Cut) -> Command
+    ensures { result ≡ command (Form.Pupil PupilForm.RatioAll) cut.now }
+{
+    Command::RatioAll {
+        right_a: u64::from(cut.number(1)),
+        right_b: u64::from(cut.number(2)),
+        wrong_a: u64::from(cut.number(3)),
+        wrong_b: u64::from(cut.number(4)),
+    }
+}
+
+// The ratios of one item, from the words at the parts.
+#[tactic(auto, unfolding(crate::specs::Forms::command))]
+fn ratio_for_one(cut: &Cut) -> Result<Command, AllocError>
+    requires { All (λ ws. All IsAscii ws) cut.now }
+    ensures { IfOk result (λ c. c ≡ command (Form.Pupil PupilForm.RatioItem) cut.now) }
+{
+    Ok(Command::RatioItem {
+        item: cut.one(1)?,
+        right_a: u64::from(cut.number(2)),
+        right_b: u64::from(cut.number(3)),
+        wrong_a: u64::from(cut.number(4)),
+        wrong_b: u64::from(cut.number(5)),
+    })
 }

@@ -74,9 +74,11 @@ const SCRIPTS: [(&str, &str); 17] = [
 ];
 
 // The forms of commands that aren't built.
-const UNBUILT: [&str; 12] = [
+const UNBUILT: [&str; 14] = [
     "odds 8 8",
     "odds a 8 8",
+    "ratio 3 2 3 2",
+    "ratio a 9 2 5 4",
     "limits 30 90",
     "pupil p",
     "question p",
