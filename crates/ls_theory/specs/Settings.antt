@@ -59,6 +59,10 @@ with_limits s budget share = record s { budget = budget; share = share }
 
 -- ---- which assessments can be followed
 
+-- a pupil has at most so many states
+abbrev pub most_states : ℕ
+most_states = 65536
+
 -- the greatest first number of the ratios
 abbrev pub greatest : List Ratios → ℕ
 greatest [] = 0
