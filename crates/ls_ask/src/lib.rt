@@ -1,0 +1,2 @@
+//! The half-split question and the leader.
+#![tactic(auto)]

@@ -1,0 +1,2 @@
+//! The assessment of one pupil.
+#![tactic(auto)]

@@ -1,0 +1,2 @@
+//! Settings of assessments: ratios, the budget and the share.
+#![tactic(auto)]

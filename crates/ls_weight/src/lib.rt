@@ -1,0 +1,2 @@
+//! Weights of knowledge states after a pupil's replies.
+#![tactic(auto)]
