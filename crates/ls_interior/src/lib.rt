@@ -4,9 +4,11 @@
 mod counted;
 mod family;
 mod free;
+mod listed;
 mod steps;
 
 pub use counted::Counted;
 pub use family::{Inside, Interior, closure, is_member};
 pub use free::Free;
+pub use listed::Listed;
 pub use steps::Steps;
