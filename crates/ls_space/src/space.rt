@@ -14,17 +14,6 @@ use ls_theory::{BaseVerdict, Verdict};
 use std::alloc::{AllocError, Global};
 use std::thread::Threads;
 
-// The sets as a list.
-fn listed(alloc: Global, sets: &[ItemSet]) -> Result<SetList, AllocError>
-    ensures { IfOk result (λ list. list ≡ sets.now) }
-{
-    let mut list = SetList::new(alloc);
-    for set in sets {
-        list.push(*set)?;
-    }
-    Ok(list)
-}
-
 // The verdict on a space with the base.
 fn with_base(alloc: Global, base: &[ItemSet]) -> Result<Verdict, AllocError>
     requires in_order { IsInOrder base.now }
@@ -36,7 +25,7 @@ fn with_base(alloc: Global, base: &[ItemSet]) -> Result<Verdict, AllocError>
             Ok(Verdict::NotGraded { set, first, second })
         }
         BaseVerdict::Learning => Ok(Verdict::Learning {
-            base: listed(alloc, base)?,
+            base: SetList::from_slice(alloc, base)?,
         }),
     }
 }
