@@ -12,7 +12,7 @@ use Rattle.ls_reply.specs.Effects.{Effect, Change, answers, refuse}
 use Rattle.ls_reply.specs.Rows.{items_row, load_items_row, started_by, file_refusals, bytes_fetched}
 use Rattle.ls_reply.specs.Replies.{asked_effect, unnamed_at, command_effect, words_effect, line_effect}
 use Rattle.ls_reply.specs.declared.request.Request.{Request}
-use Rattle.ls_reply.specs.declared.request.Request.TheVariants.{View, Edit}
+use Rattle.ls_reply.specs.declared.request.Request.TheVariants.{View, Edit, Setting, Pupil}
 use Rattle.ls_reply.specs.declared.refusal.Refusal.TheVariants.{NoCommand, LongLine, DomainStands, Unnamed, NotBuilt}
 use Rattle.ls_reply.specs.declared.response.Response.TheVariants.{Refused}
 
@@ -45,6 +45,8 @@ asked_effect-stored s places None = refl
 asked_effect-stored s (place ∷ places) (Some request) = refl
 asked_effect-stored s [] (Some (View view)) = refl
 asked_effect-stored s [] (Some (Edit edit)) = refl
+asked_effect-stored s [] (Some (Setting setting)) = refl
+asked_effect-stored s [] (Some (Pupil name what)) = refl
 
 -- where no domain stands, nothing is asked
 pub asked_effect-without : (r : Option Request) → asked_effect (started []) (0 ∷ []) r ≡ answers (started []) (Refused (cond (is_some r) (Unnamed 0) NotBuilt))

@@ -14,6 +14,9 @@ use Rattle.ls_theory.specs.Paths.{orders_of, paths}
 use Rattle.ls_theory.specs.Fitting.{fitting_spaces}
 use Rattle.ls_theory.specs.declared.known.Known.{Known}
 use Rattle.ls_theory.specs.Forced.{known, next_question}
+use Rattle.ls_theory.specs.Weights.{weight}
+use Rattle.ls_theory.specs.Settings.{heavy_after}
+use Rattle.ls_theory.specs.Assessment.{imbalance, half_split, leader, asked}
 use Rattle.ls_theory.specs.Answering.{opposed}
 use Rattle.ls_theory.specs.Blocks.{is_too_wide, made}
 use Rattle.ls_lines.specs.Lines.{lines, words}
@@ -37,7 +40,7 @@ use Rattle.ls_reply.specs.Transcripts.{replies, refuses, transcript, is_some_ref
 
 -- an example that opens this opens each word
 unfoldable answering : ℕ
-unfolding escape_byte minus interior line_read found_from sets_of surmise_text members_from digits has empty full with without union meet single differing is_within is_same bound items least comes_before cursor cursor_set read_cursor compat lines words is_of spelling parts command forms cut is_begun command_of fault_place line_of bytes_of names_of_set names_from command_effect line_effect replies refuses is_too_wide made blocks len families fitting_spaces known next_question queries query_before block_before base peak verdict is_well_graded is_joined inner_fringe outer_fringe state_of orders_of paths
+unfolding weight half_split imbalance leader asked heavy_after escape_byte minus interior line_read found_from sets_of surmise_text members_from digits has empty full with without union meet single differing is_within is_same bound items least comes_before cursor cursor_set read_cursor compat lines words is_of spelling parts command forms cut is_begun command_of fault_place line_of bytes_of names_of_set names_from command_effect line_effect replies refuses is_too_wide made blocks len families fitting_spaces known next_question queries query_before block_before base peak verdict is_well_graded is_joined inner_fringe outer_fringe state_of orders_of paths
 answering = 0
 
 -- three items, the answer that who fails a fails b, and the six states that it leaves
@@ -49,11 +52,11 @@ not_refused : is_some_refused map.empty (codes "items a b c\nyes a : b\nstates\n
 unfolding answering
 not_refused = refl
 
-refused : transcript map.empty (codes "items a a\nitems a b\nitems c\nyes a : a\nyes z : a\nodds 8 8") ≡ codes "no 12 repeat 2 1\nok 2\nno 11\nno 18\nno 15 2\nno 49\n"
+refused : transcript map.empty (codes "items a a\nitems a b\nitems c\nyes a : a\nyes z : a\nsave s") ≡ codes "no 12 repeat 2 1\nok 2\nno 11\nno 18\nno 15 2\nno 49\n"
 unfolding answering
 refused = refl
 
-some_refused : is_some_refused map.empty (codes "items a a\nitems a b\nitems c\nyes a : a\nyes z : a\nodds 8 8") ≡ true
+some_refused : is_some_refused map.empty (codes "items a a\nitems a b\nitems c\nyes a : a\nyes z : a\nsave s") ≡ true
 unfolding answering
 some_refused = refl
 
@@ -122,7 +125,7 @@ unfolding answering
 no_cursors = refl
 
 -- what isn't built yet comes before the domain
-not_built : transcript map.empty (codes "odds 8 8\nitems a\nodds 8 8\nclose p\nload-items a b") ≡ codes "no 49\nok 1\nno 49\nno 49\nno 10 3\n"
+not_built : transcript map.empty (codes "save s\nitems a\nsave s\nclass t\nload-items a b") ≡ codes "no 49\nok 1\nno 49\nno 49\nno 10 3\n"
 unfolding answering
 not_built = refl
 
@@ -218,3 +221,28 @@ a_learning_space = refl
 repeated_in_test : test_reply (codes "{a}\n{a}\n") ≡ codes "no 29 repeat 2 1\n"
 unfolding answering
 repeated_in_test = refl
+
+-- a pupil of six states: c is asked, and then a, where b is as far from the half
+pupil : transcript map.empty (codes "items a b c\nyes a : b\npupil p\nquestion p\nreply p c right\nquestion p\nreply p b right\nreport p\npupil p\nclose p\nreport p\n") ≡ codes "ok 3\nok 1\nok 6\nquestion c\nok 1\nquestion a\nno 40 a\nreport {a b c} 8 27 1\nfringes b c |\nno 37\nok\nno 38\n"
+unfolding answering
+pupil = refl
+
+-- one that is wrong four times: the empty state has its share
+share : transcript map.empty (codes "items a b c\nyes a : b\npupil r\nreply r c wrong\nreply r a wrong\nreply r a wrong\nreply r c wrong\nquestion r\nreply r a right\nreport r\n") ≡ codes "ok 3\nok 1\nok 6\nok 1\nok 2\nok 3\nok 4\nover share\nno 39 share\nreport {} 4096 4290 4\nfringes | a c\n"
+unfolding answering
+share = refl
+
+-- ratios 3 to 2
+ratios : transcript map.empty (codes "items a b c\nyes a : b\nratio 3 2 3 2\npupil p\nreply p c right\nquestion p\nreport p\n") ≡ codes "ok 3\nok 1\nok\nok 6\nok 1\nquestion c\nreport {a b c} 3 15 1\nfringes b c |\n"
+unfolding answering
+ratios = refl
+
+-- settings that are out of range, or of no item; a pupil keeps those with which it began
+settings : transcript map.empty (codes "items a\nratio 8 8 8 1\nratio z 3 2 3 2\nratio a 9 2 5 4\nodds 1 8\nlimits 41 90\nlimits 1 99\npupil p\nlimits 30 90\nreply p a right\nquestion p\nquestion a\nreply p z right") ≡ codes "ok 1\nno 43\nno 15 2\nok\nno 43\nno 43\nok\nok 2\nok\nok 1\nover budget\nno 38\nno 15 3\n"
+unfolding answering
+settings = refl
+
+-- 40 replies of odds 64 may be too many for 128 bits
+heavy : transcript map.empty (codes "items a\nodds 64 64\nlimits 19 90\npupil p\nlimits 20 90\npupil r") ≡ codes "ok 1\nok\nok\nok 2\nok\nno 35 20\n"
+unfolding answering
+heavy = refl

@@ -7,7 +7,12 @@ use Rattle.ls_theory.specs.Words.{is_lex_before}
 use Rattle.ls_theory.specs.Projections.{projection}
 use Rattle.ls_theory.specs.Paths.{paths}
 use Rattle.ls_theory.specs.declared.verdict.BaseVerdict.TheVariants as of_verdict
+use Rattle.ls_theory.specs.Interviews.{Interview}
+use Rattle.ls_theory.specs.Compatible.{compatible_sets}
 use Rattle.ls_theory.specs.Bases.{base}
+use Rattle.ls_theory.specs.declared.reason.Reason.TheVariants.{Share, Budget}
+use Rattle.ls_theory.specs.declared.asked.Asked.TheVariants.{Item, Over}
+use Rattle.ls_theory.specs.declared.reply_fault.ReplyFault.TheVariants as reply
 use Rattle.ls_theory.specs.declared.known.Known.TheVariants as known
 use Rattle.ls_theory.specs.declared.answer_fault.AnswerFault.TheVariants as answer
 use Rattle.ls_theory.specs.declared.block_fault.BlockFault.TheVariants as block
@@ -18,14 +23,14 @@ use Rattle.ls_domain.specs.declared.domain_fault.DomainFault.TheVariants as doma
 use Rattle.ls_files.specs.declared.family_fault.FamilyFault.TheVariants as sets
 use Rattle.ls_domain.specs.Texts.{fringe_words}
 use Rattle.ls_reply.specs.Texts.{line_of, bytes_of}
-use Rattle.ls_reply.specs.Sessions.{Session, states}
+use Rattle.ls_reply.specs.Sessions.{Session}
 use Rattle.ls_reply.specs.Refusals.{refusal_words}
 use Rattle.ls_reply.specs.Lines.{lines_of, shown_lines, base_lines, page_lines, path_lines, learning_words, verdict_words}
 use Rattle.ls_reply.specs.Replies.{is_refusal, is_refused}
 use Rattle.ls_reply.specs.declared.refusal.Refusal.{Refusal}
-use Rattle.ls_reply.specs.declared.refusal.Refusal.TheVariants.{NoCommand, LongLine, DomainStands, Domain, AnswersStand, StartSurmise, StartSets, StartBase, Unnamed, Block, Answer, NotStanding, Cursor, Past, NoFile, FileFailed, LargeFile, TestedSets, NotState, NotLearning, NoState, NotOrder, NotBuilt}
+use Rattle.ls_reply.specs.declared.refusal.Refusal.TheVariants.{NoCommand, LongLine, DomainStands, Domain, AnswersStand, StartSurmise, StartSets, StartBase, Unnamed, Block, Answer, NotStanding, Cursor, Past, NoFile, FileFailed, LargeFile, TestedSets, NotState, NotLearning, NoState, NotOrder, ManyStates, Heavy, ManyPupils, PupilStands, NoPupil, Reply, BadSetting, NotBuilt}
 use Rattle.ls_reply.specs.declared.response.Response.{Response}
-use Rattle.ls_reply.specs.declared.response.Response.TheVariants.{Silence, Refused, Done, Shown}
+use Rattle.ls_reply.specs.declared.response.Response.TheVariants.{Silence, Refused, Done, Agreed, Shown}
 use Rattle.ls_reply.specs.declared.response.Shown.{Shown as Showing}
 use Rattle.ls_reply.specs.declared.response.Shown.TheVariants as shown
 
@@ -94,6 +99,14 @@ some_words names NotState = refl
 some_words names (NotLearning k first second) = refl
 some_words names NoState = refl
 some_words names NotOrder = refl
+some_words names ManyStates = refl
+some_words names (Heavy replies) = refl
+some_words names ManyPupils = refl
+some_words names PupilStands = refl
+some_words names NoPupil = refl
+some_words names (Reply (reply.Over reason)) = refl
+some_words names (Reply (reply.WrongItem asked)) = refl
+some_words names BadSetting = refl
 some_words names NotBuilt = refl
 
 -- ---- what is shown is no refusal
@@ -124,31 +137,36 @@ unfolding bytes_of line_of
 base_shown names [] after = refl
 base_shown names (k ∷ ks) after = refl
 
-shown_is_no_refusal : (s : Session) (what : Showing) → is_refusal (bytes_of (shown_lines s what)) ≡ false
+shown_is_no_refusal : (names : List Text) (i : Interview) (what : Showing) → is_refusal (bytes_of (shown_lines names i what)) ≡ false
 unfolding bytes_of line_of
-shown_is_no_refusal s (shown.Known known.Yes) = refl
-shown_is_no_refusal s (shown.Known (known.No by)) = refl
-shown_is_no_refusal s (shown.Known known.Unsettled) = refl
-shown_is_no_refusal s (shown.Question None) = refl
-shown_is_no_refusal s (shown.Question (Some r)) = refl
-shown_is_no_refusal s (shown.States count after) =
-    let p = page comes_before (states s) after count in page_shown s.names p.members p.more
-shown_is_no_refusal s shown.Base = ap (λ ls. is_refusal (bytes_of ls)) (sym (append-nil (base_lines s.names (base (states s))))) ∙ base_shown s.names (base (states s)) []
-shown_is_no_refusal s (shown.Surmise atoms) = refl
-shown_is_no_refusal s (shown.Learning of_verdict.Learning) = refl
-shown_is_no_refusal s (shown.Learning (of_verdict.NotGraded k first second)) = refl
-shown_is_no_refusal s (shown.Projected part count after) =
-    let p = page comes_before (projection (length s.names) part (states s)) after count in page_shown s.names p.members p.more
-shown_is_no_refusal s (shown.ProjectedBase sets verdict) = base_shown s.names sets (learning_words s.names verdict ∷ [])
-shown_is_no_refusal s (shown.Fringes fringes) = fringes_shown (fringe_words s.names fringes.inner fringes.outer)
-shown_is_no_refusal s (shown.State k) = refl
-shown_is_no_refusal s (shown.Paths count after) =
-    let p = page is_lex_before (paths (length s.names) (states s)) after count in path_shown s.names p.members p.more
-shown_is_no_refusal s (shown.Tested verdict) = verdict_shown (verdict_words s.names verdict)
+shown_is_no_refusal names i (shown.Known known.Yes) = refl
+shown_is_no_refusal names i (shown.Known (known.No by)) = refl
+shown_is_no_refusal names i (shown.Known known.Unsettled) = refl
+shown_is_no_refusal names i (shown.Question None) = refl
+shown_is_no_refusal names i (shown.Question (Some r)) = refl
+shown_is_no_refusal names i (shown.States count after) =
+    let p = page comes_before (compatible_sets i) after count in page_shown names p.members p.more
+shown_is_no_refusal names i shown.Base = ap (λ ls. is_refusal (bytes_of ls)) (sym (append-nil (base_lines names (base (compatible_sets i))))) ∙ base_shown names (base (compatible_sets i)) []
+shown_is_no_refusal names i (shown.Surmise atoms) = refl
+shown_is_no_refusal names i (shown.Learning of_verdict.Learning) = refl
+shown_is_no_refusal names i (shown.Learning (of_verdict.NotGraded k first second)) = refl
+shown_is_no_refusal names i (shown.Projected part count after) =
+    let p = page comes_before (projection (length names) part (compatible_sets i)) after count in page_shown names p.members p.more
+shown_is_no_refusal names i (shown.ProjectedBase sets verdict) = base_shown names sets (learning_words names verdict ∷ [])
+shown_is_no_refusal names i (shown.Fringes fringes) = fringes_shown (fringe_words names fringes.inner fringes.outer)
+shown_is_no_refusal names i (shown.State k) = refl
+shown_is_no_refusal names i (shown.Paths count after) =
+    let p = page is_lex_before (paths (length names) (compatible_sets i)) after count in path_shown names p.members p.more
+shown_is_no_refusal names i (shown.Tested verdict) = verdict_shown (verdict_words names verdict)
+shown_is_no_refusal names i (shown.Asked (Item q)) = refl
+shown_is_no_refusal names i (shown.Asked (Over Share)) = refl
+shown_is_no_refusal names i (shown.Asked (Over Budget)) = refl
+shown_is_no_refusal names i (shown.Report outcome fringes) = refl
 
 pub is_refusal-lines_of : (s : Session) (r : Response) → is_refusal (bytes_of (lines_of s r)) ≡ is_refused r
 unfolding bytes_of line_of
 is_refusal-lines_of s Silence = refl
 is_refusal-lines_of s (Refused refusal) = refusal_line (refusal_words s.names refusal) (some_words s.names refusal)
 is_refusal-lines_of s (Done number) = refl
-is_refusal-lines_of s (Shown what) = shown_is_no_refusal s what
+is_refusal-lines_of s Agreed = refl
+is_refusal-lines_of s (Shown what) = shown_is_no_refusal s.names s.interview what

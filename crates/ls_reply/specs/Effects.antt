@@ -1,8 +1,9 @@
 -- What a command does. Its refusals stand in their order; a list of refusals has those that hold.
 use Rattle.std.specs.Prelude.{ℕ, Bool, if◌then◌else◌, List, [], ◌∷◌, Option, Some, None}
 use Rattle.ls_theory.specs.Interviews.{Interview}
+use Rattle.ls_theory.specs.Settings.{Settings}
 use Rattle.ls_lines.specs.Lines.{Text}
-use Rattle.ls_reply.specs.Sessions.{Session}
+use Rattle.ls_reply.specs.Sessions.{Session, Pupil}
 use Rattle.ls_reply.specs.declared.refusal.Refusal.{Refusal}
 use Rattle.ls_reply.specs.declared.response.Response.{Response}
 use Rattle.ls_reply.specs.declared.response.Response.TheVariants.{Refused}
@@ -49,3 +50,11 @@ changes c = record { response = c.response; session = c.next; stored = None }
 -- its interview becomes another
 abbrev pub changes_interview : Session → Change Interview → Effect
 changes_interview s c = record { response = c.response; session = record s { interview = c.next }; stored = None }
+
+-- its settings become others
+abbrev pub changes_settings : Session → Change Settings → Effect
+changes_settings s c = record { response = c.response; session = record s { settings = c.next }; stored = None }
+
+-- its pupils become others
+abbrev pub changes_pupils : Session → Change (List Pupil) → Effect
+changes_pupils s c = record { response = c.response; session = record s { pupils = c.next }; stored = None }

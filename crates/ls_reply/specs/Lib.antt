@@ -6,5 +6,6 @@ pub mod Refusals
 pub mod Lines
 pub mod Effects
 pub mod Rows
+pub mod Pupils
 pub mod Replies
 pub mod Transcripts

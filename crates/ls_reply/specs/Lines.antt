@@ -4,6 +4,8 @@ use Rattle.ls_set.specs.ItemSet.{Items, comes_before}
 use Rattle.ls_set.specs.Cursor.{cursor}
 use Rattle.ls_set.specs.declared.query.Query.{Query}
 use Rattle.ls_theory.specs.declared.known.Known.{Known}
+use Rattle.ls_theory.specs.Interviews.{Interview}
+use Rattle.ls_theory.specs.Compatible.{compatible_sets}
 use Rattle.ls_theory.specs.Bases.{base}
 use Rattle.ls_theory.specs.Clauses.{clauses_at}
 use Rattle.ls_theory.specs.Pages.{Page, page}
@@ -14,13 +16,17 @@ use Rattle.ls_theory.specs.declared.verdict.BaseVerdict.{BaseVerdict}
 use Rattle.ls_theory.specs.declared.verdict.BaseVerdict.TheVariants as of_base
 use Rattle.ls_theory.specs.declared.verdict.Verdict.{Verdict}
 use Rattle.ls_theory.specs.declared.verdict.Verdict.TheVariants.{NoEmpty, NoFull, NotClosed, NotGraded, Learning}
+use Rattle.ls_theory.specs.declared.asked.Asked.{Asked}
+use Rattle.ls_theory.specs.declared.asked.Asked.TheVariants.{Item, Over}
+use Rattle.ls_theory.specs.declared.fringe_pair.FringePair.{FringePair}
+use Rattle.ls_theory.specs.declared.outcome.Outcome.{Outcome}
 use Rattle.ls_lines.specs.Lines.{Text}
 use Rattle.ls_domain.specs.Texts.{name_of, joined_names, set_text, fringe_words}
 use Rattle.ls_files.specs.SurmiseFiles.{surmise_text}
-use Rattle.ls_reply.specs.Sessions.{Session, states}
-use Rattle.ls_reply.specs.Refusals.{refusal_words, double_words}
+use Rattle.ls_reply.specs.Sessions.{Session}
+use Rattle.ls_reply.specs.Refusals.{refusal_words, double_words, reason_word}
 use Rattle.ls_reply.specs.declared.response.Response.{Response}
-use Rattle.ls_reply.specs.declared.response.Response.TheVariants.{Silence, Refused, Done, Shown}
+use Rattle.ls_reply.specs.declared.response.Response.TheVariants.{Silence, Refused, Done, Agreed, Shown}
 use Rattle.ls_reply.specs.declared.response.Shown.{Shown as Showing}
 use Rattle.ls_reply.specs.declared.response.Shown.TheVariants as shown
 
@@ -76,23 +82,39 @@ verdict_words names (NotClosed left right) = codes "not-closed" ∷ set_text nam
 verdict_words names (NotGraded k first second) = codes "not-graded" ∷ double_words names k first second
 verdict_words names (Learning base) = codes "learning" ∷ decimal (length base) ∷ []
 
--- what is shown of an interview on named items, or of a file
-abbrev pub shown_lines : Session → Showing → List (List Text)
-shown_lines s (shown.Known known) = known_words known ∷ []
-shown_lines s (shown.Question next) = question_words s.names next ∷ []
-shown_lines s (shown.States count after) = page_lines s.names (page comes_before (states s) after count)
-shown_lines s shown.Base = base_lines s.names (base (states s))
-shown_lines s (shown.Surmise atoms) = surmise_words s.names (clauses_at (length s.names) (states s)) ∷ []
-shown_lines s (shown.Learning verdict) = learning_words s.names verdict ∷ []
-shown_lines s (shown.Projected part count after) = page_lines s.names (page comes_before (projection (length s.names) part (states s)) after count)
-shown_lines s (shown.ProjectedBase sets verdict) = base_lines s.names sets ++ learning_words s.names verdict ∷ []
-shown_lines s (shown.Fringes fringes) = (codes "fringes" ∷ fringe_words s.names fringes.inner fringes.outer) ∷ []
-shown_lines s (shown.State k) = (codes "state" ∷ set_text s.names k ∷ []) ∷ []
-shown_lines s (shown.Paths count after) = path_lines s.names (page is_lex_before (paths (length s.names) (states s)) after count)
-shown_lines s (shown.Tested verdict) = (codes "test" ∷ verdict_words s.names verdict) ∷ []
+-- two fringes
+abbrev pub fringes_words : List Text → FringePair → List Text
+fringes_words names fringes = codes "fringes" ∷ fringe_words names fringes.inner fringes.outer
+
+-- what a pupil is asked, or why its assessment is over
+abbrev pub asked_words : List Text → Asked → List Text
+asked_words names (Item q) = codes "question" ∷ name_of names q ∷ []
+asked_words names (Over reason) = codes "over" ∷ reason_word reason ∷ []
+
+-- the leader with its weight, the total and the number of replies
+abbrev pub outcome_words : List Text → Outcome → List Text
+outcome_words names o = codes "report" ∷ set_text names o.state ∷ decimal o.weight ∷ decimal o.total ∷ decimal o.replies ∷ []
+
+-- what is shown of an interview on named items, of a file or of a pupil
+abbrev pub shown_lines : List Text → Interview → Showing → List (List Text)
+shown_lines names i (shown.Known known) = known_words known ∷ []
+shown_lines names i (shown.Question next) = question_words names next ∷ []
+shown_lines names i (shown.States count after) = page_lines names (page comes_before (compatible_sets i) after count)
+shown_lines names i shown.Base = base_lines names (base (compatible_sets i))
+shown_lines names i (shown.Surmise atoms) = surmise_words names (clauses_at (length names) (compatible_sets i)) ∷ []
+shown_lines names i (shown.Learning verdict) = learning_words names verdict ∷ []
+shown_lines names i (shown.Projected part count after) = page_lines names (page comes_before (projection (length names) part (compatible_sets i)) after count)
+shown_lines names i (shown.ProjectedBase sets verdict) = base_lines names sets ++ learning_words names verdict ∷ []
+shown_lines names i (shown.Fringes fringes) = fringes_words names fringes ∷ []
+shown_lines names i (shown.State k) = (codes "state" ∷ set_text names k ∷ []) ∷ []
+shown_lines names i (shown.Paths count after) = path_lines names (page is_lex_before (paths (length names) (compatible_sets i)) after count)
+shown_lines names i (shown.Tested verdict) = (codes "test" ∷ verdict_words names verdict) ∷ []
+shown_lines names i (shown.Asked asked) = asked_words names asked ∷ []
+shown_lines names i (shown.Report outcome fringes) = outcome_words names outcome ∷ fringes_words names fringes ∷ []
 
 abbrev pub lines_of : Session → Response → List (List Text)
 lines_of s Silence = []
 lines_of s (Refused refusal) = (codes "no" ∷ refusal_words s.names refusal) ∷ []
 lines_of s (Done number) = (codes "ok" ∷ decimal number ∷ []) ∷ []
-lines_of s (Shown what) = shown_lines s what
+lines_of s Agreed = (codes "ok" ∷ []) ∷ []
+lines_of s (Shown what) = shown_lines s.names s.interview what

@@ -8,10 +8,15 @@ use Rattle.ls_lines.specs.Lines.{Text}
 use Rattle.ls_lines.specs.declared.command.Command.{Command}
 use Rattle.ls_lines.specs.declared.command.Command.TheVariants as command
 use Rattle.ls_domain.specs.Meanings.{is_named, item_of, items_of}
+use Rattle.ls_theory.specs.Settings.{odds}
+use Rattle.ls_theory.specs.declared.ratio.Ratio.{Ratio}
+use Rattle.ls_theory.specs.declared.ratio.Ratios.{Ratios}
 use Rattle.ls_reply.specs.declared.request.Request.{Request}
-use Rattle.ls_reply.specs.declared.request.Request.TheVariants.{View, Edit}
+use Rattle.ls_reply.specs.declared.request.Request.TheVariants.{View, Edit, Setting, Pupil}
 use Rattle.ls_reply.specs.declared.request.View.TheVariants as view
 use Rattle.ls_reply.specs.declared.request.Edit.TheVariants as edit
+use Rattle.ls_reply.specs.declared.request.Setting.TheVariants as setting
+use Rattle.ls_reply.specs.declared.request.PupilRequest.TheVariants as pupil
 
 -- words with their places, counted from p on
 abbrev pub placed : ℕ → List Text → List (ℕ × Text)
@@ -46,6 +51,9 @@ item_words (command.ProjectBase names) = placed 2 names
 item_words (command.Fringes names) = placed 2 names
 item_words (command.StateOf inner outer) = sets_words inner outer
 item_words (command.Paths count after) = order_words after
+item_words (command.OddsItem item right wrong) = (2, item) ∷ []
+item_words (command.RatioItem item right_a right_b wrong_a wrong_b) = (2, item) ∷ []
+item_words (command.Reply name item right) = (3, item) ∷ []
 item_words c = []
 
 -- the places of those of some words that don't
@@ -69,7 +77,16 @@ abbrev pub after_of : ℕ → Option Text → Result (Option Items) CursorFault
 after_of n None = Ok None
 after_of n (Some w) = some_read (read_cursor n w)
 
--- what a command asks of an interview on the named items; nothing, where it is another kind of command
+-- odds for a right and for a wrong reply
+abbrev pub two_odds : ℕ → ℕ → Ratios
+two_odds right wrong = record { right = odds right; wrong = odds wrong }
+
+-- ratios, each as two numbers
+abbrev pub two_ratios : ℕ → ℕ → ℕ → ℕ → Ratios
+two_ratios right_a right_b wrong_a wrong_b =
+    record { right = record { a = right_a; b = right_b }; wrong = record { a = wrong_a; b = wrong_b } }
+
+-- what a command asks on the named items; nothing, where it is another kind of command
 abbrev pub request_of : List Text → Command → Option Request
 request_of names (command.Blocks size) = Some (Edit (edit.Blocks size))
 request_of names (command.Yes ws w) = Some (Edit (edit.Answer (query_of names ws w) true))
@@ -86,4 +103,14 @@ request_of names (command.ProjectBase ws) = Some (View (view.ProjectBase (items_
 request_of names (command.Fringes ws) = Some (View (view.Fringes (items_of names ws)))
 request_of names (command.StateOf inner outer) = Some (View (view.StateOf (items_of names inner) (items_of names outer)))
 request_of names (command.Paths count after) = Some (View (view.Paths count (option_map (map (item_of names)) after)))
+request_of names (command.OddsAll right wrong) = Some (Setting (setting.All (two_odds right wrong)))
+request_of names (command.OddsItem item right wrong) = Some (Setting (setting.Item (item_of names item) (two_odds right wrong)))
+request_of names (command.RatioAll right_a right_b wrong_a wrong_b) = Some (Setting (setting.All (two_ratios right_a right_b wrong_a wrong_b)))
+request_of names (command.RatioItem item right_a right_b wrong_a wrong_b) = Some (Setting (setting.Item (item_of names item) (two_ratios right_a right_b wrong_a wrong_b)))
+request_of names (command.Limits budget share) = Some (Setting (setting.Limits budget share))
+request_of names (command.Pupil name) = Some (Pupil name pupil.Begin)
+request_of names (command.Question name) = Some (Pupil name pupil.Question)
+request_of names (command.Reply name item right) = Some (Pupil name (pupil.Reply (item_of names item) right))
+request_of names (command.Report name) = Some (Pupil name pupil.Report)
+request_of names (command.Close name) = Some (Pupil name pupil.Close)
 request_of names c = None

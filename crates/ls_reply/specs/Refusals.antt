@@ -11,6 +11,10 @@ use Rattle.ls_theory.specs.declared.base_fault.BaseFault.{BaseFault}
 use Rattle.ls_theory.specs.declared.base_fault.BaseFault.TheVariants as base
 use Rattle.ls_theory.specs.declared.surmise_fault.SurmiseFault.{SurmiseFault}
 use Rattle.ls_theory.specs.declared.surmise_fault.SurmiseFault.TheVariants as surmise
+use Rattle.ls_theory.specs.declared.reason.Reason.{Reason}
+use Rattle.ls_theory.specs.declared.reason.Reason.TheVariants.{Share, Budget}
+use Rattle.ls_theory.specs.declared.reply_fault.ReplyFault.{ReplyFault}
+use Rattle.ls_theory.specs.declared.reply_fault.ReplyFault.TheVariants as reply
 use Rattle.ls_lines.specs.Lines.{Text}
 use Rattle.ls_domain.specs.declared.domain_fault.DomainFault.{DomainFault}
 use Rattle.ls_domain.specs.declared.domain_fault.DomainFault.TheVariants as domain
@@ -19,7 +23,7 @@ use Rattle.ls_files.specs.SurmiseFiles.{surmise_items}
 use Rattle.ls_files.specs.declared.family_fault.FamilyFault.{FamilyFault}
 use Rattle.ls_files.specs.declared.family_fault.FamilyFault.TheVariants as sets
 use Rattle.ls_reply.specs.declared.refusal.Refusal.{Refusal}
-use Rattle.ls_reply.specs.declared.refusal.Refusal.TheVariants.{NoCommand, LongLine, DomainStands, Domain, AnswersStand, StartSurmise, StartSets, StartBase, Unnamed, Block, Answer, NotStanding, Cursor, Past, NoFile, FileFailed, LargeFile, TestedSets, NotState, NotLearning, NoState, NotOrder, NotBuilt}
+use Rattle.ls_reply.specs.declared.refusal.Refusal.TheVariants.{NoCommand, LongLine, DomainStands, Domain, AnswersStand, StartSurmise, StartSets, StartBase, Unnamed, Block, Answer, NotStanding, Cursor, Past, NoFile, FileFailed, LargeFile, TestedSets, NotState, NotLearning, NoState, NotOrder, ManyStates, Heavy, ManyPupils, PupilStands, NoPupil, Reply, BadSetting, NotBuilt}
 
 -- names that are no domain
 abbrev pub domain_words : DomainFault → List Text
@@ -80,6 +84,16 @@ base_words names (base.Memory e) = codes "14" ∷ []
 abbrev pub double_words : List Text → Items → ℕ → ℕ → List Text
 double_words names k first second = set_text names k ∷ name_of names first ∷ name_of names second ∷ []
 
+-- why an assessment is over
+abbrev pub reason_word : Reason → Text
+reason_word Share = codes "share"
+reason_word Budget = codes "budget"
+
+-- replies that can't be taken
+abbrev pub reply_words : List Text → ReplyFault → List Text
+reply_words names (reply.Over reason) = codes "39" ∷ reason_word reason ∷ []
+reply_words names (reply.WrongItem asked) = codes "40" ∷ name_of names asked ∷ []
+
 -- where the names are those of the items
 abbrev pub refusal_words : List Text → Refusal → List Text
 refusal_words names (NoCommand place) = codes "10" ∷ decimal place ∷ []
@@ -104,6 +118,13 @@ refusal_words names NotState = codes "30" ∷ []
 refusal_words names (NotLearning k first second) = codes "31" ∷ double_words names k first second
 refusal_words names NoState = codes "32" ∷ []
 refusal_words names NotOrder = codes "33" ∷ []
+refusal_words names ManyStates = codes "34" ∷ []
+refusal_words names (Heavy replies) = codes "35" ∷ decimal replies ∷ []
+refusal_words names ManyPupils = codes "36" ∷ []
+refusal_words names PupilStands = codes "37" ∷ []
+refusal_words names NoPupil = codes "38" ∷ []
+refusal_words names (Reply fault) = reply_words names fault
+refusal_words names BadSetting = codes "43" ∷ []
 refusal_words names NotBuilt = codes "49" ∷ []
 
 -- ---- the items that a refusal names
@@ -112,8 +133,13 @@ abbrev pub base_items : BaseFault → List ℕ
 base_items (base.NotSpanning q) = q ∷ []
 base_items fault = []
 
+abbrev pub reply_items : ReplyFault → List ℕ
+reply_items (reply.WrongItem asked) = asked ∷ []
+reply_items fault = []
+
 abbrev pub refusal_items : Refusal → List ℕ
 refusal_items (StartSurmise fault) = surmise_items fault
 refusal_items (StartBase fault) = base_items fault
 refusal_items (NotLearning k first second) = first ∷ second ∷ items k
+refusal_items (Reply fault) = reply_items fault
 refusal_items refusal = []

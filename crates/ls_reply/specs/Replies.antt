@@ -11,19 +11,22 @@ use Rattle.ls_reply.specs.Sessions.{Session, has_domain}
 use Rattle.ls_reply.specs.Scenes.{Calls}
 use Rattle.ls_reply.specs.Meanings.{unnamed_places, request_of}
 use Rattle.ls_reply.specs.Lines.{lines_of}
-use Rattle.ls_reply.specs.Effects.{Effect, Change, answers, changes, changes_interview}
+use Rattle.ls_reply.specs.Effects.{Effect, Change, answers, changes, changes_interview, changes_settings, changes_pupils}
 use Rattle.ls_reply.specs.Rows.{items_row, load_items_row, start_row, test_row, view_row, edit_row}
+use Rattle.ls_reply.specs.Pupils.{setting_row, pupil_row}
 use Rattle.ls_reply.specs.declared.refusal.Refusal.TheVariants.{NoCommand, LongLine, Unnamed, NotBuilt}
 use Rattle.ls_reply.specs.declared.request.StartFile.TheVariants as start_file
 use Rattle.ls_reply.specs.declared.request.Request.{Request}
-use Rattle.ls_reply.specs.declared.request.Request.TheVariants.{View, Edit}
+use Rattle.ls_reply.specs.declared.request.Request.TheVariants.{View, Edit, Setting, Pupil}
 use Rattle.ls_reply.specs.declared.response.Response.{Response}
 use Rattle.ls_reply.specs.declared.response.Response.TheVariants.{Silence, Refused}
 
--- what is asked of the interview
+-- what is asked where a domain stands
 abbrev pub request_effect : Session → Request → Effect
 request_effect s (View view) = answers s (view_row s.interview view)
 request_effect s (Edit edit) = changes_interview s (edit_row s.interview edit)
+request_effect s (Setting setting) = changes_settings s (setting_row s.settings setting)
+request_effect s (Pupil name what) = changes_pupils s (pupil_row s name what)
 
 -- the places at fault: 0 where no domain stands; otherwise those of the words that must name an item and don't
 abbrev pub unnamed_at : Session → Command → List ℕ

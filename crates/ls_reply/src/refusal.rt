@@ -2,7 +2,7 @@
 use ls_domain::DomainFault;
 use ls_files::FamilyFault;
 use ls_set::{CursorFault, ItemSet};
-use ls_theory::{AnswerFault, BaseFault, BlockFault, SurmiseFault};
+use ls_theory::{AnswerFault, BaseFault, BlockFault, ReplyFault, SurmiseFault};
 
 /// Why a line is refused.
 #[derive(Clone, Copy, Debug)]
@@ -66,6 +66,22 @@ pub enum Refusal {
     NoState,
     /// The words aren't all items, each once.
     NotOrder,
+    /// A pupil would have too many states.
+    ManyStates,
+    /// The numbers of the assessment may be too great after so many replies.
+    Heavy {
+        replies: u32,
+    },
+    /// Too many pupils stand.
+    ManyPupils,
+    /// A pupil has the name.
+    PupilStands,
+    /// No pupil has the name.
+    NoPupil,
+    /// The reply can't be taken.
+    Reply(ReplyFault),
+    /// A ratio, the most replies or the share is out of its range.
+    BadSetting,
     /// The command isn't built yet.
     NotBuilt,
 }

@@ -1,11 +1,16 @@
 // Commands whose names are resolved.
+use ls_lines::Word;
 use ls_set::{CursorFault, ItemList, ItemSet, Query};
+use ls_theory::Ratios;
 
-/// What a command asks of a domain's interview, in the items' numbers.
+/// What a command asks where a domain stands, in the items' numbers: to see or to change its
+/// interview, to change the settings, or something of the pupil of a name.
 #[derive(Debug, Drop)]
 pub enum Request {
     View(View),
     Edit(Edit),
+    Setting(Setting),
+    Pupil { name: Word, what: PupilRequest },
 }
 
 /// What is asked of an interview that stays as it is.
@@ -65,6 +70,32 @@ pub enum Edit {
     Answer { query: Query, yes: bool },
     /// The answer with the number is taken back.
     Retract { number: u64 },
+}
+
+/// How the settings are to change.
+#[derive(Clone, Copy, Debug)]
+pub enum Setting {
+    /// Each item has the ratios.
+    All { ratios: Ratios },
+    /// An item has the ratios.
+    Item { item: u32, ratios: Ratios },
+    /// The most replies, and the share, in hundredths, that ends an assessment.
+    Limits { budget: u64, share: u64 },
+}
+
+/// What is asked of a pupil, or done with it.
+#[derive(Clone, Copy, Debug)]
+pub enum PupilRequest {
+    /// The pupil begins.
+    Begin,
+    /// What is asked next.
+    Question,
+    /// The pupil replies on an item.
+    Reply { item: u32, right: bool },
+    /// What is known of the pupil.
+    Report,
+    /// The pupil is taken out.
+    Close,
 }
 
 /// What a file gives a start by.

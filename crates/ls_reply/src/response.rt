@@ -1,7 +1,7 @@
 // Replies as values.
 use crate::refusal::Refusal;
 use ls_set::{ItemList, ItemSet, Query, SetList};
-use ls_theory::{BaseVerdict, FringePair, Known, Verdict};
+use ls_theory::{Asked, BaseVerdict, FringePair, Known, Outcome, Verdict};
 
 /// What a line is answered. The lines of the reply follow from it and from the session.
 #[derive(Debug, Drop)]
@@ -11,6 +11,8 @@ pub enum Response {
     Refused(Refusal),
     /// The command was carried out, with the number that it tells.
     Done { number: u64 },
+    /// The command was carried out, and there is no number to tell.
+    Agreed,
     Shown(Shown),
 }
 
@@ -26,7 +28,7 @@ impl Response {
     }
 }
 
-/// What is shown of an interview, or of a file.
+/// What is shown of an interview, of a file or of a pupil.
 #[derive(Debug, Drop)]
 pub enum Shown {
     /// What the answers tell of a query.
@@ -72,4 +74,11 @@ pub enum Shown {
     },
     /// The verdict on the family of a file.
     Tested(Verdict),
+    /// What a pupil is asked, or why its assessment is over.
+    Asked(Asked),
+    /// What is known of a pupil, and the fringes of the state.
+    Report {
+        outcome: Outcome,
+        fringes: FringePair,
+    },
 }

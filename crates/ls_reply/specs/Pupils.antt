@@ -1,0 +1,112 @@
+-- The rows of the settings and of the pupils.
+use Rattle.std.specs.Prelude.{ℕ, ◌+◌, Bool, not, nat_lt, nat_le, is_some, List, [], ◌∷◌, ◌++◌, map, filter, find, length, Option, Some, None, if◌then◌else◌, bytes_eq}
+use Rattle.ls_set.specs.ItemSet.{Items}
+use Rattle.ls_theory.specs.Interviews.{Interview, yes_queries}
+use Rattle.ls_theory.specs.Compatible.{compatible_sets}
+use Rattle.ls_theory.specs.Settings.{Settings, are_ratios, are_limits, with_all, with_item, with_limits, most_states, heavy_after}
+use Rattle.ls_theory.specs.Assessment.{asked, outcome, reply_fault}
+use Rattle.ls_theory.specs.Fringes.{fringes}
+use Rattle.ls_theory.specs.declared.asked.Asked.{Asked}
+use Rattle.ls_theory.specs.declared.outcome.Outcome.{Outcome}
+use Rattle.ls_lines.specs.Lines.{Text}
+use Rattle.ls_reply.specs.Sessions.{Session, Pupil, pupil_states}
+use Rattle.ls_reply.specs.Effects.{Change, changed, refuse, refuse_fault}
+use Rattle.ls_reply.specs.declared.refusal.Refusal.{Refusal}
+use Rattle.ls_reply.specs.declared.refusal.Refusal.TheVariants as refusal_of
+use Rattle.ls_reply.specs.declared.response.Response.{Response}
+use Rattle.ls_reply.specs.declared.response.Response.TheVariants.{Refused, Done, Agreed, Shown}
+use Rattle.ls_reply.specs.declared.response.Shown.TheVariants as shown
+use Rattle.ls_reply.specs.declared.request.Setting.{Setting}
+use Rattle.ls_reply.specs.declared.request.Setting.TheVariants as setting
+use Rattle.ls_reply.specs.declared.request.PupilRequest.{PupilRequest}
+use Rattle.ls_reply.specs.declared.request.PupilRequest.TheVariants as pupil
+
+-- ---- settings
+
+-- others, where their numbers are in range
+abbrev pub settings_row : Settings → Bool → Settings → Change Settings
+settings_row s fits next = changed s (refuse refusal_of.BadSetting (not fits)) Agreed next
+
+-- `odds`, `ratio` and `limits`
+abbrev pub setting_row : Settings → Setting → Change Settings
+setting_row s (setting.All ratios) = settings_row s (are_ratios ratios) (with_all s ratios)
+setting_row s (setting.Item item ratios) = settings_row s (are_ratios ratios) (with_item s item ratios)
+setting_row s (setting.Limits budget share) = settings_row s (are_limits budget share) (with_limits s budget share)
+
+-- ---- pupils
+
+-- so many pupils stand at most
+abbrev pub most_pupils : ℕ
+most_pupils = 16
+
+abbrev pub has_name : Text → Pupil → Bool
+has_name name p = bytes_eq p.name name
+
+-- the pupil of the name
+abbrev pub pupil_with : List Pupil → Text → Option Pupil
+pupil_with pupils name = find (has_name name) pupils
+
+-- the pupil of the name becomes another
+abbrev pub with_pupil : List Pupil → Text → Pupil → List Pupil
+with_pupil pupils name next = map (λ p. if has_name name p then next else p) pupils
+
+-- a pupil of an interview that begins
+abbrev pub new_pupil : Text → Interview → Settings → Pupil
+new_pupil name i settings =
+    record { name = name; start = i.start; yeses = yes_queries i.answers; settings = settings; replies = [] }
+
+-- one more than stand
+abbrev pub begin_refusals : Session → Text → List Refusal
+begin_refusals s name =
+    let count = length (compatible_sets s.interview) in
+    refuse refusal_of.PupilStands (is_some (pupil_with s.pupils name))
+    ++ refuse refusal_of.ManyPupils (nat_le most_pupils (length s.pupils))
+    ++ refuse refusal_of.ManyStates (nat_lt most_states count)
+    ++ refuse_fault refusal_of.Heavy (heavy_after s.settings count)
+
+-- `pupil`: the number of states is told
+abbrev pub begin_row : Session → Text → Change (List Pupil)
+begin_row s name =
+    changed s.pupils (begin_refusals s name) (Done (length (compatible_sets s.interview))) (s.pupils ++ new_pupil name s.interview s.settings ∷ [])
+
+-- what a pupil among n items is asked, and what is known of it
+abbrev pub asked_of : ℕ → Pupil → Asked
+asked_of n p = asked p.settings (pupil_states n p) p.replies
+
+abbrev pub outcome_of : ℕ → Pupil → Outcome
+outcome_of n p = outcome p.settings (pupil_states n p) p.replies
+
+-- `question`
+abbrev pub question_shown : ℕ → Pupil → Response
+question_shown n p = Shown (shown.Asked (asked_of n p))
+
+-- `report`: with the fringes of the state among the pupil's own states
+abbrev pub report_shown : ℕ → Pupil → Response
+report_shown n p = let o = outcome_of n p in Shown (shown.Report o (fringes n (pupil_states n p) o.state))
+
+-- what is shown of the pupil of the name
+abbrev pub shown_of : (Pupil → Response) → Option Pupil → Response
+shown_of show None = Refused refusal_of.NoPupil
+shown_of show (Some p) = show p
+
+-- one more reply
+abbrev pub replied : Pupil → ℕ → Bool → Pupil
+replied p item right = record p { replies = p.replies ++ record { q = item; right = right } ∷ [] }
+
+-- `reply`: the number of replies is told
+abbrev pub reply_row : ℕ → List Pupil → ℕ → Bool → Option Pupil → Change (List Pupil)
+reply_row n pupils item right None = record { response = Refused refusal_of.NoPupil; next = pupils }
+reply_row n pupils item right (Some p) =
+    changed pupils (refuse_fault refusal_of.Reply (reply_fault (asked_of n p) item)) (Done (length p.replies + 1)) (with_pupil pupils p.name (replied p item right))
+
+-- `close`
+abbrev pub close_row : List Pupil → Text → Change (List Pupil)
+close_row pupils name =
+    changed pupils (refuse refusal_of.NoPupil (not (is_some (pupil_with pupils name)))) Agreed (filter (λ p. not (has_name name p)) pupils)
+
+abbrev pub pupil_row : Session → Text → PupilRequest → Change (List Pupil)
+pupil_row s name pupil.Begin = begin_row s name
+pupil_row s name pupil.Question = record { response = shown_of (question_shown (length s.names)) (pupil_with s.pupils name); next = s.pupils }
+pupil_row s name pupil.Report = record { response = shown_of (report_shown (length s.names)) (pupil_with s.pupils name); next = s.pupils }
+pupil_row s name (pupil.Reply item right) = reply_row (length s.names) s.pupils item right (pupil_with s.pupils name)
+pupil_row s name pupil.Close = close_row s.pupils name
