@@ -9,7 +9,7 @@ use Rattle.ls_theory.specs.Fringes.{fringes}
 use Rattle.ls_theory.specs.declared.asked.Asked.{Asked}
 use Rattle.ls_theory.specs.declared.outcome.Outcome.{Outcome}
 use Rattle.ls_lines.specs.Lines.{Text}
-use Rattle.ls_reply.specs.Sessions.{Session, Pupil, pupil_states}
+use Rattle.ls_reply.specs.Sessions.{Pupil, pupil_states}
 use Rattle.ls_reply.specs.Effects.{Change, changed, refuse, refuse_fault}
 use Rattle.ls_reply.specs.declared.refusal.Refusal.{Refusal}
 use Rattle.ls_reply.specs.declared.refusal.Refusal.TheVariants as refusal_of
@@ -55,19 +55,19 @@ abbrev pub new_pupil : Text → Interview → Settings → Pupil
 new_pupil name i settings =
     record { name = name; start = i.start; yeses = yes_queries i.answers; settings = settings; replies = [] }
 
--- one more than stand
-abbrev pub begin_refusals : Session → Text → List Refusal
-begin_refusals s name =
-    let count = length (compatible_sets s.interview) in
-    refuse refusal_of.PupilStands (is_some (pupil_with s.pupils name))
-    ++ refuse refusal_of.ManyPupils (nat_le most_pupils (length s.pupils))
+-- why no pupil of the name begins
+abbrev pub begin_refusals : Interview → Settings → List Pupil → Text → List Refusal
+begin_refusals i settings pupils name =
+    let count = length (compatible_sets i) in
+    refuse refusal_of.PupilStands (is_some (pupil_with pupils name))
+    ++ refuse refusal_of.ManyPupils (nat_le most_pupils (length pupils))
     ++ refuse refusal_of.ManyStates (nat_lt most_states count)
-    ++ refuse_fault refusal_of.Heavy (heavy_after s.settings count)
+    ++ refuse_fault refusal_of.Heavy (heavy_after settings count)
 
 -- `pupil`: the number of states is told
-abbrev pub begin_row : Session → Text → Change (List Pupil)
-begin_row s name =
-    changed s.pupils (begin_refusals s name) (Done (length (compatible_sets s.interview))) (s.pupils ++ new_pupil name s.interview s.settings ∷ [])
+abbrev pub begin_row : Interview → Settings → List Pupil → Text → Change (List Pupil)
+begin_row i settings pupils name =
+    changed pupils (begin_refusals i settings pupils name) (Done (length (compatible_sets i))) (pupils ++ new_pupil name i settings ∷ [])
 
 -- what a pupil among n items is asked, and what is known of it
 abbrev pub asked_of : ℕ → Pupil → Asked
@@ -93,9 +93,13 @@ shown_of show (Some p) = show p
 abbrev pub replied : Pupil → ℕ → Bool → Pupil
 replied p item right = record p { replies = p.replies ++ record { q = item; right = right } ∷ [] }
 
+-- the pupils as they are
+abbrev pub shows : List Pupil → Response → Change (List Pupil)
+shows pupils response = record { response = response; next = pupils }
+
 -- `reply`: the number of replies is told
 abbrev pub reply_row : ℕ → List Pupil → ℕ → Bool → Option Pupil → Change (List Pupil)
-reply_row n pupils item right None = record { response = Refused refusal_of.NoPupil; next = pupils }
+reply_row n pupils item right None = shows pupils (Refused refusal_of.NoPupil)
 reply_row n pupils item right (Some p) =
     changed pupils (refuse_fault refusal_of.Reply (reply_fault (asked_of n p) item)) (Done (length p.replies + 1)) (with_pupil pupils p.name (replied p item right))
 
@@ -104,9 +108,10 @@ abbrev pub close_row : List Pupil → Text → Change (List Pupil)
 close_row pupils name =
     changed pupils (refuse refusal_of.NoPupil (not (is_some (pupil_with pupils name)))) Agreed (filter (λ p. not (has_name name p)) pupils)
 
-abbrev pub pupil_row : Session → Text → PupilRequest → Change (List Pupil)
-pupil_row s name pupil.Begin = begin_row s name
-pupil_row s name pupil.Question = record { response = shown_of (question_shown (length s.names)) (pupil_with s.pupils name); next = s.pupils }
-pupil_row s name pupil.Report = record { response = shown_of (report_shown (length s.names)) (pupil_with s.pupils name); next = s.pupils }
-pupil_row s name (pupil.Reply item right) = reply_row (length s.names) s.pupils item right (pupil_with s.pupils name)
-pupil_row s name pupil.Close = close_row s.pupils name
+-- what is asked of the pupil of the name, or done with it
+abbrev pub pupil_row : Interview → Settings → List Pupil → Text → PupilRequest → Change (List Pupil)
+pupil_row i settings pupils name pupil.Begin = begin_row i settings pupils name
+pupil_row i settings pupils name pupil.Question = shows pupils (shown_of (question_shown i.count) (pupil_with pupils name))
+pupil_row i settings pupils name pupil.Report = shows pupils (shown_of (report_shown i.count) (pupil_with pupils name))
+pupil_row i settings pupils name (pupil.Reply item right) = reply_row i.count pupils item right (pupil_with pupils name)
+pupil_row i settings pupils name pupil.Close = close_row pupils name

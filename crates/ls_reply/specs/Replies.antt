@@ -26,7 +26,7 @@ abbrev pub request_effect : Session → Request → Effect
 request_effect s (View view) = answers s (view_row s.interview view)
 request_effect s (Edit edit) = changes_interview s (edit_row s.interview edit)
 request_effect s (Setting setting) = changes_settings s (setting_row s.settings setting)
-request_effect s (Pupil name what) = changes_pupils s (pupil_row s name what)
+request_effect s (Pupil name what) = changes_pupils s (pupil_row s.interview s.settings s.pupils name what)
 
 -- the places at fault: 0 where no domain stands; otherwise those of the words that must name an item and don't
 abbrev pub unnamed_at : Session → Command → List ℕ
