@@ -1,7 +1,7 @@
 // The settings of an assessment.
 ghost use Rattle.std.specs.Prelude.{◌≡◌, ◌<◌, ◌≤◌, true, not, length, slice_index_or, is_err, IfOk, OnOk, OnErr};
 ghost use Rattle.ls_theory.specs.Weights.{no_ratios, ratio_for};
-ghost use Rattle.ls_theory.specs.Settings.{is_ratio, are_ratios, are_limits, odds, standard, with_all, with_item, with_limits, greatest, most_states, heavy_after};
+ghost use Rattle.ls_theory.specs.Settings.{is_ratio, are_ratios, are_limits, odds, standard, with_all, with_item, with_limits, greatest, heavy_after};
 ghost use Rattle.ls_settings.specs.Allowed.{IsAllowed};
 
 use crate::bad_setting::BadSetting;
@@ -10,7 +10,7 @@ use ls_theory::{Ratio, Ratios, Reply};
 use std::alloc::{AllocError, Global};
 use std::marker::Model;
 
-// The total of the weights of all states is at most this number.
+// Settings are not too heavy where a total is at most this number.
 const GREATEST_TOTAL: u128 = 1 << 120;
 
 /// The settings of an assessment: the ratios of each item, the most replies, and the share of the
@@ -53,7 +53,7 @@ fn odds(z: u64) -> Ratio
 fn is_ratio(ratio: Ratio) -> bool
     ensures { result ≡ is_ratio ratio }
 {
-    (2..=64).contains(&ratio.a) && 1 <= ratio.b && ratio.b < ratio.a
+    (2..=64).contains(&ratio.a) && (1..ratio.a).contains(&ratio.b)
 }
 
 // The two ratios, or the error where one of them is out of its range.
@@ -73,7 +73,11 @@ fn checked(right: Ratio, wrong: Ratio) -> Result<Ratios, BadSetting>
 fn greatest(ratios: &[Ratios]) -> u64
     ensures { result ≡ greatest ratios.now }
 {
-    ratios.iter().map(|r| r.right.a.max(r.wrong.a)).max().unwrap_or(0)
+    ratios
+        .iter()
+        .map(|r| r.right.a.max(r.wrong.a))
+        .max()
+        .unwrap_or(0)
 }
 
 impl Settings {
@@ -147,12 +151,7 @@ impl Settings {
 
     /// The item `q` gets the ratio `right` for a right reply and `wrong` for a wrong one. Where one
     /// is out of its range nothing changes.
-    pub fn set_item_ratios(
-        &mut self,
-        q: u32,
-        right: Ratio,
-        wrong: Ratio,
-    ) -> Result<(), BadSetting>
+    pub fn set_item_ratios(&mut self, q: u32, right: Ratio, wrong: Ratio) -> Result<(), BadSetting>
         requires { q < length self.old.ratios }
         ensures ok { OnOk result (self.new
             ≡ with_item self.old q (record { right = right; wrong = wrong })) }
@@ -236,7 +235,6 @@ impl Settings {
     /// The least number of replies, up to the budget, after which the total of the weights of
     /// `count` states may pass 2 ^ 120.
     pub fn heavy_after(&self, count: usize) -> Option<u32>
-        requires { count ≤ most_states }
         ensures { result ≡ heavy_after self.now count }
     {
         let greatest = greatest(&self.ratios);
