@@ -1,0 +1,8 @@
+-- Lists of one element, each of which passes.
+use Rattle.std.proofs.Common.{◌≡◌, ℕ, zero, suc, Bool, true, replicate, refl}
+use Rattle.std.specs.List.{list_all}
+use Rattle.std.proofs.lemmas.Bool.{and_from}
+
+pub list_all-replicate : {X : Type 0} (p : X → Bool) (n : ℕ) (x : X) → p x ≡ true → list_all p (replicate n x) ≡ true
+list_all-replicate p zero x e = refl
+list_all-replicate p (suc n) x e = and_from (p x) (list_all p (replicate n x)) e (list_all-replicate p n x e)

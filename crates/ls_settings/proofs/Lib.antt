@@ -1,0 +1,3 @@
+pub mod Light
+pub mod Heavy
+pub mod Kept

@@ -1,0 +1,18 @@
+use Rattle.std.proofs.Common.{◌≡◌, true, replicate, refl, ap₂, arith}
+use Rattle.std.proofs.lemmas.List.{length-replicate}
+use Rattle.ls_theory.specs.declared.ratio.Ratio.{Ratio}
+use Rattle.ls_theory.specs.declared.ratio.Ratios.{Ratios}
+use Rattle.ls_theory.specs.Settings.{are_ratios}
+use Rattle.ls_settings.proofs.Kept.{list_all-replicate}
+use Rattle.ls_settings.proofs.settings.Settings.standard.Goals as goal
+
+pub invariant_of-result : goal.invariant_of-result
+invariant_of-result c =
+    let own : Ratios = record { right = c.odds.result; wrong = c.odds-2.result } in
+    let items : c.in_ok-from_elem.field-0.items ≡ replicate c.args.n own = c.in_ok-from_elem.ensures.items_if_clones_equal (λ y e. e) in
+    let passes : are_ratios own ≡ true = ap₂ (λ (x y : Ratio). are_ratios (record { right = x; wrong = y })) c.odds.ensures c.odds-2.ensures in
+    record {
+      few = rw items (omega (arith, length-replicate c.args.n own));
+      ratios = rw items (list_all-replicate are_ratios c.args.n own passes);
+      limits = refl;
+    }
