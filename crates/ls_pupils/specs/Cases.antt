@@ -1,0 +1,48 @@
+-- Pupils as the program keeps them.
+--     pupil_of c, pupils_of cs      the pupils of the definitions
+--     ArePupils n cs      pupils among n items, each with a name of its own
+--     CanTell n r      what is told of a pupil speaks of the n items alone
+use Rattle.std.specs.Prelude.{ℕ, ◌≡◌, ◌<◌, ◌≤◌, true, List, map, length, ⊤}
+use Rattle.std.specs.List.{All}
+use Rattle.ls_set.specs.ItemSet.{full, IsWithin, most_items}
+use Rattle.ls_theory.specs.Compatible.{compat}
+use Rattle.ls_theory.specs.declared.asked.Asked.TheVariants.{Item}
+use Rattle.ls_theory.specs.declared.reply_fault.ReplyFault.TheVariants.{WrongItem}
+use Rattle.ls_laws.specs.Families.{IsFamily}
+use Rattle.ls_expert.specs.Starts.{start_of}
+use Rattle.ls_reply.specs.Sessions.{Pupil}
+use Rattle.ls_reply.specs.Pupils.{most_pupils}
+use Rattle.ls_reply.specs.declared.response.Response.{Response}
+use Rattle.ls_reply.specs.declared.response.Response.TheVariants as response
+use Rattle.ls_reply.specs.declared.response.Shown.TheVariants as shown
+use Rattle.ls_reply.specs.declared.refusal.Refusal.TheVariants as refusal
+use Rattle.ls_pupils.specs.Own.{have_own_names}
+use Rattle.ls_pupils.specs.declared.cases.PupilCase.{PupilCase}
+
+abbrev pub pupil_of : PupilCase → Pupil
+pupil_of c =
+    record { name = c.name; start = start_of c.start; yeses = c.yes; settings = c.settings; replies = c.pupil.replies }
+
+abbrev pub pupils_of : List PupilCase → List Pupil
+pupils_of cases = map pupil_of cases
+
+-- the states of a case are those of its start and Yes queries, among n items; its settings are those of n items, by which its pupil is assessed
+pub record IsCase (n : ℕ) (c : PupilCase) : Type 0 where
+  pub states : c.pupil.states ≡ compat n (start_of c.start) c.yes
+  pub family : IsFamily n c.pupil.states
+  pub settings : c.pupil.settings ≡ c.settings
+  pub items : length c.settings.ratios ≡ n
+
+-- no two have the same name, and there are not too many
+pub record ArePupils (n : ℕ) (cases : List PupilCase) : Type 0 where
+  pub few_items : n ≤ most_items
+  pub each : All (IsCase n) cases
+  pub own : have_own_names (λ c. c.name) cases ≡ true
+  pub few : length cases ≤ most_pupils
+
+-- what is told of a pupil speaks of the n items alone
+abbrev pub CanTell : ℕ → Response → Type 0
+CanTell n (response.Shown (shown.Asked (Item q))) = q < n
+CanTell n (response.Shown (shown.Report outcome fringes)) = IsWithin outcome.state (full n) × IsWithin fringes.inner (full n) × IsWithin fringes.outer (full n)
+CanTell n (response.Refused (refusal.Reply (WrongItem q))) = q < n
+CanTell n r = ⊤
