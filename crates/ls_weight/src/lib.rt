@@ -1,2 +1,13 @@
 //! Weights of knowledge states after a pupil's replies.
 #![tactic(auto)]
+
+mod fault;
+mod heaviest;
+mod sums;
+mod weighing;
+mod weights;
+
+pub use fault::WeightFault;
+pub use ls_settings::{BadSetting, Ratio, Ratios, Settings};
+pub use ls_theory::Reply;
+pub use weights::Weights;

@@ -1,0 +1,3 @@
+pub mod Zipped
+pub mod Leaders
+pub mod Kept
