@@ -1,13 +1,15 @@
 // How a pupil begins.
-ghost use Rattle.std.specs.Prelude.{◌≡◌, ◌<◌, ◌≤◌, ℕ, [], true, Some, None, Err, length, IfOk, OnOk, OnErr};
-ghost use Rattle.ls_theory.specs.Starts.{Start as StartOf};
+ghost use Rattle.std.specs.Prelude.{◌≡◌, ◌<◌, ◌++◌, ◌∷◌, [], true, false, Ok, length, IfSome, IfOk, OnOk, OnErr};
+ghost use Rattle.std.specs.List.{list_any};
 ghost use Rattle.ls_theory.specs.Compatible.{compatible_sets};
 ghost use Rattle.ls_theory.specs.Interviews.{yes_queries};
-ghost use Rattle.ls_theory.specs.Settings.{most_states, heavy_after};
-ghost use Rattle.ls_laws.specs.Families.{IsFamily};
 ghost use Rattle.ls_expert.specs.Starts.{start_of};
-ghost use Rattle.ls_reply.specs.Pupils.{begin_row};
-ghost use Rattle.ls_pupils.specs.Cases.{pupils_of, ArePupils};
+ghost use Rattle.ls_reply.specs.Pupils.{begin_row, most_pupils, new_pupil};
+ghost use Rattle.ls_reply.specs.declared.response.Response.TheVariants.{Done};
+ghost use Rattle.ls_pupils.specs.Own.{is_named};
+ghost use Rattle.ls_pupils.specs.Cases.{pupils_of, IsCase, ArePupils};
+ghost use Rattle.ls_pupils.specs.Beginning.{IsNewPupil, IsWeighed};
+ghost use Rattle.ls_pupils.specs.declared.cases.PupilCase.{PupilCase as Case};
 
 use crate::cases::{PupilCase, PupilCases};
 use ls_assess::{Pupil, Settings, WeightFault};
@@ -25,14 +27,6 @@ pub const MOST_PUPILS: usize = 16;
 
 /// A pupil has at most so many states.
 pub const MOST_STATES: u32 = 65_536;
-
-// Why no pupil begins.
-#[derive(Clone, Copy, Debug)]
-enum BeginFault {
-    ManyStates,
-    Heavy { replies: u32 },
-    Memory(AllocError),
-}
 
 /// `pupil NAME`: a pupil begins with the compatible sets of the interview and with the settings, as
 /// they are. Where memory runs out nothing changes.
@@ -59,10 +53,112 @@ pub fn begin<L: Ledger>(
     if pupils.as_slice().len() >= MOST_PUPILS {
         return Ok(Response::Refused(Refusal::ManyPupils));
     }
-    match new_pupil(alloc, pupils, inquiry, settings, steps) {
+    match new_pupil(alloc, pupils, inquiry, settings, steps)? {
         Ok(pupil) => keep(alloc, pupils, name, inquiry, settings, pupil),
-        Err(BeginFault::ManyStates) => Ok(Response::Refused(Refusal::ManyStates)),
-        Err(BeginFault::Heavy { replies }) => Ok(Response::Refused(Refusal::Heavy { replies })),
-        Err(BeginFault::Memory(e)) => Err(e),
+        Err(refusal) => Ok(Response::Refused(refusal)),
     }
+}
+
+// A pupil that begins, or why none does: over the states of another one that began with the same
+// start and Yes queries, if there is one.
+fn new_pupil<L: Ledger>(
+    alloc: Global,
+    pupils: &PupilCases,
+    inquiry: &Inquiry,
+    settings: &Settings,
+    steps: &mut Steps<L>,
+) -> Result<Result<Pupil, Refusal>, AllocError>
+    requires pupils { ArePupils inquiry.now.count pupils.now }
+    requires items { length settings.now.ratios ≡ inquiry.now.count }
+    ensures { IfOk result (IsNewPupil inquiry.now settings.now) }
+{
+    match like(pupils, inquiry) {
+        Some(case) => weighed(case.pupil.again(settings)),
+        None => listed(alloc, inquiry, settings, steps),
+    }
+}
+
+// A case with the start and the Yes queries of the interview.
+fn like<'a>(pupils: &'a PupilCases, inquiry: &Inquiry) -> Option<&'a PupilCase>
+    requires { ArePupils inquiry.now.count pupils.now }
+    ensures { IfSome result (λ c. IsCase inquiry.now.count c.now
+        × (c.now.pupil.states ≡ compatible_sets inquiry.now)) }
+{
+    pupils
+        .as_slice()
+        .iter()
+        .find(|case| is_like(case, inquiry))
+}
+
+// Whether the case has the start and the Yes queries of the interview. Two surmise functions aren't
+// compared.
+fn is_like(case: &PupilCase, inquiry: &Inquiry) -> bool
+    ensures { result ≡ true → (start_of case.now.start ≡ inquiry.now.start)
+        × (case.now.yes ≡ yes_queries inquiry.now.answers) }
+{
+    let is_same = match (&case.start, inquiry.start()) {
+        (Start::Free, Start::Free) => true,
+        (Start::Sets(own), Start::Sets(base)) => own.sets() == base.sets(),
+        _ => false,
+    };
+    is_same && case.yes.as_slice() == inquiry.yes_queries()
+}
+
+// A pupil over the states of the interview.
+fn listed<L: Ledger>(
+    alloc: Global,
+    inquiry: &Inquiry,
+    settings: &Settings,
+    steps: &mut Steps<L>,
+) -> Result<Result<Pupil, Refusal>, AllocError>
+    requires { length settings.now.ratios ≡ inquiry.now.count }
+    ensures { IfOk result (IsNewPupil inquiry.now settings.now) }
+{
+    let states = Counted::new(inquiry.family());
+    match list_all(alloc, &states, MOST_STATES, steps) {
+        Ok(sets) => weighed(Pupil::begin(alloc, inquiry.items(), sets, settings)),
+        Err(ListFault::More) => Ok(Err(Refusal::ManyStates)),
+        Err(ListFault::Memory(e)) => Err(e),
+    }
+}
+
+// The pupil, or the refusal of one that is too heavy.
+fn weighed(begun: Result<Pupil, WeightFault>) -> Result<Result<Pupil, Refusal>, AllocError>
+    ensures { IsWeighed begun result }
+{
+    match begun {
+        Ok(pupil) => Ok(Ok(pupil)),
+        Err(WeightFault::Heavy { replies }) => Ok(Err(Refusal::Heavy { replies })),
+        Err(WeightFault::Memory(e)) => Err(e),
+    }
+}
+
+// Puts the pupil last. The number of its states is told.
+fn keep(
+    alloc: Global,
+    pupils: &mut PupilCases,
+    name: Word,
+    inquiry: &Inquiry,
+    settings: &Settings,
+    pupil: Pupil,
+) -> Result<Response, AllocError>
+    requires pupil { IsNewPupil inquiry.now settings.now (Ok pupil) }
+    ensures response { IfOk result (λ r. r ≡ Done (length (compatible_sets inquiry.now))) }
+    ensures next { OnOk result (pupils_of pupils.new
+        ≡ pupils_of pupils.old ++ new_pupil name inquiry.now settings.now ∷ []) }
+    ensures pupils { ArePupils inquiry.now.count pupils.old → length pupils.old < most_pupils →
+        list_any (is_named (λ (c : Case). c.name) name) pupils.old ≡ false →
+        length settings.now.ratios ≡ inquiry.now.count →
+        ArePupils inquiry.now.count pupils.new }
+    ensures err { OnErr result (pupils.new ≡ pupils.old) }
+{
+    let number = pupil.states().len() as u64;
+    pupils.push(PupilCase {
+        name,
+        start: inquiry.start().copy()?,
+        yes: QueryList::from_slice(alloc, inquiry.yes_queries())?,
+        settings: settings.copy()?,
+        pupil,
+    })?;
+    Ok(Response::Done { number })
 }

@@ -55,14 +55,17 @@ abbrev pub new_pupil : Text → Interview → Settings → Pupil
 new_pupil name i settings =
     record { name = name; start = i.start; yeses = yes_queries i.answers; settings = settings; replies = [] }
 
+-- why so many states are not weighed
+abbrev pub weighing_refusals : Settings → ℕ → List Refusal
+weighing_refusals settings count =
+    refuse refusal_of.ManyStates (nat_lt most_states count) ++ refuse_fault refusal_of.Heavy (heavy_after settings count)
+
 -- why no pupil of the name begins
 abbrev pub begin_refusals : Interview → Settings → List Pupil → Text → List Refusal
 begin_refusals i settings pupils name =
-    let count = length (compatible_sets i) in
     refuse refusal_of.PupilStands (is_some (pupil_with pupils name))
     ++ refuse refusal_of.ManyPupils (nat_le most_pupils (length pupils))
-    ++ refuse refusal_of.ManyStates (nat_lt most_states count)
-    ++ refuse_fault refusal_of.Heavy (heavy_after settings count)
+    ++ weighing_refusals settings (length (compatible_sets i))
 
 -- `pupil`: the number of states is told
 abbrev pub begin_row : Interview → Settings → List Pupil → Text → Change (List Pupil)

@@ -1,0 +1,99 @@
+// What pupils are asked and reply, and how they are closed.
+ghost use Rattle.std.specs.Prelude.{◌≡◌, ℕ};
+ghost use Rattle.ls_reply.specs.Pupils.{pupil_with, shown_of, question_shown, report_shown, reply_row, close_row};
+ghost use Rattle.ls_pupils.specs.Cases.{pupils_of, ArePupils, CanTell};
+
+use crate::cases::{PupilCase, PupilCases};
+use ls_fringe::fringes;
+use ls_interior::Listed;
+use ls_lines::Word;
+use ls_reply::{Refusal, Response, Shown};
+
+// The case of the name.
+fn case_of<'a>(pupils: &'a PupilCases, name: &Word) -> Option<&'a PupilCase>
+    ensures { option_map (λ c. pupil_of c.now) result ≡ pupil_with (pupils_of pupils.now) name.now }
+    ensures case { (n : ℕ) → ArePupils n pupils.now → IfSome result (λ c. IsCase n c.now) }
+{
+    let place = pupils.place(name)?;
+    Some(&pupils.as_slice()[place])
+}
+
+/// `question NAME`
+pub fn question(n: u32, pupils: &PupilCases, name: &Word) -> Response
+    requires { ArePupils n pupils.now }
+    ensures response { result
+        ≡ shown_of (question_shown n) (pupil_with (pupils_of pupils.now) name.now) }
+    ensures told { CanTell n result }
+{
+    let _ = n;
+    match case_of(pupils, name) {
+        None => Response::Refused(Refusal::NoPupil),
+        Some(case) => Response::Shown(Shown::Asked(case.pupil.question())),
+    }
+}
+
+/// `report NAME`
+pub fn report(n: u32, pupils: &PupilCases, name: &Word) -> Response
+    requires { ArePupils n pupils.now }
+    ensures response { result
+        ≡ shown_of (report_shown n) (pupil_with (pupils_of pupils.now) name.now) }
+    ensures told { CanTell n result }
+{
+    match case_of(pupils, name) {
+        None => Response::Refused(Refusal::NoPupil),
+        Some(case) => Response::Shown(report_of(n, case)),
+    }
+}
+
+// What is known of the pupil of a case, with the fringes of the state among its own states.
+fn report_of(n: u32, case: &PupilCase) -> Shown
+    requires few { n ≤ PLACES }
+    requires case { IsCase n case.now }
+    ensures shown { Shown result ≡ report_shown n (pupil_of case.now) }
+    ensures told { CanTell n (Shown result) }
+{
+    let outcome = case.pupil.result();
+    let states = Listed::new(n, case.pupil.states());
+    Shown::Report {
+        outcome,
+        fringes: fringes(&states, outcome.state),
+    }
+}
+
+/// `reply NAME ITEM right` and `reply NAME ITEM wrong`
+pub fn reply(n: u32, pupils: &mut PupilCases, name: &Word, item: u32, right: bool) -> Response
+    requires { ArePupils n pupils.old }
+    ensures response { let ps = pupils_of pupils.old in
+        result ≡ (reply_row n ps item right (pupil_with ps name.now)).response }
+    ensures next { let ps = pupils_of pupils.old in
+        pupils_of pupils.new ≡ (reply_row n ps item right (pupil_with ps name.now)).next }
+    ensures pupils { ArePupils n pupils.new }
+    ensures told { CanTell n result }
+{
+    let _ = n;
+    let Some(place) = pupils.place(name) else {
+        return Response::Refused(Refusal::NoPupil);
+    };
+    match pupils.reply(place, item, right) {
+        Ok(()) => Response::Done {
+            number: pupils.as_slice()[place].pupil.replies().len() as u64,
+        },
+        Err(fault) => Response::Refused(Refusal::Reply(fault)),
+    }
+}
+
+/// `close NAME`
+pub fn close(pupils: &mut PupilCases, name: &Word) -> Response
+    requires { (n : ℕ) × ArePupils n pupils.old }
+    ensures response { result ≡ (close_row (pupils_of pupils.old) name.now).response }
+    ensures next { pupils_of pupils.new ≡ (close_row (pupils_of pupils.old) name.now).next }
+    ensures pupils { (n : ℕ) → ArePupils n pupils.old → ArePupils n pupils.new }
+{
+    match pupils.place(name) {
+        None => Response::Refused(Refusal::NoPupil),
+        Some(place) => {
+            pupils.remove(place);
+            Response::Agreed
+        }
+    }
+}
