@@ -5,13 +5,20 @@ use Rattle.ls_theory.specs.Interviews.{Interview, yes_queries}
 use Rattle.ls_base.specs.Trail.{IsTrail}
 use Rattle.ls_base.specs.declared.trail.Entry.{Entry}
 use Rattle.ls_lines.specs.Lines.{Text}
+use Rattle.ls_theory.specs.Settings.{Settings}
 use Rattle.ls_reply.specs.Sessions.{Session}
+use Rattle.ls_pupils.specs.Cases.{pupils_of, ArePupils}
+use Rattle.ls_pupils.specs.declared.cases.PupilCase.{PupilCase}
 use Rattle.ls_spans.specs.Speaking.{IsVerdictOn}
 use Rattle.ls_writing.specs.Names.{CanRefuse}
 use Rattle.ls_reply.specs.declared.response.Response.{Response}
 use Rattle.ls_reply.specs.declared.response.Response.TheVariants as response
 use Rattle.ls_reply.specs.declared.response.Shown.TheVariants as shown
 use Rattle.ls_views.specs.Views as views
+
+-- the session of an interview on named items, with settings and pupils
+abbrev pub session_with : List Text → Interview → Settings → List PupilCase → Session
+session_with names i settings cases = record { names = names; interview = i; settings = settings; pupils = pupils_of cases }
 
 -- the session that it is; and the sets of the base as far as it was followed, none where it had too many or was not asked for
 pub record CourseState : Type 0 where
@@ -20,7 +27,7 @@ pub record CourseState : Type 0 where
 
 -- what is told of the interview speaks of the items alone, and of a base that was found
 abbrev pub CanTell : CourseState → Response → Type 0
-CanTell c response = views.CanSay c.session c.followed response
+CanTell c response = views.CanSay c.session.names c.session.interview c.followed response
 
 -- the verdict that is told of a family speaks of the items alone
 abbrev pub CanTestOn : List Text → Response → Type 0
@@ -32,8 +39,10 @@ CanTestOn names r = ⊥
 abbrev pub IsTrailOf : Interview → List Entry → Type 0
 IsTrailOf i trail = IsTrail i.count i.start (yes_queries i.answers) trail
 
--- the parts of a course belong together: names for each item, and a trail of the bases under the Yes answers
-pub record IsCourse (names : List Text) (i : Interview) (trail : List Entry) : Type 0 where
+-- the parts of a course belong together: names for each item, a trail of the bases under the Yes answers, and settings and pupils of the items
+pub record IsCourse (names : List Text) (i : Interview) (trail : List Entry) (settings : Settings) (cases : List PupilCase) : Type 0 where
   pub items : length names ≡ i.count
   pub some : 0 < length names
   pub trailed : IsTrailOf i trail
+  pub settings : length settings.ratios ≡ i.count
+  pub pupils : ArePupils i.count cases

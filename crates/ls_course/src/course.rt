@@ -1,29 +1,35 @@
-// A domain, and the interview on its items.
+// A domain, the interview on its items, and its pupils.
 ghost use Rattle.std.specs.Prelude.{◌≡◌, ◌<◌, ◌==◌, true, not, [], length, IfOk, OnOk, OnErr};
 ghost use Rattle.ls_reply.specs.Texts.{bytes_of};
 ghost use Rattle.ls_reply.specs.Sessions.{started};
 ghost use Rattle.ls_reply.specs.Meanings.{request_of};
 ghost use Rattle.ls_reply.specs.Lines.{shown_lines};
 ghost use Rattle.ls_reply.specs.Rows.{view_row, edit_row, starts_by, start_read, tested_by};
+ghost use Rattle.ls_reply.specs.Pupils.{setting_row, pupil_row};
 ghost use Rattle.ls_files.specs.SetFiles.{sets_of};
 ghost use Rattle.ls_reply.specs.Replies.{asked_effect, unnamed_at};
 ghost use Rattle.ls_writing.specs.Rooms.{Says};
 ghost use Rattle.ls_meanings.specs.Asked.{IsOn};
 ghost use Rattle.ls_views.specs.Views.{CanShow, is_based};
+ghost use Rattle.ls_pupils.specs.Cases.{IsSettingOn};
 ghost use Rattle.ls_course.specs.States.{CanTell};
 
 use crate::changing::{set_blocks, take, take_back};
 use crate::following::follow;
 use crate::starting::{begin_with, read_start};
 use crate::testing::test_sets;
+use ls_assess::Settings;
 use ls_base::Trail;
 use ls_domain::Domain;
 use ls_edge::Sink;
 use ls_expert::{Inquiry, Start};
 use ls_interior::Steps;
-use ls_lines::Command;
+use ls_lines::{Command, Word};
 use ls_meanings::{ResolveFault, resolve};
-use ls_reply::{Edit, Refusal, Request, Response, Shown, StartFile, View};
+use ls_pupils::{PupilCases, attend, set};
+use ls_reply::{
+    Edit, PupilRequest, Refusal, Request, Response, Setting, Shown, StartFile, View,
+};
 use ls_views::{decide, decide_based, is_based, put_shown};
 use ls_writing::{Room, SetTexts};
 use std::alloc::{AllocError, Global};
@@ -31,32 +37,34 @@ use std::marker::Model;
 use std::sync::ledger::Ledger;
 use std::thread::Threads;
 
-/// A domain, and the interview on its items. Its base is followed when it is asked for.
+/// A domain, the interview on its items, and the pupils that are assessed, with the settings of
+/// those that begin. The base of the interview is followed when it is asked for.
 #[derive(Drop)]
 pub struct Course {
     alloc: Global,
     texts: SetTexts,
     inquiry: Inquiry,
     trail: Trail,
+    settings: Settings,
+    pupils: PupilCases,
 }
 
 impl Model for Course {
     ghost use Rattle.ls_base.specs.Trail.{trail_sets};
-    ghost use Rattle.ls_views.specs.Views.{session_on};
-    ghost use Rattle.ls_course.specs.States.{CourseState, IsCourse};
+    ghost use Rattle.ls_course.specs.States.{CourseState, session_with, IsCourse};
 
     ghost Value = { CourseState };
 
     ghost view = { λ c. record {
-      session = session_on c.texts c.inquiry;
+      session = session_with c.texts c.inquiry c.settings c.pupils;
       followed = trail_sets c.trail;
     } };
 
-    ghost invariant = { λ c. IsCourse c.texts c.inquiry c.trail };
+    ghost invariant = { λ c. IsCourse c.texts c.inquiry c.trail c.settings c.pupils };
 }
 
 impl Course {
-    /// The interview begins, with no answers.
+    /// The interview begins, with no answers, the standard settings and no pupils.
     pub fn begin<L: Ledger>(
         alloc: Global,
         domain: Domain,
@@ -65,11 +73,14 @@ impl Course {
         ensures { IfOk result (λ c. c.session ≡ started domain) }
     {
         let inquiry = Inquiry::new(alloc, domain.count(), Start::Free, steps)?;
+        let settings = Settings::standard(alloc, domain.count())?;
         Ok(Course {
             alloc,
             texts: SetTexts::new(alloc, domain)?,
             inquiry,
             trail: Trail::new(alloc),
+            settings,
+            pupils: PupilCases::new(alloc),
         })
     }
 
@@ -100,6 +111,8 @@ impl Course {
         match resolve(self.alloc, self.texts.domain(), command) {
             Ok(Some(Request::View(view))) => self.view(view, steps),
             Ok(Some(Request::Edit(edit))) => self.edit(&edit, steps),
+            Ok(Some(Request::Setting(setting))) => Ok(self.set(setting)),
+            Ok(Some(Request::Pupil { name, what })) => self.attend(name, what, steps),
             Ok(None) => Ok(Response::Refused(Refusal::NotBuilt)),
             Err(ResolveFault::Unnamed { place }) => {
                 Ok(Response::Refused(Refusal::Unnamed { place }))
@@ -118,10 +131,11 @@ impl Course {
         out: &mut K,
         steps: &mut Steps<L>,
     )
-        requires { CanShow self.now.session self.now.followed shown.now }
+        requires { let s = self.now.session in
+            CanShow s.names s.interview self.now.followed shown.now }
         ensures { Says (K.written out.old) (K.faults out.old) room.old (K.written out.new)
             (K.faults out.new) room.new
-            (bytes_of (shown_lines self.now.session shown.now)) }
+            (bytes_of (shown_lines self.now.session.names self.now.session.interview shown.now)) }
     {
         put_shown(
             &self.texts,
@@ -152,9 +166,9 @@ impl Course {
         requires { self.old.session.interview.answers ≡ [] }
         ensures response { let s = self.old.session in IfOk result (λ r.
             r ≡ (starts_by s.interview [] (start_read file s.names bytes.now)).response) }
-        ensures interview { let s = self.old.session in OnOk result (self.new.session.interview ≡
-            (starts_by s.interview [] (start_read file s.names bytes.now)).next) }
-        ensures names { self.new.session.names ≡ self.old.session.names }
+        ensures session { let s = self.old.session in
+            OnOk result (self.new.session ≡ record s { interview =
+            (starts_by s.interview [] (start_read file s.names bytes.now)).next }) }
         ensures said { IfOk result (CanTell self.new) }
         ensures err { OnErr result (self.new.session ≡ self.old.session) }
     {
@@ -209,9 +223,8 @@ impl Course {
     fn edit<L: Ledger>(&mut self, edit: &Edit, steps: &mut Steps<L>) -> Result<Response, AllocError>
         ensures response { IfOk result (λ r. r ≡ (edit_row self.old.session.interview
             edit.now).response) }
-        ensures interview { OnOk result (self.new.session.interview ≡
-            (edit_row self.old.session.interview edit.now).next) }
-        ensures names { self.new.session.names ≡ self.old.session.names }
+        ensures session { let s = self.old.session in OnOk result (self.new.session ≡
+            record s { interview = (edit_row s.interview edit.now).next }) }
         ensures said { IfOk result (CanTell self.new) }
         ensures err { OnErr result (self.new.session ≡ self.old.session) }
     {
@@ -223,5 +236,42 @@ impl Course {
                 Ok(response)
             }
         }
+    }
+    // How the settings change.
+    fn set(&mut self, setting: Setting) -> Response
+        requires { IsSettingOn (length self.old.session.names) setting }
+        ensures response { result ≡ (setting_row self.old.session.settings setting).response }
+        ensures session { let s = self.old.session in
+            self.new.session ≡ record s { settings = (setting_row s.settings setting).next } }
+        ensures said { CanTell self.new result }
+    {
+        let _ = self.inquiry.items();
+        set(&mut self.settings, setting)
+    }
+
+    // What is asked of a pupil, or done with it.
+    fn attend<L: Ledger>(
+        &mut self,
+        name: Word,
+        what: PupilRequest,
+        steps: &mut Steps<L>,
+    ) -> Result<Response, AllocError>
+        ensures response { let s = self.old.session in IfOk result (λ r.
+            r ≡ (pupil_row s.interview s.settings s.pupils name what).response) }
+        ensures session { let s = self.old.session in
+            OnOk result (self.new.session ≡ record s { pupils =
+            (pupil_row s.interview s.settings s.pupils name what).next }) }
+        ensures said { IfOk result (CanTell self.new) }
+        ensures err { OnErr result (self.new.session ≡ self.old.session) }
+    {
+        attend(
+            self.alloc,
+            &mut self.pupils,
+            name,
+            what,
+            &self.inquiry,
+            &self.settings,
+            steps,
+        )
     }
 }

@@ -2,9 +2,12 @@
 #![tactic(auto)]
 
 mod asking;
+mod attending;
 mod beginning;
 mod cases;
+mod setting;
 
-pub use asking::{close, question, reply, report};
-pub use beginning::{MOST_PUPILS, MOST_STATES, begin};
+pub use attending::attend;
+pub use beginning::{MOST_PUPILS, MOST_STATES};
 pub use cases::{PupilCase, PupilCases};
+pub use setting::set;

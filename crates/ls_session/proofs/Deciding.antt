@@ -13,7 +13,7 @@ use Rattle.ls_reply.specs.Sessions.{Session, has_domain}
 use Rattle.ls_reply.specs.Effects.{Effect, Change, answers, changes_interview}
 use Rattle.ls_reply.specs.Replies.{asked_effect}
 use Rattle.ls_reply.specs.declared.request.Request.{Request}
-use Rattle.ls_reply.specs.declared.request.Request.TheVariants.{View, Edit}
+use Rattle.ls_reply.specs.declared.request.Request.TheVariants.{View, Edit, Setting, Pupil}
 use Rattle.ls_reply.specs.declared.refusal.Refusal.{Refusal}
 use Rattle.ls_reply.specs.declared.response.Response.{Response}
 use Rattle.ls_reply.specs.declared.response.Response.TheVariants.{Refused}
@@ -65,6 +65,8 @@ asked_names s places None = refl
 asked_names s (place ∷ places) (Some request) = refl
 asked_names s [] (Some (View view)) = refl
 asked_names s [] (Some (Edit edit)) = refl
+asked_names s [] (Some (Setting setting)) = refl
+asked_names s [] (Some (Pupil name what)) = refl
 
 pub asked_named : (s new : Session) (places : List ℕ) (r : Option Request) (x : Result Response AllocError) → 0 < length s.names → OnOk x (new ≡ (asked_effect s places r).session) → OnErr x (new ≡ s) → 0 < length new.names
 asked_named s new places r (Ok x) some at undone = subst (λ (ns : List Text). 0 < length ns) (sym (ap (λ (y : Session). y.names) at ∙ asked_names s places r)) some
@@ -80,16 +82,9 @@ pub no_answers : (answers : List Answer) → not (length answers == 0) ≡ false
 no_answers [] e = refl
 no_answers (a ∷ answers) e = absurd (true≢false (sym (ap not (ne_eqb (length (a ∷ answers)) 0 (λ e. omega arith))) ∙ e))
 
-session_is : (x s : Session) (i : Interview) → x.names ≡ s.names → x.interview ≡ i → x ≡ record s { interview = i }
-session_is x s i names interview = ap (λ (ns : List Text). record x { names = ns }) names ∙ ap (λ (j : Interview). record s { interview = j }) interview
-
--- a change of the interview, whose names stay
-pub makes_interview : (s new : Session) (c : Change Interview) (r : Result Response AllocError) → IfOk r (λ x. x ≡ c.response) → OnOk r (new.interview ≡ c.next) → new.names ≡ s.names → OnErr r (new ≡ s) → Makes (changes_interview s c) s new r
-makes_interview s new c r response interview names undone = record {
-  response = response;
-  session = on_ok_weaker r (λ at. session_is new s c.next names at) interview;
-  undone = undone;
-}
+-- a change of the interview
+pub makes_interview : (s new : Session) (c : Change Interview) (r : Result Response AllocError) → IfOk r (λ x. x ≡ c.response) → OnOk r (new ≡ record s { interview = c.next }) → OnErr r (new ≡ s) → Makes (changes_interview s c) s new r
+makes_interview s new c r response session undone = record { response = response; session = session; undone = undone }
 
 pub decides_made : {effect : Calls → Effect} {e : Effect} {old new : Session} (folder : Option Folder) (faults : ℕ) (r : Result Response AllocError) → ((calls : Calls) → effect calls ≡ e) → e.stored ≡ None → Makes e old new r → Decides effect old new folder folder faults faults r
 decides_made {effect} {e} {old} {new} folder faults (Ok x) same none h =

@@ -27,7 +27,7 @@ use ls_interior::Steps;
 use ls_lines::{Command, LONGEST_LINE, LineFault, Word, WordList, read_command};
 use ls_meanings::asks;
 use ls_reply::{Refusal, Response, StartFile};
-use ls_writing::{Room, put_done, put_refusal};
+use ls_writing::{Room, put_agreed, put_done, put_refusal};
 use std::alloc::{AllocError, Global};
 use std::sync::ledger::Ledger;
 use std::thread::Threads;
@@ -334,6 +334,7 @@ impl Decider {
             Response::Silence => {}
             Response::Refused(refusal) => put_refusal(self.domain(), refusal, room, out),
             Response::Done { number } => put_done(*number, room, out),
+            Response::Agreed => put_agreed(room, out),
             Response::Shown(shown) => {
                 if let Some(course) = &self.course {
                     course.put(shown, room, out, steps);

@@ -13,4 +13,4 @@ returns-in-Ok-clause-makes g c = λ given h.
     makes_as
     (ap (λ (f : Fetched). changes_interview s (starts_by s.interview (file_refusals f) (start_read c.args.kind s.names (bytes_fetched f)))) (is ∙ ap Bytes (sym c.deref.ensures.value)))
     (makes_interview s c.start_from.new.self.session (starts_by s.interview [] (start_read c.args.kind s.names c.deref.result.now)) c.start_from.result
-    c.start_from.ensures.response c.start_from.ensures.interview c.start_from.ensures.names c.start_from.ensures.err)
+    c.start_from.ensures.response c.start_from.ensures.session c.start_from.ensures.err)

@@ -32,3 +32,8 @@ pub returns-in-Done : goal.returns-in-Done
 returns-in-Done g c =
     let s = session_of c.args.self.now.course in
     says_as (sym (bytes_of-one (codes "ok" ∷ decimal c.in-Done.number ∷ [])) ∙ ap (λ (r : Response). bytes_of (lines_of s r)) (sym c.in-Done.is)) c.put_done.ensures
+
+pub returns-in-Agreed : goal.returns-in-Agreed
+returns-in-Agreed g c =
+    let s = session_of c.args.self.now.course in
+    says_as (sym (bytes_of-one (codes "ok" ∷ [])) ∙ ap (λ (r : Response). bytes_of (lines_of s r)) (sym c.in-Agreed.is)) c.put_agreed.ensures
