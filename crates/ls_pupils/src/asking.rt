@@ -1,17 +1,19 @@
 // What pupils are asked and reply, and how they are closed.
-ghost use Rattle.std.specs.Prelude.{◌≡◌, ℕ};
+ghost use Rattle.std.specs.Prelude.{◌≡◌, ◌≤◌, ℕ, IfSome, option_map};
 ghost use Rattle.ls_reply.specs.Pupils.{pupil_with, shown_of, question_shown, report_shown, reply_row, close_row};
-ghost use Rattle.ls_pupils.specs.Cases.{pupils_of, ArePupils, CanTell};
+ghost use Rattle.ls_reply.specs.declared.response.Response.TheVariants.{Shown as ShownAs};
+ghost use Rattle.ls_pupils.specs.Cases.{pupil_of, pupils_of, IsCase, ArePupils, CanTell};
 
 use crate::cases::{PupilCase, PupilCases};
 use ls_fringe::fringes;
 use ls_interior::Listed;
 use ls_lines::Word;
 use ls_reply::{Refusal, Response, Shown};
+use ls_set::PLACES;
 
 // The case of the name.
 fn case_of<'a>(pupils: &'a PupilCases, name: &Word) -> Option<&'a PupilCase>
-    ensures { option_map (λ c. pupil_of c.now) result ≡ pupil_with (pupils_of pupils.now) name.now }
+    ensures pupil { option_map (λ c. pupil_of c.now) result ≡ pupil_with (pupils_of pupils.now) name.now }
     ensures case { (n : ℕ) → ArePupils n pupils.now → IfSome result (λ c. IsCase n c.now) }
 {
     let place = pupils.place(name)?;
@@ -49,8 +51,8 @@ pub fn report(n: u32, pupils: &PupilCases, name: &Word) -> Response
 fn report_of(n: u32, case: &PupilCase) -> Shown
     requires few { n ≤ PLACES }
     requires case { IsCase n case.now }
-    ensures shown { Shown result ≡ report_shown n (pupil_of case.now) }
-    ensures told { CanTell n (Shown result) }
+    ensures shown { ShownAs result ≡ report_shown n (pupil_of case.now) }
+    ensures told { CanTell n (ShownAs result) }
 {
     let outcome = case.pupil.result();
     let states = Listed::new(n, case.pupil.states());

@@ -13,6 +13,7 @@ mod learning;
 mod many_sets;
 #[cfg(test)]
 mod projecting;
+mod pupils;
 #[cfg(test)]
 mod scripts;
 #[cfg(test)]
