@@ -9,9 +9,8 @@ ghost use Rattle.ls_reply.specs.Pupils.{setting_row, pupil_row};
 ghost use Rattle.ls_files.specs.SetFiles.{sets_of};
 ghost use Rattle.ls_reply.specs.Replies.{asked_effect, unnamed_at};
 ghost use Rattle.ls_writing.specs.Rooms.{Says};
-ghost use Rattle.ls_meanings.specs.Asked.{IsOn};
+ghost use Rattle.ls_meanings.specs.Asked.{IsOn, IsSettingOn};
 ghost use Rattle.ls_views.specs.Views.{CanShow, is_based};
-ghost use Rattle.ls_pupils.specs.Cases.{IsSettingOn};
 ghost use Rattle.ls_course.specs.States.{CanTell};
 
 use crate::changing::{set_blocks, take, take_back};

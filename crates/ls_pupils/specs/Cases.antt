@@ -16,8 +16,6 @@ use Rattle.ls_reply.specs.declared.response.Response.{Response}
 use Rattle.ls_reply.specs.declared.response.Response.TheVariants as response
 use Rattle.ls_reply.specs.declared.response.Shown.TheVariants as shown
 use Rattle.ls_reply.specs.declared.refusal.Refusal.TheVariants as refusal
-use Rattle.ls_reply.specs.declared.request.Setting.{Setting}
-use Rattle.ls_reply.specs.declared.request.Setting.TheVariants as setting
 use Rattle.ls_pupils.specs.Own.{have_own_names}
 use Rattle.ls_pupils.specs.declared.cases.PupilCase.{PupilCase}
 
@@ -41,11 +39,6 @@ pub record ArePupils (n : ℕ) (cases : List PupilCase) : Type 0 where
   pub each : All (IsCase n) cases
   pub own : have_own_names (λ c. c.name) cases ≡ true
   pub few : length cases ≤ most_pupils
-
--- a setting of an item is one of an item of n
-abbrev pub IsSettingOn : ℕ → Setting → Type 0
-IsSettingOn n (setting.Item item ratios) = item < n
-IsSettingOn n s = ⊤
 
 -- what is told of a pupil speaks of the n items alone
 abbrev pub CanTell : ℕ → Response → Type 0

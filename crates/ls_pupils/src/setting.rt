@@ -1,7 +1,7 @@
 // How settings change.
 ghost use Rattle.std.specs.Prelude.{◌≡◌, length};
 ghost use Rattle.ls_reply.specs.Pupils.{setting_row};
-ghost use Rattle.ls_pupils.specs.Cases.{IsSettingOn};
+ghost use Rattle.ls_meanings.specs.Asked.{IsSettingOn};
 
 use ls_assess::Settings;
 use ls_reply::{Refusal, Response, Setting};
