@@ -16,8 +16,10 @@ fn case_of<'a>(pupils: &'a PupilCases, name: &Word) -> Option<&'a PupilCase>
     ensures pupil { option_map (λ c. pupil_of c.now) result ≡ pupil_with (pupils_of pupils.now) name.now }
     ensures case { (n : ℕ) → ArePupils n pupils.now → IfSome result (λ c. IsCase n c.now) }
 {
-    let place = pupils.place(name)?;
-    Some(&pupils.as_slice()[place])
+    match pupils.place(name) {
+        None => None,
+        Some(place) => Some(&pupils.as_slice()[place]),
+    }
 }
 
 /// `question NAME`

@@ -18,7 +18,7 @@ use ls_expert::{Inquiry, Start};
 use ls_interior::{Counted, Steps};
 use ls_lines::Word;
 use ls_reply::{Refusal, Response};
-use ls_set::QueryList;
+use ls_set::{ItemSet, Query, QueryList};
 use std::alloc::{AllocError, Global};
 use std::sync::ledger::Ledger;
 
@@ -90,18 +90,38 @@ fn like<'a>(pupils: &'a PupilCases, inquiry: &Inquiry) -> Option<&'a PupilCase>
         .find(|case| is_like(case, inquiry))
 }
 
-// Whether the case has the start and the Yes queries of the interview. Two surmise functions aren't
-// compared.
+// Whether the case has the start and the Yes queries of the interview.
 fn is_like(case: &PupilCase, inquiry: &Inquiry) -> bool
     ensures { result ≡ true → (start_of case.now.start ≡ inquiry.now.start)
         × (case.now.yes ≡ yes_queries inquiry.now.answers) }
 {
-    let is_same = match (&case.start, inquiry.start()) {
+    is_same_start(&case.start, inquiry.start())
+        && are_same_queries(case.yes.as_slice(), inquiry.yes_queries())
+}
+
+// Whether the starts are known to be the same. Two surmise functions aren't compared.
+fn is_same_start(own: &Start, other: &Start) -> bool
+    ensures { result ≡ true → start_of own.now ≡ start_of other.now }
+{
+    match (own, other) {
         (Start::Free, Start::Free) => true,
-        (Start::Sets(own), Start::Sets(base)) => own.sets() == base.sets(),
+        (Start::Sets(own), Start::Sets(other)) => are_same_sets(own.sets(), other.sets()),
         _ => false,
-    };
-    is_same && case.yes.as_slice() == inquiry.yes_queries()
+    }
+}
+
+// Whether the lists have the same sets.
+fn are_same_sets(own: &[ItemSet], other: &[ItemSet]) -> bool
+    ensures { result ≡ true → own.now ≡ other.now }
+{
+    own == other
+}
+
+// Whether the lists have the same queries.
+fn are_same_queries(own: &[Query], other: &[Query]) -> bool
+    ensures { result ≡ true → own.now ≡ other.now }
+{
+    own == other
 }
 
 // A pupil over the states of the interview.
