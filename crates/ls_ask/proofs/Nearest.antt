@@ -1,5 +1,5 @@
 -- The least of the first numbers whose value is least.
-use Rattle.std.proofs.Common.{ℕ, zero, suc, ◌+◌, ◌<◌, ◌≤◌, ◌≡◌, Bool, true, false, ◌&&◌, nat_le, Some, refl, arith}
+use Rattle.std.proofs.Common.{ℕ, zero, suc, ◌+◌, ◌<◌, ◌≤◌, ◌≡◌, Bool, true, false, nat_le, Some, refl, arith}
 use Rattle.std.specs.List.{list_all}
 use Rattle.std.proofs.lemmas.Bool.Decides.{nat_tests}
 use Rattle.ls_set.specs.ItemSet.{numbers_from}
@@ -19,5 +19,5 @@ one-fails p i (suc m) b low high e = grind (arith, one-fails p (suc i) m b, e)
 pub least-found : (value : ℕ → ℕ) (n b : ℕ) → b < n → ((j : ℕ) → j < n → value b ≤ value j) → ((j : ℕ) → j < b → value b < value j) → first_least value (numbers_from 0 n) ≡ Some b
 least-found value n b h least before =
     find_first (λ x. list_all (λ y. nat_le (value x) (value y)) (numbers_from 0 n)) 0 n b (omega arith) (omega arith)
-        (all-pass (λ y. nat_le (value b) (value y)) 0 n (λ j low high. let e : value b ≤ value j = least j (omega arith) in grind (arith, nat_tests)))
-        (λ j low high. one-fails (λ y. nat_le (value j) (value y)) 0 n b (omega arith) (omega arith) (let e : value b < value j = before j high in grind (arith, nat_tests)))
+    (all-pass (λ y. nat_le (value b) (value y)) 0 n (λ j low high. let e : value b ≤ value j = least j (omega arith) in grind (arith, nat_tests)))
+    (λ j low high. one-fails (λ y. nat_le (value j) (value y)) 0 n b (omega arith) (omega arith) (let e : value b < value j = before j high in grind (arith, nat_tests)))

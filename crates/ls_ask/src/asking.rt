@@ -20,6 +20,7 @@ pub fn half_split(w: &Weights) -> u32
     ensures value { result ≡ half_split w.now.settings.ratios w.now.replies w.now.states }
     ensures item { result < length w.now.settings.ratios }
 {
+    // There are some items, where there are weights of states.
     let _ = w.states();
     let total = w.total();
     let mut best = 0;
