@@ -33,6 +33,7 @@ fn has_share(w: &Weights) -> bool
     ensures { result ≡ has_share w.now.settings w.now.states w.now.replies }
 {
     let settings = w.settings();
+    // Settings are in their ranges, so the products fit.
     let _ = settings.count();
     u128::from(settings.share()) * w.total() <= 100 * w.weight(leader(w))
 }
@@ -44,12 +45,7 @@ impl Pupil {
     /// The assessment of a pupil whose state is one of `states`, before any reply. `Heavy` comes
     /// exactly where the total may pass 2 ^ 120 within the budget, with the least number of replies
     /// after which it may.
-    pub fn begin(
-        alloc: Global,
-        n: u32,
-        states: SetList,
-        s: &Settings,
-    ) -> Result<Pupil, WeightFault>
+    pub fn begin(alloc: Global, n: u32, states: SetList, s: &Settings) -> Result<Pupil, WeightFault>
         requires { IsWeighable n states s.now }
         ensures ok { IfOk result
             (λ p. p ≡ record { settings = s.now; states = states; replies = [] }) }
@@ -76,10 +72,12 @@ impl Pupil {
     }
 
     /// The item that is asked next, or that the assessment is over: by share, or else by budget.
+    #[tactic(auto, unfolding(ls_theory::specs::Assessment::asked))]
     pub fn question(&self) -> Asked
         ensures value { result ≡ asked self.now.settings self.now.states self.now.replies }
         ensures item { (q : ℕ) → result ≡ Item q → q < length self.now.settings.ratios }
-        ensures room { (q : ℕ) → result ≡ Item q → length self.now.replies < self.now.settings.budget }
+        ensures room { (q : ℕ) → result ≡ Item q →
+            length self.now.replies < self.now.settings.budget }
     {
         if has_share(&self.weights) {
             Asked::Over(Reason::Share)
@@ -94,7 +92,7 @@ impl Pupil {
     /// where it fails nothing changes.
     pub fn reply(&mut self, q: u32, right: bool) -> Result<(), ReplyFault>
         ensures ok { OnOk result (self.new ≡ record self.old {
-            replies = self.old.replies ++ record { q = q; right = right } ∷ []
+          replies = self.old.replies ++ record { q = q; right = right } ∷ [];
         }) }
         ensures taken { OnOk result (reply_fault
             (asked self.old.settings self.old.states self.old.replies) q ≡ None) }
@@ -129,8 +127,8 @@ impl Pupil {
     /// The states, in their order.
     pub fn states(&self) -> &[ItemSet]
         ensures value { result.now ≡ self.now.states }
-        ensures weighable {
-            IsWeighable (length self.now.settings.ratios) self.now.states self.now.settings }
+        ensures weighable { IsWeighable (length self.now.settings.ratios)
+            self.now.states self.now.settings }
     {
         self.weights.states()
     }
@@ -139,8 +137,8 @@ impl Pupil {
     pub fn replies(&self) -> &[Reply]
         ensures value { result.now ≡ self.now.replies }
         ensures budget { length result.now ≤ self.now.settings.budget }
-        ensures items {
-            list_all (λ r. nat_lt r.q (length self.now.settings.ratios)) result.now ≡ true }
+        ensures items { list_all (λ r. nat_lt r.q (length self.now.settings.ratios)) result.now
+            ≡ true }
     {
         self.weights.replies()
     }
