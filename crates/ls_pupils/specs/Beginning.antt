@@ -4,7 +4,6 @@ use Rattle.std.specs.declared.alloc.AllocError.{AllocError}
 use Rattle.ls_theory.specs.Interviews.{Interview}
 use Rattle.ls_theory.specs.Compatible.{compatible_sets}
 use Rattle.ls_theory.specs.Settings.{Settings}
-use Rattle.ls_laws.specs.Families.{IsFamily}
 use Rattle.ls_weight.specs.Weighings.{Weighing}
 use Rattle.ls_weight.specs.declared.fault.WeightFault.{WeightFault}
 use Rattle.ls_weight.specs.declared.fault.WeightFault.TheVariants.{Heavy, Memory}
@@ -16,7 +15,6 @@ use Rattle.ls_reply.specs.declared.refusal.Refusal.TheVariants as refusal
 abbrev pub IsNewPupil : Interview → Settings → Result Weighing Refusal → Type 0
 IsNewPupil i s (Ok p) =
     (p ≡ record { settings = s; states = compatible_sets i; replies = [] })
-    × IsFamily i.count (compatible_sets i)
     × (weighing_refusals s (length (compatible_sets i)) ≡ [])
 IsNewPupil i s (Err r) = slice_get (weighing_refusals s (length (compatible_sets i))) 0 ≡ Some r
 

@@ -8,7 +8,7 @@ use Rattle.ls_set.specs.ItemSet.{full, IsWithin, most_items}
 use Rattle.ls_theory.specs.Compatible.{compat}
 use Rattle.ls_theory.specs.declared.asked.Asked.TheVariants.{Item}
 use Rattle.ls_theory.specs.declared.reply_fault.ReplyFault.TheVariants.{WrongItem}
-use Rattle.ls_laws.specs.Families.{IsFamily}
+use Rattle.ls_theory.specs.Settings.{most_states}
 use Rattle.ls_expert.specs.Starts.{start_of}
 use Rattle.ls_reply.specs.Sessions.{Pupil}
 use Rattle.ls_reply.specs.Pupils.{most_pupils}
@@ -26,10 +26,10 @@ pupil_of c =
 abbrev pub pupils_of : List PupilCase → List Pupil
 pupils_of cases = map pupil_of cases
 
--- the states of a case are those of its start and Yes queries, among n items; its settings are those of n items, by which its pupil is assessed
+-- the states of a case are those of its start and Yes queries, among n items, and not too many; its settings are those of n items, by which its pupil is assessed
 pub record IsCase (n : ℕ) (c : PupilCase) : Type 0 where
   pub states : c.pupil.states ≡ compat n (start_of c.start) c.yes
-  pub family : IsFamily n c.pupil.states
+  pub few : length c.pupil.states ≤ most_states
   pub settings : c.pupil.settings ≡ c.settings
   pub items : length c.settings.ratios ≡ n
 

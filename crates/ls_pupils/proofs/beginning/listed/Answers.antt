@@ -1,15 +1,39 @@
-use Rattle.std.proofs.Common.{◌≡◌, ◌<◌, ◌≤◌, ℕ, [], List, Some, None, Result, Ok, Err, IfOk, length, ap, sym, ◌∙◌, subst}
-use Rattle.std.specs.declared.alloc.AllocError.{AllocError}
+use Rattle.std.proofs.Common.{◌≡◌, ◌≤◌, ℕ, [], List, Some, None, IfOk, OnOk, length, ap, sym, ◌∙◌, subst, filter}
+use Rattle.std.proofs.lemmas.Result.{IfOk-weaker}
 use Rattle.ls_set.specs.ItemSet.{Items}
-use Rattle.ls_theory.specs.Interviews.{Interview}
-use Rattle.ls_theory.specs.Compatible.{compatible_sets}
+use Rattle.ls_theory.specs.Compatible.{compat, compatible_sets}
+use Rattle.ls_theory.specs.Queries.{breaks_none}
+use Rattle.ls_theory.specs.Settings.{most_states, heavy_after}
+use Rattle.ls_laws.specs.Families.{IsFamily}
+use Rattle.ls_laws.proofs.Families.{compat-IsFamily}
+use Rattle.ls_theory.specs.Interviews.{yes_queries}
+use Rattle.ls_weight.specs.Weighings.{Weighing}
 use Rattle.ls_pupils.proofs.Weighable.{weighable}
+use Rattle.ls_pupils.proofs.Rows.{weighed-new}
+use Rattle.ls_pupils.proofs.beginning.listed.Given as given
 use Rattle.ls_pupils.proofs.beginning.listed.Goals as goal
+
+module _ (g : given.Over) (c : goal.After-items g) where
+  sets_are : c.in-Ok.sets ≡ compatible_sets c.args.inquiry.now
+  sets_are = c.in-Ok.ensures.members ∙ ap (λ r. filter (breaks_none r.rules) (compat r.inner.item_count r.inner.start [])) c.new-states.ensures ∙ c.family.ensures.members
+
+  few_sets : length c.in-Ok.sets ≤ most_states
+  few_sets = let same = ap (λ (f : List Items). length f) c.in-Ok.ensures.members in rw same c.in-Ok.ensures.fits
 
 pub begin-requires : goal.begin-requires
 begin-requires g c =
-    let family = c.family.result.now.is_family in
-    ?
+    let i = c.args.inquiry.now in
+    let family : IsFamily i.count c.in-Ok.sets = subst (IsFamily i.count) (sym (sets_are g c)) (compat-IsFamily i.count i.start (yes_queries i.answers)) in
+    let count = c.items.ensures.count in
+    rw count (weighable i.count c.in-Ok.sets c.args.settings.now (rw count at c.items.ensures.some) (rw count at c.items.ensures.few) c.requires family (few_sets g c))
 
 pub returns-in-Ok : goal.returns-in-Ok
-returns-in-Ok g c = ?
+returns-in-Ok g c =
+    let same = sets_are g c.before.before in
+    let s = c.args.settings.now in
+    weighed-new c.args.inquiry.now s c.begin.result c.weighed.result
+    (subst (λ (f : List Items). length f ≤ most_states) same (few_sets g c.before.before))
+    (IfOk-weaker c.begin.result _ _ (λ p e. e ∙ ap (λ (f : List Items). let w : Weighing = record { settings = s; states = f; replies = [] } in w) same) c.begin.ensures.ok)
+    (subst (λ (f : List Items). OnOk c.begin.result (heavy_after s (length f) ≡ None)) same c.begin.ensures.light)
+    (λ r e. subst (λ (f : List Items). heavy_after s (length f) ≡ Some r) same (c.begin.ensures.heavy r e))
+    c.weighed.ensures

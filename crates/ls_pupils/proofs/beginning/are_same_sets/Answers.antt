@@ -1,0 +1,10 @@
+use Rattle.std.proofs.Common.{◌≡◌, ap, sym, ◌∙◌}
+use Rattle.std.specs.Cmp.Lexicographic.{pointwise}
+use Rattle.std.proofs.lemmas.Slice.Eq.{slice_eq-Decides}
+use Rattle.ls_set.specs.ItemSet.{is_same}
+use Rattle.ls_set.proofs.Sets.{Decides-is_same}
+use Rattle.ls_pupils.proofs.beginning.are_same_sets.Goals as goal
+
+pub returns : goal.returns
+unfolding is_same
+returns c = λ h. (slice_eq-Decides Decides-is_same c.args.own.now c.args.other.now c.eq.result c.eq.ensures).0 h
