@@ -1,13 +1,13 @@
 -- The place of the first word that names no item.
-use Rattle.std.proofs.Common.{◌≡◌, ℕ, suc, ◌+◌, ◌<◌, inl, inr, Bool, true, cond, not, List, [], ◌∷◌, ◌++◌, length, map, filter, Some, None, is_some, option_map, slice_get, refl, sym, ap, ◌∙◌, arith}
+use Rattle.std.proofs.Common.{◌≡◌, ℕ, suc, ◌+◌, ◌<◌, inl, inr, Bool, cond, not, List, [], ◌∷◌, ◌++◌, length, map, filter, Some, None, is_some, option_map, slice_get, refl, sym, ap, ◌∙◌, arith}
 use Rattle.std.specs.declared.option.Option.{Option}
 use Rattle.std.proofs.lemmas.Bool.{cases_Bool}
 use Rattle.std.proofs.lemmas.List.{map-append}
 use Rattle.std.proofs.lemmas.List.Elements.{filter-append}
-use Rattle.ls_lists.proofs.Places.{first-front, first-rest, position-lt, position-here, position-later, is_some-position}
+use Rattle.ls_lists.proofs.Places.{first-front, position-lt, position-here, position-later, is_some-position}
 use Rattle.ls_lines.specs.Lines.{Text}
 use Rattle.ls_domain.specs.Meanings.{is_named, number_of, first_unnamed}
-use Rattle.ls_reply.specs.Meanings.{placed, query_words, unnamed}
+use Rattle.ls_reply.specs.Meanings.{placed, unnamed}
 
 next_place : (n : ℕ) (o : Option ℕ) → option_map (λ i. suc n + i) o ≡ option_map (λ i. n + i) (option_map (λ i. 1 + i) o)
 next_place n None = refl
@@ -45,14 +45,13 @@ module _ (names : List Text) where
     pub in_rest : unnamed names front ≡ [] → unnamed names (front ++ rest) ≡ unnamed names rest
     in_rest e = unnamed-both ∙ ap (λ ps. ps ++ unnamed names rest) e
 
-  -- ---- the words of a query
+  -- ---- the word of an item
 
-  module _ (ws : List Text) (item : Text) where
+  module _ (p : ℕ) (item : Text) where
     named-is : (o : Option ℕ) → o ≡ number_of names item → is_named names item ≡ is_some o
     named-is o e = sym (ap is_some e ∙ is_some-position _ names)
 
-    -- every name names an item
-    pub query-item : (o : Option ℕ) → unnamed names (placed 2 ws) ≡ [] → o ≡ number_of names item
-        → unnamed names (query_words ws item) ≡ cond (is_some o) [] ((length ws + 3) ∷ [])
-    query-item None e f = in_rest (placed 2 ws) ((length ws + 3, item) ∷ []) e ∙ rw (named-is None f) refl
-    query-item (Some i) e f = in_rest (placed 2 ws) ((length ws + 3, item) ∷ []) e ∙ rw (named-is (Some i) f) refl
+    -- it is at fault where no item has the name
+    pub unnamed-item : (o : Option ℕ) → o ≡ number_of names item → unnamed names ((p, item) ∷ []) ≡ cond (is_some o) [] (p ∷ [])
+    unnamed-item None f = rw (named-is None f) refl
+    unnamed-item (Some i) f = rw (named-is (Some i) f) refl

@@ -3,6 +3,7 @@
 #![tactic(auto)]
 
 mod names;
+mod pupils;
 mod request;
 mod unnamed;
 

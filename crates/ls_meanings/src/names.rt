@@ -1,5 +1,5 @@
 // Names of commands.
-ghost use Rattle.std.specs.Prelude.{◌≡◌, ◌+◌, ◌<◌, ◌^◌, [], Some, map, length, slice_get, IfOk, IfErr, OnOk};
+ghost use Rattle.std.specs.Prelude.{◌≡◌, ◌+◌, ◌<◌, ◌^◌, [], ◌∷◌, Some, map, length, slice_get, IfOk, IfErr, OnOk};
 ghost use Rattle.ls_set.specs.ItemSet.{full, IsWithin};
 ghost use Rattle.ls_domain.specs.Meanings.{item_of, items_of};
 ghost use Rattle.ls_reply.specs.Meanings.{placed, query_words, query_of, unnamed};
@@ -26,8 +26,20 @@ pub fn read_query(domain: &Domain, names: &WordList, item: &Word) -> Result<Quer
         Ok(a) => a,
         Err(unnamed) => return Err(unnamed),
     };
+    let q = read_item(domain, item, place)?;
+    Ok(Query { a, q })
+}
+
+/// The item that the word names, which stands at a place of the line.
+pub fn read_item(domain: &Domain, item: &Word, place: usize) -> Result<u32, Unnamed>
+    ensures item { IfOk result (λ q. q ≡ item_of domain.now item.now) }
+    ensures on { IfOk result (λ q. q < length domain.now) }
+    ensures named { OnOk result (unnamed domain.now ((place, item.now) ∷ []) ≡ []) }
+    ensures unnamed { IfErr result (λ u.
+        slice_get (unnamed domain.now ((place, item.now) ∷ [])) 0 ≡ Some u.place) }
+{
     match domain.number(item.as_str()) {
-        Some(q) => Ok(Query { a, q }),
+        Some(q) => Ok(q),
         None => Err(Unnamed { place }),
     }
 }

@@ -1,4 +1,4 @@
-// What commands ask of an interview.
+// What commands ask.
 ghost use Rattle.std.specs.Prelude.{◌≡◌, ◌≤◌, [], Some, false, is_some, map, length, slice_get, option_map, IfOk, IfErr, OnOk};
 ghost use Rattle.std.specs.Option.{ForSome};
 ghost use Rattle.ls_set.specs.ItemSet.{full, IsWithin};
@@ -8,6 +8,7 @@ ghost use Rattle.ls_reply.specs.declared.request.View.TheVariants as view;
 ghost use Rattle.ls_meanings.specs.Asked.{IsOn, IsAskedOn, IsResolveFault, is_edit};
 
 use crate::names::{FIRST_NAME, read_names, read_order, read_query};
+use crate::pupils::read_setting;
 use crate::unnamed::{ResolveFault, Unnamed};
 use ls_domain::Domain;
 use ls_lines::{Command, Word, WordList};
@@ -18,32 +19,26 @@ use std::alloc::Global;
 // The first place of the names after which learning paths are listed.
 const FIRST_OF_PATH: usize = 4;
 
-/// Whether the command asks something of an interview.
+/// Whether the command asks something where a domain stands, in the items' numbers.
 pub fn asks(command: &Command) -> bool
     ensures { result ≡ is_some (request_of [] command.now) }
 {
-    matches!(
+    !matches!(
         command,
-        Command::Blocks { .. }
-            | Command::Yes { .. }
-            | Command::No { .. }
-            | Command::Retract { .. }
-            | Command::Known { .. }
-            | Command::Ask
-            | Command::States { .. }
-            | Command::Base
-            | Command::Surmise
-            | Command::Learning
-            | Command::Project { .. }
-            | Command::ProjectBase { .. }
-            | Command::Fringes { .. }
-            | Command::StateOf { .. }
-            | Command::Paths { .. }
+        Command::Nothing
+            | Command::Items { .. }
+            | Command::LoadItems { .. }
+            | Command::StartSurmise { .. }
+            | Command::StartBase { .. }
+            | Command::Test { .. }
+            | Command::Class { .. }
+            | Command::Save { .. }
+            | Command::Reopen { .. }
     )
 }
 
-/// What the command asks of the interview on a domain's items, or `None` where it asks nothing of
-/// one. The error is the first of its words that must name an item and doesn't; or memory ran out.
+/// What the command asks on a domain's items, or `None` where it is another kind of command. The
+/// error is the first of its words that must name an item and doesn't; or memory ran out.
 pub fn resolve(
     alloc: Global,
     domain: &Domain,
@@ -70,13 +65,13 @@ pub fn resolve(
     Ok(Some(Request::Edit(edit)))
 }
 
-// What a command asks that changes nothing.
+// What a command asks that changes no interview.
 fn read_view(
     alloc: Global,
     domain: &Domain,
     command: &Command,
 ) -> Result<Option<Request>, ResolveFault>
-    requires { is_edit command.now ≡ false }
+    requires { is_edit (request_of domain.now command.now) ≡ false }
     ensures request { IfOk result (λ r. r ≡ request_of domain.now command.now) }
     ensures on { IfOk result (IsAskedOn (length domain.now)) }
     ensures named { OnOk result (unnamed_places domain.now command.now ≡ []) }
@@ -110,7 +105,7 @@ fn read_view(
             count: *count,
             after: read_path(alloc, domain, after)?,
         },
-        _ => return Ok(None),
+        _ => return read_setting(domain, command),
     };
     Ok(Some(Request::View(view)))
 }

@@ -1,8 +1,11 @@
--- The names of the items that a refusal names.
-use Rattle.std.specs.Prelude.{◌<◌, ℕ, List, [], length, Option, Some, None, All}
+-- The names of the items that a refusal or a question names.
+use Rattle.std.specs.Prelude.{◌<◌, ℕ, Bool, true, false, List, [], length, Option, Some, None, All, ⊤}
+use Rattle.ls_theory.specs.declared.asked.Asked.{Asked}
+use Rattle.ls_theory.specs.declared.asked.Asked.TheVariants.{Item, Over}
 use Rattle.ls_lines.specs.Lines.{Text}
 use Rattle.ls_reply.specs.Refusals.{refusal_items}
 use Rattle.ls_reply.specs.declared.refusal.Refusal.{Refusal}
+use Rattle.ls_reply.specs.declared.refusal.Refusal.TheVariants.{ManyStates, Heavy, ManyPupils, PupilStands, NoPupil, Reply, BadSetting}
 
 -- the names of the items, none where no domain stands
 abbrev pub names_in : Option (List Text) → List Text
@@ -16,3 +19,19 @@ AreNamed names items = All (λ q. q < length names) items
 -- each item that the refusal names has a name
 abbrev pub CanRefuse : List Text → Refusal → Type 0
 CanRefuse names refusal = AreNamed names (refusal_items refusal)
+
+-- the item that is asked, if one is, has a name
+abbrev pub CanAsk : List Text → Asked → Type 0
+CanAsk names (Item q) = q < length names
+CanAsk names (Over reason) = ⊤
+
+-- whether a refusal is that of a setting, or of what is asked of a pupil
+abbrev pub is_of_pupils : Refusal → Bool
+is_of_pupils ManyStates = true
+is_of_pupils (Heavy replies) = true
+is_of_pupils ManyPupils = true
+is_of_pupils PupilStands = true
+is_of_pupils NoPupil = true
+is_of_pupils (Reply fault) = true
+is_of_pupils BadSetting = true
+is_of_pupils refusal = false

@@ -7,6 +7,7 @@ ghost use Rattle.ls_writing.specs.Rooms.{Says};
 ghost use Rattle.ls_writing.specs.Names.{names_in, CanRefuse};
 
 use crate::item_names::put_double;
+use crate::pupil_refusals::put_pupil_refusal;
 use crate::start_refusals::{put_base_fault, put_sets_fault, put_surmise_fault};
 use crate::{Room, put_line, put_numbered};
 use ls_domain::{Domain, DomainFault};
@@ -22,6 +23,14 @@ pub fn put_done<K: Sink>(number: u64, room: &mut Room, out: &mut K)
         (line_of (codes "ok" ∷ decimal number ∷ [])) }
 {
     put_numbered(&[b"ok"], &[number], room, out);
+}
+
+/// Says the line of a command that was carried out and tells no number.
+pub fn put_agreed<K: Sink>(room: &mut Room, out: &mut K)
+    ensures { Says (K.written out.old) (K.faults out.old) room.old
+        (K.written out.new) (K.faults out.new) room.new (line_of (codes "ok" ∷ [])) }
+{
+    put_line(&[b"ok"], room, out);
 }
 
 /// Says the line of a refusal: its code and its details. `domain` has the names of the items, where
@@ -70,6 +79,7 @@ pub fn put_refusal<K: Sink>(
         Refusal::NoState => put_line(&[b"no", b"32"], room, out),
         Refusal::NotOrder => put_line(&[b"no", b"33"], room, out),
         Refusal::NotBuilt => put_line(&[b"no", b"49"], room, out),
+        _ => put_pupil_refusal(domain, refusal, room, out),
     }
 }
 

@@ -1,0 +1,15 @@
+use Rattle.std.proofs.Common.{codes, ap, sym, ◌∙◌}
+use Rattle.ls_domain.specs.Texts.{name_of}
+use Rattle.ls_theory.specs.declared.asked.Asked.{Asked}
+use Rattle.ls_reply.specs.Texts.{line_of}
+use Rattle.ls_reply.specs.Lines.{asked_words}
+use Rattle.ls_writing.proofs.Saying.{says_then, says_as}
+use Rattle.ls_writing.proofs.Joins.{line-one}
+use Rattle.ls_writing.proofs.assessing.put_asked.Goals as goal
+
+pub returns-in-Item : goal.returns-in-Item
+returns-in-Item g c =
+    let names = c.args.texts.now in
+    says_as
+    (line-one (codes "question") (name_of names c.in-Item.item) ∙ ap (λ (a : Asked). line_of (asked_words names a)) (sym c.in-Item.is))
+    (says_then (says_then c.put.ensures.says c.put_name.ensures) c.end_line.ensures)

@@ -1,0 +1,9 @@
+use Rattle.ls_reply.specs.Lines.{outcome_words, fringes_words}
+use Rattle.ls_writing.proofs.Saying.{says_then, says_as}
+use Rattle.ls_writing.proofs.Joins.{bytes_of-two}
+use Rattle.ls_writing.proofs.assessing.put_report.Goals as goal
+
+pub returns : goal.returns
+returns g c =
+    let names = c.args.texts.now in
+    says_as (bytes_of-two (outcome_words names c.args.outcome) (fringes_words names c.args.fringes)) (says_then c.put_outcome.ensures c.put_fringes.ensures)

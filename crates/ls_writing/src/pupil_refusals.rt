@@ -1,0 +1,71 @@
+// The lines of refusals of settings and of pupils.
+ghost use Rattle.std.specs.Prelude.{◌≡◌, ◌∷◌, [], true, codes, option_copied};
+ghost use Rattle.ls_reply.specs.Texts.{line_of};
+ghost use Rattle.ls_reply.specs.Refusals.{refusal_words, reply_words, reply_items, reason_word};
+ghost use Rattle.ls_writing.specs.Rooms.{Says};
+ghost use Rattle.ls_writing.specs.Names.{names_in, AreNamed, CanRefuse, is_of_pupils};
+
+use crate::item_names::name_in;
+use crate::{Room, put_line, put_numbered};
+use ls_domain::Domain;
+use ls_edge::Sink;
+use ls_reply::Refusal;
+use ls_theory::{Reason, ReplyFault};
+
+/// Says the refusal of a setting, or of what is asked of a pupil.
+pub(crate) fn put_pupil_refusal<K: Sink>(
+    domain: Option<&Domain>,
+    refusal: &Refusal,
+    room: &mut Room,
+    out: &mut K,
+)
+    requires kind { is_of_pupils refusal.now ≡ true }
+    requires named { CanRefuse (names_in (option_copied domain)) refusal.now }
+    ensures { Says (K.written out.old) (K.faults out.old) room.old
+        (K.written out.new) (K.faults out.new) room.new
+        (line_of (codes "no" ∷ refusal_words (names_in (option_copied domain.entry))
+        refusal.now)) }
+{
+    match refusal {
+        Refusal::ManyStates => put_line(&[b"no", b"34"], room, out),
+        Refusal::Heavy { replies } => {
+            put_numbered(&[b"no", b"35"], &[u64::from(*replies)], room, out);
+        }
+        Refusal::ManyPupils => put_line(&[b"no", b"36"], room, out),
+        Refusal::PupilStands => put_line(&[b"no", b"37"], room, out),
+        Refusal::NoPupil => put_line(&[b"no", b"38"], room, out),
+        Refusal::Reply(fault) => put_reply_fault(domain, *fault, room, out),
+        Refusal::BadSetting => put_line(&[b"no", b"43"], room, out),
+        _ => unreachable!(),
+    }
+}
+
+/// The word that tells why an assessment is over.
+pub(crate) fn reason_word(reason: Reason) -> &'static [u8]
+    ensures { result.now ≡ reason_word reason }
+{
+    match reason {
+        Reason::Share => b"share",
+        Reason::Budget => b"budget",
+    }
+}
+
+// Says the refusal of a reply.
+fn put_reply_fault<K: Sink>(
+    domain: Option<&Domain>,
+    fault: ReplyFault,
+    room: &mut Room,
+    out: &mut K,
+)
+    requires { AreNamed (names_in (option_copied domain)) (reply_items fault) }
+    ensures { Says (K.written out.old) (K.faults out.old) room.old
+        (K.written out.new) (K.faults out.new) room.new
+        (line_of (codes "no" ∷ reply_words (names_in (option_copied domain.entry)) fault)) }
+{
+    match fault {
+        ReplyFault::Over(reason) => put_line(&[b"no", b"39", reason_word(reason)], room, out),
+        ReplyFault::WrongItem { asked } => {
+            put_line(&[b"no", b"40", name_in(domain, asked)], room, out);
+        }
+    }
+}
