@@ -1,5 +1,5 @@
 -- The commands that look at an interview, and how many interiors their replies take.
-use Rattle.std.specs.Prelude.{ℕ, ◌≡◌, ◌<◌, ◌+◌, ◌*◌, Bool, true, false, List, length, ⊤}
+use Rattle.std.specs.Prelude.{ℕ, ◌≡◌, ◌+◌, ◌*◌, Bool, true, false, List, length, ⊤}
 use Rattle.std.specs.Option.{ForSome}
 use Rattle.ls_set.specs.ItemSet.{Items, full, IsWithin}
 use Rattle.ls_set.specs.Query.{is_good}
@@ -11,7 +11,6 @@ use Rattle.ls_theory.specs.Verdict.{base_verdict, is_learning_space}
 use Rattle.ls_theory.specs.Fringes.{state_of}
 use Rattle.ls_theory.specs.declared.fringe_pair.FringePair.{FringePair}
 use Rattle.ls_theory.specs.Paths.{is_order}
-use Rattle.ls_theory.specs.declared.asked.Asked.TheVariants as asked
 use Rattle.ls_laws.specs.Spans.{IsOn}
 use Rattle.ls_spans.specs.Speaking.{IsBaseVerdictOn, IsVerdictOn}
 use Rattle.ls_reply.specs.Rows.{learned, state_shown, paths_shown}
@@ -25,7 +24,7 @@ use Rattle.ls_reply.specs.declared.response.Response.{Response}
 use Rattle.ls_reply.specs.declared.response.Response.TheVariants as response
 use Rattle.ls_reply.specs.declared.response.Shown.{Shown}
 use Rattle.ls_reply.specs.declared.response.Shown.TheVariants as shown
-use Rattle.ls_writing.specs.Names.{CanRefuse}
+use Rattle.ls_writing.specs.Names.{CanAsk, CanRefuse}
 
 -- a session with these names and this interview, whatever its settings and its pupils
 abbrev pub session_with : Session → List Text → Interview → Session
@@ -83,8 +82,7 @@ CanShow names i sets (shown.Fringes fringes) = AreWithin (length names) fringes
 CanShow names i sets (shown.State k) = IsWithin k (full (length names))
 CanShow names i sets (shown.Paths count after) = (is_learning_space (full (length names)) (compatible_sets i) ≡ true) × ForSome after (λ order. is_order (length names) order ≡ true)
 CanShow names i sets (shown.Tested verdict) = IsVerdictOn (length names) verdict
-CanShow names i sets (shown.Asked (asked.Item q)) = q < length names
-CanShow names i sets (shown.Asked (asked.Over reason)) = ⊤
+CanShow names i sets (shown.Asked asked) = CanAsk names asked
 CanShow names i sets (shown.Report outcome fringes) = IsWithin outcome.state (full (length names)) × AreWithin (length names) fringes
 
 -- and a refusal speaks of items that have names

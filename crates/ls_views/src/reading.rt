@@ -75,12 +75,12 @@ fn respond<L: Ledger>(
     ensures response { (s : Session) (calls : Calls) →
         let s = session_with s domain.now inquiry.now in
         IfOk result (λ r. command_effect s calls command.now ≡ answers s r) }
-    ensures said { IfOk result
-        (CanSay domain.now inquiry.now (followed_sets followed.now)) }
+    ensures said { IfOk result (CanSay domain.now inquiry.now (followed_sets followed.now)) }
     ensures cost { let n = inquiry.now.count in
         IfOk result (λ r.
         steps.new + response_steps r n ≤ steps.old + command_steps command.now n) }
-    ensures err { OnErr result (steps.new ≤ steps.old + command_steps command.now inquiry.now.count) }
+    ensures err { OnErr result
+        (steps.new ≤ steps.old + command_steps command.now inquiry.now.count) }
 {
     prove!(domain.count() > 0);
     let _ = inquiry.standing();
@@ -125,8 +125,8 @@ fn write<K: Sink, L: Ledger>(
     requires items { length texts.now ≡ inquiry.now.count }
     requires can { CanSay texts.now inquiry.now sets.now response.now }
     requires empty { room.old ≡ no_reply }
-    ensures wrote { (s : Session) → Wrote (K.written out.old) (K.faults out.old) (K.written out.new)
-        (K.faults out.new)
+    ensures wrote { (s : Session) → Wrote (K.written out.old) (K.faults out.old)
+        (K.written out.new) (K.faults out.new)
         (bytes_of (lines_of (session_with s texts.now inquiry.now) response.now)) result }
     ensures cost { steps.new ≤ steps.old + response_steps response.now inquiry.now.count }
 {

@@ -39,18 +39,17 @@ pub fn put_shown<K: Sink, L: Ledger>(
         (K.faults out.new) room.new (bytes_of (shown_lines texts.now inquiry.now shown.now)) }
     ensures cost { steps.new ≤ steps.old + shown_steps shown.now inquiry.now.count }
 {
+    let family = inquiry.family();
     match shown {
         Shown::Known(known) => put_known(*known, room, out),
         Shown::Question(next) => put_question(texts, next, room, out),
-        Shown::States { count, after } => {
-            put_states(inquiry.family(), texts, *after, *count, room, out, steps);
-        }
+        Shown::States { count, after } => put_page(family, texts, *after, *count, room, out, steps),
         Shown::Base => put_base(texts, sets, room, out),
         Shown::Surmise { atoms } => put_surmise(texts, sets, atoms.as_slice(), room, out),
         Shown::Learning(verdict) => put_learning(texts, *verdict, room, out),
         Shown::Projected { part, count, after } => {
-            let projection = Trace::new(inquiry.family(), *part);
-            put_states(&projection, texts, *after, *count, room, out, steps);
+            let projection = Trace::new(family, *part);
+            put_page(&projection, texts, *after, *count, room, out, steps);
         }
         Shown::ProjectedBase { base, verdict } => {
             put_base(texts, base.as_slice(), room, out);
@@ -58,9 +57,7 @@ pub fn put_shown<K: Sink, L: Ledger>(
         }
         Shown::Fringes(fringes) => put_fringes(texts, *fringes, room, out),
         Shown::State(set) => put_state(texts, *set, room, out),
-        Shown::Paths { count, after } => {
-            put_paths(inquiry.family(), texts, after, *count, room, out);
-        }
+        Shown::Paths { count, after } => put_paths(family, texts, after, *count, room, out),
         Shown::Tested(verdict) => put_verdict(texts, verdict, room, out),
         Shown::Asked(asked) => put_asked(texts, *asked, room, out),
         Shown::Report { outcome, fringes } => put_report(texts, *outcome, *fringes, room, out),
@@ -68,7 +65,7 @@ pub fn put_shown<K: Sink, L: Ledger>(
 }
 
 // Says a page of the states of a family, each of whose interiors is counted.
-fn put_states<F: Inside, K: Sink, L: Ledger>(
+fn put_page<F: Inside, K: Sink, L: Ledger>(
     family: &F,
     texts: &SetTexts,
     after: Option<ItemSet>,

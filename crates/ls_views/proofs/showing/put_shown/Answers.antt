@@ -93,7 +93,7 @@ pub returns-in-Paths-clause-says : goal.returns-in-Paths-clause-says
 returns-in-Paths-clause-says g c =
     let names = c.args.texts.now in
     let w = c.in-Paths in
-    let fam = c.family-in-Paths in
+    let fam = c.family-family in
     says_as
     (ap₂ (λ n (f : List Items). bytes_of (path_lines names (page is_lex_before (paths n f) w.after w.count))) (ap (λ (x : StartOn). x.item_count) fam.ensures.inner ∙ sym c.requires.items) fam.ensures.members
     ∙ shown_bytes c.args.texts.now c.args.inquiry.now c.args.shown.now (shown.Paths w.count w.after) w.is) c.put_paths.ensures
@@ -102,12 +102,12 @@ pub returns-in-Projected-clause-says : goal.returns-in-Projected-clause-says
 returns-in-Projected-clause-says g c =
     let names = c.args.texts.now in
     let w = c.in-Projected in
-    let fam = c.family-in-Projected in
+    let fam = c.family-family in
     says_as
     (ap (λ t. bytes_of (page_lines names (page comes_before (projection t.inner.inner.item_count t.part (filter (breaks_none t.inner.rules) (compat t.inner.inner.item_count t.inner.inner.start []))) w.after w.count)))
     c.new-projection.ensures
     ∙ ap₂ (λ n (f : List Items). bytes_of (page_lines names (page comes_before (projection n w.part f) w.after w.count))) (ap (λ (x : StartOn). x.item_count) fam.ensures.inner ∙ sym c.requires.items) fam.ensures.members
-    ∙ shown_bytes c.args.texts.now c.args.inquiry.now c.args.shown.now (shown.Projected w.part w.count w.after) w.is) c.put_states-in-Projected.ensures.says
+    ∙ shown_bytes c.args.texts.now c.args.inquiry.now c.args.shown.now (shown.Projected w.part w.count w.after) w.is) c.put_page-in-Projected.ensures.says
 
 pub returns-in-Asked-clause-says : goal.returns-in-Asked-clause-says
 returns-in-Asked-clause-says g c =
