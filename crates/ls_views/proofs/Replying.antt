@@ -16,15 +16,15 @@ use Rattle.ls_reply.specs.declared.request.View.{View}
 use Rattle.ls_reply.specs.declared.request.Request.TheVariants as request
 use Rattle.ls_reply.specs.declared.response.Response.{Response}
 use Rattle.ls_reply.proofs.Effects.{has_domain-some, command_effect-asked}
-use Rattle.ls_views.specs.Views.{is_reading, session_on}
+use Rattle.ls_views.specs.Views.{is_reading, session_with}
 
 pub said_bytes : (s : Session) (a b : Response) → a ≡ b → bytes_of (lines_of s b) ≡ bytes_of (lines_of s a)
 said_bytes s a b e = ap (λ (x : Response). bytes_of (lines_of s x)) (sym e)
 
 -- the bytes of a response are the reply to the command that it answers
-pub reply_is : {names : List Text} {i j : Interview} {r : Response} (calls : Calls) (c : Command) → j ≡ i → command_effect (session_on names j) calls c ≡ answers (session_on names j) r
-    → bytes_of (lines_of (session_on names j) r) ≡ reply_of (command_effect (session_on names i) calls c)
-reply_is {names} {i} {j} {r} calls c same e = ap reply_of (sym e) ∙ ap (λ (k : Interview). reply_of (command_effect (session_on names k) calls c)) same
+pub reply_is : {names : List Text} {i j : Interview} {r : Response} (s : Session) (calls : Calls) (c : Command) → j ≡ i → command_effect (session_with s names j) calls c ≡ answers (session_with s names j) r
+    → bytes_of (lines_of (session_with s names j) r) ≡ reply_of (command_effect (session_with s names i) calls c)
+reply_is {names} {i} {j} {r} s calls c same e = ap reply_of (sym e) ∙ ap (λ (k : Interview). reply_of (command_effect (session_with s names k) calls c)) same
 
 -- what a command asks of an interview that stays as it is
 pub asked-view : (s : Session) (c : Command) (v : View) → 0 < length s.names → unnamed_places s.names c ≡ [] → request_of s.names c ≡ Some (request.View v)

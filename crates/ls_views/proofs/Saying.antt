@@ -32,7 +32,6 @@ use Rattle.ls_theory.specs.declared.answer_fault.AnswerFault.TheVariants.{BadQue
 use Rattle.ls_expert.proofs.Ruling.{question-good}
 use Rattle.ls_lines.specs.Lines.{Text}
 use Rattle.ls_reply.specs.Refusals.{refusal_items}
-use Rattle.ls_reply.specs.Sessions.{Session, states}
 use Rattle.ls_reply.specs.Effects.{refuse, refuse_fault, ◌otherwise◌}
 use Rattle.ls_reply.specs.Rows.{view_row, based_row, states_row, project_row, past_refusal, learning_refusals, learned, state_shown, paths_shown}
 use Rattle.ls_reply.specs.declared.refusal.Refusal.{Refusal}
@@ -58,9 +57,9 @@ use Rattle.ls_theory.specs.Compatible.{compatible_sets}
 pub names_none : (names : List Text) (r : Refusal) → refusal_items r ≡ [] → CanRefuse names r
 names_none names r e = subst (AreNamed names) (sym e) (λ i d l. absurd (omega arith))
 
-can-known : (s : Session) (sets : List Items) (good : Bool) (k : Known) → CanSay s sets (refuse (refusal_of.Answer BadQuery) (not good) otherwise Shown (shown.Known k))
-can-known s sets true k = tt
-can-known s sets false k = names_none s.names (refusal_of.Answer BadQuery) refl
+can-known : (names : List Text) (i : Interview) (sets : List Items) (good : Bool) (k : Known) → CanSay names i sets (refuse (refusal_of.Answer BadQuery) (not good) otherwise Shown (shown.Known k))
+can-known names i sets true k = tt
+can-known names i sets false k = names_none names (refusal_of.Answer BadQuery) refl
 
 asked : (P : Query → Type 0) (o : Option Query) → IfSome o P → ForSome o P
 asked P None h = λ x e. absurd (cc e)
@@ -73,11 +72,11 @@ module _ (n : ℕ) (f : List Items) (on : IsOn n f) where
   told-double : (names : List Text) (k : Items) (i j : ℕ) → length names ≡ n → IsDoubleOn n k i j → CanRefuse names (refusal_of.NotLearning k i j)
   told-double names k i j e d = double-named names k i j (subst (λ m. IsDoubleOn m k i j) (sym e) d)
 
-  can-learned : (s : Session) (sets : List Items) (r : Response) → length s.names ≡ n → is_space (full n) f ≡ true → (is_learning_space (full n) f ≡ true → CanSay s sets r) → CanSay s sets (learned f r)
-  can-learned s sets r e space can = go (base_verdict f) refl (base_verdict-on n f (full n) on space)
+  can-learned : (names : List Text) (i : Interview) (sets : List Items) (r : Response) → length names ≡ n → is_space (full n) f ≡ true → (is_learning_space (full n) f ≡ true → CanSay names i sets r) → CanSay names i sets (learned f r)
+  can-learned names i sets r e space can = go (base_verdict f) refl (base_verdict-on n f (full n) on space)
     where
-      go : (v : BaseVerdict) → base_verdict f ≡ v → IsBaseVerdictOn n v → CanSay s sets (learning_refusals v otherwise r)
-      go (of_base.NotGraded k i j) h d = told-double s.names k i j e d
+      go : (v : BaseVerdict) → base_verdict f ≡ v → IsBaseVerdictOn n v → CanSay names i sets (learning_refusals v otherwise r)
+      go (of_base.NotGraded k first second) h d = told-double names k first second e d
       go of_base.Learning h d = can (and_from (is_space (full n) f) (is_well_graded f) space (graded h))
         where
           graded : base_verdict f ≡ of_base.Learning → is_well_graded f ≡ true
@@ -88,64 +87,64 @@ module _ (n : ℕ) (f : List Items) (on : IsOn n f) where
 
 -- ---- what is shown of an interview that stands
 
-module _ (s : Session) (sets : List Items) (items : length s.names ≡ s.interview.count) (sound : IsSound s.interview) where
+module _ (names : List Text) (i : Interview) (sets : List Items) (items : length names ≡ i.count) (sound : IsSound i) where
   abbrev n : ℕ
-  n = length s.names
+  n = length names
 
   abbrev f : List Items
-  f = states s
+  f = compatible_sets i
 
   on : IsOn n f
-  on = λ k m. subst (λ c. IsWithin k (full c)) (sym items) ((compat-IsUnionFamily s.interview.count s.interview.start (yes_queries s.interview.answers)).small k m)
+  on = λ k m. subst (λ c. IsWithin k (full c)) (sym items) ((compat-IsUnionFamily i.count i.start (yes_queries i.answers)).small k m)
 
   space : is_space (full n) f ≡ true
-  space = subst (λ c. is_space (full c) f ≡ true) (sym items) (compatible-space s.interview sound)
+  space = subst (λ c. is_space (full c) f ≡ true) (sym items) (compatible-space i sound)
 
   -- what stands on the base
-  can-based : (r : Response) → (peak_of s.interview ≡ None → CanSay s sets r) → CanSay s sets (based_row s.interview r)
-  can-based r can = go (peak_of s.interview) refl
+  can-based : (r : Response) → (peak_of i ≡ None → CanSay names i sets r) → CanSay names i sets (based_row i r)
+  can-based r can = go (peak_of i) refl
     where
-      go : (p : Option Peak) → peak_of s.interview ≡ p → CanSay s sets (refuse_fault past_refusal p otherwise r)
+      go : (p : Option Peak) → peak_of i ≡ p → CanSay names i sets (refuse_fault past_refusal p otherwise r)
       go None e = can e
-      go (Some p) e = names_none s.names (refusal_of.Past p.position p.count) refl
+      go (Some p) e = names_none names (refusal_of.Past p.position p.count) refl
 
-  can-after : (count : ℕ) (after : Result (Option Items) CursorFault) → IsAfter n after → CanSay s sets (states_row count after)
+  can-after : (count : ℕ) (after : Result (Option Items) CursorFault) → IsAfter n after → CanSay names i sets (states_row count after)
   can-after count (Ok after) h = h
-  can-after count (Err fault) h = names_none s.names (refusal_of.Cursor fault) refl
+  can-after count (Err fault) h = names_none names (refusal_of.Cursor fault) refl
 
-  can-projected : (part : Items) (count : ℕ) (after : Result (Option Items) CursorFault) → IsAfter n after → CanSay s sets (project_row part count after)
+  can-projected : (part : Items) (count : ℕ) (after : Result (Option Items) CursorFault) → IsAfter n after → CanSay names i sets (project_row part count after)
   can-projected part count (Ok after) h = h
-  can-projected part count (Err fault) h = names_none s.names (refusal_of.Cursor fault) refl
+  can-projected part count (Err fault) h = names_none names (refusal_of.Cursor fault) refl
 
-  pub can-view : (v : View) → asked_on.IsOn n v → (is_based v ≡ true → peak_of s.interview ≡ None → sets ≡ base f) → CanSay s sets (view_row s.interview v)
-  can-view (view.Known q) h same = can-known s sets (is_good s.interview.count q) (known s.interview q)
-  can-view view.Ask h same = subst (λ m. ForSome (next_question s.interview None) (λ q. is_good m q ≡ true)) (sym items) (asked (λ q. is_good s.interview.count q ≡ true) (next_question s.interview None) (question-good s.interview None))
+  pub can-view : (v : View) → asked_on.IsOn n v → (is_based v ≡ true → peak_of i ≡ None → sets ≡ base f) → CanSay names i sets (view_row i v)
+  can-view (view.Known q) h same = can-known names i sets (is_good i.count q) (known i q)
+  can-view view.Ask h same = subst (λ m. ForSome (next_question i None) (λ q. is_good m q ≡ true)) (sym items) (asked (λ q. is_good i.count q ≡ true) (next_question i None) (question-good i None))
   can-view (view.States count after) h same = can-after count after h
   can-view view.Base h same = can-based (Shown shown.Base) (same refl)
   can-view view.Surmise h same = can-based (Shown (shown.Surmise (atom_sets f))) (λ e. (same refl e, refl))
   can-view view.Learning h same = can-based (Shown (shown.Learning (base_verdict f))) (λ e. base_verdict-on n f (full n) on space)
   can-view (view.Project part count after) h same = can-projected part count after h.1
   can-view (view.ProjectBase part) h same =
-      let g = projection s.interview.count part f in
+      let g = projection i.count part f in
       can-based (Shown (shown.ProjectedBase (base g) (base_verdict g))) (λ e. subst (λ m. let g = projection m part f in IsOn n (base g) × IsBaseVerdictOn n (base_verdict g)) items
       (λ k m. projection-within n part f h k (base-member (projection n part f) k m), base_verdict-on n (projection n part f) part (projection-within n part f h) (projection-space n part f (is_within-from part (full n) h) space)))
   can-view (view.Fringes k) h same = can-fringes (is_among f k)
     where
-      can-fringes : (b : Bool) → CanSay s sets (refuse refusal_of.NotState (not b) otherwise Shown (shown.Fringes (fringes s.interview.count f k)))
+      can-fringes : (b : Bool) → CanSay names i sets (refuse refusal_of.NotState (not b) otherwise Shown (shown.Fringes (fringes i.count f k)))
       can-fringes true = (inner-within n f on k h, subst (λ m. IsWithin (outer_fringe m f k) (full n)) items (outer-within n f on k))
-      can-fringes false = names_none s.names refusal_of.NotState refl
-  can-view (view.StateOf inner outer) h same = can-based _ (λ e. can-learned n f on s sets _ refl space (λ l. subst (λ m. CanSay s sets (state_shown (state_of m f inner outer))) items (can-state (state_of n f inner outer) refl)))
+      can-fringes false = names_none names refusal_of.NotState refl
+  can-view (view.StateOf inner outer) h same = can-based _ (λ e. can-learned n f on names i sets _ refl space (λ l. subst (λ m. CanSay names i sets (state_shown (state_of m f inner outer))) items (can-state (state_of n f inner outer) refl)))
     where
-      can-state : (o : Option Items) → state_of n f inner outer ≡ o → CanSay s sets (state_shown o)
-      can-state None e = names_none s.names refusal_of.NoState refl
+      can-state : (o : Option Items) → state_of n f inner outer ≡ o → CanSay names i sets (state_shown o)
+      can-state None e = names_none names refusal_of.NoState refl
       can-state (Some k) e = state_of-within n f on inner outer k e
-  can-view (view.Paths count after) h same = can-based _ (λ e. can-learned n f on s sets _ refl space (λ l. subst (λ m. CanSay s sets (paths_shown m count after)) items (can-paths l after)))
+  can-view (view.Paths count after) h same = can-based _ (λ e. can-learned n f on names i sets _ refl space (λ l. subst (λ m. CanSay names i sets (paths_shown m count after)) items (can-paths l after)))
     where
-      can-paths : is_learning_space (full n) f ≡ true → (after : Option (List ℕ)) → CanSay s sets (paths_shown n count after)
+      can-paths : is_learning_space (full n) f ≡ true → (after : Option (List ℕ)) → CanSay names i sets (paths_shown n count after)
       can-paths l None = (l, λ x e. absurd (cc e))
-      can-paths l (Some order) = elim (is_order n order) as (λ b. is_order n order ≡ b → CanSay s sets (refuse refusal_of.NotOrder (not b) otherwise Shown (shown.Paths count (Some order)))) [
+      can-paths l (Some order) = elim (is_order n order) as (λ b. is_order n order ≡ b → CanSay names i sets (refuse refusal_of.NotOrder (not b) otherwise Shown (shown.Paths count (Some order)))) [
         | true ↦ λ e. (l, λ x h. let same : order ≡ x = cc h in subst (λ o. is_order n o ≡ true) same e)
-        | false ↦ λ e. names_none s.names refusal_of.NotOrder refl
+        | false ↦ λ e. names_none names refusal_of.NotOrder refl
       ] refl
 
 -- where the base had never too many sets, what is followed has its sets

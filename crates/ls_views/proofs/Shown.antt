@@ -13,7 +13,7 @@ use Rattle.ls_spans.proofs.Spanning.{atom_items-spanning}
 use Rattle.ls_laws.proofs.Compat.{compat-IsUnionFamily, compat-in_order}
 use Rattle.ls_base.proofs.Spanned.{atoms_at-base}
 use Rattle.ls_reply.specs.Texts.{line_of, bytes_of}
-use Rattle.ls_reply.specs.Sessions.{Session}
+use Rattle.ls_lines.specs.Lines.{Text}
 use Rattle.ls_reply.specs.Lines.{shown_lines}
 use Rattle.ls_reply.specs.declared.response.Shown.{Shown}
 
@@ -23,8 +23,8 @@ unfolding line_of
 question_line a name = simp append_assoc
 
 -- the bytes of what is shown by what it is
-pub shown_bytes : (s : Session) (a b : Shown) → a ≡ b → bytes_of (shown_lines s b) ≡ bytes_of (shown_lines s a)
-shown_bytes s a b e = ap (λ (x : Shown). bytes_of (shown_lines s x)) (sym e)
+pub shown_bytes : (names : List Text) (i : Interview) (a b : Shown) → a ≡ b → bytes_of (shown_lines names i b) ≡ bytes_of (shown_lines names i a)
+shown_bytes names i a b e = ap (λ (x : Shown). bytes_of (shown_lines names i x)) (sym e)
 
 all-among : (n : ℕ) (f : List Items) → ((k : Items) → is_among f k ≡ true → IsWithin k (full n)) → (i : ℕ) (d : Items) → i < length f → IsWithin (slice_index_or f i d) (full n)
 all-among n [] h i d l = absurd (omega arith)

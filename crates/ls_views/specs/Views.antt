@@ -4,10 +4,12 @@ use Rattle.std.specs.Option.{ForSome}
 use Rattle.ls_set.specs.ItemSet.{Items, full, IsWithin}
 use Rattle.ls_set.specs.Query.{is_good}
 use Rattle.ls_theory.specs.Interviews.{Interview}
+use Rattle.ls_theory.specs.Compatible.{compatible_sets}
 use Rattle.ls_theory.specs.Bases.{base, atom_sets}
 use Rattle.ls_theory.specs.Projections.{projection}
 use Rattle.ls_theory.specs.Verdict.{base_verdict, is_learning_space}
 use Rattle.ls_theory.specs.Fringes.{state_of}
+use Rattle.ls_theory.specs.declared.fringe_pair.FringePair.{FringePair}
 use Rattle.ls_theory.specs.Paths.{is_order}
 use Rattle.ls_laws.specs.Spans.{IsOn}
 use Rattle.ls_spans.specs.Speaking.{IsBaseVerdictOn, IsVerdictOn}
@@ -15,18 +17,18 @@ use Rattle.ls_reply.specs.Rows.{learned, state_shown, paths_shown}
 use Rattle.ls_lines.specs.Lines.{Text}
 use Rattle.ls_lines.specs.declared.command.Command.{Command}
 use Rattle.ls_lines.specs.declared.command.Command.TheVariants as command
-use Rattle.ls_reply.specs.Sessions.{Session, states}
+use Rattle.ls_reply.specs.Sessions.{Session}
 use Rattle.ls_reply.specs.declared.request.View.{View}
 use Rattle.ls_reply.specs.declared.request.View.TheVariants as view
 use Rattle.ls_reply.specs.declared.response.Response.{Response}
 use Rattle.ls_reply.specs.declared.response.Response.TheVariants as response
 use Rattle.ls_reply.specs.declared.response.Shown.{Shown}
 use Rattle.ls_reply.specs.declared.response.Shown.TheVariants as shown
-use Rattle.ls_writing.specs.Names.{CanRefuse}
+use Rattle.ls_writing.specs.Names.{CanAsk, CanRefuse}
 
--- the session of an interview on named items
-abbrev pub session_on : List Text → Interview → Session
-session_on names i = record { names = names; interview = i }
+-- a session with these names and this interview, whatever its settings and its pupils
+abbrev pub session_with : Session → List Text → Interview → Session
+session_with s names i = record s { names = names; interview = i }
 
 abbrev pub is_reading : Command → Bool
 is_reading (command.Known names item) = true
@@ -62,26 +64,32 @@ based_on n f (view.StateOf inner outer) = learned f (state_shown (state_of n f i
 based_on n f (view.Paths count after) = learned f (paths_shown n count after)
 based_on n f v = response.Silence
 
+-- two fringes among n items
+abbrev pub AreWithin : ℕ → FringePair → Type 0
+AreWithin n fringes = IsWithin fringes.inner (full n) × IsWithin fringes.outer (full n)
+
 -- What is shown speaks of the items alone; of the base, where these are its sets; and of learning paths in a learning space.
-abbrev pub CanShow : Session → List Items → Shown → Type 0
-CanShow s sets (shown.Known known) = ⊤
-CanShow s sets (shown.Question next) = ForSome next (λ r. is_good (length s.names) r ≡ true)
-CanShow s sets (shown.States count after) = ForSome after (λ k. IsWithin k (full (length s.names)))
-CanShow s sets shown.Base = sets ≡ base (states s)
-CanShow s sets (shown.Surmise atoms) = (sets ≡ base (states s)) × (atoms ≡ atom_sets (states s))
-CanShow s sets (shown.Learning verdict) = IsBaseVerdictOn (length s.names) verdict
-CanShow s sets (shown.Projected part count after) = ForSome after (λ k. IsWithin k (full (length s.names)))
-CanShow s sets (shown.ProjectedBase found verdict) = IsOn (length s.names) found × IsBaseVerdictOn (length s.names) verdict
-CanShow s sets (shown.Fringes fringes) = IsWithin fringes.inner (full (length s.names)) × IsWithin fringes.outer (full (length s.names))
-CanShow s sets (shown.State k) = IsWithin k (full (length s.names))
-CanShow s sets (shown.Paths count after) = (is_learning_space (full (length s.names)) (states s) ≡ true) × ForSome after (λ order. is_order (length s.names) order ≡ true)
-CanShow s sets (shown.Tested verdict) = IsVerdictOn (length s.names) verdict
+abbrev pub CanShow : List Text → Interview → List Items → Shown → Type 0
+CanShow names i sets (shown.Known known) = ⊤
+CanShow names i sets (shown.Question next) = ForSome next (λ r. is_good (length names) r ≡ true)
+CanShow names i sets (shown.States count after) = ForSome after (λ k. IsWithin k (full (length names)))
+CanShow names i sets shown.Base = sets ≡ base (compatible_sets i)
+CanShow names i sets (shown.Surmise atoms) = (sets ≡ base (compatible_sets i)) × (atoms ≡ atom_sets (compatible_sets i))
+CanShow names i sets (shown.Learning verdict) = IsBaseVerdictOn (length names) verdict
+CanShow names i sets (shown.Projected part count after) = ForSome after (λ k. IsWithin k (full (length names)))
+CanShow names i sets (shown.ProjectedBase found verdict) = IsOn (length names) found × IsBaseVerdictOn (length names) verdict
+CanShow names i sets (shown.Fringes fringes) = AreWithin (length names) fringes
+CanShow names i sets (shown.State k) = IsWithin k (full (length names))
+CanShow names i sets (shown.Paths count after) = (is_learning_space (full (length names)) (compatible_sets i) ≡ true) × ForSome after (λ order. is_order (length names) order ≡ true)
+CanShow names i sets (shown.Tested verdict) = IsVerdictOn (length names) verdict
+CanShow names i sets (shown.Asked asked) = CanAsk names asked
+CanShow names i sets (shown.Report outcome fringes) = IsWithin outcome.state (full (length names)) × AreWithin (length names) fringes
 
 -- and a refusal speaks of items that have names
-abbrev pub CanSay : Session → List Items → Response → Type 0
-CanSay s sets (response.Shown what) = CanShow s sets what
-CanSay s sets (response.Refused refusal) = CanRefuse s.names refusal
-CanSay s sets r = ⊤
+abbrev pub CanSay : List Text → Interview → List Items → Response → Type 0
+CanSay names i sets (response.Shown what) = CanShow names i sets what
+CanSay names i sets (response.Refused refusal) = CanRefuse names refusal
+CanSay names i sets r = ⊤
 
 -- how many interiors it takes at most to decide what is shown
 abbrev pub view_steps : View → ℕ

@@ -82,19 +82,8 @@ fn projected_base(alloc: Global, base: &Base, part: ItemSet) -> Result<Response,
 {
     let projected = project_base(alloc, base, part)?;
     let verdict = test_base(&projected);
-    let base = listed(alloc, projected.sets())?;
+    let base = SetList::from_slice(alloc, projected.sets())?;
     Ok(Response::Shown(Shown::ProjectedBase { base, verdict }))
-}
-
-// The sets as a list.
-fn listed(alloc: Global, sets: &[ItemSet]) -> Result<SetList, AllocError>
-    ensures { IfOk result (λ list. list ≡ sets.now) }
-{
-    let mut list = SetList::new(alloc);
-    for set in sets {
-        list.push(*set)?;
-    }
-    Ok(list)
 }
 
 // The state of a learning space with two fringes.

@@ -3,6 +3,7 @@ ghost use Rattle.std.specs.Prelude.{◌≡◌, ◌≤◌, ◌+◌, ℕ, List, tr
 ghost use Rattle.std.specs.Io.KnownBytes.{Appends};
 ghost use Rattle.ls_edge.specs.Causes.{AppendsFront, HasSinkCause};
 ghost use Rattle.ls_reply.specs.Scenes.{Calls};
+ghost use Rattle.ls_reply.specs.Sessions.{Session};
 ghost use Rattle.ls_reply.specs.Texts.{bytes_of};
 ghost use Rattle.ls_reply.specs.Lines.{lines_of};
 ghost use Rattle.ls_reply.specs.Meanings.{unnamed_places};
@@ -13,7 +14,7 @@ ghost use Rattle.ls_base.specs.Followed.{IsFollowed, followed_sets};
 ghost use Rattle.ls_reply.specs.Rows.{view_row};
 ghost use Rattle.ls_meanings.specs.Asked.{IsOn};
 ghost use Rattle.ls_writing.specs.Rooms.{Says, Wrote, no_reply};
-ghost use Rattle.ls_views.specs.Views.{CanSay, is_reading, command_steps, response_steps, view_steps, session_on};
+ghost use Rattle.ls_views.specs.Views.{CanSay, is_reading, command_steps, response_steps, view_steps, session_with};
 
 use crate::based::decide_based;
 use crate::deciding::{decide, is_based};
@@ -27,7 +28,7 @@ use ls_lines::Command;
 use ls_meanings::{ResolveFault, resolve};
 use ls_reply::{Request, Response, View};
 use ls_set::ItemSet;
-use ls_writing::{Room, SetTexts, put_done, put_refusal};
+use ls_writing::{Room, SetTexts, put_done, put_line, put_refusal};
 use std::alloc::{AllocError, Global};
 use std::sync::ledger::Ledger;
 
@@ -42,16 +43,17 @@ pub fn put_response<K: Sink, L: Ledger>(
     steps: &mut Steps<L>,
 )
     requires items { length texts.now ≡ inquiry.now.count }
-    requires can { CanSay (session_on texts.now inquiry.now) sets.now response.now }
-    ensures says { Says (K.written out.old) (K.faults out.old) room.old (K.written out.new)
-        (K.faults out.new) room.new
-        (bytes_of (lines_of (session_on texts.now inquiry.now) response.now)) }
+    requires can { CanSay texts.now inquiry.now sets.now response.now }
+    ensures says { (s : Session) → Says (K.written out.old) (K.faults out.old) room.old
+        (K.written out.new) (K.faults out.new) room.new
+        (bytes_of (lines_of (session_with s texts.now inquiry.now) response.now)) }
     ensures cost { steps.new ≤ steps.old + response_steps response.now inquiry.now.count }
 {
     match response {
         Response::Silence => (),
         Response::Refused(refusal) => put_refusal(Some(texts.domain()), refusal, room, out),
         Response::Done { number } => put_done(*number, room, out),
+        Response::Agreed => put_line(&[b"ok"], room, out),
         Response::Shown(shown) => put_shown(texts, inquiry, sets, shown, room, out, steps),
     }
 }
@@ -70,14 +72,15 @@ fn respond<L: Ledger>(
     requires named { unnamed_places domain.now command.now ≡ [] }
     requires followed { let i = inquiry.now in IsFollowed i.count i.start (yes_queries i.answers)
         followed.now }
-    ensures response { (calls : Calls) → let s = session_on domain.now inquiry.now in
+    ensures response { (s : Session) (calls : Calls) →
+        let s = session_with s domain.now inquiry.now in
         IfOk result (λ r. command_effect s calls command.now ≡ answers s r) }
-    ensures said { IfOk result
-        (CanSay (session_on domain.now inquiry.now) (followed_sets followed.now)) }
+    ensures said { IfOk result (CanSay domain.now inquiry.now (followed_sets followed.now)) }
     ensures cost { let n = inquiry.now.count in
         IfOk result (λ r.
         steps.new + response_steps r n ≤ steps.old + command_steps command.now n) }
-    ensures err { OnErr result (steps.new ≤ steps.old + command_steps command.now inquiry.now.count) }
+    ensures err { OnErr result
+        (steps.new ≤ steps.old + command_steps command.now inquiry.now.count) }
 {
     prove!(domain.count() > 0);
     let _ = inquiry.standing();
@@ -120,11 +123,11 @@ fn write<K: Sink, L: Ledger>(
     steps: &mut Steps<L>,
 ) -> Result<(), SinkFault>
     requires items { length texts.now ≡ inquiry.now.count }
-    requires can { CanSay (session_on texts.now inquiry.now) sets.now response.now }
+    requires can { CanSay texts.now inquiry.now sets.now response.now }
     requires empty { room.old ≡ no_reply }
-    ensures wrote { Wrote (K.written out.old) (K.faults out.old) (K.written out.new)
-        (K.faults out.new)
-        (bytes_of (lines_of (session_on texts.now inquiry.now) response.now)) result }
+    ensures wrote { (s : Session) → Wrote (K.written out.old) (K.faults out.old)
+        (K.written out.new) (K.faults out.new)
+        (bytes_of (lines_of (session_with s texts.now inquiry.now) response.now)) result }
     ensures cost { steps.new ≤ steps.old + response_steps response.now inquiry.now.count }
 {
     put_response(texts, inquiry, sets, response, room, out, steps);
@@ -153,13 +156,17 @@ pub fn view<K: Sink, L: Ledger>(
     requires items { length domain.now ≡ interview.now.count }
     requires reading { is_reading command.now ≡ true }
     requires named { unnamed_places domain.now command.now ≡ [] }
-    ensures told { (calls : Calls) → IfOk result (λ b.
-        b ≡ is_refusal (reply_of (command_effect (session_on domain.now interview.now) calls
-        command.now))) }
-    ensures whole { (calls : Calls) → OnOk result (Appends (K.written out.old) (K.written out.new)
-        (reply_of (command_effect (session_on domain.now interview.now) calls command.now))) }
-    ensures front { (calls : Calls) → AppendsFront (K.written out.old) (K.written out.new)
-        (reply_of (command_effect (session_on domain.now interview.now) calls command.now)) }
+    ensures told { (s : Session) (calls : Calls) →
+        let s = session_with s domain.now interview.now in
+        IfOk result (λ b. b ≡ is_refusal (reply_of (command_effect s calls command.now))) }
+    ensures whole { (s : Session) (calls : Calls) →
+        let s = session_with s domain.now interview.now in
+        OnOk result (Appends (K.written out.old) (K.written out.new)
+        (reply_of (command_effect s calls command.now))) }
+    ensures front { (s : Session) (calls : Calls) →
+        let s = session_with s domain.now interview.now in
+        AppendsFront (K.written out.old) (K.written out.new)
+        (reply_of (command_effect s calls command.now)) }
     ensures cause { HasSinkCause (K.faults out.old) (K.faults out.new) result }
     ensures cost { steps.new ≤ steps.old + command_steps command.now interview.now.count }
 {

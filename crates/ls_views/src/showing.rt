@@ -1,22 +1,24 @@
 // What is shown of an interview, said.
-ghost use Rattle.std.specs.Prelude.{◌≡◌, ◌≤◌, ◌+◌, ◌∷◌, [], true, length, Some};
+ghost use Rattle.std.specs.Prelude.{◌≡◌, ◌≤◌, ◌+◌, ◌*◌, ◌∷◌, [], true, length, Some};
 ghost use Rattle.std.specs.Option.{ForSome};
+ghost use Rattle.ls_set.specs.ItemSet.{full, IsWithin, comes_before};
 ghost use Rattle.ls_set.specs.Query.{is_good};
+ghost use Rattle.ls_theory.specs.Pages.{page};
 ghost use Rattle.ls_reply.specs.Texts.{line_of, bytes_of};
-ghost use Rattle.ls_reply.specs.Lines.{known_words, question_words, shown_lines};
+ghost use Rattle.ls_reply.specs.Lines.{known_words, question_words, page_lines, shown_lines};
 ghost use Rattle.ls_writing.specs.Rooms.{Says};
-ghost use Rattle.ls_views.specs.Views.{CanShow, session_on, shown_steps};
+ghost use Rattle.ls_views.specs.Views.{CanShow, shown_steps};
 
 use crate::walking::put_paths;
 use ls_edge::Sink;
 use ls_expert::{Inquiry, Known};
-use ls_interior::{Counted, Steps};
+use ls_interior::{Counted, Inside, Steps};
 use ls_project::Trace;
 use ls_reply::Shown;
 use ls_set::{ItemSet, Query};
 use ls_writing::{
-    Room, SetTexts, put_base, put_fringes, put_learning, put_line, put_listing, put_numbered,
-    put_state, put_surmise, put_verdict,
+    Room, SetTexts, put_asked, put_base, put_fringes, put_learning, put_line, put_listing,
+    put_numbered, put_report, put_state, put_surmise, put_verdict,
 };
 use std::sync::ledger::Ledger;
 
@@ -32,38 +34,54 @@ pub fn put_shown<K: Sink, L: Ledger>(
     steps: &mut Steps<L>,
 )
     requires items { length texts.now ≡ inquiry.now.count }
-    requires can { CanShow (session_on texts.now inquiry.now) sets.now shown.now }
+    requires can { CanShow texts.now inquiry.now sets.now shown.now }
     ensures says { Says (K.written out.old) (K.faults out.old) room.old (K.written out.new)
-        (K.faults out.new) room.new
-        (bytes_of (shown_lines (session_on texts.now inquiry.now) shown.now)) }
+        (K.faults out.new) room.new (bytes_of (shown_lines texts.now inquiry.now shown.now)) }
     ensures cost { steps.new ≤ steps.old + shown_steps shown.now inquiry.now.count }
 {
+    let family = inquiry.family();
     match shown {
         Shown::Known(known) => put_known(*known, room, out),
         Shown::Question(next) => put_question(texts, next, room, out),
-        Shown::States { count, after } => {
-            let states = Counted::new(inquiry.family());
-            put_listing(&states, texts, *after, *count, room, out, steps);
-        }
-        Shown::Projected { part, count, after } => {
-            let projection = Trace::new(inquiry.family(), *part);
-            let states = Counted::new(&projection);
-            put_listing(&states, texts, *after, *count, room, out, steps);
-        }
+        Shown::States { count, after } => put_page(family, texts, *after, *count, room, out, steps),
         Shown::Base => put_base(texts, sets, room, out),
         Shown::Surmise { atoms } => put_surmise(texts, sets, atoms.as_slice(), room, out),
         Shown::Learning(verdict) => put_learning(texts, *verdict, room, out),
+        Shown::Projected { part, count, after } => {
+            let projection = Trace::new(family, *part);
+            put_page(&projection, texts, *after, *count, room, out, steps);
+        }
         Shown::ProjectedBase { base, verdict } => {
             put_base(texts, base.as_slice(), room, out);
             put_learning(texts, *verdict, room, out);
         }
         Shown::Fringes(fringes) => put_fringes(texts, *fringes, room, out),
         Shown::State(set) => put_state(texts, *set, room, out),
-        Shown::Paths { count, after } => {
-            put_paths(inquiry.family(), texts, after, *count, room, out);
-        },
+        Shown::Paths { count, after } => put_paths(family, texts, after, *count, room, out),
         Shown::Tested(verdict) => put_verdict(texts, verdict, room, out),
+        Shown::Asked(asked) => put_asked(texts, *asked, room, out),
+        Shown::Report { outcome, fringes } => put_report(texts, *outcome, *fringes, room, out),
     }
+}
+
+// Says a page of the states of a family, each of whose interiors is counted.
+fn put_page<F: Inside, K: Sink, L: Ledger>(
+    family: &F,
+    texts: &SetTexts,
+    after: Option<ItemSet>,
+    count: u32,
+    room: &mut Room,
+    out: &mut K,
+    steps: &mut Steps<L>,
+)
+    requires items { F.item_count family.now ≡ length texts.now }
+    requires after { ForSome after (λ w. IsWithin w (full (length texts.now))) }
+    ensures says { Says (K.written out.old) (K.faults out.old) room.old (K.written out.new)
+        (K.faults out.new) room.new (bytes_of (page_lines texts.now
+        (page comes_before (F.members family.now) after count))) }
+    ensures cost { steps.new ≤ steps.old + (count + 1) * (F.item_count family.now + 1) }
+{
+    put_listing(&Counted::new(family), texts, after, count, room, out, steps);
 }
 
 // Says what is known of a query.

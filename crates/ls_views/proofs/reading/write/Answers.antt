@@ -2,4 +2,4 @@ use Rattle.ls_writing.proofs.Saying.{wrote}
 use Rattle.ls_views.proofs.reading.write.Goals as goal
 
 pub returns-clause-wrote : goal.returns-clause-wrote
-returns-clause-wrote g c = wrote c.requires.empty c.put_response.ensures.says c.finish.ensures.ends
+returns-clause-wrote g c = λ s. wrote c.requires.empty (c.put_response.ensures.says s) c.finish.ensures.ends
