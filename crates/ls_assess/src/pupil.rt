@@ -40,6 +40,7 @@ fn has_share(w: &Weights) -> bool
 
 impl Pupil {
     ghost use Rattle.ls_theory.specs.declared.asked.Asked.TheVariants.{Item};
+    ghost use Rattle.ls_theory.specs.declared.reply_fault.ReplyFault.TheVariants.{WrongItem};
     ghost use Rattle.ls_weight.specs.declared.fault.WeightFault.TheVariants.{Heavy};
 
     /// The assessment of a pupil whose state is one of `states`, before any reply. `Heavy` comes
@@ -98,6 +99,8 @@ impl Pupil {
             (asked self.old.settings self.old.states self.old.replies) q ≡ None) }
         ensures fault { IfErr result (λ e. reply_fault
             (asked self.old.settings self.old.states self.old.replies) q ≡ Some e) }
+        ensures item { (asked : ℕ) → result ≡ Err (WrongItem asked) →
+            asked < length self.old.settings.ratios }
         ensures err { OnErr result (self.new ≡ self.old) }
     {
         match self.question() {

@@ -4,13 +4,14 @@ use Rattle.std.specs.Prelude.{bytes_eq}
 use Rattle.std.specs.List.{list_any}
 use Rattle.std.proofs.lemmas.Bool.{cases_Bool, and_parts, and_from}
 use Rattle.std.proofs.lemmas.Slice.Eq.{bytes_eq-Decides}
+use Rattle.ls_lists.proofs.Every.{list_any-map}
 use Rattle.ls_pupils.specs.Own.{is_named, have_own_names}
 
 -- names that are the same
 same_name : (a b : List ℕ) → bytes_eq a b ≡ true → a ≡ b
 same_name a b h = (bytes_eq-Decides a b).0 h
 
-own_name : (a : List ℕ) → bytes_eq a a ≡ true
+pub own_name : (a : List ℕ) → bytes_eq a a ≡ true
 own_name a = (bytes_eq-Decides a a).1 refl
 
 -- ---- no element passes
@@ -156,3 +157,9 @@ module _ {X : Type 0} (name_of : X → List ℕ) where
             ] in
             rw (any-push (name_of y) xs x rest.0 other) (own-push xs x rest.1 later)
       ]
+
+-- ---- elements that are made of others
+
+pub own-map : {X Y : Type 0} (name_of : Y → List ℕ) (f : X → Y) (xs : List X) → have_own_names (λ x. name_of (f x)) xs ≡ have_own_names name_of (map f xs)
+own-map name_of f [] = refl
+own-map name_of f (x ∷ xs) = ap₂ (λ a b. not a && b) (list_any-map f (is_named name_of (name_of (f x))) xs) (own-map name_of f xs)

@@ -1,7 +1,9 @@
 // What pupils are asked and reply, and how they are closed.
-ghost use Rattle.std.specs.Prelude.{◌≡◌, ◌≤◌, ℕ, IfSome, option_map};
+ghost use Rattle.std.specs.Prelude.{◌≡◌, ◌≤◌, ℕ, true, IfSome, option_map};
 ghost use Rattle.ls_reply.specs.Pupils.{pupil_with, shown_of, question_shown, report_shown, reply_row, close_row};
 ghost use Rattle.ls_reply.specs.declared.response.Response.TheVariants.{Shown as ShownAs};
+ghost use Rattle.ls_pupils.specs.Own.{have_own_names};
+ghost use Rattle.ls_pupils.specs.declared.cases.PupilCase.{PupilCase as Case};
 ghost use Rattle.ls_pupils.specs.Cases.{pupil_of, pupils_of, IsCase, ArePupils, CanTell};
 
 use crate::cases::{PupilCase, PupilCases};
@@ -75,20 +77,20 @@ pub fn reply(n: u32, pupils: &mut PupilCases, name: &Word, item: u32, right: boo
     ensures told { CanTell n result }
 {
     let _ = n;
-    let Some(place) = pupils.place(name) else {
-        return Response::Refused(Refusal::NoPupil);
-    };
-    match pupils.reply(place, item, right) {
-        Ok(()) => Response::Done {
-            number: pupils.as_slice()[place].pupil.replies().len() as u64,
+    match pupils.place(name) {
+        None => Response::Refused(Refusal::NoPupil),
+        Some(place) => match pupils.reply(place, item, right) {
+            Ok(()) => Response::Done {
+                number: pupils.as_slice()[place].pupil.replies().len() as u64,
+            },
+            Err(fault) => Response::Refused(Refusal::Reply(fault)),
         },
-        Err(fault) => Response::Refused(Refusal::Reply(fault)),
     }
 }
 
 /// `close NAME`
 pub fn close(pupils: &mut PupilCases, name: &Word) -> Response
-    requires { (n : ℕ) × ArePupils n pupils.old }
+    requires { have_own_names (λ (c : Case). c.name) pupils.old ≡ true }
     ensures response { result ≡ (close_row (pupils_of pupils.old) name.now).response }
     ensures next { pupils_of pupils.new ≡ (close_row (pupils_of pupils.old) name.now).next }
     ensures pupils { (n : ℕ) → ArePupils n pupils.old → ArePupils n pupils.new }

@@ -1,6 +1,7 @@
 // Pupils as a session keeps them.
-ghost use Rattle.std.specs.Prelude.{◌≡◌, ◌<◌, ◌++◌, ◌∷◌, [], Some, None, length, position, remove, set, slice_get, IfErr, OnOk, OnErr};
+ghost use Rattle.std.specs.Prelude.{◌≡◌, ◌<◌, ◌++◌, ◌∷◌, [], ℕ, Some, None, Err, length, position, remove, set, slice_get, IfErr, OnOk, OnErr};
 ghost use Rattle.ls_theory.specs.Assessment.{asked, reply_fault};
+ghost use Rattle.ls_theory.specs.declared.reply_fault.ReplyFault.TheVariants.{WrongItem};
 ghost use Rattle.ls_pupils.specs.Own.{is_named};
 ghost use Rattle.ls_pupils.specs.declared.cases.PupilCase.{PupilCase as Case};
 
@@ -91,6 +92,8 @@ impl PupilCases {
             (reply_fault (asked c.pupil.settings c.pupil.states c.pupil.replies) q ≡ None) }
         ensures fault { (c : Case) → slice_get self.old place ≡ Some c → IfErr result (λ e.
             reply_fault (asked c.pupil.settings c.pupil.states c.pupil.replies) q ≡ Some e) }
+        ensures item { (c : Case) (asked : ℕ) → slice_get self.old place ≡ Some c →
+            result ≡ Err (WrongItem asked) → asked < length c.pupil.settings.ratios }
         ensures err { OnErr result (self.new ≡ self.old) }
     {
         self.cases[place].pupil.reply(q, right)
