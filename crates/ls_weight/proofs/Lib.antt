@@ -6,3 +6,4 @@ pub mod Leaders
 pub mod Kept
 pub mod After
 pub mod Replied
+pub mod Weighable
