@@ -1,10 +1,10 @@
--- What the weights of listed states come to.
-use Rattle.std.proofs.Common.{ℕ, ◌*◌, ◌^◌, ◌<◌, ◌≤◌, ◌≡◌, true, cond, List, [], ◌∷◌, ◌++◌, map, sum, sum_by, length, get_or, nat_lt, replicate, refl, ap, ap₂, ◌∙◌, sym, arith}
-use Rattle.std.specs.List.{zip, list_all, All}
-use Rattle.std.proofs.lemmas.Bool.{and_parts}
+-- What is known of weights and sums that are kept.
+use Rattle.std.proofs.Common.{ℕ, ◌*◌, ◌^◌, ◌<◌, ◌≤◌, ◌≡◌, true, List, [], ◌∷◌, map, sum, count_by, length, get_or, replicate, refl, ap, ◌∙◌, sym, arith}
+use Rattle.std.specs.List.{All, IsFirstMaxByKey, range_with_len}
 use Rattle.std.proofs.lemmas.Bool.Decides.{nat_tests}
-use Rattle.std.proofs.lemmas.List.{length-map, get_or-map}
-use Rattle.std.proofs.lemmas.List.Sums.{sum-map, get_or-le-sum_by}
+use Rattle.std.proofs.lemmas.List.{length-map, get_or-map, get_or-replicate, length-replicate}
+use Rattle.std.proofs.lemmas.List.FromFn.{get_or-map-range_with_len}
+use Rattle.std.proofs.lemmas.List.Sums.{sum-map, sum_by-cons, get_or-le-sum_by}
 use Rattle.std.proofs.lemmas.Nat.{mul-le}
 use Rattle.ls_lists.proofs.Filters.{sum_by-filter-le}
 use Rattle.ls_set.specs.ItemSet.{Items, has, empty}
@@ -12,15 +12,10 @@ use Rattle.ls_theory.specs.declared.ratio.Ratio.{Ratio}
 use Rattle.ls_theory.specs.declared.ratio.Ratios.{Ratios}
 use Rattle.ls_theory.specs.declared.reply.Reply.{Reply}
 use Rattle.ls_theory.specs.Settings.{is_ratio}
-use Rattle.ls_theory.specs.Weights.{agrees, factor, ratio_for, weight, total, mass}
-use Rattle.ls_laws.proofs.Weights.{mass-sum, weight-more}
+use Rattle.ls_theory.specs.Weights.{weight, total, mass}
+use Rattle.ls_laws.proofs.Weights.{mass-sum}
 use Rattle.ls_settings.proofs.Light.{light-total}
-use Rattle.ls_weight.specs.Weighings.{Weighing, IsWeighed}
-use Rattle.ls_weight.proofs.Zipped.{map-zip, sum_by-zip}
-
-map-agree : {X Y : Type 0} (f g : X → Y) → ((x : X) → f x ≡ g x) → (xs : List X) → map f xs ≡ map g xs
-map-agree f g h [] = refl
-map-agree f g h (x ∷ xs) = ap₂ (λ y ys. y ∷ ys) (h x) (map-agree f g h xs)
+use Rattle.ls_weight.specs.Weighings.{Weighing, KeptSums, IsWeighed}
 
 -- ---- before any reply
 
@@ -29,58 +24,48 @@ unfolding weight
 ones-are ratios [] = refl
 ones-are ratios (k ∷ f) = ap (λ l. 1 ∷ l) (ones-are ratios f)
 
--- ---- sums
+pub count-is : (ratios : List Ratios) (f : List Items) → length f ≡ total ratios [] f
+unfolding weight
+count-is ratios [] = refl
+count-is ratios (k ∷ f) = let rest = count-is ratios f in let all = sum_by-cons (weight ratios []) k f in omega arith
 
-pub kept-bound : (w : Weighing) (ws : List ℕ) (c : ℕ) → IsWeighed w ws c → total w.settings.ratios w.replies w.states ≤ 2 ^ 120
-kept-bound w ws c h = light-total w.settings w.replies w.states h.allowed.ratios h.light h.budget
+pub counts-are : (ratios : List Ratios) (f : List Items) (n q : ℕ) → q < n → get_or (map (λ q. count_by (λ k. has k q) f) (range_with_len 0 n)) q 0 ≡ mass ratios [] f q
+unfolding weight
+counts-are ratios f n q l = get_or-map-range_with_len (λ q. count_by (λ k. has k q) f) 0 n q q 0 l (omega arith) ∙ sym (mass-sum ratios [] f q)
 
-pub kept-sum : (w : Weighing) (ws : List ℕ) (c : ℕ) → IsWeighed w ws c → sum ws ≡ total w.settings.ratios w.replies w.states
-kept-sum w ws c h = ap sum h.weights ∙ sum-map (weight w.settings.ratios w.replies) w.states
+pub first-one : (m : ℕ) → 0 < m → IsFirstMaxByKey (λ v. v) (replicate m 1) (length {A = ℕ} (replicate m 1)) 0
+first-one m l =
+    let long = length-replicate {A = ℕ} m 1 in
+    (omega arith, λ k d b. rw (get_or-replicate m k 1 d (omega arith), get_or-replicate m 0 1 d l) (omega arith), λ k d b. absurd (omega arith))
 
-pub kept-fits : (w : Weighing) (ws : List ℕ) (c : ℕ) → IsWeighed w ws c → sum ws < 2 ^ 128
-kept-fits w ws c h = omega (arith, kept-sum w ws c h, kept-bound w ws c h)
+-- ---- bounds
 
-pub kept-mass : (w : Weighing) (ws : List ℕ) (c q : ℕ) → IsWeighed w ws c → sum_by (λ p. cond (has p.1 q) p.0 0) (zip ws w.states) ≡ mass w.settings.ratios w.replies w.states q
-kept-mass w ws c q h =
-    let part = λ (p : ℕ × Items). cond (has p.1 q) p.0 0 in
-    ap (λ l. sum_by part (zip l w.states)) h.weights
-    ∙ sum_by-zip part (weight w.settings.ratios w.replies) w.states
-    ∙ sym (mass-sum w.settings.ratios w.replies w.states q)
+pub kept-bound : (n : ℕ) (w : Weighing) (kept : KeptSums) → IsWeighed n w kept → total w.settings.ratios w.replies w.states ≤ 2 ^ 120
+kept-bound n w kept h = light-total w.settings w.replies w.states h.allowed.ratios h.light h.budget
+
+pub kept-fits : (n : ℕ) (w : Weighing) (kept : KeptSums) → IsWeighed n w kept → sum kept.weights < 2 ^ 128
+kept-fits n w kept h =
+    let all : sum kept.weights ≡ total w.settings.ratios w.replies w.states = ap sum h.weights ∙ sum-map (weight w.settings.ratios w.replies) w.states in
+    omega (arith, kept-bound n w kept h)
 
 pub mass-le : (ratios : List Ratios) (replies : List Reply) (f : List Items) (q : ℕ) → mass ratios replies f q ≤ total ratios replies f
 mass-le ratios replies f q = sum_by-filter-le (weight ratios replies) (λ k. has k q) f
 
-pub kept-long : (w : Weighing) (ws : List ℕ) (c : ℕ) → IsWeighed w ws c → length ws ≡ length w.states
-kept-long w ws c h = ap length h.weights ∙ length-map w.states (weight w.settings.ratios w.replies)
+pub kept-long : (n : ℕ) (w : Weighing) (kept : KeptSums) → IsWeighed n w kept → length kept.weights ≡ length w.states
+kept-long n w kept h = ap length h.weights ∙ length-map w.states (weight w.settings.ratios w.replies)
 
-pub kept-at : (w : Weighing) (ws : List ℕ) (c i d : ℕ) (k : Items) → IsWeighed w ws c → i < length w.states → get_or ws i d ≡ weight w.settings.ratios w.replies (get_or w.states i k)
-kept-at w ws c i d k h l = ap (λ l. get_or l i d) h.weights ∙ get_or-map (weight w.settings.ratios w.replies) w.states i k d l
+pub kept-at : (n : ℕ) (w : Weighing) (kept : KeptSums) (i d : ℕ) (k : Items) → IsWeighed n w kept → i < length w.states → get_or kept.weights i d ≡ weight w.settings.ratios w.replies (get_or w.states i k)
+kept-at n w kept i d k h l = ap (λ l. get_or l i d) h.weights ∙ get_or-map (weight w.settings.ratios w.replies) w.states i k d l
 
 -- a weight is at most the total
-pub kept-part : (w : Weighing) (ws : List ℕ) (c i d : ℕ) → IsWeighed w ws c → i < length w.states → get_or ws i d ≤ total w.settings.ratios w.replies w.states
-kept-part w ws c i d h l = omega (arith, kept-at w ws c i d empty h l, get_or-le-sum_by (weight w.settings.ratios w.replies) w.states i empty l)
+pub kept-part : (n : ℕ) (w : Weighing) (kept : KeptSums) (i d : ℕ) → IsWeighed n w kept → i < length w.states → get_or kept.weights i d ≤ total w.settings.ratios w.replies w.states
+kept-part n w kept i d h l = omega (arith, kept-at n w kept i d empty h l, get_or-le-sum_by (weight w.settings.ratios w.replies) w.states i empty l)
 
--- ---- after one more reply
-
-ratio-small : (r : Ratio) → is_ratio r ≡ true → (r.a ≤ 64) × (r.b ≤ r.a)
+ratio-small : (r : Ratio) → is_ratio r ≡ true → r.a ≤ 64
 ratio-small r e = grind (arith, nat_tests)
 
-pub ratio-order : (r : Ratio) → is_ratio r ≡ true → r.b ≤ r.a
-ratio-order r e = (ratio-small r e).1
-
-pub next-fits : (w : Weighing) (ws : List ℕ) (c : ℕ) (r : Ratio) → IsWeighed w ws c → is_ratio r ≡ true → All (λ v. v * r.a < 2 ^ 128) ws
-next-fits w ws c r h e = λ i d l.
-    let part = kept-part w ws c i d h (omega (arith, kept-long w ws c h)) in
-    let le : get_or ws i d * r.a ≤ 2 ^ 120 * 64 = mul-le (get_or ws i d) r.a (2 ^ 120) 64 (omega (arith, part, kept-bound w ws c h)) (ratio-small r e).0 in
+pub kept-grows : (n : ℕ) (w : Weighing) (kept : KeptSums) (r : Ratio) → IsWeighed n w kept → is_ratio r ≡ true → All (λ v. v * r.a < 2 ^ 128) kept.weights
+kept-grows n w kept r h e = λ i d l.
+    let part = kept-part n w kept i d h (omega (arith, kept-long n w kept h)) in
+    let le : get_or kept.weights i d * r.a ≤ 2 ^ 120 * 64 = mul-le (get_or kept.weights i d) r.a (2 ^ 120) 64 (omega (arith, part, kept-bound n w kept h)) (ratio-small r e) in
     omega arith
-
-pub next-weights : (ratios : List Ratios) (replies : List Reply) (r : Reply) (f : List Items) → map (λ p. p.0 * cond (agrees p.1 r) (ratio_for ratios r).a (ratio_for ratios r).b) (zip (map (weight ratios replies) f) f) ≡ map (weight ratios (replies ++ (r ∷ []))) f
-next-weights ratios replies r f =
-    map-zip (λ (p : ℕ × Items). p.0 * cond (agrees p.1 r) (ratio_for ratios r).a (ratio_for ratios r).b) (weight ratios replies) f
-    ∙ map-agree (λ k. weight ratios replies k * factor ratios k r) (weight ratios (replies ++ (r ∷ []))) (λ k. sym (weight-more ratios replies r k)) f
-
-pub items-more : (n : ℕ) (replies : List Reply) (r : Reply) → list_all (λ r. nat_lt r.q n) replies ≡ true → r.q < n → list_all (λ r. nat_lt r.q n) (replies ++ (r ∷ [])) ≡ true
-items-more n [] r e l = grind (arith, nat_tests)
-items-more n (x ∷ replies) r e l =
-    let p = and_parts (nat_lt x.q n) (list_all (λ (r : Reply). nat_lt r.q n) replies) e in
-    rw (p.0) (items-more n replies r p.1 l)

@@ -1,6 +1,6 @@
 -- The first of greatest weight stands where the first greatest of the weights stands.
-use Rattle.std.proofs.Common.{ℕ, suc, zero, ◌<◌, ◌≤◌, ◌≡◌, Bool, true, false, ◌&&◌, List, [], ◌∷◌, map, length, get_or, find, slice_get, Some, nat_lt, nat_le, refl, ap, ◌∙◌, arith}
-use Rattle.std.specs.List.{IsFirstBest, list_all}
+use Rattle.std.proofs.Common.{ℕ, suc, zero, ◌<◌, ◌≤◌, ◌≡◌, Bool, true, false, ◌&&◌, List, [], ◌∷◌, map, length, get_or, find, slice_get, Some, nat_le, refl, ap, ◌∙◌, arith}
+use Rattle.std.specs.List.{IsFirstMaxByKey, list_all}
 use Rattle.std.proofs.lemmas.Bool.Decides.{nat_tests}
 use Rattle.std.proofs.lemmas.List.{length-map, get_or-map}
 use Rattle.std.proofs.lemmas.Option.{slice_get-get_or}
@@ -35,7 +35,7 @@ first_greatest-place value xs b d h all before =
     (list_all-passes (λ y. nat_le (value y) (value (get_or xs b d))) xs d (λ k l. let e = all k l in grind (arith, nat_tests)))
     (λ k l. list_all-fails (λ y. nat_le (value y) (value (get_or xs k d))) xs b d h (let e = before k l in grind (arith, nat_tests)))
 
-pub leader-place : (ratios : List Ratios) (replies : List Reply) (f : List Items) (ws : List ℕ) (b : ℕ) → ws ≡ map (weight ratios replies) f → IsFirstBest (λ v w. nat_lt w v) ws (length ws) b → slice_get f b ≡ Some (leader ratios replies f)
+pub leader-place : (ratios : List Ratios) (replies : List Reply) (f : List Items) (ws : List ℕ) (b : ℕ) → ws ≡ map (weight ratios replies) f → IsFirstMaxByKey (λ w. w) ws (length ws) b → slice_get f b ≡ Some (leader ratios replies f)
 unfolding leader
 leader-place ratios replies f ws b e best =
     let w = weight ratios replies in

@@ -1,3 +1,9 @@
-pub mod Zipped
+pub mod SumsBelow
+pub mod Passing
+pub mod Rowing
+pub mod Cells
 pub mod Leaders
 pub mod Kept
+pub mod After
+pub mod Replied
+pub mod Weighable

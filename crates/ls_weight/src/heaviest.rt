@@ -1,11 +1,11 @@
 // The first greatest weight.
-ghost use Rattle.std.specs.Prelude.{◌<◌, length, nat_lt};
-ghost use Rattle.std.specs.List.{IsFirstBest};
+ghost use Rattle.std.specs.Prelude.{◌≡◌, ◌<◌, true, length};
+ghost use Rattle.std.specs.List.{IsFirstMaxByKey};
 
 // The place of the first greatest of the weights.
 pub(crate) fn heaviest(weights: &[u128]) -> usize
     requires { 0 < length weights.now }
-    ensures { IsFirstBest (λ v w. nat_lt w v) weights.now (length weights.now) result }
+    ensures { IsFirstMaxByKey (λ w. w) weights.now (length weights.now) result }
 {
     let mut best = 0;
     for i in 1..weights.len() {
@@ -14,4 +14,15 @@ pub(crate) fn heaviest(weights: &[u128]) -> usize
         }
     }
     best
+}
+
+// The place of the first greatest of the weights: `place` where it stays that, and else the weights
+// are looked through.
+pub(crate) fn heaviest_after(weights: &[u128], place: usize, stays: bool) -> usize
+    requires some { 0 < length weights.now }
+    requires stays { stays ≡ true →
+        IsFirstMaxByKey (λ w. w) weights.now (length weights.now) place }
+    ensures { IsFirstMaxByKey (λ w. w) weights.now (length weights.now) result }
+{
+    if stays { place } else { heaviest(weights) }
 }

@@ -3,8 +3,9 @@
 
 mod fault;
 mod heaviest;
-mod sums;
-mod weighing;
+mod masses;
+mod passes;
+mod rows;
 mod weights;
 
 pub use fault::WeightFault;

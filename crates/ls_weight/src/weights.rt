@@ -8,64 +8,118 @@ ghost use Rattle.ls_theory.specs.Assessment.{leader};
 ghost use Rattle.ls_weight.specs.Weighings.{IsWeighable};
 
 use crate::fault::WeightFault;
-use crate::heaviest::heaviest;
-use crate::sums;
-use crate::weighing::weigh;
+use crate::heaviest::heaviest_after;
+use crate::masses::{agreeing_of, sum_after, weigh_masses};
+use crate::passes::TABLE_CELLS;
+use crate::rows::StateRows;
 use ls_set::{ItemSet, SetList};
 use ls_settings::Settings;
 use ls_theory::Reply;
 use std::alloc::{AllocError, Global};
 use std::marker::Model;
+use std::rc::Rc;
 
 /// The weights of listed states after replies, by the settings of an assessment. Contracts see the
 /// settings, the states and the replies.
+///
+/// With the weights, the masses, the total and the heaviest state are kept. A reply is one pass
+/// over the states; the states of several pupils are kept once.
 #[derive(Debug, Drop)]
 pub struct Weights {
     alloc: Global,
     settings: Settings,
-    states: SetList,
+    rows: Rc<StateRows>,
     replies: Vec<Reply>,
     weights: Vec<u128>,
+    masses: Vec<u128>,
+    total: u128,
+    heaviest: usize,
+    // a table of cells for each group of eight items, written by each reply
+    tables: Vec<u128>,
 }
 
 impl Model for Weights {
-    ghost use Rattle.std.specs.Prelude.{vec_capacity};
+    ghost use Rattle.std.specs.Prelude.{length, vec_capacity};
     ghost use Rattle.ls_weight.specs.Weighings.{Weighing, IsWeighed};
 
     ghost Value = { Weighing };
 
     ghost view = { λ w. record {
       settings = w.settings;
-      states = w.states;
+      states = w.rows.value.states;
       replies = w.replies.items;
     } };
 
-    ghost invariant = { λ w. IsWeighed (record {
-      settings = w.settings;
-      states = w.states;
-      replies = w.replies.items;
-    }) w.weights.items (vec_capacity w.replies) };
+    ghost invariant = { λ w. IsWeighed w.rows.value.item_count
+        (record {
+          settings = w.settings;
+          states = w.rows.value.states;
+          replies = w.replies.items;
+        })
+        (record {
+          weights = w.weights.items;
+          masses = w.masses.items;
+          total = w.total;
+          heaviest = w.heaviest;
+          cells = length w.tables.items;
+          room = vec_capacity w.replies;
+        }) };
 }
 
 impl Weights {
     ghost use Rattle.ls_weight.specs.declared.fault.WeightFault.TheVariants.{Heavy};
 
     // The weights of states that can be weighed and are not too heavy.
-    fn begin(alloc: Global, states: SetList, s: &Settings) -> Result<Weights, AllocError>
-        requires weighable { IsWeighable (length s.now.ratios) states s.now }
-        requires light { heavy_after s.now (length states) ≡ None }
-        ensures { IfOk result (λ w. w ≡ record { settings = s.now; states = states; replies = [] }) }
+    fn begin(alloc: Global, rows: Rc<StateRows>, s: &Settings) -> Result<Weights, AllocError>
+        requires items { rows.value.item_count ≡ length s.now.ratios }
+        requires weighable { IsWeighable (length s.now.ratios) rows.value.states s.now }
+        requires light { heavy_after s.now (length rows.value.states) ≡ None }
+        ensures { IfOk result
+            (λ w. w ≡ record { settings = s.now; states = rows.value.states; replies = [] }) }
     {
         let settings = s.copy()?;
         let replies = Vec::with_capacity(alloc, s.budget() as usize)?;
-        let weights = Vec::from_elem(alloc, 1, states.len())?;
+        let count = rows.states().len();
+        let weights = Vec::from_elem(alloc, 1, count)?;
+        let masses = Vec::from_slice(alloc, rows.counts())?;
+        let tables = Vec::from_elem(alloc, 0, TABLE_CELLS * rows.width())?;
         Ok(Weights {
             alloc,
             settings,
-            states,
+            rows,
             replies,
             weights,
+            masses,
+            total: count as u128,
+            heaviest: 0,
+            tables,
         })
+    }
+
+    // The weights of listed states that can be weighed and are not too heavy.
+    fn begin_rows(
+        alloc: Global,
+        n: u32,
+        states: SetList,
+        s: &Settings,
+    ) -> Result<Weights, AllocError>
+        requires weighable { IsWeighable n states s.now }
+        requires light { heavy_after s.now (length states) ≡ None }
+        ensures { IfOk result
+            (λ w. w ≡ record { settings = s.now; states = states; replies = [] }) }
+    {
+        let rows = Rc::new(alloc, StateRows::new(alloc, n, states)?)?;
+        Weights::begin(alloc, rows, s)
+    }
+
+    // The weights of the same states under other settings, which are not too heavy for them.
+    fn begin_again(&self, s: &Settings) -> Result<Weights, AllocError>
+        requires items { length s.now.ratios ≡ length self.now.settings.ratios }
+        requires light { heavy_after s.now (length self.now.states) ≡ None }
+        ensures { IfOk result
+            (λ w. w ≡ record { settings = s.now; states = self.now.states; replies = [] }) }
+    {
+        Weights::begin(self.alloc, self.rows.clone()?, s)
     }
 
     /// The weights of the states, each 1, before any reply. `Heavy` comes exactly where the total
@@ -81,7 +135,7 @@ impl Weights {
         if let Some(replies) = s.heavy_after(states.len()) {
             return Err(WeightFault::Heavy { replies });
         }
-        Weights::begin(alloc, states, s).map_err(WeightFault::Memory)
+        Weights::begin_rows(alloc, n, states, s).map_err(WeightFault::Memory)
     }
 
     /// The weights of the same states under other settings of as many items, before any reply; it
@@ -94,10 +148,10 @@ impl Weights {
         ensures heavy { (r : ℕ) → result ≡ Err (Heavy r) →
             heavy_after s.now (length self.now.states) ≡ Some r }
     {
-        let states = SetList::from_slice(self.alloc, self.states.as_slice()).map_err(
-            WeightFault::Memory,
-        )?;
-        Weights::new(self.alloc, self.settings.count(), states, s)
+        if let Some(replies) = s.heavy_after(self.rows.states().len()) {
+            return Err(WeightFault::Heavy { replies });
+        }
+        self.begin_again(s).map_err(WeightFault::Memory)
     }
 
     /// Takes one more reply, on the item `q`. It takes no memory.
@@ -110,7 +164,13 @@ impl Weights {
     {
         let reply = Reply { q, right };
         let ratio = self.settings.ratio_for(reply);
-        weigh(&mut self.weights, self.states.as_slice(), reply, ratio);
+        let stays = self.rows.agrees(self.heaviest, reply);
+        self.rows
+            .weigh(&mut self.weights, &mut self.tables, reply, ratio);
+        let agreeing = agreeing_of(self.masses[q as usize], self.total, right);
+        self.total = sum_after(self.total, agreeing, ratio);
+        weigh_masses(&mut self.masses, &self.tables, ratio);
+        self.heaviest = heaviest_after(&self.weights, self.heaviest, stays);
         self.replies.push_reserved(reply);
     }
 
@@ -121,7 +181,7 @@ impl Weights {
         ensures part { result ≤ total self.now.settings.ratios self.now.replies self.now.states }
         ensures bound { result ≤ 2 ^ 120 }
     {
-        sums::mass(&self.weights, self.states.as_slice(), q)
+        self.masses[q as usize]
     }
 
     /// The total: the sum of the weights of all states.
@@ -129,7 +189,7 @@ impl Weights {
         ensures value { result ≡ total self.now.settings.ratios self.now.replies self.now.states }
         ensures bound { result ≤ 2 ^ 120 }
     {
-        sums::total(&self.weights)
+        self.total
     }
 
     /// The weight of the state at a place of the list.
@@ -148,7 +208,7 @@ impl Weights {
         ensures { slice_get self.now.states result
             ≡ Some (leader self.now.settings.ratios self.now.replies self.now.states) }
     {
-        heaviest(&self.weights)
+        self.heaviest
     }
 
     /// The states, in their order.
@@ -156,7 +216,7 @@ impl Weights {
         ensures value { result.now ≡ self.now.states }
         ensures weighable { IsWeighable (length self.now.settings.ratios) self.now.states self.now.settings }
     {
-        self.states.as_slice()
+        self.rows.states()
     }
 
     /// The replies, from the first on.

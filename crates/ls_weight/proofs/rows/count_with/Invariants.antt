@@ -1,0 +1,9 @@
+use Rattle.std.proofs.Common.{◌≡◌, ◌≤◌, count_by, take}
+use Rattle.ls_set.specs.ItemSet.{has}
+use Rattle.ls_weight.proofs.rows.count_with.Given as goal
+
+abbrev pub invariant-loop-state : goal.invariant-loop-state
+invariant-loop-state l = record {
+  counted : l.count ≡ count_by (λ k. has k l.q) (take l.state-index l.states);
+  few : l.count ≤ l.state-index;
+}

@@ -1,0 +1,92 @@
+// One pass over the states for a reply.
+ghost use Rattle.std.specs.Prelude.{◌≡◌, ◌+◌, ◌*◌, ◌/◌, ◌<◌, ◌≤◌, ◌^◌, ◌&&◌, ◌==◌, ℕ, if◌then◌else◌, length, slice_index, sum, All};
+ghost use Rattle.ls_weight.specs.Sums.{table_cells};
+ghost use Rattle.ls_weight.specs.Rows.{agrees_in, row_at, cell_of};
+
+use ls_theory::{Ratio, Reply};
+
+/// A table has a cell for each byte.
+pub(crate) const TABLE_CELLS: usize = 256;
+
+// Whether the row agrees with the reply: it has the item of a right one, and lacks the item of a
+// wrong one.
+pub(crate) fn agrees(row: &[u8], reply: Reply) -> bool
+    requires { reply.q / 8 < length row.now }
+    ensures { result ≡ agrees_in row.now reply }
+{
+    let byte = row[(reply.q / 8) as usize];
+    (byte >> (reply.q % 8) & 1 == 1) == reply.right
+}
+
+// Adds the weight to the cell of each byte of the row, in the table of its group.
+fn add_weight(tables: &mut [u128], row: &[u8], weight: u128)
+    requires each { length tables.old ≡ table_cells * length row.now }
+    requires fits { (g : ℕ) → g < length row.now →
+        slice_index tables.old (table_cells * g + slice_index row.now g) + weight < 2 ^ 128 }
+    ensures { (g v : ℕ) → g < length row.now → v < table_cells →
+        slice_index tables.new (table_cells * g + v)
+        ≡ slice_index tables.old (table_cells * g + v)
+        + (if slice_index row.now g == v then weight else 0) }
+{
+    for g in 0..row.len() {
+        tables[TABLE_CELLS * g + row[g] as usize] += weight;
+    }
+}
+
+// Multiplies the weight of a state by `a` where its row agrees with the reply, and else by `b`. In
+// the tables it adds the weight before, of a state that agrees, to the cell of each of its bytes.
+fn weigh_state(weight: &mut u128, tables: &mut [u128], row: &[u8], reply: Reply, ratio: Ratio)
+    requires item { reply.q / 8 < length row.now }
+    requires each { length tables.old ≡ table_cells * length row.now }
+    requires some { 1 ≤ ratio.b }
+    requires order { ratio.b ≤ ratio.a }
+    requires grows { weight.old * ratio.a < 2 ^ 128 }
+    requires fits { (g : ℕ) → g < length row.now →
+        slice_index tables.old (table_cells * g + slice_index row.now g) + weight.old < 2 ^ 128 }
+    ensures weight { weight.new
+        ≡ weight.old * (if agrees_in row.now reply then ratio.a else ratio.b) }
+    ensures cells { (g v : ℕ) → g < length row.now → v < table_cells →
+        slice_index tables.new (table_cells * g + v)
+        ≡ slice_index tables.old (table_cells * g + v)
+        + (if agrees_in row.now reply && slice_index row.now g == v then weight.old else 0) }
+{
+    if agrees(row, reply) {
+        add_weight(tables, row, *weight);
+        *weight *= u128::from(ratio.a);
+    } else if ratio.b > 1 {
+        *weight *= u128::from(ratio.b);
+    }
+}
+
+// Multiplies the weight of each state by `a` where it agrees with the reply, and else by `b`. The
+// cells of the tables become, for each byte in each group, the weights before of the states that
+// agree and have it.
+pub(crate) fn weigh(
+    weights: &mut [u128],
+    tables: &mut [u128],
+    bytes: &[u8],
+    width: usize,
+    reply: Reply,
+    ratio: Ratio,
+)
+    requires item { reply.q / 8 < width }
+    requires rows { length bytes.now ≡ width * length weights.old }
+    requires tables { length tables.old ≡ table_cells * width }
+    requires some { 1 ≤ ratio.b }
+    requires order { ratio.b ≤ ratio.a }
+    requires grows { All (λ w. w * ratio.a < 2 ^ 128) weights.old }
+    requires fits { sum weights.old < 2 ^ 128 }
+    ensures weights { (i : ℕ) → i < length weights.old → slice_index weights.new i
+        ≡ slice_index weights.old i
+        * (if agrees_in (row_at bytes.now width i) reply then ratio.a else ratio.b) }
+    ensures tables { (g v : ℕ) → g < width → v < table_cells →
+        slice_index tables.new (table_cells * g + v)
+        ≡ cell_of bytes.now width reply weights.old (length weights.old) g v }
+    ensures bytes { (k : ℕ) → slice_index bytes.now k < table_cells }
+{
+    tables.fill(0);
+    for i in 0..weights.len() {
+        let row = &bytes[width * i..width * (i + 1)];
+        weigh_state(&mut weights[i], tables, row, reply, ratio);
+    }
+}
