@@ -40,9 +40,9 @@ abbrev pub IsTrailOf : Interview → List Entry → Type 0
 IsTrailOf i trail = IsTrail i.count i.start (yes_queries i.answers) trail
 
 -- the parts of a course belong together: names for each item, a trail of the bases under the Yes answers, and settings and pupils of the items
-pub record IsCourse (names : List Text) (i : Interview) (trail : List Entry) (settings : Settings) (cases : List PupilCase) : Type 0 where
+pub record IsCourse (names : List Text) (i : Interview) (trail : List Entry) (s : Settings) (cases : List PupilCase) : Type 0 where
   pub items : length names ≡ i.count
   pub some : 0 < length names
   pub trailed : IsTrailOf i trail
-  pub settings : length settings.ratios ≡ i.count
+  pub settings : length s.ratios ≡ i.count
   pub pupils : ArePupils i.count cases

@@ -1,6 +1,8 @@
 -- What the rows of pupils come to.
-use Rattle.std.proofs.Common.{◌≡◌, ◌<◌, ◌≤◌, ℕ, ◌+◌, Bool, true, false, ltb, List, [], ◌∷◌, ◌++◌, slice_get, length, Option, Some, None, Result, Ok, Err, IfOk, OnOk, refl, sym, ap, ◌∙◌, lt-ltb, le-ltb}
+use Rattle.std.proofs.Common.{◌≡◌, ◌<◌, ◌≤◌, ℕ, ◌+◌, Bool, true, false, ltb, List, [], ◌∷◌, ◌++◌, slice_get, zero, suc, get_or, length, is_some, subst, arith, leb, Option, Some, None, Result, Ok, Err, IfOk, OnOk, refl, sym, ap, ◌∙◌, lt-ltb, le-ltb}
 use Rattle.std.proofs.lemmas.Bool.{lt-leb, le-leb}
+use Rattle.std.specs.List.{All, AllByRecursion}
+use Rattle.ls_lists.proofs.Every.{All-append}
 use Rattle.std.specs.declared.alloc.AllocError.{AllocError}
 use Rattle.ls_theory.specs.Interviews.{Interview}
 use Rattle.ls_theory.specs.Compatible.{compatible_sets}
@@ -10,6 +12,7 @@ use Rattle.ls_weight.specs.declared.fault.WeightFault.{WeightFault}
 use Rattle.ls_weight.specs.declared.fault.WeightFault.TheVariants.{Heavy, Memory}
 use Rattle.ls_reply.specs.Effects.{Change, changed, refuse, refuse_fault}
 use Rattle.ls_reply.specs.Pupils.{weighing_refusals}
+use Rattle.ls_reply.specs.Refusals.{refusal_items}
 use Rattle.ls_reply.specs.declared.refusal.Refusal.{Refusal}
 use Rattle.ls_reply.specs.declared.refusal.Refusal.TheVariants as refusal
 use Rattle.ls_reply.specs.declared.response.Response.{Response}
@@ -27,7 +30,7 @@ use Rattle.ls_theory.specs.declared.reply_fault.ReplyFault.TheVariants.{WrongIte
 use Rattle.ls_laws.specs.Spans.{IsOn}
 use Rattle.ls_fringe.proofs.Chosen.{inner-within, outer-within}
 use Rattle.ls_reply.specs.Sessions.{Pupil}
-use Rattle.ls_reply.specs.Pupils.{asked_of, reply_row, with_pupil, replied, pupil_with, most_pupils, begin_row, new_pupil}
+use Rattle.ls_reply.specs.Pupils.{asked_of, reply_row, with_pupil, replied, pupil_with, most_pupils, begin_row, begin_refusals, new_pupil}
 use Rattle.ls_reply.specs.declared.response.Shown.TheVariants as shown
 use Rattle.ls_pupils.specs.Cases.{pupil_of, IsCase, CanTell}
 use Rattle.ls_pupils.specs.Beginning.{IsNewPupil, IsWeighed}
@@ -74,13 +77,56 @@ row-refused n pupils item right p fault h = rw h refl
 
 -- ---- what is told speaks of the items
 
+All-none_in : (P : ℕ → Type 0) → All P []
+All-none_in P = λ i d h. absurd (omega (arith, h))
+
+All-one : (P : ℕ → Type 0) (q : ℕ) → P q → All P (q ∷ [])
+All-one P q h = λ i d few. subst (λ (x : ℕ). P x) (at i d few) h
+  where
+    at : (i d : ℕ) → i < 1 → q ≡ get_or (q ∷ []) i d
+    at zero d few = refl
+    at (suc i) d few = absurd (omega (arith, few))
+
+-- a refusal that names no item
+pub told-none : (n : ℕ) (r : Refusal) → refusal_items r ≡ [] → CanTell n (Refused r)
+told-none n r e = subst (All (λ q. q < n)) (sym e) (All-none_in (λ q. q < n))
+
+pub told-changed : {A : Type 0} (n : ℕ) (old : A) (refusals : List Refusal) (k : ℕ) (next : A) → AllByRecursion (λ r. refusal_items r ≡ []) refusals → CanTell n (changed old refusals (Done k) next).response
+told-changed n old [] k next h = tt
+told-changed n old (r ∷ rs) k next h = told-none n r h.0
+
+refuse-none : (r : Refusal) (b : Bool) → refusal_items r ≡ [] → AllByRecursion (λ r. refusal_items r ≡ []) (refuse r b)
+refuse-none r true e = (e, tt)
+refuse-none r false e = tt
+
+heavy-none : (o : Option ℕ) → AllByRecursion (λ r. refusal_items r ≡ []) (refuse_fault refusal.Heavy o)
+heavy-none None = tt
+heavy-none (Some r) = (refl, tt)
+
+weighing-none : (s : Settings) (count : ℕ) → AllByRecursion (λ r. refusal_items r ≡ []) (weighing_refusals s count)
+weighing-none s count =
+    All-append (λ r. refusal_items r ≡ []) (refuse refusal.ManyStates (ltb most_states count)) (refuse_fault refusal.Heavy (heavy_after s count))
+    (refuse-none refusal.ManyStates (ltb most_states count) refl) (heavy-none (heavy_after s count))
+
+-- what is told of a pupil that begins names no item
+pub told-begin : (n : ℕ) (i : Interview) (s : Settings) (pupils : List Pupil) (name : List ℕ) → CanTell n (begin_row i s pupils name).response
+told-begin n i s pupils name =
+    let P = λ (r : Refusal). refusal_items r ≡ [] in
+    let count = length (compatible_sets i) in
+    let stands = refuse refusal.PupilStands (is_some (pupil_with pupils name)) in
+    let many = refuse refusal.ManyPupils (leb most_pupils (length pupils)) in
+    told-changed n pupils ((stands ++ many) ++ weighing_refusals s count) count (pupils ++ new_pupil name i s ∷ [])
+    (All-append P (stands ++ many) (weighing_refusals s count)
+    (All-append P stands many (refuse-none refusal.PupilStands (is_some (pupil_with pupils name)) refl) (refuse-none refusal.ManyPupils (leb most_pupils (length pupils)) refl))
+    (weighing-none s count))
+
 pub told-asked : (n : ℕ) (a : Asked) → ((q : ℕ) → a ≡ Item q → q < n) → CanTell n (Shown (shown.Asked a))
 told-asked n (Item q) h = h q refl
 told-asked n (Over reason) h = tt
 
 pub told-fault : (n : ℕ) (fault : ReplyFault) → ((q : ℕ) → fault ≡ WrongItem q → q < n) → CanTell n (Refused (refusal.Reply fault))
-told-fault n (WrongItem q) h = h q refl
-told-fault n (faults.Over reason) h = tt
+told-fault n (WrongItem q) h = All-one (λ i. i < n) q (h q refl)
+told-fault n (faults.Over reason) h = All-none_in (λ i. i < n)
 
 pub told-report : (n : ℕ) (f : List Items) (o : Outcome) (x : FringePair) → IsOn n f → is_among f o.state ≡ true → x ≡ fringes n f o.state → CanTell n (Shown (shown.Report o x))
 told-report n f o x on among is =

@@ -6,8 +6,8 @@ use Rattle.std.specs.Prelude.{ℕ, ◌≡◌, ◌<◌, ◌≤◌, true, List, ma
 use Rattle.std.specs.List.{All}
 use Rattle.ls_set.specs.ItemSet.{full, IsWithin, most_items}
 use Rattle.ls_theory.specs.Compatible.{compat}
-use Rattle.ls_theory.specs.declared.asked.Asked.TheVariants.{Item}
-use Rattle.ls_theory.specs.declared.reply_fault.ReplyFault.TheVariants.{WrongItem}
+use Rattle.ls_theory.specs.declared.asked.Asked.TheVariants.{Item, Over}
+use Rattle.ls_reply.specs.Refusals.{refusal_items}
 use Rattle.ls_theory.specs.Settings.{most_states}
 use Rattle.ls_expert.specs.Starts.{start_of}
 use Rattle.ls_reply.specs.Sessions.{Pupil}
@@ -15,7 +15,6 @@ use Rattle.ls_reply.specs.Pupils.{most_pupils}
 use Rattle.ls_reply.specs.declared.response.Response.{Response}
 use Rattle.ls_reply.specs.declared.response.Response.TheVariants as response
 use Rattle.ls_reply.specs.declared.response.Shown.TheVariants as shown
-use Rattle.ls_reply.specs.declared.refusal.Refusal.TheVariants as refusal
 use Rattle.ls_pupils.specs.Own.{have_own_names}
 use Rattle.ls_pupils.specs.declared.cases.PupilCase.{PupilCase}
 
@@ -40,9 +39,11 @@ pub record ArePupils (n : ℕ) (cases : List PupilCase) : Type 0 where
   pub own : have_own_names (λ c. c.name) cases ≡ true
   pub few : length cases ≤ most_pupils
 
--- what is told of a pupil speaks of the n items alone
+-- What is told of a pupil speaks of the n items alone: an item that is asked, a report, or a refusal.
 abbrev pub CanTell : ℕ → Response → Type 0
 CanTell n (response.Shown (shown.Asked (Item q))) = q < n
+CanTell n (response.Shown (shown.Asked (Over reason))) = ⊤
 CanTell n (response.Shown (shown.Report outcome fringes)) = IsWithin outcome.state (full n) × IsWithin fringes.inner (full n) × IsWithin fringes.outer (full n)
-CanTell n (response.Refused (refusal.Reply (WrongItem q))) = q < n
+CanTell n (response.Shown what) = ⊥
+CanTell n (response.Refused refusal) = All (λ q. q < n) (refusal_items refusal)
 CanTell n r = ⊤

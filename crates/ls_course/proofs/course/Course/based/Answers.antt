@@ -2,7 +2,7 @@ use Rattle.std.proofs.Common.{length, ap, sym, ◌∙◌, subst, option_copied}
 use Rattle.std.proofs.lemmas.Result.{IfOk-weaker}
 use Rattle.ls_base.specs.Trail.{trail_sets}
 use Rattle.ls_meanings.specs.Asked.{IsOn}
-use Rattle.ls_views.specs.Views.{CanSay, session_on}
+use Rattle.ls_views.specs.Views.{CanSay}
 use Rattle.ls_views.proofs.Saying.{can-view}
 use Rattle.ls_course.specs.States.{CourseState}
 use Rattle.ls_course.proofs.Trailed.{last-sets}
@@ -11,9 +11,9 @@ use Rattle.ls_course.proofs.course.Course.based.Goals as goal
 pub returns-clause-said : goal.returns-clause-said
 returns-clause-said c =
     let i = c.self.inside.inquiry in
-    let s = session_on c.self.inside.texts i in
+    let names = c.self.inside.texts in
     let sets = trail_sets c.follow.new.trail in
     let on = subst (λ (x : CourseState). IsOn (length x.session.names) c.args.view) (sym c.self.view_is) c.requires.on in
     let last = ap (λ o. option_copied o) (sym c.in-Some.is) ∙ c.last.ensures in
-    IfOk-weaker c.decide_based.result _ _ (λ r e. subst (CanSay s sets) (sym e)
-    (can-view s sets c.self.invariant.items c.standing.ensures.standing.sound c.args.view on (λ b. last-sets i c.follow.new.trail c.in-Some.followed.now c.in_ok-follow.ensures.followed last))) c.decide_based.ensures
+    IfOk-weaker c.decide_based.result _ _ (λ r e. subst (CanSay names i sets) (sym e)
+    (can-view names i sets c.self.invariant.items c.standing.ensures.standing.sound c.args.view on (λ b. last-sets i c.follow.new.trail c.in-Some.followed.now c.in_ok-follow.ensures.followed last))) c.decide_based.ensures

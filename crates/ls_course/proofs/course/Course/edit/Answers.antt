@@ -1,12 +1,13 @@
 use Rattle.std.proofs.Common.{sym, subst}
 use Rattle.std.proofs.lemmas.Result.{IfOk-weaker}
 use Rattle.ls_base.specs.Trail.{trail_sets}
-use Rattle.ls_views.specs.Views.{CanSay, session_on}
+use Rattle.ls_views.specs.Views.{CanSay}
 use Rattle.ls_course.proofs.Told.{told-answer}
 use Rattle.ls_course.proofs.course.Course.edit.Goals as goal
 
 pub returns-in-Answer-clause-said : goal.returns-in-Answer-clause-said
 returns-in-Answer-clause-said g c =
-    let s = session_on c.self.inside.texts c.take.new.inquiry in
+    let names = c.self.inside.texts in
+    let next = c.take.new.inquiry in
     let sets = trail_sets c.self.inside.trail in
-    IfOk-weaker c.take.result _ _ (λ r e. subst (CanSay s sets) (sym e) (told-answer s sets c.self.inside.inquiry c.in-Answer.query c.in-Answer.yes)) c.take.ensures.response
+    IfOk-weaker c.take.result _ _ (λ r e. subst (CanSay names next sets) (sym e) (told-answer names next sets c.self.inside.inquiry c.in-Answer.query c.in-Answer.yes)) c.take.ensures.response

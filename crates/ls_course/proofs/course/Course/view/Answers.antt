@@ -11,4 +11,4 @@ returns-else-is_based-clause-said g c =
     let row = c.decide.ensures.response ∙ ap (λ (x : CourseState). view_row x.session.interview c.args.view) c.self.view_is in
     let items = subst (λ (x : CourseState). length x.session.names ≡ x.session.interview.count) c.self.view_is c.self.invariant.items in
     let standing = subst (λ (x : CourseState). IsStanding x.session.interview) c.self.view_is c.standing.ensures.standing in
-    subst (CanTell old) (sym row) (can-view old.session old.followed items standing.sound c.args.view c.requires (λ b. absurd (true≢false (sym b ∙ sym c.is_based.ensures ∙ c.if-is_based.false))))
+    subst (CanTell old) (sym row) (can-view old.session.names old.session.interview old.followed items standing.sound c.args.view c.requires (λ b. absurd (true≢false (sym b ∙ sym c.is_based.ensures ∙ c.if-is_based.false))))
