@@ -8,9 +8,11 @@ pub(crate) fn heaviest(weights: &[u128]) -> usize
     ensures { IsFirstMaxByKey (λ w. w) weights.now (length weights.now) result }
 {
     let mut best = 0;
-    for i in 1..weights.len() {
-        if weights[i] > weights[best] {
+    let mut greatest = weights[0];
+    for (i, weight) in weights.iter().enumerate() {
+        if *weight > greatest {
             best = i;
+            greatest = *weight;
         }
     }
     best

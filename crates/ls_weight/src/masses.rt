@@ -55,7 +55,8 @@ pub(crate) fn weigh_masses(masses: &mut [u128], tables: &[u128], ratio: Ratio)
     requires sums { (g : ℕ) → g < width_of (length masses.old) →
         sum (row_at tables.now table_cells g) < 2 ^ 128 }
     requires fits { (q : ℕ) → q < length masses.old → ratio.b * slice_index masses.old q
-        + (ratio.a - ratio.b) * cells_with (row_at tables.now table_cells (q / 8)) (q % 8) < 2 ^ 128 }
+        + (ratio.a - ratio.b) * cells_with (row_at tables.now table_cells (q / 8)) (q % 8)
+        < 2 ^ 128 }
     ensures { (q : ℕ) → q < length masses.old → slice_index masses.new q
         ≡ ratio.b * slice_index masses.old q
         + (ratio.a - ratio.b) * cells_with (row_at tables.now table_cells (q / 8)) (q % 8) }

@@ -124,7 +124,8 @@ impl StateRows {
     /// For each item, how many states have it.
     pub(crate) fn counts(&self) -> &[u128]
         ensures { result.now
-            ≡ map (λ q. count_by (λ k. has k q) self.now.states) (range_with_len 0 self.now.item_count) }
+            ≡ map (λ q. count_by (λ k. has k q) self.now.states)
+            (range_with_len 0 self.now.item_count) }
     {
         &self.counts
     }

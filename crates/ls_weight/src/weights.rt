@@ -214,7 +214,8 @@ impl Weights {
     /// The states, in their order.
     pub fn states(&self) -> &[ItemSet]
         ensures value { result.now ≡ self.now.states }
-        ensures weighable { IsWeighable (length self.now.settings.ratios) self.now.states self.now.settings }
+        ensures weighable { IsWeighable (length self.now.settings.ratios)
+            self.now.states self.now.settings }
     {
         self.rows.states()
     }
@@ -223,7 +224,8 @@ impl Weights {
     pub fn replies(&self) -> &[Reply]
         ensures value { result.now ≡ self.now.replies }
         ensures budget { length result.now ≤ self.now.settings.budget }
-        ensures items { list_all (λ r. nat_lt r.q (length self.now.settings.ratios)) result.now ≡ true }
+        ensures items { list_all
+            (λ r. nat_lt r.q (length self.now.settings.ratios)) result.now ≡ true }
     {
         &self.replies
     }
