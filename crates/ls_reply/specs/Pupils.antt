@@ -9,6 +9,7 @@ use Rattle.ls_theory.specs.Fringes.{fringes}
 use Rattle.ls_theory.specs.declared.asked.Asked.{Asked}
 use Rattle.ls_theory.specs.declared.outcome.Outcome.{Outcome}
 use Rattle.ls_lines.specs.Lines.{Text}
+pub use Rattle.ls_saved.specs.Sessions.{most_pupils}
 use Rattle.ls_reply.specs.Sessions.{Pupil, pupil_states}
 use Rattle.ls_reply.specs.Effects.{Change, changed, refuse, refuse_fault}
 use Rattle.ls_reply.specs.declared.refusal.Refusal.{Refusal}
@@ -34,10 +35,6 @@ setting_row s (setting.Item item ratios) = settings_row s (are_ratios ratios) (w
 setting_row s (setting.Limits budget share) = settings_row s (are_limits budget share) (with_limits s budget share)
 
 -- ---- pupils
-
--- so many pupils stand at most
-abbrev pub most_pupils : ℕ
-most_pupils = 16
 
 abbrev pub has_name : Text → Pupil → Bool
 has_name name p = bytes_eq p.name name

@@ -1,32 +1,10 @@
--- A session's state.
-use Rattle.std.specs.Prelude.{ℕ, Bool, not, ◌==◌, List, [], length}
-use Rattle.ls_set.specs.ItemSet.{Items}
-use Rattle.ls_set.specs.declared.query.Query.{Query}
-use Rattle.ls_theory.specs.Interviews.{Interview, begun}
-use Rattle.ls_theory.specs.Starts.{Start, Free}
-use Rattle.ls_theory.specs.Compatible.{compat}
-use Rattle.ls_theory.specs.Settings.{Settings, standard}
-use Rattle.ls_theory.specs.declared.reply.Reply.{Reply}
+-- A session's state, and how a session begins.
+use Rattle.std.specs.Prelude.{Bool, not, ◌==◌, List, [], length}
+use Rattle.ls_theory.specs.Interviews.{begun}
+use Rattle.ls_theory.specs.Starts.{Free}
+use Rattle.ls_theory.specs.Settings.{standard}
 use Rattle.ls_lines.specs.Lines.{Text}
-
--- a pupil: the name; the start, the Yes queries and the settings as they were when it began; and the replies
-pub record Pupil : Type 0 where
-  pub name : Text
-  pub start : Start
-  pub yeses : List Query
-  pub settings : Settings
-  pub replies : List Reply
-
--- a pupil's states among n items
-abbrev pub pupil_states : ℕ → Pupil → List Items
-pupil_states n p = compat n p.start p.yeses
-
--- the names of the items, none where no domain stands; the interview; the settings of pupils that begin; and the pupils in the order in which they began
-pub record Session : Type 0 where
-  pub names : List Text
-  pub interview : Interview
-  pub settings : Settings
-  pub pupils : List Pupil
+pub use Rattle.ls_saved.specs.Sessions.{Pupil, pupil_states, Session}
 
 -- the session that begins with the names
 abbrev pub started : List Text → Session

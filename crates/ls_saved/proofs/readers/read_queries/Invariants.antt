@@ -1,0 +1,9 @@
+use Rattle.std.proofs.Common.{drop}
+use Rattle.serde_json.specs.View.{view}
+use Rattle.ls_files.specs.SurmiseFiles.{read_list}
+use Rattle.ls_saved.specs.Parts.{read_query}
+use Rattle.ls_saved.proofs.Walks.{IsRead}
+use Rattle.ls_saved.proofs.readers.read_queries.Given as goal
+
+abbrev pub invariant-loop-entry : goal.invariant-loop-entry
+invariant-loop-entry l = IsRead (read_query l.n) l.queries (drop l.entry-index l.entry-items) (read_list (read_query l.n) (view l.value))

@@ -1,0 +1,9 @@
+use Rattle.std.proofs.Common.{drop}
+use Rattle.serde_json.specs.View.{view}
+use Rattle.ls_files.specs.SurmiseFiles.{read_list}
+use Rattle.ls_saved.specs.Parts.{read_ratios}
+use Rattle.ls_saved.proofs.Walks.{IsRead}
+use Rattle.ls_saved.proofs.readers.read_ratio_list.Given as goal
+
+abbrev pub invariant-loop-entry : goal.invariant-loop-entry
+invariant-loop-entry l = IsRead (read_ratios l.version) l.list.items (drop l.entry-index l.entry-items) (read_list (read_ratios l.version) (view l.value))
