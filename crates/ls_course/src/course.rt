@@ -26,9 +26,7 @@ use ls_interior::Steps;
 use ls_lines::{Command, Word};
 use ls_meanings::{ResolveFault, resolve};
 use ls_pupils::{PupilCases, attend, set};
-use ls_reply::{
-    Edit, PupilRequest, Refusal, Request, Response, Setting, Shown, StartFile, View,
-};
+use ls_reply::{Edit, PupilRequest, Refusal, Request, Response, Setting, Shown, StartFile, View};
 use ls_views::{decide, decide_based, is_based, put_shown};
 use ls_writing::{Room, SetTexts};
 use std::alloc::{AllocError, Global};
@@ -166,8 +164,10 @@ impl Course {
         ensures response { let s = self.old.session in IfOk result (λ r.
             r ≡ (starts_by s.interview [] (start_read file s.names bytes.now)).response) }
         ensures session { let s = self.old.session in
-            OnOk result (self.new.session ≡ record s { interview =
-            (starts_by s.interview [] (start_read file s.names bytes.now)).next }) }
+            OnOk result (self.new.session ≡ record s {
+              interview =
+                  (starts_by s.interview [] (start_read file s.names bytes.now)).next;
+            }) }
         ensures said { IfOk result (CanTell self.new) }
         ensures err { OnErr result (self.new.session ≡ self.old.session) }
     {
@@ -258,8 +258,10 @@ impl Course {
         ensures response { let s = self.old.session in IfOk result (λ r.
             r ≡ (pupil_row s.interview s.settings s.pupils name what).response) }
         ensures session { let s = self.old.session in
-            OnOk result (self.new.session ≡ record s { pupils =
-            (pupil_row s.interview s.settings s.pupils name what).next }) }
+            OnOk result (self.new.session ≡ record s {
+              pupils =
+                  (pupil_row s.interview s.settings s.pupils name what).next;
+            }) }
         ensures said { IfOk result (CanTell self.new) }
         ensures err { OnErr result (self.new.session ≡ self.old.session) }
     {

@@ -60,8 +60,7 @@ fn is_greatest(ratios: &[Ratios], replies: &[Reply], f: &[ItemSet], k: ItemSet) 
     ensures { let weighs = weight ratios.now replies.now in
         result ≡ list_all (λ l. nat_le (weighs l) (weighs k)) f.now }
 {
-    f.iter()
-        .all(|l| weight(ratios, replies, *l) <= weight(ratios, replies, k))
+    f.iter().all(|l| weight(ratios, replies, *l) <= weight(ratios, replies, k))
 }
 
 // The first set of greatest weight.

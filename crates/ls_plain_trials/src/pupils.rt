@@ -11,7 +11,10 @@ const ODDS: Ratio = Ratio { a: 8, b: 1 };
 // Odds 8 and 8 for each of the three items, at most 30 replies, and the share 90.
 fn settings(alloc: Global) -> Result<ListedSettings, AllocError> {
     Ok(ListedSettings {
-        ratios: vec![in alloc; Ratios { right: ODDS, wrong: ODDS }; 3]?,
+        ratios: vec![in alloc; Ratios {
+            right: ODDS,
+            wrong: ODDS
+        }; 3]?,
         budget: 30,
         share: 90,
     })

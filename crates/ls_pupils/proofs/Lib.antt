@@ -1,5 +1,4 @@
 pub mod Own
 pub mod Named
-pub mod Weighable
 pub mod Rows
 pub mod Keeping

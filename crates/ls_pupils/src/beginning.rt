@@ -84,10 +84,7 @@ fn like<'a>(pupils: &'a PupilCases, inquiry: &Inquiry) -> Option<&'a PupilCase>
     ensures { IfSome result (λ c. IsCase inquiry.now.count c.now
         × (c.now.pupil.states ≡ compatible_sets inquiry.now)) }
 {
-    pupils
-        .as_slice()
-        .iter()
-        .find(|case| is_like(case, inquiry))
+    pupils.as_slice().iter().find(|case| is_like(case, inquiry))
 }
 
 // Whether the case has the start and the Yes queries of the interview.

@@ -86,8 +86,11 @@ impl PupilCases {
     pub fn reply(&mut self, place: usize, q: u32, right: bool) -> Result<(), ReplyFault>
         requires { place < length self.old }
         ensures ok { (c : Case) → slice_get self.old place ≡ Some c →
-            OnOk result (self.new ≡ set self.old place (record c { pupil = record c.pupil {
-            replies = c.pupil.replies ++ record { q = q; right = right } ∷ [] } })) }
+            OnOk result (self.new ≡ set self.old place (record c {
+              pupil = record c.pupil {
+                replies = c.pupil.replies ++ record { q = q; right = right } ∷ [];
+              };
+            })) }
         ensures taken { (c : Case) → slice_get self.old place ≡ Some c → OnOk result
             (reply_fault (asked c.pupil.settings c.pupil.states c.pupil.replies) q ≡ None) }
         ensures fault { (c : Case) → slice_get self.old place ≡ Some c → IfErr result (λ e.

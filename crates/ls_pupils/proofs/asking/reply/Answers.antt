@@ -9,7 +9,6 @@ use Rattle.ls_pupils.proofs.Keeping.{case-at, replied_case, are-replied, reply-t
 use Rattle.ls_pupils.proofs.Rows.{told-fault}
 use Rattle.ls_pupils.proofs.asking.reply.Goals as goal
 
-
 pub returns-in-None-clause-response : goal.returns-in-None-clause-response
 returns-in-None-clause-response c =
     sym (ap (λ x. x.response) (reply-none c.args.n c.args.name.now c.args.pupils.now c.args.item c.args.right (not_named c.args.name.now c.args.pupils.now (sym c.place.ensures ∙ c.in-None.is)).none))

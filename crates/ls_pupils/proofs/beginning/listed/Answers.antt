@@ -8,7 +8,7 @@ use Rattle.ls_laws.specs.Families.{IsFamily}
 use Rattle.ls_laws.proofs.Families.{compat-IsFamily}
 use Rattle.ls_theory.specs.Interviews.{yes_queries}
 use Rattle.ls_weight.specs.Weighings.{Weighing}
-use Rattle.ls_pupils.proofs.Weighable.{weighable}
+use Rattle.ls_weight.proofs.Weighable.{family-weighable}
 use Rattle.ls_pupils.proofs.Rows.{weighed-new}
 use Rattle.ls_pupils.proofs.beginning.listed.Given as given
 use Rattle.ls_pupils.proofs.beginning.listed.Goals as goal
@@ -25,7 +25,7 @@ begin-requires g c =
     let i = c.args.inquiry.now in
     let family : IsFamily i.count c.in-Ok.sets = subst (IsFamily i.count) (sym (sets_are g c)) (compat-IsFamily i.count i.start (yes_queries i.answers)) in
     let count = c.items.ensures.count in
-    rw count (weighable i.count c.in-Ok.sets c.args.settings.now (rw count at c.items.ensures.some) (rw count at c.items.ensures.few) c.requires family (few_sets g c))
+    rw count (family-weighable i.count c.in-Ok.sets c.args.settings.now family (rw count at c.items.ensures.some) (rw count at c.items.ensures.few) c.requires (few_sets g c))
 
 pub returns-in-Ok : goal.returns-in-Ok
 returns-in-Ok g c =
