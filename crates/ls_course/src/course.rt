@@ -236,6 +236,7 @@ impl Course {
             }
         }
     }
+
     // How the settings change.
     fn set(&mut self, setting: Setting) -> Response
         requires { IsSettingOn (length self.old.session.names) setting }

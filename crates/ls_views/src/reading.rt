@@ -28,7 +28,7 @@ use ls_lines::Command;
 use ls_meanings::{ResolveFault, resolve};
 use ls_reply::{Request, Response, View};
 use ls_set::ItemSet;
-use ls_writing::{Room, SetTexts, put_done, put_line, put_refusal};
+use ls_writing::{Room, SetTexts, put_agreed, put_done, put_refusal};
 use std::alloc::{AllocError, Global};
 use std::sync::ledger::Ledger;
 
@@ -53,7 +53,7 @@ pub fn put_response<K: Sink, L: Ledger>(
         Response::Silence => (),
         Response::Refused(refusal) => put_refusal(Some(texts.domain()), refusal, room, out),
         Response::Done { number } => put_done(*number, room, out),
-        Response::Agreed => put_line(&[b"ok"], room, out),
+        Response::Agreed => put_agreed(room, out),
         Response::Shown(shown) => put_shown(texts, inquiry, sets, shown, room, out, steps),
     }
 }

@@ -34,4 +34,4 @@ returns-in-Done-clause-says g c = λ old.
 pub returns-in-Agreed-clause-says : goal.returns-in-Agreed-clause-says
 returns-in-Agreed-clause-says g c = λ old.
     let s = session_with old c.args.texts.now c.args.inquiry.now in
-    says_as (sym (bytes_of-one (codes "ok" ∷ [])) ∙ said_bytes s c.args.response.now response.Agreed c.in-Agreed.is) c.put_line.ensures
+    says_as (sym (bytes_of-one (codes "ok" ∷ [])) ∙ said_bytes s c.args.response.now response.Agreed c.in-Agreed.is) c.put_agreed.ensures
