@@ -32,6 +32,10 @@ pub record IsCase (n : ℕ) (c : PupilCase) : Type 0 where
   pub settings : c.pupil.settings ≡ c.settings
   pub items : length c.settings.ratios ≡ n
 
+-- a case of as many items as its settings
+abbrev pub IsOwnCase : PupilCase → Type 0
+IsOwnCase c = IsCase (length c.settings.ratios) c
+
 -- no two have the same name, and there are not too many
 pub record ArePupils (n : ℕ) (cases : List PupilCase) : Type 0 where
   pub few_items : n ≤ most_items

@@ -1,9 +1,7 @@
 // What pupils are asked and reply, and how they are closed.
-ghost use Rattle.std.specs.Prelude.{◌≡◌, ◌≤◌, ℕ, true, IfSome, option_map};
+ghost use Rattle.std.specs.Prelude.{◌≡◌, ◌≤◌, ℕ, IfSome, option_map};
 ghost use Rattle.ls_reply.specs.Pupils.{pupil_with, shown_of, question_shown, report_shown, reply_row, close_row};
 ghost use Rattle.ls_reply.specs.declared.response.Response.TheVariants.{Shown as ShownAs};
-ghost use Rattle.ls_pupils.specs.Own.{have_own_names};
-ghost use Rattle.ls_pupils.specs.declared.cases.PupilCase.{PupilCase as Case};
 ghost use Rattle.ls_pupils.specs.Cases.{pupil_of, pupils_of, IsCase, ArePupils, CanTell};
 
 use crate::cases::{PupilCase, PupilCases};
@@ -89,16 +87,17 @@ pub fn reply(n: u32, pupils: &mut PupilCases, name: &Word, item: u32, right: boo
 }
 
 /// `close NAME`
-pub fn close(pupils: &mut PupilCases, name: &Word) -> Response
-    requires { have_own_names (λ (c : Case). c.name) pupils.old ≡ true }
+pub fn close(n: u32, pupils: &mut PupilCases, name: &Word) -> Response
+    requires { ArePupils n pupils.old }
     ensures response { result ≡ (close_row (pupils_of pupils.old) name.now).response }
     ensures next { pupils_of pupils.new ≡ (close_row (pupils_of pupils.old) name.now).next }
-    ensures pupils { (n : ℕ) → ArePupils n pupils.old → ArePupils n pupils.new }
+    ensures pupils { ArePupils n pupils.new }
 {
+    let _ = n;
     match pupils.place(name) {
         None => Response::Refused(Refusal::NoPupil),
         Some(place) => {
-            pupils.remove(place);
+            pupils.close(place);
             Response::Agreed
         }
     }

@@ -41,6 +41,6 @@ pub fn attend<L: Ledger>(
         PupilRequest::Question => Ok(question(n, pupils, &name)),
         PupilRequest::Reply { item, right } => Ok(reply(n, pupils, &name, item, right)),
         PupilRequest::Report => Ok(report(n, pupils, &name)),
-        PupilRequest::Close => Ok(close(pupils, &name)),
+        PupilRequest::Close => Ok(close(n, pupils, &name)),
     }
 }

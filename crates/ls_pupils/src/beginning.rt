@@ -7,7 +7,7 @@ ghost use Rattle.ls_expert.specs.Starts.{start_of};
 ghost use Rattle.ls_reply.specs.Pupils.{begin_row, most_pupils, new_pupil};
 ghost use Rattle.ls_reply.specs.declared.response.Response.TheVariants.{Done};
 ghost use Rattle.ls_pupils.specs.Own.{is_named};
-ghost use Rattle.ls_pupils.specs.Cases.{pupils_of, IsCase, ArePupils};
+ghost use Rattle.ls_pupils.specs.Cases.{pupils_of, IsCase, IsOwnCase, ArePupils};
 ghost use Rattle.ls_pupils.specs.Beginning.{IsNewPupil, IsWeighed};
 ghost use Rattle.ls_pupils.specs.declared.cases.PupilCase.{PupilCase as Case};
 
@@ -78,8 +78,41 @@ fn new_pupil<L: Ledger>(
     }
 }
 
-// A case with the start and the Yes queries of the interview.
+// A case with the start and the Yes queries of the interview: one that stands, or the one that was
+// closed last.
 fn like<'a>(pupils: &'a PupilCases, inquiry: &Inquiry) -> Option<&'a PupilCase>
+    requires { ArePupils inquiry.now.count pupils.now }
+    ensures { IfSome result (λ c. IsCase inquiry.now.count c.now
+        × (c.now.pupil.states ≡ compatible_sets inquiry.now)) }
+{
+    match standing_like(pupils, inquiry) {
+        Some(case) => Some(case),
+        None => closed_like(pupils, inquiry),
+    }
+}
+
+// The case that was closed last, where it has the start and the Yes queries of the interview.
+fn closed_like<'a>(pupils: &'a PupilCases, inquiry: &Inquiry) -> Option<&'a PupilCase>
+    ensures { IfSome result (λ c. IsCase inquiry.now.count c.now
+        × (c.now.pupil.states ≡ compatible_sets inquiry.now)) }
+{
+    match pupils.closed() {
+        Some(case) if is_own(case, inquiry) => Some(case),
+        _ => None,
+    }
+}
+
+// Whether the case has as many items as the interview, and its start and Yes queries.
+fn is_own(case: &PupilCase, inquiry: &Inquiry) -> bool
+    requires { IsOwnCase case.now }
+    ensures { result ≡ true → IsCase inquiry.now.count case.now
+        × (case.now.pupil.states ≡ compatible_sets inquiry.now) }
+{
+    case.settings.count() == inquiry.items() && is_like(case, inquiry)
+}
+
+// A case that stands, with the start and the Yes queries of the interview.
+fn standing_like<'a>(pupils: &'a PupilCases, inquiry: &Inquiry) -> Option<&'a PupilCase>
     requires { ArePupils inquiry.now.count pupils.now }
     ensures { IfSome result (λ c. IsCase inquiry.now.count c.now
         × (c.now.pupil.states ≡ compatible_sets inquiry.now)) }

@@ -1,8 +1,9 @@
 // Pupils as a session keeps them.
-ghost use Rattle.std.specs.Prelude.{◌≡◌, ◌<◌, ◌++◌, ◌∷◌, [], ℕ, Some, None, Err, length, position, remove, set, slice_get, IfErr, OnOk, OnErr};
+ghost use Rattle.std.specs.Prelude.{◌≡◌, ◌<◌, ◌++◌, ◌∷◌, [], ℕ, Some, None, Err, length, position, remove, set, slice_get, IfSome, IfErr, OnOk, OnErr};
 ghost use Rattle.ls_theory.specs.Assessment.{asked, reply_fault};
 ghost use Rattle.ls_theory.specs.declared.reply_fault.ReplyFault.TheVariants.{WrongItem};
 ghost use Rattle.ls_pupils.specs.Own.{is_named};
+ghost use Rattle.ls_pupils.specs.Cases.{IsOwnCase};
 ghost use Rattle.ls_pupils.specs.declared.cases.PupilCase.{PupilCase as Case};
 
 use ls_assess::{Pupil, ReplyFault, Settings};
@@ -23,19 +24,25 @@ pub struct PupilCase {
     pub pupil: Pupil,
 }
 
-/// Pupils, in the order in which they began.
+/// Pupils, in the order in which they began. The one that was closed last is kept beside them, so
+/// that its states needn't be listed again.
 #[derive(Drop)]
 pub struct PupilCases {
     cases: Vec<PupilCase>,
+    closed: Option<PupilCase>,
 }
 
 impl Model for PupilCases {
     ghost use Rattle.std.specs.Prelude.{List};
+    ghost use Rattle.std.specs.Option.{ForSome};
+    ghost use Rattle.ls_pupils.specs.Cases.{IsOwnCase};
     ghost use Rattle.ls_pupils.specs.declared.cases.PupilCase.{PupilCase as Case};
 
     ghost Value = { List Case };
 
     ghost view = { λ l. l.cases.items };
+
+    ghost invariant = { λ l. ForSome l.closed IsOwnCase };
 }
 
 impl PupilCases {
@@ -45,6 +52,7 @@ impl PupilCases {
     {
         PupilCases {
             cases: Vec::new(alloc),
+            closed: None,
         }
     }
 
@@ -79,6 +87,22 @@ impl PupilCases {
         ensures { self.new ≡ remove self.old place }
     {
         let _ = self.cases.remove(place);
+    }
+
+    /// Takes out the case at a place, as [`PupilCases::remove`] does, and keeps it beside the others.
+    pub fn close(&mut self, place: usize)
+        requires place { place < length self.old }
+        requires case { (c : Case) → slice_get self.old place ≡ Some c → IsOwnCase c }
+        ensures { self.new ≡ remove self.old place }
+    {
+        self.closed = Some(self.cases.remove(place));
+    }
+
+    /// The case that was closed last, if one was.
+    pub fn closed(&self) -> Option<&PupilCase>
+        ensures { IfSome result (λ c. IsOwnCase c.now) }
+    {
+        self.closed.as_ref()
     }
 
     /// The pupil of the case at a place replies on the item `q`. Where the reply is refused nothing

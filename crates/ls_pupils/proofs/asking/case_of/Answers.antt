@@ -1,4 +1,4 @@
-use Rattle.std.proofs.Common.{◌≡◌, List, get_or, Some, ap, sym, ◌∙◌}
+use Rattle.std.proofs.Common.{List, get_or, Some, ap, sym, ◌∙◌}
 use Rattle.ls_pupils.specs.Cases.{pupil_of}
 use Rattle.ls_pupils.specs.declared.cases.PupilCase.{PupilCase}
 use Rattle.ls_pupils.proofs.Named.{named-at, not_named, index-is}

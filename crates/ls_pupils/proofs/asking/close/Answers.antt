@@ -1,9 +1,9 @@
 use Rattle.std.proofs.Common.{◌≡◌, ◌<◌, ◌∙◌, ℕ, List, remove, sym, ap, subst}
 use Rattle.ls_reply.specs.Sessions.{Pupil}
 use Rattle.ls_reply.specs.Effects.{Change}
-use Rattle.ls_pupils.specs.Cases.{pupils_of, ArePupils}
+use Rattle.ls_pupils.specs.Cases.{pupils_of, IsCase, ArePupils}
 use Rattle.ls_pupils.proofs.Named.{named-at, not_named, at-within}
-use Rattle.ls_pupils.proofs.Keeping.{are-closed, close-found, close-none}
+use Rattle.ls_pupils.proofs.Keeping.{case-at, are-closed, close-found, close-none}
 use Rattle.ls_pupils.proofs.asking.close.Goals as goal
 
 pub returns-in-None-clause-response : goal.returns-in-None-clause-response
@@ -16,22 +16,27 @@ returns-in-None-clause-next c =
     let cases = c.args.pupils.now in
     sym (ap (λ x. x.next) (close-none c.args.name.now cases (not_named c.args.name.now cases (sym c.place.ensures ∙ c.in-None.is)).none))
 
-pub remove-requires : goal.remove-requires
-remove-requires c = at-within c.args.name.now c.args.pupils.now c.in-Some.place (sym c.place.ensures ∙ c.in-Some.is)
+pub close-requires-clause-place : goal.close-requires-clause-place
+close-requires-clause-place c = at-within c.args.name.now c.args.pupils.now c.in-Some.place (sym c.place.ensures ∙ c.in-Some.is)
+
+pub close-requires-clause-case : goal.close-requires-clause-case
+close-requires-clause-case c = λ case at.
+    let own = case-at c.args.n c.args.pupils.now c.in-Some.place case c.requires at in
+    subst (λ m. IsCase m case) (sym own.items) own
 
 pub returns-in-Some-clause-response : goal.returns-in-Some-clause-response
 returns-in-Some-clause-response c =
     let name = c.args.name.now in
     let cases = c.args.pupils.now in
     let place = c.in-Some.place in
-    sym (ap (λ x. x.response) (close-found name cases place c.requires (named-at name cases place (sym c.place.ensures ∙ c.in-Some.is))))
+    sym (ap (λ x. x.response) (close-found name cases place c.requires.own (named-at name cases place (sym c.place.ensures ∙ c.in-Some.is))))
 
 pub returns-in-Some-clause-next : goal.returns-in-Some-clause-next
 returns-in-Some-clause-next c =
     let name = c.args.name.now in
     let cases = c.args.pupils.now in
     let place = c.in-Some.place in
-    ap pupils_of c.remove.ensures ∙ sym (ap (λ x. x.next) (close-found name cases place c.requires (named-at name cases place (sym c.place.ensures ∙ c.in-Some.is))))
+    ap pupils_of c.close.ensures ∙ sym (ap (λ x. x.next) (close-found name cases place c.requires.own (named-at name cases place (sym c.place.ensures ∙ c.in-Some.is))))
 
 pub returns-in-Some-clause-pupils : goal.returns-in-Some-clause-pupils
-returns-in-Some-clause-pupils c = λ n h. subst (ArePupils n) (sym c.remove.ensures) (are-closed n c.args.pupils.now c.in-Some.place h)
+returns-in-Some-clause-pupils c = subst (ArePupils c.args.n) (sym c.close.ensures) (are-closed c.args.n c.args.pupils.now c.in-Some.place c.requires)

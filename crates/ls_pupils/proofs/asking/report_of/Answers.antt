@@ -1,4 +1,4 @@
-use Rattle.std.proofs.Common.{◌≡◌, ap, ap₂, sym, ◌∙◌, subst, ℕ, List}
+use Rattle.std.proofs.Common.{ap₂, sym, ◌∙◌, subst, ℕ, List}
 use Rattle.ls_set.specs.ItemSet.{Items}
 use Rattle.ls_theory.specs.Fringes.{fringes}
 use Rattle.ls_expert.specs.Starts.{start_of}

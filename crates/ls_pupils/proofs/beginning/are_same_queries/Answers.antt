@@ -1,4 +1,4 @@
-use Rattle.std.proofs.Common.{◌≡◌, ◌==◌, ◌&&◌, Bool, ap, ap₂, sym, ◌∙◌, eqb-true, eq-eqb, ℕ}
+use Rattle.std.proofs.Common.{◌≡◌, ◌==◌, ap, ap₂, eqb-true, eq-eqb, ℕ}
 use Rattle.std.specs.Prelude.{Decides}
 use Rattle.std.proofs.lemmas.Bool.{and_parts, and_from}
 use Rattle.std.proofs.lemmas.Slice.Eq.{slice_eq-Decides}

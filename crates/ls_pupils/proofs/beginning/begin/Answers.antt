@@ -1,11 +1,9 @@
-use Rattle.std.proofs.Common.{◌≡◌, ◌<◌, ◌≤◌, ℕ, List, length, is_some, sym, ap, ◌∙◌, subst}
+use Rattle.std.proofs.Common.{◌<◌, ◌≤◌, length, is_some, sym, ap, ◌∙◌, subst}
 use Rattle.std.proofs.lemmas.List.{length-map}
 use Rattle.std.proofs.lemmas.Result.{IfOk-weaker, on_ok_weaker}
-use Rattle.ls_theory.specs.Settings.{Settings}
 use Rattle.ls_reply.specs.Pupils.{most_pupils}
-use Rattle.ls_pupils.specs.Cases.{pupil_of, pupils_of, ArePupils}
+use Rattle.ls_pupils.specs.Cases.{pupil_of, pupils_of}
 use Rattle.ls_pupils.specs.Beginning.{IsNewPupil}
-use Rattle.ls_pupils.specs.declared.cases.PupilCase.{PupilCase}
 use Rattle.ls_pupils.proofs.Named.{stands, not_standing}
 use Rattle.ls_pupils.proofs.Rows.{begin-stands, begin-many, begin-refused, begin-begins}
 use Rattle.ls_pupils.proofs.beginning.begin.Goals as goal

@@ -1,4 +1,4 @@
-use Rattle.std.proofs.Common.{◌≡◌, length, List, sym, ap, ap₂, ◌∙◌, subst}
+use Rattle.std.proofs.Common.{length, List, sym, ap, ap₂, ◌∙◌, subst}
 use Rattle.ls_set.specs.declared.query.Query.{Query}
 use Rattle.ls_theory.specs.Starts.{Start}
 use Rattle.ls_theory.specs.Settings.{Settings}

@@ -1,4 +1,4 @@
-use Rattle.std.proofs.Common.{◌≡◌, ◌≤◌, ℕ, [], List, Some, None, IfOk, OnOk, length, ap, sym, ◌∙◌, subst, filter}
+use Rattle.std.proofs.Common.{◌≡◌, ◌≤◌, [], List, Some, None, OnOk, length, ap, sym, ◌∙◌, subst, filter}
 use Rattle.std.proofs.lemmas.Result.{IfOk-weaker}
 use Rattle.ls_set.specs.ItemSet.{Items}
 use Rattle.ls_theory.specs.Compatible.{compat, compatible_sets}
