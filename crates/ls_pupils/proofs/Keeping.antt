@@ -1,6 +1,6 @@
 -- Pupils stay pupils of n items, and what their rows come to.
-use Rattle.std.proofs.Common.{◌≡◌, ◌<◌, ◌≤◌, ℕ, ◌+◌, Bool, true, false, not, List, [], ◌∷◌, ◌++◌, map, filter, set, remove, take, drop, slice_get, length, length-append, zero, suc, Some, None, unwrap_or, refl, sym, ap, ◌∙◌, subst, arith}
-use Rattle.std.specs.List.{All, list_any}
+use Rattle.std.proofs.Common.{◌≡◌, ◌<◌, ◌≤◌, ℕ, ◌+◌, Bool, true, false, not, List, [], ◌∷◌, ◌++◌, filter, set, remove, take, drop, slice_get, length, length-append, zero, suc, Some, None, unwrap_or, refl, sym, ap, ◌∙◌, subst, arith}
+use Rattle.std.specs.List.{list_any}
 use Rattle.std.proofs.lemmas.List.{map-set, length-set}
 use Rattle.std.proofs.lemmas.List.Elements.{All-set, All-append, All-push, All-take, All-drop}
 use Rattle.std.proofs.lemmas.Option.{slice_get_within, unwrap_or-slice_get}
@@ -8,7 +8,6 @@ use Rattle.ls_lists.proofs.Places.{map-remove, get-map}
 use Rattle.ls_reply.specs.Sessions.{Pupil}
 use Rattle.ls_theory.specs.Assessment.{asked, reply_fault}
 use Rattle.ls_theory.specs.declared.reply_fault.ReplyFault.{ReplyFault}
-use Rattle.ls_reply.specs.Effects.{Change}
 use Rattle.ls_reply.specs.Pupils.{has_name, pupil_with, with_pupil, replied, most_pupils, asked_of, reply_row, close_row}
 use Rattle.ls_reply.specs.declared.refusal.Refusal.TheVariants as refusal
 use Rattle.ls_reply.specs.declared.response.Response.TheVariants.{Refused, Done, Agreed}

@@ -1,5 +1,5 @@
 -- What the rows of pupils come to.
-use Rattle.std.proofs.Common.{◌≡◌, ◌<◌, ◌≤◌, ℕ, ◌+◌, Bool, true, false, ltb, List, [], ◌∷◌, ◌++◌, slice_get, zero, suc, get_or, length, is_some, subst, arith, leb, Option, Some, None, Result, Ok, Err, IfOk, OnOk, refl, sym, ap, ◌∙◌, lt-ltb, le-ltb}
+use Rattle.std.proofs.Common.{◌≡◌, ◌<◌, ◌≤◌, ℕ, ◌+◌, Bool, true, false, ltb, List, [], ◌∷◌, ◌++◌, slice_get, zero, suc, get_or, length, is_some, subst, arith, leb, Option, Some, None, Result, Ok, Err, IfOk, OnOk, refl, sym, ap, lt-ltb, le-ltb}
 use Rattle.std.proofs.lemmas.Bool.{lt-leb, le-leb}
 use Rattle.std.specs.List.{All, AllByRecursion}
 use Rattle.ls_lists.proofs.Every.{All-append}
@@ -10,7 +10,7 @@ use Rattle.ls_theory.specs.Settings.{Settings, most_states, heavy_after}
 use Rattle.ls_weight.specs.Weighings.{Weighing}
 use Rattle.ls_weight.specs.declared.fault.WeightFault.{WeightFault}
 use Rattle.ls_weight.specs.declared.fault.WeightFault.TheVariants.{Heavy, Memory}
-use Rattle.ls_reply.specs.Effects.{Change, changed, refuse, refuse_fault}
+use Rattle.ls_reply.specs.Effects.{changed, refuse, refuse_fault}
 use Rattle.ls_reply.specs.Pupils.{weighing_refusals}
 use Rattle.ls_reply.specs.Refusals.{refusal_items}
 use Rattle.ls_reply.specs.declared.refusal.Refusal.{Refusal}
@@ -30,7 +30,7 @@ use Rattle.ls_theory.specs.declared.reply_fault.ReplyFault.TheVariants.{WrongIte
 use Rattle.ls_laws.specs.Spans.{IsOn}
 use Rattle.ls_fringe.proofs.Chosen.{inner-within, outer-within}
 use Rattle.ls_reply.specs.Sessions.{Pupil}
-use Rattle.ls_reply.specs.Pupils.{asked_of, reply_row, with_pupil, replied, pupil_with, most_pupils, begin_row, begin_refusals, new_pupil}
+use Rattle.ls_reply.specs.Pupils.{asked_of, reply_row, with_pupil, replied, pupil_with, most_pupils, begin_row, new_pupil}
 use Rattle.ls_reply.specs.declared.response.Shown.TheVariants as shown
 use Rattle.ls_pupils.specs.Cases.{pupil_of, IsCase, CanTell}
 use Rattle.ls_pupils.specs.Beginning.{IsNewPupil, IsWeighed}

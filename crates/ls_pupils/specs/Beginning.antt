@@ -1,5 +1,5 @@
 -- Pupils that begin.
-use Rattle.std.specs.Prelude.{◌≡◌, [], length, slice_get, Option, Some, Result, Ok, Err}
+use Rattle.std.specs.Prelude.{◌≡◌, [], length, slice_get, Some, Result, Ok, Err}
 use Rattle.std.specs.declared.alloc.AllocError.{AllocError}
 use Rattle.ls_theory.specs.Interviews.{Interview}
 use Rattle.ls_theory.specs.Compatible.{compatible_sets}

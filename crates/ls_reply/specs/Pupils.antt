@@ -1,6 +1,5 @@
 -- The rows of the settings and of the pupils.
 use Rattle.std.specs.Prelude.{ℕ, ◌+◌, Bool, not, nat_lt, nat_le, is_some, List, [], ◌∷◌, ◌++◌, map, filter, find, length, Option, Some, None, if◌then◌else◌, bytes_eq}
-use Rattle.ls_set.specs.ItemSet.{Items}
 use Rattle.ls_theory.specs.Interviews.{Interview, yes_queries}
 use Rattle.ls_theory.specs.Compatible.{compatible_sets}
 use Rattle.ls_theory.specs.Settings.{Settings, are_ratios, are_limits, with_all, with_item, with_limits, most_states, heavy_after}

@@ -1,4 +1,4 @@
-use Rattle.std.proofs.Common.{◌≡◌, Some, true, false, sym, ap, ◌∙◌, subst}
+use Rattle.std.proofs.Common.{◌≡◌, Some, sym, ap, ◌∙◌, subst}
 use Rattle.ls_theory.specs.Interviews.{Interview, retracted, yes_queries}
 use Rattle.ls_theory.specs.Answering.{answer_with}
 use Rattle.ls_expert.specs.Held.{rules_before}

@@ -1,6 +1,4 @@
-use Rattle.std.proofs.Common.{◌≡◌, ◌<◌, ◌∙◌, ℕ, List, remove, sym, ap, subst}
-use Rattle.ls_reply.specs.Sessions.{Pupil}
-use Rattle.ls_reply.specs.Effects.{Change}
+use Rattle.std.proofs.Common.{◌∙◌, sym, ap, subst}
 use Rattle.ls_pupils.specs.Cases.{pupils_of, IsCase, ArePupils}
 use Rattle.ls_pupils.proofs.Named.{named-at, not_named, at-within}
 use Rattle.ls_pupils.proofs.Keeping.{case-at, are-closed, close-found, close-none}
