@@ -13,6 +13,7 @@ mod learning;
 mod many_sets;
 #[cfg(test)]
 mod projecting;
+#[cfg(test)]
 mod pupils;
 #[cfg(test)]
 mod scripts;
