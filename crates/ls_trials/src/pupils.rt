@@ -35,7 +35,7 @@ const SCRIPTS: [(&str, &str); 9] = [
     (
         "items a b c\nratio 8 8 8 1\nratio z 3 2 3 2\nratio c 9 2 5 4\nratio 3 2 3\nodds 1 8\n\
          odds 65 8\nodds c 8 1\nlimits 0 90\nlimits 41 90\nlimits 30 50\nlimits 30 100\n\
-         odds a 2 64\npupil p\nquestion p\nreply p a right\nreport p\n",
+         odds a 2 9\npupil p\nquestion p\nreply p a right\nreport p\n",
         "ok 3\nno 43\nno 15 2\nok\nno 10 5\nno 43\nno 43\nno 43\nno 43\nno 43\nno 43\nno 43\n\
          ok\nok 8\nquestion a\nok 1\nreport {a b c} 2 12 1\nfringes a b c |\n",
     ),
