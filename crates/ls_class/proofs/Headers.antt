@@ -17,7 +17,7 @@ use Rattle.ls_class.specs.Tables.{columns_of}
 
 -- ---- fields
 
-field_at-get : (fields : List Text) (i : ℕ) → field_at fields i ≡ slice_get fields i
+pub field_at-get : (fields : List Text) (i : ℕ) → field_at fields i ≡ slice_get fields i
 unfolding field_at
 field_at-get [] i = sym (slice_get_past [] i (omega arith))
 field_at-get (f ∷ fields) zero = refl

@@ -1,7 +1,9 @@
 -- Rows, as a map from names keeps them.
 use Rattle.std.proofs.Common.{◌≡◌, ℕ, inl, inr, true, false, List, [], ◌∷◌, ◌++◌, map, length, String, Global, string_bytes, refl, ap, sym, ◌∙◌, true≢false, ◌||◌}
 use Rattle.std.specs.List.{list_any}
-use Rattle.std.specs.Map.{keys_of}
+use Rattle.std.specs.Map.{keys_of, lookup}
+use Rattle.std.specs.Option.{is_some}
+use Rattle.std.proofs.lemmas.Map.Made.{is_some-lookup}
 use Rattle.std.specs.Str.{bytes_eq}
 use Rattle.std.specs.String.{string_eq}
 use Rattle.std.proofs.lemmas.Bool.{cases_Bool}
@@ -18,9 +20,13 @@ abbrev pub row_kept : Entry → Row
 row_kept e = record { name = string_bytes e.0; right = e.1 }
 
 -- the names of the rows are the keys
-pub named-kept : (es : List Entry) (name : Text) → list_any (λ k. bytes_eq name (string_bytes k)) (keys_of es) ≡ is_named (map (λ row. row.name) (map row_kept es)) name
+named-kept : (es : List Entry) (name : Text) → list_any (λ k. bytes_eq name (string_bytes k)) (keys_of es) ≡ is_named (map (λ row. row.name) (map row_kept es)) name
 named-kept [] name = refl
 named-kept (e ∷ es) name = ap (λ b. bytes_eq name (string_bytes e.0) || b) (named-kept es name)
+
+-- whether a row has the name
+pub named-rows : (es : List Entry) (name : Text) (rows : List Row) → map row_kept es ≡ rows → is_some (lookup (λ k. bytes_eq name (string_bytes k)) es) ≡ is_named (map (λ row. row.name) rows) name
+named-rows es name rows is = is_some-lookup (λ k. bytes_eq name (string_bytes k)) es ∙ named-kept es name ∙ ap (λ (rs : List Row). is_named (map (λ row. row.name) rs) name) is
 
 last : (es : List Entry) (text : String Global) (right : Items) → is_named (map (λ row. row.name) (map row_kept es)) (string_bytes text) ≡ false
     → map row_kept (insert_entry string_eq es text right) ≡ map row_kept es ++ row_kept (text, right) ∷ []

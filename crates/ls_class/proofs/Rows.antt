@@ -1,5 +1,5 @@
 -- The reading of a table, record by record.
-use Rattle.std.proofs.Common.{◌≡◌, ℕ, zero, suc, ◌+◌, ◌<◌, ◌≤◌, inl, inr, true, false, List, [], ◌∷◌, ◌++◌, length, map, take, drop, get_or, slice_get, Some, None, Ok, Err, Result, option_map, refl, ap, sym, ◌∙◌, arith}
+use Rattle.std.proofs.Common.{◌≡◌, ℕ, zero, suc, ◌+◌, ◌<◌, ◌≤◌, inl, inr, true, false, List, [], ◌∷◌, ◌++◌, length, map, take, drop, get_or, slice_get, Some, None, Ok, Err, Result, IsErrAnd, IfErr, option_map, subst, refl, ap, sym, ◌∙◌, arith}
 use Rattle.std.specs.declared.option.Option.{Option}
 use Rattle.std.proofs.lemmas.Bool.{cases_Bool}
 use Rattle.std.proofs.lemmas.Bool.Decides.{nat_tests}
@@ -10,7 +10,8 @@ use Rattle.ls_set.specs.ItemSet.{Items}
 use Rattle.ls_lines.specs.Lines.{Text}
 use Rattle.csv.specs.Records as records
 use Rattle.ls_theory.specs.Classes.{Row}
-use Rattle.ls_domain.specs.Domains.{table_records}
+use Rattle.ls_domain.specs.Meanings.{is_named}
+use Rattle.ls_domain.specs.Domains.{is_name, table_records}
 use Rattle.ls_class.specs.Tables.{most_class_pupils, columns_of, is_next_name, marked, next_row, rows_from, class_in, class_of, IsFaultOf, IsRowFault}
 use Rattle.ls_class.specs.declared.class_fault.ClassFault.{ClassFault}
 use Rattle.ls_class.specs.declared.class_fault.ClassFault.TheVariants.{BadClass, Memory}
@@ -114,15 +115,32 @@ module _ (columns : List ℕ) (vs : List records.Row) (i : ℕ) (v : records.Row
   loop-fault reading e so_far fault =
       told reading (next_row columns earlier (records.fields_of v)) (length earlier + 2) e (λ none. so_far ∙ next ∙ rows_from-bad columns earlier (records.fields_of v) (map records.fields_of (drop (i + 1) vs)) none) fault
 
+-- a fault that is passed on
+pub passed_on : {T : Type 0} (reading : Result (List Row) ℕ) (r : Result T ClassFault) (e : ClassFault) → IsErrAnd r (λ f. f ≡ e) → IsFaultOf reading e → IfErr r (IsFaultOf reading)
+passed_on reading (Ok x) e is fault = tt
+passed_on reading (Err f) e is fault = subst (IsFaultOf reading) (sym is) fault
+
 pub loop-end : (columns : List ℕ) (vs : List records.Row) (i : ℕ) (earlier : List Row) → length vs ≤ i → rows_from columns earlier (map records.fields_of (drop i vs)) ≡ Ok earlier
 loop-end columns vs i earlier end = ap (λ l. rows_from columns earlier (map records.fields_of l)) (drop_all i vs end) ∙ rows_from-nil columns earlier
 
 -- ---- one record
 
-pub next_row-no_field : (columns : List ℕ) (earlier : List Row) (fields : List Text) → length fields ≡ 0 → next_row columns earlier fields ≡ None
+pub next_row-no_field : (columns : List ℕ) (earlier : List Row) (fields : List Text) → None ≡ slice_get fields 0 → next_row columns earlier fields ≡ None
 unfolding next_row
-next_row-no_field columns earlier [] e = refl
-next_row-no_field columns earlier (name ∷ marks) e = absurd (omega (arith, e))
+next_row-no_field columns earlier [] first = refl
+next_row-no_field columns earlier (name ∷ marks) first = absurd (none-some name first)
+
+pub next_name-none : (earlier : List Row) (name : Text) → is_name name ≡ false → is_next_name earlier name ≡ false
+next_name-none earlier name e = rw e refl
+
+pub next_name-full : (earlier : List Row) (name : Text) → length earlier ≡ most_class_pupils → is_next_name earlier name ≡ false
+next_name-full earlier name e = grind (arith, nat_tests, e)
+
+pub next_name-new : (earlier : List Row) (name : Text) → is_name name ≡ true → is_named (map (λ row. row.name) earlier) name ≡ false → length earlier < most_class_pupils → is_next_name earlier name ≡ true
+next_name-new earlier name named new room = grind (arith, nat_tests, named, new, room)
+
+pub next_name-again : (earlier : List Row) (name : Text) → is_named (map (λ row. row.name) earlier) name ≡ true → is_next_name earlier name ≡ false
+next_name-again earlier name e = grind (arith, nat_tests, e)
 
 pub next_row-no_name : (columns : List ℕ) (earlier : List Row) (fields : List Text) (name : Text) → Some name ≡ slice_get fields 0 → is_next_name earlier name ≡ false → next_row columns earlier fields ≡ None
 unfolding next_row
