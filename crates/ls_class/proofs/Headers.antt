@@ -1,5 +1,5 @@
 -- The first record, column by column.
-use Rattle.std.proofs.Common.{◌≡◌, ◌≢◌, ℕ, zero, suc, ◌+◌, ◌<◌, Bool, true, false, List, [], ◌∷◌, ◌++◌, length, map, take, drop, get_or, slice_get, Some, None, Option, option_and_then, refl, ap, ap₂, sym, ◌∙◌, arith, add-one, ◌==◌, eq-eqb, ne_eqb, inl, inr, true≢false}
+use Rattle.std.proofs.Common.{◌≡◌, ◌≢◌, ℕ, zero, suc, ◌+◌, ◌<◌, Bool, true, false, List, [], ◌∷◌, ◌++◌, length, map, take, drop, get_or, slice_get, Some, None, option_and_then, refl, ap, ap₂, sym, ◌∙◌, arith, add-one, ◌==◌, eq-eqb, ne_eqb, inl, inr, true≢false}
 use Rattle.std.specs.List.{list_all}
 use Rattle.std.specs.Str.{IsUtf8, bytes_eq}
 use Rattle.std.proofs.lemmas.Bool.{cases_Bool}

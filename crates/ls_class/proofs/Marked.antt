@@ -12,7 +12,7 @@ use Rattle.ls_set.specs.ItemSet.{Items, with, union}
 use Rattle.ls_set.proofs.Sets.{members, same_set, union-empty_right}
 use Rattle.ls_lines.specs.Lines.{Text}
 use Rattle.ls_class.proofs.Headers.{field-behind}
-use Rattle.ls_class.specs.Tables.{is_right, is_wrong, is_mark, right_of, marked}
+use Rattle.ls_class.specs.Tables.{is_right, is_mark, right_of, marked}
 
 union-with : (s t : Items) (i : ℕ) → union s (with t i) ≡ union (with s i) t
 union-with s t i = same_set _ _ (λ k. grind (arith, members, nat_tests))

@@ -1,9 +1,7 @@
-use Rattle.std.proofs.Common.{◌≡◌, ◌<◌, ◌+◌, ◌++◌, ◌∷◌, [], ◌∙◌, true, false, ap, sym, arith, length, map, drop, Some, option_map}
+use Rattle.std.proofs.Common.{◌≡◌, ◌<◌, ◌+◌, ◌∙◌, ap, sym, arith, length, drop}
 use Rattle.std.proofs.lemmas.Grind.{common_steps}
 use Rattle.std.proofs.lemmas.Option.{slice_get_within}
 use Rattle.csv.specs.Records.{fields_of}
-use Rattle.ls_theory.specs.Classes.{Row}
-use Rattle.ls_domain.specs.Meanings.{is_named}
 use Rattle.ls_domain.proofs.Numbers.{is_name-utf8}
 use Rattle.ls_class.specs.Tables.{most_class_pupils, marked}
 use Rattle.ls_class.proofs.Headers.{field_at-get}
@@ -60,7 +58,7 @@ returns-clause-ok c =
     let first = c.in-Some.ensures.value ∙ field_at-get fields 0 in
     let same : c.unwrap-name.result.now ≡ c.in-Some.name.now = (rw c.unwrap-name.ensures at c.from_utf8.ensures.cases).0 in
     let named = sym (named-rows c.self.inside.pupils.entries c.unwrap-name.result.now c.args.self.now c.self.view_is) ∙ sym c.if-contains_key.ensures in
-    let room : length earlier < most_class_pupils = grind (arith, common_steps) in
+    let room : length earlier < most_class_pupils = omega (arith, c.len-else-not-takes.ensures.value, c.len-else-not-takes.ensures.few, c.if-len-eq-MOST_PUPILS.false) in
     let next = next_name-new earlier c.unwrap-name.result.now (rw same (sym c.if-not-takes.ensures)) named room in
     let marks = c.in-Some-read_marks.ensures ∙ ap (λ columns. marked columns (drop 1 fields)) c.as_slice.ensures in
     let row = next_row-some c.args.columns.now earlier fields c.unwrap-name.result.now c.in-Some-read_marks.right (rw same first) next marks in

@@ -1,8 +1,8 @@
-use Rattle.std.proofs.Common.{◌≡◌, ◌≤◌, ◌+◌, ◌++◌, ◌∷◌, [], ◌∙◌, ap, sym, arith, length, map, take, drop, Ok, Err, Some, None, option_map}
+use Rattle.std.proofs.Common.{◌≡◌, ◌+◌, ◌++◌, ◌∷◌, [], ◌∙◌, ap, sym, arith, length, map, take, drop, Some, None, option_map}
 use Rattle.std.proofs.lemmas.Grind.{common_steps}
 use Rattle.csv.specs.Records.{fields_of}
 use Rattle.ls_domain.specs.Domains.{table_records}
-use Rattle.ls_class.specs.Tables.{most_class_pupils, columns_of, class_of, rows_from, next_row, IsFaultOf}
+use Rattle.ls_class.specs.Tables.{most_class_pupils, columns_of, class_of, rows_from, next_row}
 use Rattle.ls_class.proofs.Rows.{class_of-none, class_of-begun, class_in-bad, class_in-rows, loop-next, loop-fault, loop-end, passed_on}
 use Rattle.ls_class.proofs.class_table.ClassTable.from_csv.Goals as goal
 
