@@ -62,7 +62,7 @@ pub class_in-bad : (names header : List Text) (records : List (List Text)) → c
 unfolding class_in
 class_in-bad names header records e = rw e refl
 
-pub class_in-rows : (names header : List Text) (records : List (List Text)) (columns : List ℕ) → columns_of names header ≡ Some columns → class_in names (header ∷ records) ≡ rows_from columns [] records
+class_in-rows : (names header : List Text) (records : List (List Text)) (columns : List ℕ) → columns_of names header ≡ Some columns → class_in names (header ∷ records) ≡ rows_from columns [] records
 unfolding class_in
 class_in-rows names header records columns e = rw e refl
 
@@ -90,6 +90,12 @@ pub class_of-begun : (names : List Text) (bytes : List ℕ) (vs pupils : List re
     → class_of names bytes ≡ class_in names (records.fields_of header ∷ map records.fields_of pupils)
 unfolding class_of
 class_of-begun names bytes vs pupils header front parts = sym (class_in-take names (table_records bytes)) ∙ ap (class_in names) (sym front ∙ ap (map records.fields_of) parts)
+
+-- the same, where that record names the columns
+pub class_of-rows : (names : List Text) (bytes : List ℕ) (vs pupils : List records.Row) (header : records.Row) (columns : List ℕ) → map records.fields_of vs ≡ take (most_class_pupils + 2) (table_records bytes) → vs ≡ header ∷ pupils
+    → Some columns ≡ columns_of names (records.fields_of header) → class_of names bytes ≡ rows_from columns [] (map records.fields_of pupils)
+class_of-rows names bytes vs pupils header columns front parts found =
+    class_of-begun names bytes vs pupils header front parts ∙ class_in-rows names (records.fields_of header) (map records.fields_of pupils) columns (sym found)
 
 -- ---- a loop over records: the rows so far, and the records from i on
 
