@@ -1,0 +1,6 @@
+mod Examples
+mod Records
+mod Headers
+mod Marked
+mod Rows
+mod Kept
