@@ -1,6 +1,11 @@
-//! Trials of sets, lines and domains at small values and at the limits. It has tests alone.
+//! Trials of sets, lines, domains, class tables and the words of the command line, at small values
+//! and at the limits. It has tests alone.
 #![tactic(auto)]
 
+#[cfg(test)]
+mod class_tables;
+#[cfg(test)]
+mod command_words;
 #[cfg(test)]
 mod domains;
 #[cfg(test)]
