@@ -95,8 +95,10 @@ impl ClassTable {
         fields: &ByteRecord,
     ) -> Result<(), ClassFault>
         requires { All (λ i. i < PLACES) columns.now }
-        ensures ok { OnOk result (option_map (λ row. self.old ++ row ∷ []) (next_row columns.now self.old (fields_of fields.now)) ≡ Some self.new) }
-        ensures fault { IfErr result (IsRowFault (next_row columns.now self.old (fields_of fields.now)) (length self.old + 2)) }
+        ensures ok { OnOk result (option_map (λ row. self.old ++ row ∷ [])
+            (next_row columns.now self.old (fields_of fields.now)) ≡ Some self.new) }
+        ensures fault { IfErr result (IsRowFault
+            (next_row columns.now self.old (fields_of fields.now)) (length self.old + 2)) }
     {
         let bad = ClassFault::BadClass {
             row: self.len() as u32 + 2,
