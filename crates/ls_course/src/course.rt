@@ -1,11 +1,16 @@
 // A domain, the interview on its items, and its pupils.
-ghost use Rattle.std.specs.Prelude.{◌≡◌, ◌<◌, ◌==◌, true, not, [], length, IfOk, OnOk, OnErr};
+ghost use Rattle.std.specs.Prelude.{◌≡◌, ◌<◌, ◌==◌, true, not, [], length, Ok, IfOk, IfErr, OnOk, OnErr};
+ghost use Rattle.ls_theory.specs.Compatible.{compatible_sets};
+ghost use Rattle.ls_class.specs.Tables.{class_of};
+ghost use Rattle.ls_saved.specs.Values.{session_text};
+ghost use Rattle.ls_saved.specs.Reading.{session_of};
+ghost use Rattle.ls_store.specs.Faults.{IsSessionFault};
 ghost use Rattle.ls_reply.specs.Texts.{bytes_of};
 ghost use Rattle.ls_reply.specs.Sessions.{started};
 ghost use Rattle.ls_reply.specs.Meanings.{request_of};
 ghost use Rattle.ls_reply.specs.Lines.{shown_lines};
 ghost use Rattle.ls_reply.specs.Rows.{view_row, edit_row, starts_by, start_read, tested_by};
-ghost use Rattle.ls_reply.specs.Pupils.{setting_row, pupil_row};
+ghost use Rattle.ls_reply.specs.Pupils.{setting_row, pupil_row, classed_by};
 ghost use Rattle.ls_files.specs.SetFiles.{sets_of};
 ghost use Rattle.ls_reply.specs.Replies.{asked_effect, unnamed_at};
 ghost use Rattle.ls_writing.specs.Rooms.{Says};
@@ -25,8 +30,9 @@ use ls_expert::{Inquiry, Start};
 use ls_interior::Steps;
 use ls_lines::{Command, Word};
 use ls_meanings::{ResolveFault, resolve};
-use ls_pupils::{PupilCases, attend, set};
+use ls_pupils::{PupilCases, assess_class, attend, set};
 use ls_reply::{Edit, PupilRequest, Refusal, Request, Response, Setting, Shown, StartFile, View};
+use ls_store::{SessionFault, print_parts, read_parts};
 use ls_views::{decide, decide_based, is_based, put_shown};
 use ls_writing::{Room, SetTexts};
 use std::alloc::{AllocError, Global};
@@ -110,7 +116,7 @@ impl Course {
             Ok(Some(Request::Edit(edit))) => self.edit(&edit, steps),
             Ok(Some(Request::Setting(setting))) => Ok(self.set(setting)),
             Ok(Some(Request::Pupil { name, what })) => self.attend(name, what, steps),
-            Ok(None) => Ok(Response::Refused(Refusal::NotBuilt)),
+            Ok(None) => Ok(Response::Silence),
             Err(ResolveFault::Unnamed { place }) => {
                 Ok(Response::Refused(Refusal::Unnamed { place }))
             }
@@ -185,6 +191,67 @@ impl Course {
         ensures said { IfOk result (CanTell self.now) }
     {
         test_sets(rt, self.alloc, self.texts.domain(), bytes)
+    }
+
+    /// What is known of the pupils of the class that the bytes of a table give, each assessed over
+    /// the states as they are, with the settings; or the refusal of a table that gives no class, or
+    /// of states that can't be weighed.
+    pub fn class<R: Threads + Sync, L: Ledger>(
+        &self,
+        rt: &R,
+        bytes: &[u8],
+        steps: &mut Steps<L>,
+    ) -> Result<Response, AllocError>
+        ensures response { let s = self.now.session in IfOk result (λ r.
+            r ≡ classed_by s.settings (compatible_sets s.interview) []
+            (class_of s.names bytes.now)) }
+        ensures said { IfOk result (CanTell self.now) }
+    {
+        let inquiry = &self.inquiry;
+        assess_class(
+            rt,
+            self.alloc,
+            self.texts.domain(),
+            inquiry,
+            &self.settings,
+            bytes,
+            steps,
+        )
+    }
+
+    /// The text by which the session is saved.
+    pub fn text(&self) -> Result<Vec<u8>, AllocError>
+        ensures { IfOk result (λ v. v.items ≡ session_text self.now.session) }
+    {
+        print_parts(
+            self.alloc,
+            self.texts.domain(),
+            &self.inquiry,
+            &self.settings,
+            &self.pupils,
+        )
+    }
+
+    /// The session that the bytes of a saved one give; its base is not followed yet. The error is
+    /// the first cause why they give none; or memory ran out.
+    pub fn open<L: Ledger>(
+        alloc: Global,
+        bytes: &[u8],
+        steps: &mut Steps<L>,
+    ) -> Result<Course, SessionFault>
+        ensures session { IfOk result (λ c. session_of bytes.now ≡ Ok c.session) }
+        ensures fault { IfErr result (IsSessionFault (session_of bytes.now)) }
+    {
+        let parts = read_parts(alloc, bytes, steps)?;
+        let texts = SetTexts::new(alloc, parts.domain).map_err(SessionFault::Memory)?;
+        Ok(Course {
+            alloc,
+            texts,
+            inquiry: parts.inquiry,
+            trail: Trail::new(alloc),
+            settings: parts.settings,
+            pupils: parts.pupils,
+        })
     }
 
     // What is shown. The base is followed where it is asked for.

@@ -1,4 +1,5 @@
 pub mod Own
 pub mod Named
 pub mod Rows
+pub mod Classes
 pub mod Keeping

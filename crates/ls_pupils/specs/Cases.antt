@@ -1,7 +1,7 @@
 -- Pupils as the program keeps them.
 --     pupil_of c, pupils_of cs      the pupils of the definitions
 --     ArePupils n cs      pupils among n items, each with a name of its own
---     CanTell n r      what is told of a pupil speaks of the n items alone
+--     CanTell n r      what is told of pupils speaks of the n items alone
 use Rattle.std.specs.Prelude.{ℕ, ◌≡◌, ◌<◌, ◌≤◌, true, List, map, length, ⊤}
 use Rattle.std.specs.List.{All}
 use Rattle.ls_set.specs.ItemSet.{full, IsWithin, most_items}
@@ -43,11 +43,12 @@ pub record ArePupils (n : ℕ) (cases : List PupilCase) : Type 0 where
   pub own : have_own_names (λ c. c.name) cases ≡ true
   pub few : length cases ≤ most_pupils
 
--- What is told of a pupil speaks of the n items alone: an item that is asked, a report, or a refusal.
+-- What is told of pupils speaks of the n items alone: an item that is asked, a report, the states of a class, or a refusal.
 abbrev pub CanTell : ℕ → Response → Type 0
 CanTell n (response.Shown (shown.Asked (Item q))) = q < n
 CanTell n (response.Shown (shown.Asked (Over reason))) = ⊤
 CanTell n (response.Shown (shown.Report outcome fringes)) = IsWithin outcome.state (full n) × IsWithin fringes.inner (full n) × IsWithin fringes.outer (full n)
+CanTell n (response.Shown (shown.Class results)) = All (λ r. IsWithin r.state (full n)) results
 CanTell n (response.Shown what) = ⊥
 CanTell n (response.Refused refusal) = All (λ q. q < n) (refusal_items refusal)
 CanTell n r = ⊤

@@ -1,13 +1,16 @@
-//! The pupils of a session: how they begin, what they are asked and reply, and how they are closed.
+//! The pupils of a session: how they begin, what they are asked and reply, and how they are closed;
+//! and classes of pupils.
 #![tactic(auto)]
 
 mod asking;
 mod attending;
 mod beginning;
 mod cases;
+mod class;
 mod setting;
 
 pub use attending::attend;
 pub use beginning::{MOST_PUPILS, MOST_STATES};
 pub use cases::{PupilCase, PupilCases};
+pub use class::assess_class;
 pub use setting::set;

@@ -13,8 +13,8 @@ use Rattle.ls_reply.specs.Rows.{items_row, load_items_row, started_by, file_refu
 use Rattle.ls_reply.specs.Replies.{asked_effect, unnamed_at, command_effect, words_effect, line_effect}
 use Rattle.ls_reply.specs.declared.request.Request.{Request}
 use Rattle.ls_reply.specs.declared.request.Request.TheVariants.{View, Edit, Setting, Pupil}
-use Rattle.ls_reply.specs.declared.refusal.Refusal.TheVariants.{NoCommand, LongLine, DomainStands, Unnamed, NotBuilt}
-use Rattle.ls_reply.specs.declared.response.Response.TheVariants.{Refused}
+use Rattle.ls_reply.specs.declared.refusal.Refusal.TheVariants.{NoCommand, LongLine, DomainStands, Unnamed}
+use Rattle.ls_reply.specs.declared.response.Response.TheVariants.{Refused, Silence}
 
 -- a domain stands where there are names
 pub has_domain-some : (s : Session) → 0 < length s.names → has_domain s ≡ true
@@ -49,7 +49,7 @@ asked_effect-stored s [] (Some (Setting setting)) = refl
 asked_effect-stored s [] (Some (Pupil name what)) = refl
 
 -- where no domain stands, nothing is asked
-pub asked_effect-without : (r : Option Request) → asked_effect (started []) (0 ∷ []) r ≡ answers (started []) (Refused (cond (is_some r) (Unnamed 0) NotBuilt))
+pub asked_effect-without : (r : Option Request) → asked_effect (started []) (0 ∷ []) r ≡ answers (started []) (cond (is_some r) (Refused (Unnamed 0)) Silence)
 asked_effect-without None = refl
 asked_effect-without (Some request) = refl
 
@@ -57,15 +57,19 @@ asked_effect-without (Some request) = refl
 
 pub command_effect-asked : (s : Session) (calls : Calls) (c : Command) → (c ≡ command.Nothing → ⊥) → ((names : List Text) → c ≡ command.Items names → ⊥) → ((file : Text) → c ≡ command.LoadItems file → ⊥)
     → ((file : Text) → c ≡ command.StartSurmise file → ⊥) → ((file : Text) → c ≡ command.StartBase file → ⊥) → ((file : Text) → c ≡ command.Test file → ⊥)
+    → ((file : Text) → c ≡ command.Class file → ⊥) → ((file : Text) → c ≡ command.Save file → ⊥) → ((file : Text) → c ≡ command.Reopen file → ⊥)
     → command_effect s calls c ≡ asked_effect s (unnamed_at s c) (request_of s.names c)
 unfolding command_effect
-command_effect-asked s calls command.Nothing a b d e f g = absurd (a refl)
-command_effect-asked s calls (command.Items names) a b d e f g = absurd (b names refl)
-command_effect-asked s calls (command.LoadItems file) a b d e f g = absurd (d file refl)
-command_effect-asked s calls (command.StartSurmise file) a b d e f g = absurd (e file refl)
-command_effect-asked s calls (command.StartBase file) a b d e f g = absurd (f file refl)
-command_effect-asked s calls (command.Test file) a b d e f g = absurd (g file refl)
-command_effect-asked s calls c a b d e f g = refl
+command_effect-asked s calls command.Nothing a b d e f g h k m = absurd (a refl)
+command_effect-asked s calls (command.Items names) a b d e f g h k m = absurd (b names refl)
+command_effect-asked s calls (command.LoadItems file) a b d e f g h k m = absurd (d file refl)
+command_effect-asked s calls (command.StartSurmise file) a b d e f g h k m = absurd (e file refl)
+command_effect-asked s calls (command.StartBase file) a b d e f g h k m = absurd (f file refl)
+command_effect-asked s calls (command.Test file) a b d e f g h k m = absurd (g file refl)
+command_effect-asked s calls (command.Class file) a b d e f g h k m = absurd (h file refl)
+command_effect-asked s calls (command.Save file) a b d e f g h k m = absurd (k file refl)
+command_effect-asked s calls (command.Reopen file) a b d e f g h k m = absurd (m file refl)
+command_effect-asked s calls c a b d e f g h k m = refl
 
 module _ (s : Session) (calls : Calls) (line : List ℕ) where
   abbrev pub long : Effect

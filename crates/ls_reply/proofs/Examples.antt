@@ -1,5 +1,5 @@
 -- Examples: whole scripts, byte for byte.
-use Rattle.std.proofs.Common.{◌≡◌, refl, true, false, [], ◌∷◌, codes, decimal, replicate}
+use Rattle.std.proofs.Common.{◌≡◌, refl, true, false, [], ◌∷◌, Some, None, codes, decimal, replicate}
 use Rattle.std.specs.Fmt.{digits}
 use Rattle.std.specs.Prelude.{ℕ, List, map as map_of}
 use Rattle.ls_set.specs.ItemSet.{has, empty, full, with, without, union, meet, minus, single, differing, is_within, is_same, bound, items, least, comes_before, len}
@@ -26,7 +26,15 @@ use Rattle.ls_lines.specs.Commands.{cut, is_begun, command_of, fault_place}
 use Rattle.ls_domain.specs.Texts.{names_of_set}
 use Rattle.ls_domain.specs.Domains.{names_from}
 use Rattle.ls_files.specs.SetFiles.{line_read, found_from, sets_of}
-use Rattle.ls_files.specs.SurmiseFiles.{surmise_text, members_from}
+use Rattle.ls_files.specs.SurmiseFiles.{surmise_text, members_from, surmise_from}
+use Rattle.std.specs.Str.{is_utf8, chars}
+use Rattle.serde_json.proofs.OnLiterals.{serde_json_on_literals}
+use Rattle.csv.proofs.OnLiterals.{csv_on_literals}
+use Rattle.ls_theory.specs.Classes.{replies_in, class_results}
+use Rattle.ls_class.specs.Tables.{columns_of, next_row, rows_from, class_in, class_of}
+use Rattle.ls_saved.specs.Standing.{stands, is_pupil}
+use Rattle.ls_saved.specs.Values.{session_text}
+use Rattle.ls_saved.specs.Reading.{session_from, session_of}
 use Rattle.ls_reply.specs.Texts.{line_of, bytes_of}
 use Rattle.std.specs.FinMap as map
 use Rattle.json.specs.Print.{escape_byte}
@@ -36,11 +44,11 @@ use Rattle.ls_reply.specs.Refusals.{refusal_words}
 use Rattle.ls_reply.specs.Effects.{refuse_fault}
 use Rattle.ls_reply.specs.declared.refusal.Refusal.TheVariants.{Answer}
 use Rattle.ls_reply.specs.Replies.{command_effect, line_effect, reply_of}
-use Rattle.ls_reply.specs.Transcripts.{replies, refuses, transcript, is_some_refused}
+use Rattle.ls_reply.specs.Transcripts.{replies, refuses, world_after, transcript, is_some_refused, final_folder}
 
 -- an example that opens this opens each word
 unfoldable answering : ℕ
-unfolding weight half_split imbalance leader asked heavy_after escape_byte minus interior line_read found_from sets_of surmise_text members_from digits has empty full with without union meet single differing is_within is_same bound items least comes_before cursor cursor_set read_cursor compat lines words is_of spelling parts command forms cut is_begun command_of fault_place line_of bytes_of names_of_set names_from command_effect line_effect replies refuses is_too_wide made blocks len families fitting_spaces known next_question queries query_before block_before base peak verdict is_well_graded is_joined inner_fringe outer_fringe state_of orders_of paths
+unfolding weight half_split imbalance leader asked heavy_after escape_byte minus interior line_read found_from sets_of surmise_text members_from digits has empty full with without union meet single differing is_within is_same bound items least comes_before cursor cursor_set read_cursor compat lines words is_of spelling parts command forms cut is_begun command_of fault_place line_of bytes_of names_of_set names_from command_effect line_effect replies refuses world_after serde_json_on_literals csv_on_literals is_utf8 chars surmise_from stands is_pupil session_text session_from session_of columns_of next_row rows_from class_in class_of replies_in class_results is_too_wide made blocks len families fitting_spaces known next_question queries query_before block_before base peak verdict is_well_graded is_joined inner_fringe outer_fringe state_of orders_of paths
 answering = 0
 
 -- three items, the answer that who fails a fails b, and the six states that it leaves
@@ -52,11 +60,11 @@ not_refused : is_some_refused map.empty (codes "items a b c\nyes a : b\nstates\n
 unfolding answering
 not_refused = refl
 
-refused : transcript map.empty (codes "items a a\nitems a b\nitems c\nyes a : a\nyes z : a\nsave s") ≡ codes "no 12 repeat 2 1\nok 2\nno 11\nno 18\nno 15 2\nno 49\n"
+refused : transcript map.empty (codes "items a a\nitems a b\nitems c\nyes a : a\nyes z : a\nopen s") ≡ codes "no 12 repeat 2 1\nok 2\nno 11\nno 18\nno 15 2\nno 26\n"
 unfolding answering
 refused = refl
 
-some_refused : is_some_refused map.empty (codes "items a a\nitems a b\nitems c\nyes a : a\nyes z : a\nsave s") ≡ true
+some_refused : is_some_refused map.empty (codes "items a a\nitems a b\nitems c\nyes a : a\nyes z : a\nopen s") ≡ true
 unfolding answering
 some_refused = refl
 
@@ -124,10 +132,50 @@ no_cursors : transcript map.empty (codes "states 1 after 0\nitems a b c\nstates 
 unfolding answering
 no_cursors = refl
 
--- what isn't built yet comes before the domain
-not_built : transcript map.empty (codes "save s\nitems a\nsave s\nclass t\nload-items a b") ≡ codes "no 49\nok 1\nno 49\nno 49\nno 10 3\n"
+-- a session is stored where a domain stands, and opened where none does; a class table and a session that are missing
+kept : transcript map.empty (codes "save s\nopen s\nclass t\nitems a b c\nyes a : b\nsave s\nopen t\nclass t\nload-items a b") ≡ codes "no 15 0\nno 26\nno 15 0\nok 3\nok 1\nok 176\nno 26\nno 26\nno 10 3\n"
 unfolding answering
-not_built = refl
+kept = refl
+
+abbrev saved_file : List ℕ
+saved_file = codes "{\"answers\":[[1,true,\"8\",1]],\"block\":1,\"items\":[\"a\",\"b\",\"c\"],\"limits\":[30,90],\"next\":2,\"odds\":[[[8,1],[8,1]],[[8,1],[8,1]],[[8,1],[8,1]]],\"pupils\":[],\"start\":\"free\",\"version\":2}"
+
+stored : map.get (final_folder map.empty (codes "items a b c\nyes a : b\nsave s\n")) (codes "s") ≡ Some saved_file
+unfolding answering
+stored = refl
+
+-- what is opened takes the place of what stands
+abbrev opened_over : List ℕ → List ℕ → List ℕ
+opened_over bytes line = reply_of (line_effect (started (codes "z" ∷ [])) (record { file = λ name. Bytes bytes; failed = false }) line)
+
+opened : opened_over saved_file (codes "open s") ≡ codes "ok 3\n"
+unfolding answering
+opened = refl
+
+not_opened : opened_over (codes "{}") (codes "open s") ≡ codes "no 42 version\n"
+unfolding answering
+not_opened = refl
+
+-- a call that fails stores nothing
+store_failed : (line_effect (started (codes "a" ∷ [])) (record { file = λ name. Missing; failed = true }) (codes "save s")).stored ≡ None
+unfolding answering
+store_failed = refl
+
+-- a class of two pupils, of one item each of whose states is left
+abbrev class_reply : List ℕ → List ℕ
+class_reply bytes = reply_of (line_effect (started (codes "a" ∷ codes "b" ∷ [])) (record { file = λ name. Bytes bytes; failed = false }) (codes "class t"))
+
+class_shown : class_reply (codes "pupil,b,a\nann,1,0\nbob,0,0\n") ≡ codes "result ann 4 share {b}\nresult bob 4 share {}\nclass 2\n"
+unfolding answering
+class_shown = refl
+
+class_refused : class_reply (codes "pupil,b,a\nann,1,0\nbob,2,0\n") ≡ codes "no 41 3\n"
+unfolding answering
+class_refused = refl
+
+no_class : class_reply (codes "pupil,b,a") ≡ codes "class 0\n"
+unfolding answering
+no_class = refl
 
 -- a file that is missing, is too large, or can't be fetched; and one that isn't looked for
 missing : reply_of (line_effect (started []) (record { file = λ name. Missing; failed = false }) (codes "load-items none")) ≡ codes "no 26\n"

@@ -6,6 +6,7 @@ use Rattle.ls_theory.specs.Pages.{page}
 use Rattle.ls_theory.specs.Words.{is_lex_before}
 use Rattle.ls_theory.specs.Projections.{projection}
 use Rattle.ls_theory.specs.Paths.{paths}
+use Rattle.ls_theory.specs.Classes.{PupilResult}
 use Rattle.ls_theory.specs.declared.verdict.BaseVerdict.TheVariants as of_verdict
 use Rattle.ls_theory.specs.Interviews.{Interview}
 use Rattle.ls_theory.specs.Compatible.{compatible_sets}
@@ -25,10 +26,10 @@ use Rattle.ls_domain.specs.Texts.{fringe_words}
 use Rattle.ls_reply.specs.Texts.{line_of, bytes_of}
 use Rattle.ls_reply.specs.Sessions.{Session}
 use Rattle.ls_reply.specs.Refusals.{refusal_words}
-use Rattle.ls_reply.specs.Lines.{lines_of, shown_lines, base_lines, page_lines, path_lines, learning_words, verdict_words}
+use Rattle.ls_reply.specs.Lines.{lines_of, shown_lines, base_lines, page_lines, path_lines, learning_words, verdict_words, class_lines}
 use Rattle.ls_reply.specs.Replies.{is_refusal, is_refused}
 use Rattle.ls_reply.specs.declared.refusal.Refusal.{Refusal}
-use Rattle.ls_reply.specs.declared.refusal.Refusal.TheVariants.{NoCommand, LongLine, DomainStands, Domain, AnswersStand, StartSurmise, StartSets, StartBase, Unnamed, Block, Answer, NotStanding, Cursor, Past, NoFile, FileFailed, LargeFile, TestedSets, NotState, NotLearning, NoState, NotOrder, ManyStates, Heavy, ManyPupils, PupilStands, NoPupil, Reply, BadSetting, NotBuilt}
+use Rattle.ls_reply.specs.declared.refusal.Refusal.TheVariants.{NoCommand, LongLine, DomainStands, Domain, AnswersStand, StartSurmise, StartSets, StartBase, Unnamed, Block, Answer, NotStanding, Cursor, Past, NoFile, FileFailed, LargeFile, TestedSets, NotState, NotLearning, NoState, NotOrder, ManyStates, Heavy, ManyPupils, PupilStands, NoPupil, Reply, BadSetting, BadClass, BadSession}
 use Rattle.ls_reply.specs.declared.response.Response.{Response}
 use Rattle.ls_reply.specs.declared.response.Response.TheVariants.{Silence, Refused, Done, Agreed, Shown}
 use Rattle.ls_reply.specs.declared.response.Shown.{Shown as Showing}
@@ -107,9 +108,15 @@ some_words names NoPupil = refl
 some_words names (Reply (reply.Over reason)) = refl
 some_words names (Reply (reply.WrongItem asked)) = refl
 some_words names BadSetting = refl
-some_words names NotBuilt = refl
+some_words names (BadClass row) = refl
+some_words names (BadSession cause) = refl
 
 -- ---- what is shown is no refusal
+
+class_shown : (names : List Text) (results : List PupilResult) → is_refusal (bytes_of (class_lines names results)) ≡ false
+unfolding bytes_of line_of
+class_shown names [] = refl
+class_shown names (r ∷ rs) = refl
 
 path_shown : (names : List Text) (orders : List (List ℕ)) (more : Bool) → is_refusal (bytes_of (path_lines names (record { members = orders; more = more }))) ≡ false
 unfolding bytes_of line_of
@@ -162,6 +169,7 @@ shown_is_no_refusal names i (shown.Asked (Item q)) = refl
 shown_is_no_refusal names i (shown.Asked (Over Share)) = refl
 shown_is_no_refusal names i (shown.Asked (Over Budget)) = refl
 shown_is_no_refusal names i (shown.Report outcome fringes) = refl
+shown_is_no_refusal names i (shown.Class results) = class_shown names results
 
 pub is_refusal-lines_of : (s : Session) (r : Response) → is_refusal (bytes_of (lines_of s r)) ≡ is_refused r
 unfolding bytes_of line_of

@@ -1,12 +1,12 @@
 -- What a command does. Its refusals stand in their order; a list of refusals has those that hold.
-use Rattle.std.specs.Prelude.{ℕ, Bool, if◌then◌else◌, List, [], ◌∷◌, Option, Some, None}
+use Rattle.std.specs.Prelude.{ℕ, Bool, if◌then◌else◌, List, [], ◌∷◌, length, Option, Some, None}
 use Rattle.ls_theory.specs.Interviews.{Interview}
 use Rattle.ls_theory.specs.Settings.{Settings}
 use Rattle.ls_lines.specs.Lines.{Text}
 use Rattle.ls_reply.specs.Sessions.{Session, Pupil}
 use Rattle.ls_reply.specs.declared.refusal.Refusal.{Refusal}
 use Rattle.ls_reply.specs.declared.response.Response.{Response}
-use Rattle.ls_reply.specs.declared.response.Response.TheVariants.{Refused}
+use Rattle.ls_reply.specs.declared.response.Response.TheVariants.{Refused, Done}
 
 -- a refusal, where it holds
 abbrev pub refuse : Refusal → Bool → List Refusal
@@ -38,6 +38,11 @@ pub record Effect : Type 0 where
   pub response : Response
   pub session : Session
   pub stored : Option (Text × List ℕ)
+
+-- a file is stored, where nothing refuses it, and the session stays; how many bytes it has is told
+abbrev pub stores : Session → List Refusal → Text → List ℕ → Effect
+stores s [] name bytes = record { response = Done (length bytes); session = s; stored = Some (name, bytes) }
+stores s (refusal ∷ refusals) name bytes = record { response = Refused refusal; session = s; stored = None }
 
 -- nothing changes
 abbrev pub answers : Session → Response → Effect

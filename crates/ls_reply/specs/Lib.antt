@@ -9,3 +9,4 @@ pub mod Rows
 pub mod Pupils
 pub mod Replies
 pub mod Transcripts
+pub mod Saving

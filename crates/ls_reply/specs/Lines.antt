@@ -20,6 +20,7 @@ use Rattle.ls_theory.specs.declared.asked.Asked.{Asked}
 use Rattle.ls_theory.specs.declared.asked.Asked.TheVariants.{Item, Over}
 use Rattle.ls_theory.specs.declared.fringe_pair.FringePair.{FringePair}
 use Rattle.ls_theory.specs.declared.outcome.Outcome.{Outcome}
+use Rattle.ls_theory.specs.Classes.{PupilResult}
 use Rattle.ls_lines.specs.Lines.{Text}
 use Rattle.ls_domain.specs.Texts.{name_of, joined_names, set_text, fringe_words}
 use Rattle.ls_files.specs.SurmiseFiles.{surmise_text}
@@ -95,7 +96,15 @@ asked_words names (Over reason) = codes "over" ∷ reason_word reason ∷ []
 abbrev pub outcome_words : List Text → Outcome → List Text
 outcome_words names o = codes "report" ∷ set_text names o.state ∷ decimal o.weight ∷ decimal o.total ∷ decimal o.replies ∷ []
 
--- what is shown of an interview on named items, of a file or of a pupil
+-- what is known of a pupil of a class
+abbrev pub result_words : List Text → PupilResult → List Text
+result_words names r = codes "result" ∷ r.name ∷ decimal r.replies ∷ reason_word r.reason ∷ set_text names r.state ∷ []
+
+-- the pupils of a class, and how many they are
+abbrev pub class_lines : List Text → List PupilResult → List (List Text)
+class_lines names rs = map (result_words names) rs ++ (codes "class" ∷ decimal (length rs) ∷ []) ∷ []
+
+-- what is shown of an interview on named items, of a file, of a pupil or of a class
 abbrev pub shown_lines : List Text → Interview → Showing → List (List Text)
 shown_lines names i (shown.Known known) = known_words known ∷ []
 shown_lines names i (shown.Question next) = question_words names next ∷ []
@@ -111,6 +120,7 @@ shown_lines names i (shown.Paths count after) = path_lines names (page is_lex_be
 shown_lines names i (shown.Tested verdict) = (codes "test" ∷ verdict_words names verdict) ∷ []
 shown_lines names i (shown.Asked asked) = asked_words names asked ∷ []
 shown_lines names i (shown.Report outcome fringes) = outcome_words names outcome ∷ fringes_words names fringes ∷ []
+shown_lines names i (shown.Class results) = class_lines names results
 
 abbrev pub lines_of : Session → Response → List (List Text)
 lines_of s Silence = []

@@ -85,7 +85,7 @@ abbrev pub two_ratios : ℕ → ℕ → ℕ → ℕ → Ratios
 two_ratios right_a right_b wrong_a wrong_b =
     record { right = record { a = right_a; b = right_b }; wrong = record { a = wrong_a; b = wrong_b } }
 
--- what a command asks on the named items; nothing, where it is another kind of command
+-- what a command asks on the named items; nothing, where it speaks of files, of new names or of nothing
 abbrev pub request_of : List Text → Command → Option Request
 request_of names (command.Blocks size) = Some (Edit (edit.Blocks size))
 request_of names (command.Yes ws w) = Some (Edit (edit.Answer (query_of names ws w) true))

@@ -1,16 +1,21 @@
--- The rows of the settings and of the pupils.
-use Rattle.std.specs.Prelude.{ℕ, ◌+◌, Bool, not, nat_lt, nat_le, is_some, List, [], ◌∷◌, ◌++◌, map, filter, find, length, Option, Some, None, if◌then◌else◌, bytes_eq}
+-- The rows of the settings, of the pupils and of a class.
+use Rattle.std.specs.Prelude.{ℕ, ◌+◌, Bool, not, nat_lt, nat_le, is_some, List, [], ◌∷◌, ◌++◌, map, filter, find, length, Option, Some, None, Result, Ok, Err, if◌then◌else◌, bytes_eq}
+use Rattle.ls_set.specs.ItemSet.{Items}
 use Rattle.ls_theory.specs.Interviews.{Interview, yes_queries}
 use Rattle.ls_theory.specs.Compatible.{compatible_sets}
 use Rattle.ls_theory.specs.Settings.{Settings, are_ratios, are_limits, with_all, with_item, with_limits, most_states, heavy_after}
 use Rattle.ls_theory.specs.Assessment.{asked, outcome, reply_fault}
 use Rattle.ls_theory.specs.Fringes.{fringes}
+use Rattle.ls_theory.specs.Classes.{Row, class_results}
 use Rattle.ls_theory.specs.declared.asked.Asked.{Asked}
 use Rattle.ls_theory.specs.declared.outcome.Outcome.{Outcome}
 use Rattle.ls_lines.specs.Lines.{Text}
 pub use Rattle.ls_saved.specs.Sessions.{most_pupils}
 use Rattle.ls_reply.specs.Sessions.{Pupil, pupil_states}
-use Rattle.ls_reply.specs.Effects.{Change, changed, refuse, refuse_fault}
+use Rattle.ls_class.specs.Tables.{class_of}
+use Rattle.ls_reply.specs.Scenes.{Fetched}
+use Rattle.ls_reply.specs.Rows.{file_refusals, bytes_fetched}
+use Rattle.ls_reply.specs.Effects.{Change, changed, refuse, refuse_fault, ◌otherwise◌}
 use Rattle.ls_reply.specs.declared.refusal.Refusal.{Refusal}
 use Rattle.ls_reply.specs.declared.refusal.Refusal.TheVariants as refusal_of
 use Rattle.ls_reply.specs.declared.response.Response.{Response}
@@ -114,3 +119,22 @@ pupil_row i settings pupils name pupil.Question = shows pupils (shown_of (questi
 pupil_row i settings pupils name pupil.Report = shows pupils (shown_of (report_shown i.count) (pupil_with pupils name))
 pupil_row i settings pupils name (pupil.Reply item right) = reply_row i.count pupils item right (pupil_with pupils name)
 pupil_row i settings pupils name pupil.Close = close_row pupils name
+
+-- ---- a class
+
+-- the rows that were read
+abbrev pub rows_read : Result (List Row) ℕ → List Row
+rows_read (Ok rows) = rows
+rows_read (Err row) = []
+
+abbrev pub class_refusals : Result (List Row) ℕ → List Refusal
+class_refusals (Ok rows) = []
+class_refusals (Err row) = refusal_of.BadClass row ∷ []
+
+-- `class`: after these refusals, what is known of each pupil of the table over the states
+abbrev pub classed_by : Settings → List Items → List Refusal → Result (List Row) ℕ → Response
+classed_by settings f refusals reading =
+    (refusals ++ class_refusals reading ++ weighing_refusals settings (length f)) otherwise Shown (shown.Class (class_results settings f (rows_read reading)))
+
+abbrev pub class_row : Interview → Settings → List Text → Fetched → Response
+class_row i settings names fetched = classed_by settings (compatible_sets i) (file_refusals fetched) (class_of names (bytes_fetched fetched))

@@ -22,8 +22,10 @@ use Rattle.ls_domain.specs.Texts.{name_of, set_text}
 use Rattle.ls_files.specs.SurmiseFiles.{surmise_items}
 use Rattle.ls_files.specs.declared.family_fault.FamilyFault.{FamilyFault}
 use Rattle.ls_files.specs.declared.family_fault.FamilyFault.TheVariants as sets
+use Rattle.ls_saved.specs.declared.cause.Cause.{Cause}
+use Rattle.ls_saved.specs.declared.cause.Cause.TheVariants as cause
 use Rattle.ls_reply.specs.declared.refusal.Refusal.{Refusal}
-use Rattle.ls_reply.specs.declared.refusal.Refusal.TheVariants.{NoCommand, LongLine, DomainStands, Domain, AnswersStand, StartSurmise, StartSets, StartBase, Unnamed, Block, Answer, NotStanding, Cursor, Past, NoFile, FileFailed, LargeFile, TestedSets, NotState, NotLearning, NoState, NotOrder, ManyStates, Heavy, ManyPupils, PupilStands, NoPupil, Reply, BadSetting, NotBuilt}
+use Rattle.ls_reply.specs.declared.refusal.Refusal.TheVariants.{NoCommand, LongLine, DomainStands, Domain, AnswersStand, StartSurmise, StartSets, StartBase, Unnamed, Block, Answer, NotStanding, Cursor, Past, NoFile, FileFailed, LargeFile, TestedSets, NotState, NotLearning, NoState, NotOrder, ManyStates, Heavy, ManyPupils, PupilStands, NoPupil, Reply, BadSetting, BadClass, BadSession}
 
 -- names that are no domain
 abbrev pub domain_words : DomainFault → List Text
@@ -94,6 +96,18 @@ abbrev pub reply_words : List Text → ReplyFault → List Text
 reply_words names (reply.Over reason) = codes "39" ∷ reason_word reason ∷ []
 reply_words names (reply.WrongItem asked) = codes "40" ∷ name_of names asked ∷ []
 
+-- why a file is no saved session
+abbrev pub cause_word : Cause → Text
+cause_word cause.Json = codes "json"
+cause_word cause.Version = codes "version"
+cause_word cause.Items = codes "items"
+cause_word cause.Limits = codes "limits"
+cause_word cause.Odds = codes "odds"
+cause_word cause.Start = codes "start"
+cause_word cause.Block = codes "block"
+cause_word cause.Answers = codes "answers"
+cause_word cause.Pupils = codes "pupils"
+
 -- where the names are those of the items
 abbrev pub refusal_words : List Text → Refusal → List Text
 refusal_words names (NoCommand place) = codes "10" ∷ decimal place ∷ []
@@ -125,7 +139,8 @@ refusal_words names PupilStands = codes "37" ∷ []
 refusal_words names NoPupil = codes "38" ∷ []
 refusal_words names (Reply fault) = reply_words names fault
 refusal_words names BadSetting = codes "43" ∷ []
-refusal_words names NotBuilt = codes "49" ∷ []
+refusal_words names (BadClass row) = codes "41" ∷ decimal row ∷ []
+refusal_words names (BadSession cause) = codes "42" ∷ cause_word cause ∷ []
 
 -- ---- the items that a refusal names
 

@@ -13,8 +13,9 @@ use Rattle.ls_reply.specs.Meanings.{unnamed_places, request_of}
 use Rattle.ls_reply.specs.Lines.{lines_of}
 use Rattle.ls_reply.specs.Effects.{Effect, Change, answers, changes, changes_interview, changes_settings, changes_pupils}
 use Rattle.ls_reply.specs.Rows.{items_row, load_items_row, start_row, test_row, view_row, edit_row}
-use Rattle.ls_reply.specs.Pupils.{setting_row, pupil_row}
-use Rattle.ls_reply.specs.declared.refusal.Refusal.TheVariants.{NoCommand, LongLine, Unnamed, NotBuilt}
+use Rattle.ls_reply.specs.Pupils.{setting_row, pupil_row, class_row}
+use Rattle.ls_reply.specs.Saving.{save_row, open_row}
+use Rattle.ls_reply.specs.declared.refusal.Refusal.TheVariants.{NoCommand, LongLine, Unnamed}
 use Rattle.ls_reply.specs.declared.request.StartFile.TheVariants as start_file
 use Rattle.ls_reply.specs.declared.request.Request.{Request}
 use Rattle.ls_reply.specs.declared.request.Request.TheVariants.{View, Edit, Setting, Pupil}
@@ -37,9 +38,9 @@ abbrev pub named_effect : Session → List ℕ → Request → Effect
 named_effect s [] request = request_effect s request
 named_effect s (place ∷ places) request = answers s (Refused (Unnamed place))
 
--- a command that needs a domain, unless it isn't built yet
+-- what a command asks, if it asks something
 abbrev pub asked_effect : Session → List ℕ → Option Request → Effect
-asked_effect s places None = answers s (Refused NotBuilt)
+asked_effect s places None = answers s Silence
 asked_effect s places (Some request) = named_effect s places request
 
 -- a change of the interview by a file, where a domain stands
@@ -50,14 +51,21 @@ file_effect s c = if has_domain s then changes_interview s c else answers s (Ref
 abbrev pub file_shown : Session → Response → Effect
 file_shown s response = answers s (if has_domain s then response else Refused (Unnamed 0))
 
--- a command; the first three need no domain
+-- a session that is stored, where a domain stands
+abbrev pub file_stored : Session → Effect → Effect
+file_stored s stored = if has_domain s then stored else answers s (Refused (Unnamed 0))
+
+-- a command; the first four need no domain
 unfoldable pub command_effect : Session → Calls → Command → Effect
 command_effect s calls command.Nothing = answers s Silence
 command_effect s calls (command.Items names) = changes (items_row s names)
 command_effect s calls (command.LoadItems file) = changes (load_items_row s (calls.file file))
+command_effect s calls (command.Reopen file) = changes (open_row s (calls.file file))
 command_effect s calls (command.StartSurmise file) = file_effect s (start_row start_file.Surmise s (calls.file file))
 command_effect s calls (command.StartBase file) = file_effect s (start_row start_file.Base s (calls.file file))
 command_effect s calls (command.Test file) = file_shown s (test_row s.names (calls.file file))
+command_effect s calls (command.Class file) = file_shown s (class_row s.interview s.settings s.names (calls.file file))
+command_effect s calls (command.Save file) = file_stored s (save_row s calls.failed file)
 command_effect s calls c = asked_effect s (unnamed_at s c) (request_of s.names c)
 
 -- words, which may be no command

@@ -1,6 +1,7 @@
 // Refusals.
 use ls_domain::DomainFault;
 use ls_files::FamilyFault;
+use ls_saved::Cause;
 use ls_set::{CursorFault, ItemSet};
 use ls_theory::{AnswerFault, BaseFault, BlockFault, ReplyFault, SurmiseFault};
 
@@ -82,6 +83,12 @@ pub enum Refusal {
     Reply(ReplyFault),
     /// A ratio, the most replies or the share is out of its range.
     BadSetting,
-    /// The command isn't built yet.
-    NotBuilt,
+    /// The record of this number is the first bad one of the class table.
+    BadClass {
+        row: u32,
+    },
+    /// The file is no saved session.
+    BadSession {
+        cause: Cause,
+    },
 }

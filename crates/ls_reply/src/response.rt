@@ -1,5 +1,6 @@
 // Replies as values.
 use crate::refusal::Refusal;
+use ls_class::Results;
 use ls_set::{ItemList, ItemSet, Query, SetList};
 use ls_theory::{Asked, BaseVerdict, FringePair, Known, Outcome, Verdict};
 
@@ -81,4 +82,6 @@ pub enum Shown {
         outcome: Outcome,
         fringes: FringePair,
     },
+    /// What is known of the pupils of a class when their assessments are over.
+    Class(Results),
 }

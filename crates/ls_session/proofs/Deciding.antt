@@ -20,17 +20,17 @@ use Rattle.ls_reply.specs.declared.response.Response.TheVariants.{Refused}
 use Rattle.ls_reply.proofs.Effects.{has_domain-some}
 use Rattle.ls_course.specs.States.{CourseState}
 use Rattle.ls_writing.specs.Names.{CanRefuse}
-use Rattle.ls_session.specs.Courses.{session_of, HasNames, IsSayable}
+use Rattle.ls_session.specs.Courses.{standing_session, HasNames, IsSayable}
 use Rattle.ls_session.specs.Follows.{Sees, IsDecided}
 use Rattle.ls_session.specs.Decides.{Makes, Decides}
 
 -- a domain stands exactly where there is a course
-pub has_domain-is : (c : Option CourseState) → HasNames c → has_domain (session_of c) ≡ is_some c
+pub has_domain-is : (c : Option CourseState) → HasNames c → has_domain (standing_session c) ≡ is_some c
 has_domain-is None h = refl
 has_domain-is (Some c) h = has_domain-some c.session (h c refl)
 
 -- a refusal that can be said names items of the session
-pub refuses-named : (c : Option CourseState) (r : Refusal) → IsSayable c (Refused r) → CanRefuse (session_of c).names r
+pub refuses-named : (c : Option CourseState) (r : Refusal) → IsSayable c (Refused r) → CanRefuse (standing_session c).names r
 refuses-named None r h = h
 refuses-named (Some c) r h = h
 

@@ -13,7 +13,7 @@ use Rattle.ls_domain.specs.Domains.{names_of_table}
 use Rattle.ls_reply.specs.Scenes.{Calls, Fetched, Bytes, Missing, TooLarge, Failed, fetched_from, calls_of}
 use Rattle.ls_reply.specs.Sessions.{Session, has_domain}
 use Rattle.ls_reply.specs.Effects.{Effect, answers, changes, changes_interview, refuse}
-use Rattle.ls_reply.specs.Rows.{load_items_row, started_by, start_row, starts_by, start_read, file_refusals, bytes_fetched, test_row}
+use Rattle.ls_reply.specs.Rows.{load_items_row, started_by, start_row, starts_by, start_read, file_refusals, bytes_fetched}
 use Rattle.ls_reply.specs.Replies.{file_effect, file_shown}
 use Rattle.ls_reply.specs.declared.refusal.Refusal.TheVariants.{AnswersStand, Unnamed, NoFile, FileFailed}
 use Rattle.ls_reply.specs.declared.request.StartFile.{StartFile}
@@ -182,18 +182,18 @@ module _ (kind : StartFile) (s : Session) (stands : has_domain s ≡ true) (none
       decides_fetched reads (ap (λ (e : Effect). e.response) (reads-starts Missing)) (ap (λ (e : Effect). e.response) (reads-starts Failed))
       (λ given. ap (λ (e : Effect). e.stored) (reads-starts given)) name r fetches cause (λ given h. makes_as (reads-starts given) (makes given h))
 
--- ---- a family from a file, where a domain stands
+-- ---- what a file shows, where a domain stands
 
-module _ (s : Session) (stands : has_domain s ≡ true) where
+module _ (s : Session) (stands : has_domain s ≡ true) (row : Fetched → Response) (no_file : row Missing ≡ Refused NoFile) (file_failed : row Failed ≡ Refused FileFailed) where
   abbrev shows : Fetched → Effect
-  shows given = file_shown s (test_row s.names given)
+  shows given = file_shown s (row given)
 
-  shows-answers : (given : Fetched) → shows given ≡ answers s (test_row s.names given)
-  shows-answers given = ap (λ b. answers s (cond b (test_row s.names given) (Refused (Unnamed 0)))) stands
+  shows-answers : (given : Fetched) → shows given ≡ answers s (row given)
+  shows-answers given = ap (λ b. answers s (cond b (row given) (Refused (Unnamed 0)))) stands
 
-  pub decides_tested : {folder left : Option Folder} {before now : ℕ} {fetched : Result (Vec ℕ Global) FetchFault} (name : Text) (r : Result Response AllocError) → Fetches folder left name fetched → FetchCause before now fetched
-      → ((given : Fetched) → IsFetched given fetched → Makes (answers s (test_row s.names given)) s s r)
+  pub decides_shown : {folder left : Option Folder} {before now : ℕ} {fetched : Result (Vec ℕ Global) FetchFault} (name : Text) (r : Result Response AllocError) → Fetches folder left name fetched → FetchCause before now fetched
+      → ((given : Fetched) → IsFetched given fetched → Makes (answers s (row given)) s s r)
       → Decides (λ calls. shows (calls.file name)) s s folder left before now r
-  decides_tested name r fetches cause makes =
-      decides_fetched shows (ap (λ (e : Effect). e.response) (shows-answers Missing)) (ap (λ (e : Effect). e.response) (shows-answers Failed)) (λ given. refl) name r fetches cause
+  decides_shown name r fetches cause makes =
+      decides_fetched shows (ap (λ (e : Effect). e.response) (shows-answers Missing) ∙ no_file) (ap (λ (e : Effect). e.response) (shows-answers Failed) ∙ file_failed) (λ given. refl) name r fetches cause
       (λ given h. makes_as (shows-answers given) (makes given h))

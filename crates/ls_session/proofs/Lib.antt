@@ -1,3 +1,4 @@
 pub mod Deciding
 pub mod Fetching
 pub mod Following
+pub mod Storing

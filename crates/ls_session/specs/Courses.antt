@@ -9,9 +9,9 @@ use Rattle.ls_writing.specs.Names.{CanRefuse}
 use Rattle.ls_course.specs.States.{CourseState, CanTell}
 
 -- where there is none, no domain stands
-abbrev pub session_of : Option CourseState → Session
-session_of None = started []
-session_of (Some c) = c.session
+abbrev pub standing_session : Option CourseState → Session
+standing_session None = started []
+standing_session (Some c) = c.session
 
 -- a domain has names
 abbrev pub HasNames : Option CourseState → Type 0

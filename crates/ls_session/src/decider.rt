@@ -13,12 +13,15 @@ ghost use Rattle.ls_reply.specs.Rows.{items_row, load_items_row, started_by};
 ghost use Rattle.ls_reply.specs.Rows.{start_row, starts_by, start_read};
 ghost use Rattle.ls_reply.specs.Rows.{file_refusals, bytes_fetched, test_row};
 ghost use Rattle.ls_reply.specs.Replies.{line_effect, command_effect, asked_effect, file_effect, file_shown, unnamed_at};
-ghost use Rattle.ls_reply.specs.declared.refusal.Refusal.TheVariants.{Unnamed, NotBuilt};
+ghost use Rattle.ls_reply.specs.declared.refusal.Refusal.TheVariants.{Unnamed};
+ghost use Rattle.ls_reply.specs.declared.response.Response.TheVariants.{Silence, Refused};
 ghost use Rattle.ls_writing.specs.Rooms.{Says};
 ghost use Rattle.ls_writing.specs.Names.{names_in};
 ghost use Rattle.ls_course.specs.States.{CanTell};
-ghost use Rattle.ls_session.specs.Courses.{session_of, HasNames, IsSayable};
+ghost use Rattle.ls_session.specs.Courses.{standing_session, HasNames, IsSayable};
 ghost use Rattle.ls_session.specs.Decides.{Decides, Makes, IsRead, IsFetched};
+
+mod files;
 
 use ls_course::Course;
 use ls_domain::{Domain, DomainFault};
@@ -32,7 +35,8 @@ use std::alloc::{AllocError, Global};
 use std::sync::ledger::Ledger;
 use std::thread::Threads;
 
-/// The domain with its interview, if one stands. It decides what lines do, and says their replies.
+/// The domain with its interview and its pupils, if one stands. It decides what lines do, and says
+/// their replies.
 #[derive(Drop)]
 pub struct Decider {
     alloc: Global,
@@ -40,14 +44,16 @@ pub struct Decider {
     ghost named: { HasNames course },
 }
 
-// The refusal of a command that calls no folder and isn't `items` where no domain stands.
-fn refusal_without(command: &Command) -> Refusal
-    ensures { result ≡ (if is_some (request_of [] command.now) then Unnamed 0 else NotBuilt) }
+// What a command that calls no folder and isn't `items` is answered where no domain stands: it is
+// refused, if it asks something.
+fn answer_without(command: &Command) -> Response
+    ensures { result
+        ≡ (if is_some (request_of [] command.now) then Refused (Unnamed 0) else Silence) }
 {
     if asks(command) {
-        Refusal::Unnamed { place: 0 }
+        Response::Refused(Refusal::Unnamed { place: 0 })
     } else {
-        Refusal::NotBuilt
+        Response::Silence
     }
 }
 
@@ -122,8 +128,8 @@ impl Decider {
         shelf: &mut H,
         steps: &mut Steps<L>,
     ) -> Result<Response, AllocError>
-        ensures decides { let s = session_of self.old.course in
-            Decides (λ calls. line_effect s calls line.now) s (session_of self.new.course)
+        ensures decides { let s = standing_session self.old.course in
+            Decides (λ calls. line_effect s calls line.now) s (standing_session self.new.course)
             (H.files shelf.old) (H.files shelf.new)
             (H.faults shelf.old) (H.faults shelf.new) result }
         ensures said { IfOk result (IsSayable self.new.course) }
@@ -147,8 +153,8 @@ impl Decider {
         shelf: &mut H,
         steps: &mut Steps<L>,
     ) -> Result<Response, AllocError>
-        ensures decides { let s = session_of self.old.course in
-            Decides (λ calls. command_effect s calls command.now) s (session_of self.new.course)
+        ensures decides { let s = standing_session self.old.course in
+            Decides (λ calls. command_effect s calls command.now) s (standing_session self.new.course)
             (H.files shelf.old) (H.files shelf.new)
             (H.faults shelf.old) (H.faults shelf.new) result }
         ensures said { IfOk result (IsSayable self.new.course) }
@@ -162,23 +168,26 @@ impl Decider {
             }
             Command::StartBase { file } => self.load_start(StartFile::Base, file, shelf, steps),
             Command::Test { file } => self.load_test(rt, file, shelf),
+            Command::Class { file } => self.load_class(rt, file, shelf, steps),
+            Command::Save { file } => self.save(file, shelf),
+            Command::Reopen { file } => self.open(file, shelf, steps),
             _ => self.ask(command, steps),
         }
     }
 
-    // Decides what a command does that needs a domain, or isn't built yet.
+    // Decides what a command does that asks something of the items.
     fn ask<L: Ledger>(
         &mut self,
         command: &Command,
         steps: &mut Steps<L>,
     ) -> Result<Response, AllocError>
-        ensures makes { let s = session_of self.old.course in
+        ensures makes { let s = standing_session self.old.course in
             Makes (asked_effect s (unnamed_at s command.now) (request_of s.names command.now))
-            s (session_of self.new.course) result }
+            s (standing_session self.new.course) result }
         ensures said { IfOk result (IsSayable self.new.course) }
     {
         let Some(course) = &mut self.course else {
-            return Ok(Response::Refused(refusal_without(command)));
+            return Ok(answer_without(command));
         };
         course.ask(command, steps)
     }
@@ -189,8 +198,8 @@ impl Decider {
         names: &WordList,
         steps: &mut Steps<L>,
     ) -> Result<Response, AllocError>
-        ensures makes { let s = session_of self.old.course in
-            Makes (changes (items_row s names.now)) s (session_of self.new.course) result }
+        ensures makes { let s = standing_session self.old.course in
+            Makes (changes (items_row s names.now)) s (standing_session self.new.course) result }
         ensures said { IfOk result (IsSayable self.new.course) }
     {
         if self.course.is_some() {
@@ -207,9 +216,9 @@ impl Decider {
         shelf: &mut H,
         steps: &mut Steps<L>,
     ) -> Result<Response, AllocError>
-        ensures decides { let s = session_of self.old.course in
+        ensures decides { let s = standing_session self.old.course in
             Decides (λ calls. changes (load_items_row s (calls.file file.now)))
-            s (session_of self.new.course)
+            s (standing_session self.new.course)
             (H.files shelf.old) (H.files shelf.new)
             (H.faults shelf.old) (H.faults shelf.new) result }
         ensures said { IfOk result (IsSayable self.new.course) }
@@ -226,11 +235,11 @@ impl Decider {
         fetched: Result<Vec<u8>, FetchFault>,
         steps: &mut Steps<L>,
     ) -> Result<Response, AllocError>
-        ensures makes { let s = session_of self.old.course in
+        ensures makes { let s = standing_session self.old.course in
             (given : Fetched) → IsFetched given fetched →
             Makes (changes (started_by s (file_refusals given)
             (names_of_table (bytes_fetched given))))
-            s (session_of self.new.course) result }
+            s (standing_session self.new.course) result }
         ensures said { IfOk result (IsSayable self.new.course) }
     {
         match fetched {
@@ -245,9 +254,9 @@ impl Decider {
         read: Result<Domain, DomainFault>,
         steps: &mut Steps<L>,
     ) -> Result<Response, AllocError>
-        ensures makes { let s = session_of self.old.course in
+        ensures makes { let s = standing_session self.old.course in
             (reading : Result (List Text) Fault) → IsRead reading read →
-            Makes (changes (started_by s [] reading)) s (session_of self.new.course) result }
+            Makes (changes (started_by s [] reading)) s (standing_session self.new.course) result }
         ensures said { IfOk result (IsSayable self.new.course) }
     {
         match read {
@@ -271,9 +280,9 @@ impl Decider {
         shelf: &mut H,
         steps: &mut Steps<L>,
     ) -> Result<Response, AllocError>
-        ensures decides { let s = session_of self.old.course in
+        ensures decides { let s = standing_session self.old.course in
             Decides (λ calls. file_effect s (start_row kind s (calls.file file.now)))
-            s (session_of self.new.course)
+            s (standing_session self.new.course)
             (H.files shelf.old) (H.files shelf.new)
             (H.faults shelf.old) (H.faults shelf.new) result }
         ensures said { IfOk result (IsSayable self.new.course) }
@@ -295,7 +304,7 @@ impl Decider {
         file: &Word,
         shelf: &mut H,
     ) -> Result<Response, AllocError>
-        ensures decides { let s = session_of self.now.course in
+        ensures decides { let s = standing_session self.now.course in
             Decides (λ calls. file_shown s (test_row s.names (calls.file file.now))) s s
             (H.files shelf.old) (H.files shelf.new)
             (H.faults shelf.old) (H.faults shelf.new) result }
@@ -309,7 +318,7 @@ impl Decider {
 
     // The names of the items, where a domain stands.
     fn domain(&self) -> Option<&Domain>
-        ensures { names_in (option_copied result) ≡ (session_of self.now.course).names }
+        ensures { names_in (option_copied result) ≡ (standing_session self.now.course).names }
     {
         match &self.course {
             Some(course) => Some(course.domain()),
@@ -328,7 +337,7 @@ impl Decider {
         requires { IsSayable self.now.course response.now }
         ensures { Says (K.written out.old) (K.faults out.old) room.old
             (K.written out.new) (K.faults out.new) room.new
-            (bytes_of (lines_of (session_of self.now.course) response.now)) }
+            (bytes_of (lines_of (standing_session self.now.course) response.now)) }
     {
         match response {
             Response::Silence => {}

@@ -30,11 +30,11 @@ pub struct Session {
 
 impl Model for Session {
     ghost use Rattle.ls_reply.specs.Sessions.{Session as State};
-    ghost use Rattle.ls_session.specs.Courses.{session_of, IsIdle};
+    ghost use Rattle.ls_session.specs.Courses.{standing_session, IsIdle};
 
     ghost Value = { State };
 
-    ghost view = { λ s. session_of s.decider.course };
+    ghost view = { λ s. standing_session s.decider.course };
 
     ghost invariant = { λ s. IsIdle s.room };
 }

@@ -45,7 +45,7 @@ nothing_follows None h = tt
 nothing_follows (Some rest) h = h
 
 -- a run that stops before its first line
-stops_first : (W : Type 0) → (W → ⊥) → (m : Folder) (bytes : List ℕ) (faults : ℕ) (start : Option (List ℕ)) → StopsAt W m (lines bytes) (Some m) faults faults start start
+pub stops_first : (W : Type 0) → (W → ⊥) → (m : Folder) (bytes : List ℕ) (faults : ℕ) (start : Option (List ℕ)) → StopsAt W m (lines bytes) (Some m) faults faults start start
 unfolding replies world_after
 stops_first W never m bytes faults start =
     let f = lines-first bytes in

@@ -3,3 +3,4 @@ pub mod Faults
 pub mod Progress
 pub mod Runs
 pub mod Scripts
+pub mod Named

@@ -1,6 +1,8 @@
 //! A run over a script as it comes, and the top call.
 #![tactic(auto)]
 
+mod drilling;
+mod named;
 mod reading;
 mod run;
 mod run_fault;

@@ -1,5 +1,6 @@
 -- The commands that look at an interview, and how many interiors their replies take.
 use Rattle.std.specs.Prelude.{ℕ, ◌≡◌, ◌+◌, ◌*◌, Bool, true, false, List, length, ⊤}
+use Rattle.std.specs.List.{All}
 use Rattle.std.specs.Option.{ForSome}
 use Rattle.ls_set.specs.ItemSet.{Items, full, IsWithin}
 use Rattle.ls_set.specs.Query.{is_good}
@@ -84,6 +85,7 @@ CanShow names i sets (shown.Paths count after) = (is_learning_space (full (lengt
 CanShow names i sets (shown.Tested verdict) = IsVerdictOn (length names) verdict
 CanShow names i sets (shown.Asked asked) = CanAsk names asked
 CanShow names i sets (shown.Report outcome fringes) = IsWithin outcome.state (full (length names)) × AreWithin (length names) fringes
+CanShow names i sets (shown.Class results) = All (λ r. IsWithin r.state (full (length names))) results
 
 -- and a refusal speaks of items that have names
 abbrev pub CanSay : List Text → Interview → List Items → Response → Type 0

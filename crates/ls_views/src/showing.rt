@@ -17,7 +17,7 @@ use ls_project::Trace;
 use ls_reply::Shown;
 use ls_set::{ItemSet, Query};
 use ls_writing::{
-    Room, SetTexts, put_asked, put_base, put_fringes, put_learning, put_line, put_listing,
+    Room, SetTexts, put_asked, put_base, put_class, put_fringes, put_learning, put_line, put_listing,
     put_numbered, put_report, put_state, put_surmise, put_verdict,
 };
 use std::sync::ledger::Ledger;
@@ -61,6 +61,7 @@ pub fn put_shown<K: Sink, L: Ledger>(
         Shown::Tested(verdict) => put_verdict(texts, verdict, room, out),
         Shown::Asked(asked) => put_asked(texts, *asked, room, out),
         Shown::Report { outcome, fringes } => put_report(texts, *outcome, *fringes, room, out),
+        Shown::Class(results) => put_class(texts, results, room, out),
     }
 }
 

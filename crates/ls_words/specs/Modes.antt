@@ -1,6 +1,6 @@
 -- What the words after the program's name ask for. An option and its value are two words, the value directly after the
 -- option; the word after an option is its value whatever it is.
-use Rattle.std.specs.Prelude.{ℕ, ◌&&◌, if◌then◌else◌, List, [], ◌∷◌, bytes_eq, codes, Option, Some, None}
+use Rattle.std.specs.Prelude.{ℕ, ◌<◌, ◌≤◌, ◌&&◌, if◌then◌else◌, List, [], ◌∷◌, bytes_eq, codes, Option, Some, None, ⊤}
 use Rattle.ls_lines.specs.Lines.{Text}
 use Rattle.ls_lines.specs.Numbers.{number_up_to}
 use Rattle.ls_lines.specs.Kinds.{is_from_to, is_file, greatest_number}
@@ -44,3 +44,8 @@ mode_of [] = Some Input
 mode_of (option ∷ value ∷ []) = mode_of_option option value
 mode_of (first ∷ value ∷ second ∷ other ∷ []) = mode_of_options first value second other
 mode_of words = None
+
+-- the numbers of a drill are in their ranges
+abbrev pub IsInRange : Mode → Type 0
+IsInRange (Drill n number) = (0 < n) × (n ≤ most_drilled) × (number ≤ greatest_number)
+IsInRange mode = ⊤

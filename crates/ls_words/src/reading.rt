@@ -1,6 +1,8 @@
 // Reading the words of the command line.
-ghost use Rattle.std.specs.Prelude.{◌≡◌, ◌↔◌, IfOk, IsErrOf, None, Some, map};
-ghost use Rattle.ls_words.specs.Modes.{mode_of, mode_of_option, mode_of_options};
+ghost use Rattle.std.specs.Prelude.{◌≡◌, ◌↔◌, ◌≤◌, IfOk, IfSome, IsErrOf, None, Some, map};
+ghost use Rattle.std.specs.Option.{ForSome};
+ghost use Rattle.ls_lines.specs.Kinds.{greatest_number};
+ghost use Rattle.ls_words.specs.Modes.{mode_of, mode_of_option, mode_of_options, IsInRange};
 ghost use Rattle.ls_words.specs.Modes.{file, drill, number_of};
 
 use crate::{Mode, WordsFault};
@@ -13,6 +15,7 @@ const MOST_DRILLED: u32 = 48;
 /// What the words after the program's name ask for.
 pub fn read_words(alloc: Global, words: &[&str]) -> Result<Mode, WordsFault>
     ensures read { IfOk result (λ m. mode_of (map (λ w. w.now) words.now) ≡ Some m) }
+    ensures range { IfOk result IsInRange }
     ensures usage { IsErrOf result WordsFault.Usage
         ↔ (mode_of (map (λ w. w.now) words.now) ≡ None) }
 {
@@ -27,6 +30,7 @@ pub fn read_words(alloc: Global, words: &[&str]) -> Result<Mode, WordsFault>
 // What one option and its value ask for.
 fn read_option(alloc: Global, option: &str, value: &str) -> Result<Mode, WordsFault>
     ensures read { IfOk result (λ m. mode_of_option option.now value.now ≡ Some m) }
+    ensures range { IfOk result IsInRange }
     ensures usage { IsErrOf result WordsFault.Usage
         ↔ (mode_of_option option.now value.now ≡ None) }
 {
@@ -41,6 +45,7 @@ fn read_option(alloc: Global, option: &str, value: &str) -> Result<Mode, WordsFa
 fn read_options(first: &str, value: &str, second: &str, other: &str) -> Result<Mode, WordsFault>
     ensures read { IfOk result (λ m.
         mode_of_options first.now value.now second.now other.now ≡ Some m) }
+    ensures range { IfOk result IsInRange }
     ensures usage { IsErrOf result WordsFault.Usage
         ↔ (mode_of_options first.now value.now second.now other.now ≡ None) }
 {
@@ -55,6 +60,7 @@ fn read_options(first: &str, value: &str, second: &str, other: &str) -> Result<M
 #[tactic(auto, unfolding(ls_lines::specs::Kinds::is_of))]
 fn file(alloc: Global, name: &str) -> Result<Mode, WordsFault>
     ensures read { IfOk result (λ m. file name.now ≡ Some m) }
+    ensures range { IfOk result IsInRange }
     ensures usage { IsErrOf result WordsFault.Usage ↔ (file name.now ≡ None) }
 {
     if !Kind::File.takes(name.as_bytes()) {
@@ -66,7 +72,9 @@ fn file(alloc: Global, name: &str) -> Result<Mode, WordsFault>
 
 // The drill on n items with a number, where there is at least one item and not more than the most.
 fn drill(n: Option<u32>, number: Option<u32>) -> Result<Mode, WordsFault>
+    requires { ForSome number (λ k. k ≤ greatest_number) }
     ensures read { IfOk result (λ m. drill n number ≡ Some m) }
+    ensures range { IfOk result IsInRange }
     ensures usage { IsErrOf result WordsFault.Usage ↔ (drill n number ≡ None) }
 {
     match (n, number) {
@@ -81,7 +89,8 @@ fn drill(n: Option<u32>, number: Option<u32>) -> Result<Mode, WordsFault>
 // The number that a word is, in decimal without a leading zero, where it is at most the greatest.
 #[tactic(auto, unfolding(ls_lines::specs::Kinds::is_of))]
 fn number_of(word: &str) -> Option<u32>
-    ensures { result ≡ number_of word.now }
+    ensures value { result ≡ number_of word.now }
+    ensures few { IfSome result (λ k. k ≤ greatest_number) }
 {
     if !Kind::Number.takes(word.as_bytes()) {
         return None;

@@ -5,7 +5,7 @@ use Rattle.ls_theory.specs.declared.asked.Asked.TheVariants.{Item, Over}
 use Rattle.ls_lines.specs.Lines.{Text}
 use Rattle.ls_reply.specs.Refusals.{refusal_items}
 use Rattle.ls_reply.specs.declared.refusal.Refusal.{Refusal}
-use Rattle.ls_reply.specs.declared.refusal.Refusal.TheVariants.{ManyStates, Heavy, ManyPupils, PupilStands, NoPupil, Reply, BadSetting}
+use Rattle.ls_reply.specs.declared.refusal.Refusal.TheVariants.{ManyStates, Heavy, ManyPupils, PupilStands, NoPupil, Reply, BadSetting, BadClass}
 
 -- the names of the items, none where no domain stands
 abbrev pub names_in : Option (List Text) → List Text
@@ -25,7 +25,7 @@ abbrev pub CanAsk : List Text → Asked → Type 0
 CanAsk names (Item q) = q < length names
 CanAsk names (Over reason) = ⊤
 
--- whether a refusal is that of a setting, or of what is asked of a pupil
+-- whether a refusal is that of a setting, of what is asked of a pupil, or of a class
 abbrev pub is_of_pupils : Refusal → Bool
 is_of_pupils ManyStates = true
 is_of_pupils (Heavy replies) = true
@@ -34,4 +34,5 @@ is_of_pupils PupilStands = true
 is_of_pupils NoPupil = true
 is_of_pupils (Reply fault) = true
 is_of_pupils BadSetting = true
+is_of_pupils (BadClass row) = true
 is_of_pupils refusal = false

@@ -1,4 +1,4 @@
-// The lines of refusals of settings and of pupils.
+// The lines of refusals of settings, of pupils and of classes.
 ghost use Rattle.std.specs.Prelude.{◌≡◌, ◌∷◌, [], true, codes, option_copied};
 ghost use Rattle.ls_reply.specs.Texts.{line_of};
 ghost use Rattle.ls_reply.specs.Refusals.{refusal_words, reply_words, reply_items, reason_word};
@@ -12,7 +12,7 @@ use ls_edge::Sink;
 use ls_reply::Refusal;
 use ls_theory::{Reason, ReplyFault};
 
-/// Says the refusal of a setting, or of what is asked of a pupil.
+/// Says the refusal of a setting, of what is asked of a pupil, or of a class.
 pub(crate) fn put_pupil_refusal<K: Sink>(
     domain: Option<&Domain>,
     refusal: &Refusal,
@@ -35,6 +35,9 @@ pub(crate) fn put_pupil_refusal<K: Sink>(
         Refusal::PupilStands => put_line(&[b"no", b"37"], room, out),
         Refusal::NoPupil => put_line(&[b"no", b"38"], room, out),
         Refusal::Reply(fault) => put_reply_fault(domain, *fault, room, out),
+        Refusal::BadClass { row } => {
+            put_numbered(&[b"no", b"41"], &[u64::from(*row)], room, out);
+        }
         Refusal::BadSetting => put_line(&[b"no", b"43"], room, out),
         _ => unreachable!(),
     }

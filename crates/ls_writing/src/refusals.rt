@@ -1,8 +1,8 @@
 // The lines of refusals, and of commands that were carried out.
-ghost use Rattle.std.specs.Prelude.{[], ◌∷◌, codes, decimal, option_copied};
+ghost use Rattle.std.specs.Prelude.{◌≡◌, [], ◌∷◌, codes, decimal, option_copied};
 ghost use Rattle.ls_reply.specs.Texts.{line_of};
 ghost use Rattle.ls_reply.specs.Refusals.{domain_words, block_words, answer_words, cursor_words};
-ghost use Rattle.ls_reply.specs.Refusals.{refusal_words};
+ghost use Rattle.ls_reply.specs.Refusals.{refusal_words, cause_word};
 ghost use Rattle.ls_writing.specs.Rooms.{Says};
 ghost use Rattle.ls_writing.specs.Names.{names_in, CanRefuse};
 
@@ -13,6 +13,7 @@ use crate::{Room, put_line, put_numbered};
 use ls_domain::{Domain, DomainFault};
 use ls_edge::Sink;
 use ls_reply::Refusal;
+use ls_saved::Cause;
 use ls_set::CursorFault;
 use ls_theory::{AnswerFault, BlockFault};
 
@@ -78,7 +79,9 @@ pub fn put_refusal<K: Sink>(
         }
         Refusal::NoState => put_line(&[b"no", b"32"], room, out),
         Refusal::NotOrder => put_line(&[b"no", b"33"], room, out),
-        Refusal::NotBuilt => put_line(&[b"no", b"49"], room, out),
+        Refusal::BadSession { cause } => {
+            put_line(&[b"no", b"42", cause_word(*cause)], room, out);
+        }
         _ => put_pupil_refusal(domain, refusal, room, out),
     }
 }
@@ -99,6 +102,23 @@ fn put_domain_fault<K: Sink>(fault: DomainFault, room: &mut Room, out: &mut K)
         }
         DomainFault::TooMany => put_line(&[b"no", b"12", b"many"], room, out),
         DomainFault::Memory(_) => put_line(&[b"no", b"12"], room, out),
+    }
+}
+
+// The word that tells why a file is no saved session.
+fn cause_word(cause: Cause) -> &'static [u8]
+    ensures { result.now ≡ cause_word cause }
+{
+    match cause {
+        Cause::Json => b"json",
+        Cause::Version => b"version",
+        Cause::Items => b"items",
+        Cause::Limits => b"limits",
+        Cause::Odds => b"odds",
+        Cause::Start => b"start",
+        Cause::Block => b"block",
+        Cause::Answers => b"answers",
+        Cause::Pupils => b"pupils",
     }
 }
 

@@ -4,8 +4,8 @@ use Rattle.ls_lines.specs.declared.kind.Kind.TheVariants as kind
 use Rattle.ls_words.proofs.Parsed.{number_parsed}
 use Rattle.ls_words.proofs.reading.number_of.Goals as goal
 
-pub returns : goal.returns
+pub returns-clause-value : goal.returns-clause-value
 unfolding is_of
-returns c =
+returns-clause-value c =
     let taken : is_of kind.Number c.args.word.now ≡ true = search rules in
     c.ok.ensures.value ∙ number_parsed greatest_number c.args.word.now c.parse.result (omega arith) taken c.parse.ensures.value.0

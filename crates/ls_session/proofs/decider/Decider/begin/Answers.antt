@@ -3,13 +3,13 @@ use Rattle.ls_domain.specs.Domains.{names_of_words}
 use Rattle.ls_reply.specs.Sessions.{has_domain}
 use Rattle.ls_reply.specs.Effects.{changes}
 use Rattle.ls_reply.proofs.Effects.{items_row-begins}
-use Rattle.ls_session.specs.Courses.{session_of}
+use Rattle.ls_session.specs.Courses.{standing_session}
 use Rattle.ls_session.proofs.Deciding.{has_domain-is, makes_as}
 use Rattle.ls_session.proofs.decider.Decider.begin.Goals as goal
 
 pub returns-clause-makes : goal.returns-clause-makes
 returns-clause-makes g c =
-    let s = session_of c.args.self.now.course in
+    let s = standing_session c.args.self.now.course in
     let none : has_domain s ≡ false = has_domain-is c.args.self.now.course c.args.self.now.named ∙ sym c.is_some.ensures ∙ c.if-is_some.false in
     makes_as (ap changes (items_row-begins s c.args.names.now none))
     (c.start.ensures.makes (names_of_words c.args.names.now) (record { names = c.from_names.ensures.read; fault = c.from_names.ensures.fault }))

@@ -8,7 +8,7 @@ use Rattle.ls_reply.specs.declared.refusal.Refusal.TheVariants.{Unnamed, Answers
 use Rattle.ls_reply.specs.declared.response.Response.TheVariants.{Refused}
 use Rattle.ls_reply.proofs.Effects.{has_domain-some}
 use Rattle.ls_course.specs.States.{CourseState}
-use Rattle.ls_session.specs.Courses.{session_of}
+use Rattle.ls_session.specs.Courses.{standing_session}
 use Rattle.ls_session.specs.Decides.{Decides}
 use Rattle.ls_session.proofs.Deciding.{decides_made, no_answers}
 use Rattle.ls_session.proofs.Fetching.{decides_started, start_row-stands}
@@ -18,7 +18,7 @@ pub returns-in_default-clause-decides : goal.returns-in_default-clause-decides
 returns-in_default-clause-decides g c =
     let folder = g.H.Shelf.files c.args.shelf.now in
     let faults = g.H.Shelf.faults c.args.shelf.now in
-    subst (λ (o : Option CourseState). Decides (λ calls. file_effect (session_of o) (start_row c.args.kind (session_of o) (calls.file c.args.file.now))) (session_of o) (session_of o) folder folder faults faults (Ok (Refused (Unnamed 0)))) (sym c.in_default.is)
+    subst (λ (o : Option CourseState). Decides (λ calls. file_effect (standing_session o) (start_row c.args.kind (standing_session o) (calls.file c.args.file.now))) (standing_session o) (standing_session o) folder folder faults faults (Ok (Refused (Unnamed 0)))) (sym c.in_default.is)
     (decides_made _ _ _ (λ calls. refl) refl (record { response = refl; session = refl; undone = tt }))
 
 pub returns-then-has_answers-clause-decides : goal.returns-then-has_answers-clause-decides
@@ -27,7 +27,7 @@ returns-then-has_answers-clause-decides g c =
     let faults = g.H.Shelf.faults c.args.shelf.now in
     let s = c.in-Some.course.session in
     let stands : has_domain s ≡ true = has_domain-some s (c.args.self.now.named c.in-Some.course c.in-Some.is) in
-    subst (λ (o : Option CourseState). Decides (λ calls. file_effect (session_of o) (start_row c.args.kind (session_of o) (calls.file c.args.file.now))) (session_of o) s folder folder faults faults (Ok (Refused AnswersStand))) (sym c.in-Some.is)
+    subst (λ (o : Option CourseState). Decides (λ calls. file_effect (standing_session o) (start_row c.args.kind (standing_session o) (calls.file c.args.file.now))) (standing_session o) s folder folder faults faults (Ok (Refused AnswersStand))) (sym c.in-Some.is)
     (decides_made _ _ _ (λ calls. start_row-stands c.args.kind s stands (sym c.has_answers.ensures ∙ c.if-has_answers.true) (calls.file c.args.file.now)) refl
     (record { response = refl; session = refl; undone = tt }))
 
@@ -39,5 +39,5 @@ returns-clause-decides g c =
     let stands : has_domain s ≡ true = has_domain-some s (c.args.self.now.named c.in-Some.course c.in-Some.is) in
     let none = no_answers s.interview.answers (sym c.has_answers.ensures ∙ c.if-has_answers.false) in
     let fetches : Fetches folder left c.args.file.now c.fetch.result = subst (λ (n : Text). Fetches folder left n c.fetch.result) c.as_str.ensures c.fetch.ensures.files in
-    subst (λ (o : Option CourseState). Decides (λ calls. file_effect (session_of o) (start_row c.args.kind (session_of o) (calls.file c.args.file.now))) (session_of o) c.start_from.new.course.session folder left (g.H.Shelf.faults c.args.shelf.now) (g.H.Shelf.faults c.fetch.new.self) c.start_from.result) (sym c.in-Some.is)
+    subst (λ (o : Option CourseState). Decides (λ calls. file_effect (standing_session o) (start_row c.args.kind (standing_session o) (calls.file c.args.file.now))) (standing_session o) c.start_from.new.course.session folder left (g.H.Shelf.faults c.args.shelf.now) (g.H.Shelf.faults c.fetch.new.self) c.start_from.result) (sym c.in-Some.is)
     (decides_started c.args.kind s stands none c.args.file.now c.start_from.result fetches c.fetch.ensures.cause c.start_from.ensures.makes)

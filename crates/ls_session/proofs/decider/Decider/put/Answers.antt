@@ -7,7 +7,7 @@ use Rattle.ls_reply.specs.declared.response.Response.{Response}
 use Rattle.ls_writing.specs.Names.{CanRefuse}
 use Rattle.ls_writing.proofs.Saying.{says_nothing, says_as}
 use Rattle.ls_writing.proofs.Joins.{bytes_of-none, bytes_of-one}
-use Rattle.ls_session.specs.Courses.{session_of, IsSayable}
+use Rattle.ls_session.specs.Courses.{standing_session, IsSayable}
 use Rattle.ls_session.proofs.Deciding.{refuses-named}
 use Rattle.ls_session.proofs.decider.Decider.put.Goals as goal
 
@@ -18,22 +18,22 @@ put_refusal-requires g c =
 
 pub returns-in-Silence : goal.returns-in-Silence
 returns-in-Silence g c =
-    let s = session_of c.args.self.now.course in
+    let s = standing_session c.args.self.now.course in
     says_as (bytes_of-none ∙ ap (λ (r : Response). bytes_of (lines_of s r)) (sym c.in-Silence.is)) (says_nothing _ _ _)
 
 pub returns-in-Refused : goal.returns-in-Refused
 returns-in-Refused g c =
-    let s = session_of c.args.self.now.course in
+    let s = standing_session c.args.self.now.course in
     says_as
     (ap (λ (ns : List Text). line_of (codes "no" ∷ refusal_words ns c.in-Refused.refusal)) c.domain.ensures
     ∙ sym (bytes_of-one (codes "no" ∷ refusal_words s.names c.in-Refused.refusal)) ∙ ap (λ (r : Response). bytes_of (lines_of s r)) (sym c.in-Refused.is)) c.put_refusal.ensures
 
 pub returns-in-Done : goal.returns-in-Done
 returns-in-Done g c =
-    let s = session_of c.args.self.now.course in
+    let s = standing_session c.args.self.now.course in
     says_as (sym (bytes_of-one (codes "ok" ∷ decimal c.in-Done.number ∷ [])) ∙ ap (λ (r : Response). bytes_of (lines_of s r)) (sym c.in-Done.is)) c.put_done.ensures
 
 pub returns-in-Agreed : goal.returns-in-Agreed
 returns-in-Agreed g c =
-    let s = session_of c.args.self.now.course in
+    let s = standing_session c.args.self.now.course in
     says_as (sym (bytes_of-one (codes "ok" ∷ [])) ∙ ap (λ (r : Response). bytes_of (lines_of s r)) (sym c.in-Agreed.is)) c.put_agreed.ensures

@@ -1,0 +1,30 @@
+-- The results of a class: their states are among the items, and what the row tells.
+use Rattle.std.proofs.Common.{◌≡◌, ◌≤◌, ℕ, Bool, true, false, cond, List, [], ◌∷◌, length, map, Option, Some, None, unwrap_or, find, refl, sym, ap}
+use Rattle.std.specs.List.{All, AllByRecursion}
+use Rattle.std.proofs.lemmas.List.Elements.{All-map, All-from_recursion}
+use Rattle.ls_lists.proofs.Every.{All-given}
+use Rattle.ls_set.specs.ItemSet.{Items, empty, full, IsWithin, is_among}
+use Rattle.ls_set.proofs.Sets.{empty-within}
+use Rattle.ls_set.proofs.Members.{among-here, among-there}
+use Rattle.ls_theory.specs.declared.reply.Reply.{Reply}
+use Rattle.ls_theory.specs.declared.ratio.Ratios.{Ratios}
+use Rattle.ls_theory.specs.Settings.{Settings}
+use Rattle.ls_theory.specs.Assessment.{leader}
+use Rattle.ls_theory.specs.Classes.{Row, PupilResult, class_results}
+use Rattle.ls_laws.specs.Spans.{IsOn}
+
+found-within : (n : ℕ) (p : Items → Bool) (f : List Items) → IsOn n f → IsWithin (unwrap_or (find p f) empty) (full n)
+found-within n p [] h = empty-within (full n)
+found-within n p (k ∷ ks) h = elim (p k) as (λ b. IsWithin (unwrap_or (cond b (Some k) (find p ks)) empty) (full n)) [
+  | true ↦ h k (among-here k k ks refl)
+  | false ↦ found-within n p ks (λ t a. h t (among-there t k ks a))
+]
+
+-- the leader has items alone
+leader-within : (n : ℕ) (ratios : List Ratios) (replies : List Reply) (f : List Items) → IsOn n f → IsWithin (leader ratios replies f) (full n)
+unfolding leader
+leader-within n ratios replies f h = found-within n _ f h
+
+pub results-within : (n : ℕ) (s : Settings) (f : List Items) (rows : List Row) → IsOn n f → All (λ (r : PupilResult). IsWithin r.state (full n)) (class_results s f rows)
+unfolding class_results
+results-within n s f rows h = All-map (λ (r : PupilResult). IsWithin r.state (full n)) _ rows (All-from_recursion _ rows (All-given _ (λ row. leader-within n s.ratios _ f h) rows))

@@ -1,0 +1,70 @@
+// Classes: the pupils of a table, assessed by what it says of them.
+ghost use Rattle.std.specs.Prelude.{◌≡◌, [], length, IfOk};
+ghost use Rattle.ls_theory.specs.Compatible.{compatible_sets};
+ghost use Rattle.ls_class.specs.Tables.{class_of};
+ghost use Rattle.ls_reply.specs.Pupils.{classed_by};
+ghost use Rattle.ls_pupils.specs.Cases.{CanTell};
+
+use crate::beginning::MOST_STATES;
+use ls_assess::{Settings, WeightFault};
+use ls_class::{ClassFault, ClassTable};
+use ls_domain::Domain;
+use ls_enum::{ListFault, list_all};
+use ls_expert::Inquiry;
+use ls_interior::{Counted, Steps};
+use ls_replay::{OpenGate, run_class};
+use ls_reply::{Refusal, Response, Shown};
+use std::alloc::{AllocError, Global};
+use std::sync::ledger::Ledger;
+use std::thread::Threads;
+
+/// `class FILE`, where the file was fetched: what is known of the pupils of the class that its bytes
+/// give, each assessed over the compatible sets of the interview; or why there are no results.
+pub fn assess_class<R: Threads + Sync, L: Ledger>(
+    rt: &R,
+    alloc: Global,
+    domain: &Domain,
+    inquiry: &Inquiry,
+    settings: &Settings,
+    bytes: &[u8],
+    steps: &mut Steps<L>,
+) -> Result<Response, AllocError>
+    requires { length settings.now.ratios ≡ inquiry.now.count }
+    ensures response { IfOk result (λ r.
+        r ≡ classed_by settings.now (compatible_sets inquiry.now) []
+        (class_of domain.now bytes.now)) }
+    ensures told { IfOk result (CanTell inquiry.now.count) }
+{
+    match ClassTable::from_csv(alloc, domain, bytes) {
+        Ok(table) => replay(rt, alloc, inquiry, settings, &table, steps),
+        Err(ClassFault::BadClass { row }) => Ok(Response::Refused(Refusal::BadClass { row })),
+        Err(ClassFault::Memory(e)) => Err(e),
+    }
+}
+
+// What is known of the pupils of a table over the states of the interview.
+fn replay<R: Threads + Sync, L: Ledger>(
+    rt: &R,
+    alloc: Global,
+    inquiry: &Inquiry,
+    settings: &Settings,
+    table: &ClassTable,
+    steps: &mut Steps<L>,
+) -> Result<Response, AllocError>
+    requires { length settings.now.ratios ≡ inquiry.now.count }
+    ensures response { IfOk result (λ r.
+        r ≡ classed_by settings.now (compatible_sets inquiry.now) [] (Ok table.now)) }
+    ensures told { IfOk result (CanTell inquiry.now.count) }
+{
+    let states = Counted::new(inquiry.family());
+    let sets = match list_all(alloc, &states, MOST_STATES, steps) {
+        Ok(sets) => sets,
+        Err(ListFault::More) => return Ok(Response::Refused(Refusal::ManyStates)),
+        Err(ListFault::Memory(e)) => return Err(e),
+    };
+    match run_class(rt, alloc, &OpenGate, inquiry.items(), &sets, settings, table) {
+        Ok(results) => Ok(Response::Shown(Shown::Class(results))),
+        Err(WeightFault::Heavy { replies }) => Ok(Response::Refused(Refusal::Heavy { replies })),
+        Err(WeightFault::Memory(e)) => Err(e),
+    }
+}

@@ -1,0 +1,16 @@
+use Rattle.std.proofs.Common.{◌≡◌, refl, subst}
+use Rattle.ls_edge.specs.Files.{Fetches}
+use Rattle.ls_lines.specs.Lines.{Text}
+use Rattle.ls_reply.specs.Effects.{changes}
+use Rattle.ls_reply.specs.Saving.{open_row}
+use Rattle.ls_session.specs.Courses.{standing_session}
+use Rattle.ls_session.proofs.Fetching.{decides_fetched}
+use Rattle.ls_session.proofs.decider.files.Decider.open.Goals as goal
+
+pub returns-clause-decides : goal.returns-clause-decides
+returns-clause-decides g c =
+    let folder = g.H.Shelf.files c.args.shelf.now in
+    let left = g.H.Shelf.files c.fetch.new.self in
+    let s = standing_session c.args.self.now.course in
+    let fetches : Fetches folder left c.args.file.now c.fetch.result = subst (λ (n : Text). Fetches folder left n c.fetch.result) c.as_str.ensures c.fetch.ensures.files in
+    decides_fetched (λ given. changes (open_row s given)) refl refl (λ given. refl) c.args.file.now c.open_fetched.result fetches c.fetch.ensures.cause c.open_fetched.ensures.makes

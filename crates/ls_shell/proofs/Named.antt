@@ -1,0 +1,105 @@
+-- The script of a named file, by what was fetched; and a run over a script that is there whole.
+use Rattle.std.proofs.Common.{◌≡◌, ℕ, ◌+◌, ◌<◌, ◌≤◌, inl, inr, Bool, true, false, cond, ltb, List, [], ◌++◌, length, Option, Some, None, Result, Ok, Err, Vec, MatchResult, refl, sym, ap, ◌∙◌, subst, append-nil, arith}
+use Rattle.std.specs.declared.alloc.AllocError.{AllocError}
+use Rattle.std.specs.declared.alloc.Global.{Global}
+use Rattle.std.specs.FinMap as map
+use Rattle.std.specs.Io.KnownBytes.{Keeps}
+use Rattle.std.proofs.KnownBytes.{Keeps-refl}
+use Rattle.ls_edge.specs.Causes.{Rose}
+use Rattle.ls_edge.specs.Files.{Folder, longest_file, Fetches, FetchedFrom, GivesBytes, Stays}
+use Rattle.ls_edge.specs.declared.traits.FetchFault.{FetchFault}
+use Rattle.ls_edge.specs.declared.traits.FetchFault.TheVariants as fetch
+use Rattle.ls_lines.specs.Lines.{Text, lines}
+use Rattle.ls_reply.specs.Transcripts.{Marked, count_marks}
+use Rattle.ls_shell.specs.Progress.{FewMarks, HasAnswered, StopsAt}
+use Rattle.ls_shell.specs.Runs.{AnswersWhole}
+use Rattle.ls_shell.specs.Named.{LeavesAll, AnswersFile, AnswersFound, TellsLong}
+use Rattle.ls_shell.specs.declared.status.Status.{Status}
+use Rattle.ls_shell.specs.declared.status.Status.TheVariants.{NoScript, InputLong, ReadFault, NoMemory}
+
+-- ---- what the folder has, by what was fetched
+
+module _ (m : Folder) (left : Option Folder) (hb hn : ℕ) (before after : Option (List ℕ)) where
+  abbrev Found : Option (List ℕ) → Status → Type 0
+  Found o status = AnswersFound o m left hb hn before after status
+
+  -- the bytes are those of the file
+  pub found-read : (o : Option (List ℕ)) (v : Vec ℕ Global) (status : Status) → FetchedFrom o (Ok v) → AnswersFile m v.items left hb hn before after status → Found o status
+  found-read None v status h a = absurd (cc h)
+  found-read (Some bytes) v status h a =
+      elim (ltb longest_file (length bytes)) as (λ t. MatchResult (cond t (Err (fetch.TooLarge (length bytes))) (Ok bytes)) (λ b. GivesBytes b (Ok v)) (λ e. Ok v ≡ Err e)
+          → cond t (TellsLong m left before after status) (AnswersFile m bytes left hb hn before after status)) [
+        | true ↦ λ e. absurd (cc e)
+        | false ↦ λ e. subst (λ (bs : List ℕ). AnswersFile m bs left hb hn before after status) e a
+      ] h
+
+  -- there is no such file
+  pub found-missing : (o : Option (List ℕ)) → FetchedFrom o (Err fetch.Missing) → LeavesAll m left before after → Found o NoScript
+  found-missing None h a = a
+  found-missing (Some bytes) h a =
+      elim (ltb longest_file (length bytes)) as (λ t. MatchResult (cond t (Err (fetch.TooLarge (length bytes))) (Ok bytes)) (λ b. GivesBytes b (Err fetch.Missing)) (λ e. (Err fetch.Missing : Result (Vec ℕ Global) FetchFault) ≡ Err e)
+          → cond t (TellsLong m left before after NoScript) (AnswersFile m bytes left hb hn before after NoScript)) [
+        | true ↦ λ e. absurd (cc e)
+        | false ↦ λ e. absurd e
+      ] h
+
+  -- it is too long
+  pub found-long : (o : Option (List ℕ)) (n : ℕ) → FetchedFrom o (Err (fetch.TooLarge n)) → LeavesAll m left before after → Found o InputLong
+  found-long None n h a = absurd (cc h)
+  found-long (Some bytes) n h a =
+      elim (ltb longest_file (length bytes)) as (λ t. MatchResult (cond t (Err (fetch.TooLarge (length bytes))) (Ok bytes)) (λ b. GivesBytes b (Err (fetch.TooLarge n))) (λ e. (Err (fetch.TooLarge n) : Result (Vec ℕ Global) FetchFault) ≡ Err e)
+          → cond t (TellsLong m left before after InputLong) (AnswersFile m bytes left hb hn before after InputLong)) [
+        | true ↦ λ e. a
+        | false ↦ λ e. absurd e
+      ] h
+
+  -- it could not be fetched
+  pub found-failed : (o : Option (List ℕ)) → FetchedFrom o (Err fetch.Failed) → LeavesAll m left before after → Rose hb hn → Found o ReadFault
+  found-failed None h a r = absurd (cc h)
+  found-failed (Some bytes) h a r =
+      elim (ltb longest_file (length bytes)) as (λ t. MatchResult (cond t (Err (fetch.TooLarge (length bytes))) (Ok bytes)) (λ b. GivesBytes b (Err fetch.Failed)) (λ e. (Err fetch.Failed : Result (Vec ℕ Global) FetchFault) ≡ Err e)
+          → cond t (TellsLong m left before after ReadFault) (AnswersFile m bytes left hb hn before after ReadFault)) [
+        | true ↦ λ e. absurd (cc e)
+        | false ↦ λ e. (a, r)
+      ] h
+
+  -- there was no memory for it
+  pub found-none : (o : Option (List ℕ)) → LeavesAll m left before after → ((bytes : List ℕ) → StopsAt ⊥ m (lines bytes) left hb hn before after) → Found o NoMemory
+  found-none None a h = a
+  found-none (Some bytes) a h = elim (ltb longest_file (length bytes)) as (λ t. cond t (TellsLong m left before after NoMemory) (AnswersFile m bytes left hb hn before after NoMemory)) [
+    | true ↦ a
+    | false ↦ h bytes
+  ]
+
+-- ---- counts from earlier on
+
+few-earlier : (ls : List Marked) (before then now : ℕ) → before ≤ then → FewMarks ls then now → FewMarks ls before now
+few-earlier ls before then now l h low = omega (arith, h low)
+
+module _ (m : Folder) (left : Option Folder) (before then now : ℕ) (l : before ≤ then) (a b : Option (List ℕ)) where
+  answered-earlier : (ls : List Marked) → HasAnswered m ls left then now a b → HasAnswered m ls left before now a b
+  answered-earlier ls h = record { written = h.written; files = h.files; few = few-earlier ls before then now l h.few }
+
+  pub whole-earlier : (script : List ℕ) (refused : Bool) → AnswersWhole m script left then now a b refused → AnswersWhole m script left before now a b refused
+  whole-earlier script refused h = record { ended = h.ended; all_lines = h.all_lines; told = h.told; answered = answered-earlier h.ended h.answered }
+
+  pub stops-earlier : (W : Type 0) (all : List (List ℕ)) → StopsAt W m all left then now a b → StopsAt W m all left before now a b
+  stops-earlier W all h = record {
+    ended = h.ended;
+    at = h.at;
+    others = h.others;
+    all_lines = h.all_lines;
+    front = h.front;
+    written = h.written;
+    files = h.files;
+    few = few-earlier _ before then now l h.few;
+  }
+
+-- a told folder stays
+pub stays-told : (old new : Option Folder) (m : Folder) → Stays old new → old ≡ Some m → new ≡ Some m
+stays-told None new m h e = absurd (cc e)
+stays-told (Some k) new m h e = h ∙ e
+
+pub fetched-told : (old new : Option Folder) (name : Text) (r : Result (Vec ℕ Global) FetchFault) (m : Folder) → Fetches old new name r → old ≡ Some m → FetchedFrom (map.get m name) r
+fetched-told None new name r m h e = absurd (cc e)
+fetched-told (Some k) new name r m h e = subst (λ (x : Folder). FetchedFrom (map.get x name) r) (let same : k ≡ m = cc e in same) h.1

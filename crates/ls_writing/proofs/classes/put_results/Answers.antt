@@ -1,0 +1,28 @@
+use Rattle.std.proofs.Common.{◌<◌, ◌≤◌, ◌++◌, length, map, take, List, ap, ◌∙◌, arith}
+use Rattle.std.proofs.lemmas.List.{take_all}
+use Rattle.ls_lines.specs.Lines.{Text}
+use Rattle.ls_class.specs.Results.{result_of}
+use Rattle.ls_class.specs.declared.results.ClassResult.{ClassResult}
+use Rattle.ls_reply.specs.Texts.{line_of, bytes_of}
+use Rattle.ls_reply.specs.Lines.{result_words}
+use Rattle.ls_writing.proofs.Saying.{says_then, says_as, says_nothing}
+use Rattle.ls_writing.proofs.Joins.{bytes_of-none, bytes_of-next}
+use Rattle.ls_writing.proofs.classes.put_results.Goals as goal
+
+abbrev words_of : List Text → ClassResult → List Text
+words_of names r = result_words names (result_of r)
+
+pub loop-known-init : goal.loop-known-init
+loop-known-init g c = says_as bytes_of-none (says_nothing _ _ _)
+
+pub loop-known-preserved : goal.loop-known-preserved
+loop-known-preserved g c =
+    let test : c.loop-known.known-index < length c.args.list.now = omega arith in
+    let names = c.args.texts.now in
+    says_as (ap (λ r. bytes_of (map (words_of names) (take c.loop-known.known-index c.args.list.now)) ++ line_of (words_of names r)) c.known-item.is ∙ bytes_of-next (words_of names) c.args.list.now c.loop-known.known-index _ test)
+    (says_then c.loop-known.invariant c.put_result.ensures)
+
+pub returns : goal.returns
+returns g c =
+    let test : length c.args.list.now ≤ c.loop-known.known-index = omega arith in
+    says_as (ap (λ l. bytes_of (map (words_of c.args.texts.now) l)) (take_all c.loop-known.known-index c.args.list.now test)) c.loop-known.invariant

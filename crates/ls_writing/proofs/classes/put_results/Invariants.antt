@@ -1,0 +1,10 @@
+use Rattle.std.proofs.Common.{take, map}
+use Rattle.ls_class.specs.Results.{result_of}
+use Rattle.ls_class.specs.declared.results.ClassResult.{ClassResult}
+use Rattle.ls_reply.specs.Texts.{bytes_of}
+use Rattle.ls_reply.specs.Lines.{result_words}
+use Rattle.ls_writing.specs.Rooms.{Says}
+use Rattle.ls_writing.proofs.classes.put_results.Given as goal
+
+abbrev pub invariant-loop-known : goal.invariant-loop-known
+invariant-loop-known g l = Says (g.K.Sink.written l.fn.out) (g.K.Sink.faults l.fn.out) l.fn.room (g.K.Sink.written l.out) (g.K.Sink.faults l.out) l.room (bytes_of (map (λ (r : ClassResult). result_words l.texts (result_of r)) (take l.known-index l.list)))
