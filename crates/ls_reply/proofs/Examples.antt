@@ -44,11 +44,11 @@ use Rattle.ls_reply.specs.Refusals.{refusal_words}
 use Rattle.ls_reply.specs.Effects.{refuse_fault}
 use Rattle.ls_reply.specs.declared.refusal.Refusal.TheVariants.{Answer}
 use Rattle.ls_reply.specs.Replies.{command_effect, line_effect, reply_of}
-use Rattle.ls_reply.specs.Transcripts.{replies, refuses, world_after, transcript, is_some_refused, final_folder}
+use Rattle.ls_reply.specs.Transcripts.{replies, refuses, transcript, is_some_refused}
 
 -- an example that opens this opens each word
 unfoldable answering : ℕ
-unfolding weight half_split imbalance leader asked heavy_after escape_byte minus interior line_read found_from sets_of surmise_text members_from digits has empty full with without union meet single differing is_within is_same bound items least comes_before cursor cursor_set read_cursor compat lines words is_of spelling parts command forms cut is_begun command_of fault_place line_of bytes_of names_of_set names_from command_effect line_effect replies refuses world_after serde_json_on_literals csv_on_literals is_utf8 chars surmise_from stands is_pupil session_text session_from session_of columns_of next_row rows_from class_in class_of replies_in class_results is_too_wide made blocks len families fitting_spaces known next_question queries query_before block_before base peak verdict is_well_graded is_joined inner_fringe outer_fringe state_of orders_of paths
+unfolding weight half_split imbalance leader asked heavy_after escape_byte minus interior line_read found_from sets_of surmise_text members_from digits has empty full with without union meet single differing is_within is_same bound items least comes_before cursor cursor_set read_cursor compat lines words is_of spelling parts command forms cut is_begun command_of fault_place line_of bytes_of names_of_set names_from command_effect line_effect replies refuses serde_json_on_literals csv_on_literals is_utf8 chars surmise_from stands is_pupil session_text session_from session_of columns_of next_row rows_from class_in class_of replies_in class_results is_too_wide made blocks len families fitting_spaces known next_question queries query_before block_before base peak verdict is_well_graded is_joined inner_fringe outer_fringe state_of orders_of paths
 answering = 0
 
 -- three items, the answer that who fails a fails b, and the six states that it leaves
@@ -60,11 +60,11 @@ not_refused : is_some_refused map.empty (codes "items a b c\nyes a : b\nstates\n
 unfolding answering
 not_refused = refl
 
-refused : transcript map.empty (codes "items a a\nitems a b\nitems c\nyes a : a\nyes z : a\nopen s") ≡ codes "no 12 repeat 2 1\nok 2\nno 11\nno 18\nno 15 2\nno 26\n"
+refused : transcript map.empty (codes "items a a\nitems a b\nitems c\nyes a : a\nyes z : a\nsave s") ≡ codes "no 12 repeat 2 1\nok 2\nno 11\nno 18\nno 15 2\nok 144\n"
 unfolding answering
 refused = refl
 
-some_refused : is_some_refused map.empty (codes "items a a\nitems a b\nitems c\nyes a : a\nyes z : a\nopen s") ≡ true
+some_refused : is_some_refused map.empty (codes "items a a\nitems a b\nitems c\nyes a : a\nyes z : a\nsave s") ≡ true
 unfolding answering
 some_refused = refl
 
@@ -132,17 +132,17 @@ no_cursors : transcript map.empty (codes "states 1 after 0\nitems a b c\nstates 
 unfolding answering
 no_cursors = refl
 
--- a session is stored where a domain stands, and opened where none does; a class table and a session that are missing
-kept : transcript map.empty (codes "save s\nopen s\nclass t\nitems a b c\nyes a : b\nsave s\nopen t\nclass t\nload-items a b") ≡ codes "no 15 0\nno 26\nno 15 0\nok 3\nok 1\nok 176\nno 26\nno 26\nno 10 3\n"
+-- a session is stored where a domain stands
+kept : transcript map.empty (codes "save s\nclass t\nitems a b c\nyes a : b\nsave s\nload-items a b") ≡ codes "no 15 0\nno 15 0\nok 3\nok 1\nok 176\nno 10 3\n"
 unfolding answering
 kept = refl
 
-abbrev saved_file : List ℕ
-saved_file = codes "{\"answers\":[[1,true,\"8\",1]],\"block\":1,\"items\":[\"a\",\"b\",\"c\"],\"limits\":[30,90],\"next\":2,\"odds\":[[[8,1],[8,1]],[[8,1],[8,1]],[[8,1],[8,1]]],\"pupils\":[],\"start\":\"free\",\"version\":2}"
-
-stored : map.get (final_folder map.empty (codes "items a b c\nyes a : b\nsave s\n")) (codes "s") ≡ Some saved_file
+stored : (line_effect (started (codes "a" ∷ [])) (record { file = λ name. Missing; failed = false }) (codes "save s")).stored ≡ Some (codes "s", codes "{\"answers\":[],\"block\":1,\"items\":[\"a\"],\"limits\":[30,90],\"next\":1,\"odds\":[[[8,1],[8,1]]],\"pupils\":[],\"start\":\"free\",\"version\":2}")
 unfolding answering
 stored = refl
+
+abbrev saved_file : List ℕ
+saved_file = codes "{\"answers\":[[1,true,\"8\",1]],\"block\":1,\"items\":[\"a\",\"b\",\"c\"],\"limits\":[30,90],\"next\":2,\"odds\":[[[8,1],[8,1]],[[8,1],[8,1]],[[8,1],[8,1]]],\"pupils\":[],\"start\":\"free\",\"version\":2}"
 
 -- what is opened takes the place of what stands
 abbrev opened_over : List ℕ → List ℕ → List ℕ
