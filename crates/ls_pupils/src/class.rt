@@ -1,6 +1,8 @@
 // Classes: the pupils of a table, assessed by what it says of them.
-ghost use Rattle.std.specs.Prelude.{◌≡◌, [], length, IfOk};
+ghost use Rattle.std.specs.Prelude.{◌≡◌, [], length, Ok, IfOk};
 ghost use Rattle.ls_theory.specs.Compatible.{compatible_sets};
+ghost use Rattle.ls_laws.specs.Spans.{IsOn};
+ghost use Rattle.ls_weight.specs.Weighings.{IsWeighable};
 ghost use Rattle.ls_class.specs.Tables.{class_of};
 ghost use Rattle.ls_reply.specs.Pupils.{classed_by};
 ghost use Rattle.ls_pupils.specs.Cases.{CanTell};
@@ -14,6 +16,7 @@ use ls_expert::Inquiry;
 use ls_interior::{Counted, Steps};
 use ls_replay::{OpenGate, run_class};
 use ls_reply::{Refusal, Response, Shown};
+use ls_set::SetList;
 use std::alloc::{AllocError, Global};
 use std::sync::ledger::Ledger;
 use std::thread::Threads;
@@ -57,12 +60,29 @@ fn replay<R: Threads + Sync, L: Ledger>(
     ensures told { IfOk result (CanTell inquiry.now.count) }
 {
     let states = Counted::new(inquiry.family());
-    let sets = match list_all(alloc, &states, MOST_STATES, steps) {
-        Ok(sets) => sets,
-        Err(ListFault::More) => return Ok(Response::Refused(Refusal::ManyStates)),
-        Err(ListFault::Memory(e)) => return Err(e),
-    };
-    match run_class(rt, alloc, &OpenGate, inquiry.items(), &sets, settings, table) {
+    match list_all(alloc, &states, MOST_STATES, steps) {
+        Ok(sets) => replay_over(rt, alloc, inquiry.items(), &sets, settings, table),
+        Err(ListFault::More) => Ok(Response::Refused(Refusal::ManyStates)),
+        Err(ListFault::Memory(e)) => Err(e),
+    }
+}
+
+// What is known of the pupils of a table over states among n items, which are not too many.
+fn replay_over<R: Threads + Sync>(
+    rt: &R,
+    alloc: Global,
+    n: u32,
+    states: &SetList,
+    settings: &Settings,
+    table: &ClassTable,
+) -> Result<Response, AllocError>
+    requires weighable { IsWeighable n states.now settings.now }
+    requires small { IsOn n states.now }
+    ensures response { IfOk result (λ r.
+        r ≡ classed_by settings.now states.now [] (Ok table.now)) }
+    ensures told { IfOk result (CanTell n) }
+{
+    match run_class(rt, alloc, &OpenGate, n, states, settings, table) {
         Ok(results) => Ok(Response::Shown(Shown::Class(results))),
         Err(WeightFault::Heavy { replies }) => Ok(Response::Refused(Refusal::Heavy { replies })),
         Err(WeightFault::Memory(e)) => Err(e),

@@ -10,7 +10,8 @@ ghost use Rattle.ls_reply.specs.Pupils.{class_row};
 ghost use Rattle.ls_reply.specs.Saving.{save_row, open_row, opened_by};
 ghost use Rattle.ls_reply.specs.Replies.{file_shown, file_stored};
 ghost use Rattle.ls_reply.specs.declared.refusal.Refusal.TheVariants.{FileFailed};
-ghost use Rattle.ls_course.specs.States.{CanTell};
+ghost use Rattle.std.specs.declared.option.Option.{Option};
+ghost use Rattle.ls_course.specs.States.{CourseState, CanTell};
 ghost use Rattle.ls_session.specs.Courses.{standing_session, IsSayable};
 ghost use Rattle.ls_session.specs.Decides.{Decides, Makes, IsFetched};
 
@@ -49,7 +50,7 @@ fn store_text<H: Shelf>(file: &Word, text: &[u8], shelf: &mut H) -> Result<Respo
         Decides (λ calls. stores s (refuse FileFailed calls.failed) file.now text.now) s s
         (H.files shelf.old) (H.files shelf.new)
         (H.faults shelf.old) (H.faults shelf.new) result }
-    ensures said { (names : List Text) → IfOk result (λ r. CanRefuse names r) }
+    ensures said { (course : Option CourseState) → IfOk result (IsSayable course) }
 {
     match shelf.store(file.as_str(), text) {
         Ok(()) => Ok(Response::Done {

@@ -1,0 +1,29 @@
+use Rattle.std.proofs.Common.{◌≡◌, ◌≤◌, [], ◌<◌, List, Ok, length, ap, sym, ◌∙◌, subst, filter}
+use Rattle.std.proofs.lemmas.Result.{IfOk-weaker}
+use Rattle.ls_set.specs.ItemSet.{Items}
+use Rattle.ls_theory.specs.Compatible.{compat, compatible_sets}
+use Rattle.ls_theory.specs.Queries.{breaks_none}
+use Rattle.ls_theory.specs.Settings.{most_states}
+use Rattle.ls_theory.specs.Interviews.{yes_queries}
+use Rattle.ls_laws.specs.Families.{IsFamily}
+use Rattle.ls_laws.proofs.Families.{compat-IsFamily}
+use Rattle.ls_weight.proofs.Weighable.{family-weighable}
+use Rattle.ls_reply.specs.Pupils.{classed_by}
+use Rattle.ls_pupils.proofs.class.replay.Given as given
+use Rattle.ls_pupils.proofs.class.replay.Goals as goal
+
+module _ (g : given.Over) (c : goal.After-items g) where
+  sets_are : c.in-Ok.sets ≡ compatible_sets c.args.inquiry.now
+  sets_are = c.in-Ok.ensures.members ∙ ap (λ r. filter (breaks_none r.rules) (compat r.inner.item_count r.inner.start [])) c.new-states.ensures ∙ c.family.ensures.members
+
+  few_sets : length c.in-Ok.sets ≤ most_states
+  few_sets = let same = ap (λ (f : List Items). length f) c.in-Ok.ensures.members in rw same c.in-Ok.ensures.fits
+
+  family : IsFamily c.args.inquiry.now.count c.in-Ok.sets
+  family = let i = c.args.inquiry.now in subst (IsFamily i.count) (sym sets_are) (compat-IsFamily i.count i.start (yes_queries i.answers))
+
+pub replay_over-requires : goal.replay_over-requires
+replay_over-requires g c =
+    let i = c.args.inquiry.now in
+    let count = c.items.ensures.count in
+    rw count (record { weighable = family-weighable i.count c.in-Ok.sets c.args.settings.now (family g c) (rw count at c.items.ensures.some) (rw count at c.items.ensures.few) c.requires (few_sets g c); small = (family g c).small })
