@@ -204,6 +204,13 @@ impl Settings {
         self.ratios.len() as u32
     }
 
+    /// The ratios of each item in turn.
+    pub fn ratios(&self) -> &[Ratios]
+        ensures { result.now ≡ self.now.ratios }
+    {
+        &self.ratios
+    }
+
     /// The most replies.
     pub fn budget(&self) -> u64
         ensures { result ≡ self.now.budget }
