@@ -275,7 +275,8 @@ impl Inquiry {
 
     /// The start.
     pub fn start(&self) -> &Start
-        ensures { start_of result.now ≡ self.now.start }
+        ensures value { start_of result.now ≡ self.now.start }
+        ensures on { IsStartOn self.now.count result.now }
     {
         self.family.inner().start()
     }

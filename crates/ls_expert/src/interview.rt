@@ -95,6 +95,13 @@ impl Interview {
             (IsStandingFault (interview_on n (start_of start) k answers.now next)) }
     {
         let inquiry = Inquiry::from_standing(alloc, n, start, k, next, answers, steps)?;
+        Ok(Interview::of(inquiry)?)
+    }
+
+    /// The interview of the inquiry, with its base followed over the Yes answers.
+    pub fn of(inquiry: Inquiry) -> Result<Interview, AllocError>
+        ensures { IfOk result (λ i. i ≡ inquiry) }
+    {
         let followed = Followed::over(inquiry.first_base()?, inquiry.yes_queries())?;
         Ok(Interview { inquiry, followed })
     }
@@ -292,7 +299,8 @@ impl Interview {
 
     /// The start.
     pub fn start(&self) -> &Start
-        ensures { start_of result.now ≡ self.now.start }
+        ensures value { start_of result.now ≡ self.now.start }
+        ensures on { IsStartOn self.now.count result.now }
     {
         self.inquiry.start()
     }

@@ -52,7 +52,8 @@ impl OnItems {
 
     /// The start.
     pub fn start(&self) -> &Start
-        ensures { start_of result.now ≡ self.now.start }
+        ensures value { start_of result.now ≡ self.now.start }
+        ensures on { IsStartOn self.now.item_count result.now }
     {
         &self.start
     }

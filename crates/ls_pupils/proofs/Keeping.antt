@@ -47,7 +47,7 @@ are-replied n name cases i item right h a =
     let case = case-at n cases i c h a.at in
     record {
       few_items = h.few_items;
-      each = All-set (IsCase n) cases i (replied_case c item right) (record { states = case.states; few = case.few; settings = case.settings; items = case.items }) h.each;
+      each = All-set (IsCase n) cases i (replied_case c item right) (record { states = case.states; few = case.few; settings = case.settings; items = case.items; start = case.start; good = case.good }) h.each;
       own = own-set name_of (replied_case c item right) cases i c h.own a.at refl;
       few = rw (length-set cases i (replied_case c item right)) h.few;
     }

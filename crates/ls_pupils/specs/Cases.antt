@@ -3,13 +3,14 @@
 --     ArePupils n cs      pupils among n items, each with a name of its own
 --     CanTell n r      what is told of pupils speaks of the n items alone
 use Rattle.std.specs.Prelude.{ℕ, ◌≡◌, ◌<◌, ◌≤◌, true, List, map, length, ⊤}
-use Rattle.std.specs.List.{All}
+use Rattle.std.specs.List.{All, list_all}
 use Rattle.ls_set.specs.ItemSet.{full, IsWithin, most_items}
+use Rattle.ls_set.specs.Query.{is_good}
 use Rattle.ls_theory.specs.Compatible.{compat}
 use Rattle.ls_theory.specs.declared.asked.Asked.TheVariants.{Item, Over}
 use Rattle.ls_reply.specs.Refusals.{refusal_items}
 use Rattle.ls_theory.specs.Settings.{most_states}
-use Rattle.ls_expert.specs.Starts.{start_of}
+use Rattle.ls_expert.specs.Starts.{start_of, IsStartOn}
 use Rattle.ls_reply.specs.Sessions.{Pupil}
 use Rattle.ls_reply.specs.Pupils.{most_pupils}
 use Rattle.ls_reply.specs.declared.response.Response.{Response}
@@ -25,12 +26,15 @@ pupil_of c =
 abbrev pub pupils_of : List PupilCase → List Pupil
 pupils_of cases = map pupil_of cases
 
--- the states of a case are those of its start and Yes queries, among n items, and not too many; its settings are those of n items, by which its pupil is assessed
+-- The states of a case are those of its start and Yes queries, which are on n items, and not too many; its settings are those of n items, by which its pupil is
+-- assessed.
 pub record IsCase (n : ℕ) (c : PupilCase) : Type 0 where
   pub states : c.pupil.states ≡ compat n (start_of c.start) c.yes
   pub few : length c.pupil.states ≤ most_states
   pub settings : c.pupil.settings ≡ c.settings
   pub items : length c.settings.ratios ≡ n
+  pub start : IsStartOn n c.start
+  pub good : list_all (is_good n) c.yes ≡ true
 
 -- a case of as many items as its settings
 abbrev pub IsOwnCase : PupilCase → Type 0

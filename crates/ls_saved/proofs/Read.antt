@@ -62,7 +62,7 @@ from-sound n d None s e = within-sound n (get (codes "base") d) (get (codes "sur
 start-sound : (n : ℕ) (d : Data) (s : Start) → read_start n d ≡ Some s → IsStart n s
 start-sound n d s e = from-sound n d (as_str d) s e
 
-at-sound : {X : Type 0} (key : List ℕ) (f : Data → Option X) (d : Data) (x : X) → at_key key f d ≡ Some x → (e : Data) × (f e ≡ Some x)
+pub at-sound : {X : Type 0} (key : List ℕ) (f : Data → Option X) (d : Data) (x : X) → at_key key f d ≡ Some x → (e : Data) × (f e ≡ Some x)
 at-sound key f d x e = let found = then-some f (get key d) x e in (found.0, found.2)
 
 -- ---- names, interviews and pupils
@@ -72,20 +72,20 @@ names-sound d names e =
     let words = then-some (λ ws. result_ok (names_of_words ws)) (read_list as_str d) names e in
     (names_of_words-read words.0 names (ok-some (names_of_words words.0) names words.2)).0
 
-record IsInterview (n : ℕ) (start : Start) (block : ℕ) (i : Interview) : Type 0 where
+pub record IsInterview (n : ℕ) (start : Start) (block : ℕ) (i : Interview) : Type 0 where
   pub count : i.count ≡ n
   pub start_is : i.start ≡ start
   pub block_is : i.block ≡ block
   pub stands_now : stands i ≡ true
 
-interview-sound : (n : ℕ) (start : Start) (block : ℕ) (d : Data) (i : Interview) → read_interview n start block d ≡ Some i → IsInterview n start block i
+pub interview-sound : (n : ℕ) (start : Start) (block : ℕ) (d : Data) (i : Interview) → read_interview n start block d ≡ Some i → IsInterview n start block i
 interview-sound n start block d i e =
     let parts = option_zip (at_key (codes "answers") (read_list (read_answer n)) d) (at_key (codes "next") read_number d) in
     let read = only_if-some stands (option_map (interview_from n start block) parts) i e in
     let made = map-some (interview_from n start block) parts i read.0 in
     record { count = ap (λ (i : Interview). i.count) (sym made.2); start_is = ap (λ (i : Interview). i.start) (sym made.2); block_is = ap (λ (i : Interview). i.block) (sym made.2); stands_now = read.1 }
 
-all-settings-sound : (v : Version) (n : ℕ) (d : Data) (s : Settings) → read_settings v n d ≡ Some s → are_settings n s ≡ true
+pub all-settings-sound : (v : Version) (n : ℕ) (d : Data) (s : Settings) → read_settings v n d ≡ Some s → are_settings n s ≡ true
 all-settings-sound v n d s e =
     let odds = at_key (codes "odds") (read_odds v n) d in
     let limits = at_key (codes "limits") read_limits d in
@@ -95,7 +95,7 @@ all-settings-sound v n d s e =
     let second = at-sound (codes "limits") read_limits d made.0.1 both.1 in
     subst (λ s. are_settings n s ≡ true) made.2 (settings-sound v n first.0 second.0 made.0.0 made.0.1 first.1 second.1)
 
-pupil-sound : (v : Version) (n : ℕ) (d : Data) (p : Pupil) → read_pupil v n d ≡ Some p → IsPupil n p
+pub pupil-sound : (v : Version) (n : ℕ) (d : Data) (p : Pupil) → read_pupil v n d ≡ Some p → IsPupil n p
 pupil-sound v n d p e =
     let name = at_key (codes "name") as_str d in
     let settings = read_settings v n d in

@@ -22,7 +22,7 @@ use Rattle.ls_laws.specs.Spans.{IsOn}
 use Rattle.ls_laws.proofs.Atoms.{base-member}
 use Rattle.ls_laws.proofs.Breaks.{good-from}
 use Rattle.ls_files.specs.SurmiseFiles.{list_value, read_list, surmise_from}
-use Rattle.ls_saved.specs.Whole.{IsNarrow, IsStart, IsSmallStart}
+use Rattle.ls_saved.specs.Whole.{IsNarrow, IsStart}
 use Rattle.ls_saved.specs.Standing.{is_base}
 use Rattle.ls_saved.specs.Values.{number_value, set_value, query_value, start_value}
 use Rattle.ls_saved.specs.Parts.{read_set, read_base, read_surmise, read_start, read_item, read_query, query_from}
@@ -94,9 +94,3 @@ pub start-back : (n : ℕ) (s : Start) → IsStart n s → read_start n (start_v
 start-back n Free h = refl
 start-back n (Clauses clauses) h = ap (option_map Clauses) (surmise-back n clauses h)
 start-back n (Sets sets) h = ap (option_map Sets) (base-back n sets h)
-
--- the sets of a start are of its items
-pub start-small : (n : ℕ) (s : Start) → IsStart n s → IsSmallStart n s
-start-small n Free h = tt
-start-small n (Clauses clauses) h = narrow-small n clauses h
-start-small n (Sets sets) h = base-small n sets h

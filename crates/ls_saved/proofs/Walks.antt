@@ -1,6 +1,5 @@
 -- Lists of values, read one after another.
-use Rattle.std.specs.List.{AllByRecursion}
-use Rattle.std.proofs.Common.{map, subst, ◌≡◌, ℕ, zero, suc, true, ◌+◌, ◌<◌, ◌≤◌, List, [], ◌∷◌, ◌++◌, length, get_or, drop, Option, Some, None, refl, sym, ap, ◌∙◌, arith, option_map, option_and_then, append_assoc, append-nil, drop-cons}
+use Rattle.std.proofs.Common.{◌≡◌, ℕ, zero, suc, true, ◌+◌, ◌<◌, ◌≤◌, List, [], ◌∷◌, ◌++◌, length, get_or, drop, Option, Some, None, refl, sym, ap, ◌∙◌, arith, option_map, option_and_then, append_assoc, append-nil, drop-cons}
 use Rattle.std.proofs.lemmas.List.{drop_all}
 use Rattle.serde_json.specs.Data.{Data, Items as Values}
 use Rattle.serde_json.specs.Find.{as_array}
@@ -78,9 +77,3 @@ pub among-at : (ss : List Items) (i : ℕ) (s : Items) → i < length ss → s �
 among-at [] i s l e = absurd (omega arith)
 among-at (t ∷ ss) zero s l e = among-here s t ss e
 among-at (t ∷ ss) (suc i) s l e = among-there s t ss (among-at ss i s (omega arith) e)
-
--- what holds of each holds of the one at a place
-pub each-at : {X Y : Type 0} (P : X → Type 0) (f : Y → X) (ys : List Y) (i : ℕ) (y : Y) → i < length ys → y ≡ get_or ys i y → AllByRecursion P (map f ys) → P (f y)
-each-at P f [] i y l e h = absurd (omega arith)
-each-at P f (z ∷ zs) zero y l e h = subst (λ x. P (f x)) (sym e) h.0
-each-at P f (z ∷ zs) (suc i) y l e h = each-at P f zs i y (omega arith) e h.1

@@ -8,7 +8,6 @@ use Rattle.ls_theory.specs.Interviews.{Interview}
 use Rattle.ls_theory.specs.Answering.{most_answers, most_number, is_same_query}
 use Rattle.ls_theory.specs.Bases.{based}
 use Rattle.ls_theory.specs.Settings.{are_settings}
-use Rattle.ls_laws.specs.Spans.{IsOn}
 use Rattle.ls_laws.specs.Forced.{IsSound, IsNumbered}
 use Rattle.ls_clauses.specs.Surmise.{IsSurmise}
 use Rattle.ls_domain.specs.Domains.{IsDomain}
@@ -28,12 +27,6 @@ abbrev pub IsStart : ℕ → Start → Type 0
 IsStart n Free = ⊤
 IsStart n (Clauses clauses) = IsNarrow n clauses
 IsStart n (Sets sets) = based n sets ≡ Ok sets
-
--- a start whose sets have items below n alone
-abbrev pub IsSmallStart : ℕ → Start → Type 0
-IsSmallStart n Free = ⊤
-IsSmallStart n (Clauses clauses) = AllByRecursion (IsOn n) clauses
-IsSmallStart n (Sets sets) = IsOn n sets
 
 -- ---- answers
 

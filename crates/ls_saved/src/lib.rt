@@ -20,8 +20,8 @@ pub use readers::{
     read_sets, read_version,
 };
 pub use values::{
-    PupilParts, SessionParts, answer_value, answers_value, clauses_value, limits_value, odds_value,
-    pupil_object, queries_value, query_value, ratio_value, ratios_value, replies_value,
-    reply_value, session_object, set_value, sets_value, start_value,
+    PupilParts, SessionParts, answer_value, answers_value, limits_value, odds_value, pupil_object,
+    queries_value, query_value, ratio_value, ratios_value, replies_value, reply_value,
+    session_object, set_value, sets_value, single_object,
 };
 pub use version::Version;

@@ -1,18 +1,16 @@
 // The values that are written for the parts of a session.
 ghost use Rattle.std.specs.Prelude.{◌≡◌, ◌≤◌, true, IfOk, OnOk, codes, map};
-ghost use Rattle.std.specs.List.{AllByRecursion, list_all};
+ghost use Rattle.std.specs.List.{list_all};
 ghost use Rattle.serde_json.specs.Data.{object, member, no_members, put};
 ghost use Rattle.serde_json.specs.View.{view, members_view};
 ghost use Rattle.ls_set.specs.ItemSet.{IsWithin, full, most_items};
 ghost use Rattle.ls_set.specs.Query.{is_good};
-ghost use Rattle.ls_theory.specs.Starts.{start_of};
 ghost use Rattle.ls_laws.specs.Spans.{IsOn};
 ghost use Rattle.ls_files.specs.SurmiseFiles.{list_value};
-ghost use Rattle.ls_saved.specs.Whole.{IsSmallStart};
-ghost use Rattle.ls_saved.specs.Values.{answer_value, pair_value, query_value, ratio_value, ratios_value, reply_value, set_value, start_value, number_value};
+ghost use Rattle.ls_saved.specs.Values.{answer_value, pair_value, query_value, ratio_value, ratios_value, reply_value, set_value, number_value};
 
-use ls_set::{ItemSet, Query, QueryList, SetList, cursor_length};
-use ls_theory::{Answer, ListedStart, Ratio, Ratios, Reply};
+use ls_set::{ItemSet, Query, cursor_length};
+use ls_theory::{Answer, Ratio, Ratios, Reply};
 use serde_json::{Map, Value};
 use std::alloc::{AllocError, Global};
 
@@ -98,13 +96,13 @@ pub fn limits_value(alloc: Global, budget: u64, share: u64) -> Result<Value, All
 }
 
 /// The cursors of sets.
-pub fn sets_value(alloc: Global, n: u32, sets: &SetList) -> Result<Value, AllocError>
+pub fn sets_value(alloc: Global, n: u32, sets: &[ItemSet]) -> Result<Value, AllocError>
     requires few { n ≤ most_items }
     requires small { IsOn n sets.now }
     ensures { IfOk result (λ v. view v ≡ list_value (set_value n) sets.now) }
 {
     let mut values = Vec::new(alloc);
-    for set in sets.as_slice() {
+    for set in sets {
         values.push(set_value(alloc, n, *set)?)?;
     }
     Ok(Value::Array(values))
@@ -122,13 +120,13 @@ pub fn odds_value(alloc: Global, list: &[Ratios]) -> Result<Value, AllocError>
 }
 
 /// The queries of a list.
-pub fn queries_value(alloc: Global, n: u32, queries: &QueryList) -> Result<Value, AllocError>
+pub fn queries_value(alloc: Global, n: u32, queries: &[Query]) -> Result<Value, AllocError>
     requires few { n ≤ most_items }
     requires good { list_all (is_good n) queries.now ≡ true }
     ensures { IfOk result (λ v. view v ≡ list_value (query_value n) queries.now) }
 {
     let mut values = Vec::new(alloc);
-    for query in queries.as_slice() {
+    for query in queries {
         values.push(query_value(alloc, n, query)?)?;
     }
     Ok(Value::Array(values))
@@ -158,19 +156,6 @@ pub fn replies_value(alloc: Global, replies: &[Reply]) -> Result<Value, AllocErr
     Ok(Value::Array(values))
 }
 
-/// The cursors of the clauses of each item in turn.
-pub fn clauses_value(alloc: Global, n: u32, clauses: &[SetList]) -> Result<Value, AllocError>
-    requires few { n ≤ most_items }
-    requires small { AllByRecursion (IsOn n) clauses.now }
-    ensures { IfOk result (λ v. view v ≡ list_value (list_value (set_value n)) clauses.now) }
-{
-    let mut values = Vec::new(alloc);
-    for own in clauses {
-        values.push(sets_value(alloc, n, own)?)?;
-    }
-    Ok(Value::Array(values))
-}
-
 // Puts a value at a key.
 fn insert_member(
     alloc: Global,
@@ -185,32 +170,13 @@ fn insert_member(
     Ok(())
 }
 
-// An object of one member.
-fn single_object(alloc: Global, key: &str, value: Value) -> Result<Value, AllocError>
+/// An object of one member.
+pub fn single_object(alloc: Global, key: &str, value: Value) -> Result<Value, AllocError>
     ensures { IfOk result (λ v. view v ≡ object (member key.now (view value) no_members)) }
 {
     let mut map = Map::new(alloc);
     insert_member(alloc, &mut map, key, value)?;
     Ok(Value::Object(map))
-}
-
-/// A start.
-pub fn start_value(alloc: Global, n: u32, start: &ListedStart) -> Result<Value, AllocError>
-    requires few { n ≤ most_items }
-    requires small { IsSmallStart n (start_of start.now) }
-    ensures { IfOk result (λ v. view v ≡ start_value n (start_of start.now)) }
-{
-    match start {
-        ListedStart::Free => Ok(Value::String(String::from_str(alloc, "free")?)),
-        ListedStart::Clauses { clauses } => {
-            let value = clauses_value(alloc, n, clauses)?;
-            single_object(alloc, "surmise", value)
-        }
-        ListedStart::Sets { sets } => {
-            let value = sets_value(alloc, n, sets)?;
-            single_object(alloc, "base", value)
-        }
-    }
 }
 
 /// The values of a pupil's parts, by their keys.

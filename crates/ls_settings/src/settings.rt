@@ -1,5 +1,6 @@
 // The settings of an assessment.
 ghost use Rattle.std.specs.Prelude.{◌≡◌, ◌<◌, ◌≤◌, true, not, length, slice_index_or, is_err, IfOk, OnOk, OnErr};
+ghost use Rattle.std.specs.List.{list_all};
 ghost use Rattle.ls_theory.specs.Weights.{no_ratios, ratio_for};
 ghost use Rattle.ls_theory.specs.Settings.{is_ratio, are_ratios, are_limits, odds, standard, with_all, with_item, with_limits, greatest, heavy_after};
 ghost use Rattle.ls_settings.specs.Allowed.{IsAllowed};
@@ -81,6 +82,22 @@ fn greatest(ratios: &[Ratios]) -> u64
 }
 
 impl Settings {
+    /// The settings of the ratios of each item in turn, the most replies, and the share in
+    /// hundredths, each in its range.
+    pub fn from_ratios(alloc: Global, ratios: Vec<Ratios>, budget: u64, share: u64) -> Settings
+        requires few { length ratios.items ≤ PLACES }
+        requires ratios { list_all are_ratios ratios.items ≡ true }
+        requires limits { are_limits budget share ≡ true }
+        ensures { result ≡ record { ratios = ratios.items; budget = budget; share = share } }
+    {
+        Settings {
+            alloc,
+            ratios,
+            budget,
+            share,
+        }
+    }
+
     /// Odds 8 and 8 for each of `n` items, at most 30 replies, and the share 90.
     pub fn standard(alloc: Global, n: u32) -> Result<Settings, AllocError>
         requires { n ≤ PLACES }
@@ -185,6 +202,13 @@ impl Settings {
         ensures allowed { IsAllowed self.now }
     {
         self.ratios.len() as u32
+    }
+
+    /// The ratios of each item in turn.
+    pub fn ratios(&self) -> &[Ratios]
+        ensures { result.now ≡ self.now.ratios }
+    {
+        &self.ratios
     }
 
     /// The most replies.

@@ -166,32 +166,9 @@ read-on names bytes clauses e =
     subst (λ (cs : List (List Items)). IsOn (length names) (all_clauses cs)) r.is
     (all-on (length names) (λ w. map (items_of names) (row_under r.table w)) (λ w. clauses-on names (row_under r.table w) (row-named names r.table w r.named)) names)
 
--- ---- what is made of a file
+-- ---- what is made of clauses
 
-pub made : (names : List Text) (bytes : List ℕ) (n : ℕ) (read one two three put : List (List Items)) (b : BaseState) → n ≡ length names → clauses_read names bytes ≡ Ok read → one ≡ read → two ≡ read → three ≡ read → flaw n one ≡ None
-    → b.item_count ≡ n → family b ≡ spanned n (all_clauses two) → base (family b) ≡ b.sets → ((m : ℕ) → IsOn m (all_clauses three) → put ≡ map (in_order m) three) → IsSurmiseOf b put
-made names bytes n read one two three put b count told e f g none items members is_base is =
-    let small = subst (λ m. IsOn m (all_clauses read)) (sym count) (read-on names bytes read told) in
-    let surmise = put-surmise n read b (read-each names bytes read told ∙ sym count) small (ap (flaw n) (sym e) ∙ none) items (members ∙ ap (λ (cs : List (List Items)). spanned n (all_clauses cs)) f) is_base in
-    let same : put ≡ map (in_order n) read = is n (subst (λ (cs : List (List Items)). IsOn n (all_clauses cs)) (sym g) small) ∙ ap (map (in_order n)) g in
-    subst (λ (cs : List (List Items)). IsSurmiseOf b cs) (sym same) surmise
-
-pub told-by : (names : List Text) (bytes : List ℕ) (n : ℕ) (read one two three put : List (List Items)) → n ≡ length names → clauses_read names bytes ≡ Ok read → one ≡ read → two ≡ read → three ≡ read → flaw n one ≡ None → wide n two ≡ None
-    → ((m : ℕ) → IsOn m (all_clauses three) → put ≡ map (in_order m) three) → surmise_of names bytes ≡ Ok put
-told-by names bytes n read one two three put count told e f g none few is =
-    let small = subst (λ m. IsOn m (all_clauses read)) (sym count) (read-on names bytes read told) in
-    let same : put ≡ map (in_order n) read = is n (subst (λ (cs : List (List Items)). IsOn n (all_clauses cs)) (sym g) small) ∙ ap (map (in_order n)) g in
-    of_clauses names bytes read told ∙ ap (λ m. surmise_from m read) (sym count) ∙ of_none n read (ap (flaw n) (sym e) ∙ none) (ap (wide n) (sym f) ∙ few) ∙ ap Ok (sym same)
-
-pub flawed : (names : List Text) (bytes : List ℕ) (n : ℕ) (read one : List (List Items)) (fault : SurmiseFault) → n ≡ length names → clauses_read names bytes ≡ Ok read → one ≡ read → flaw n one ≡ Some fault → flaw (length names) read ≡ Some fault
-flawed names bytes n read one fault count told e is = ap₂ flaw (sym count) (sym e) ∙ is
-
-pub too_wide : (names : List Text) (bytes : List ℕ) (n : ℕ) (read one two : List (List Items)) (fault : SurmiseFault) → n ≡ length names → clauses_read names bytes ≡ Ok read → one ≡ read → two ≡ read → flaw n one ≡ None → IsWideOf (wide n two) fault → IsSurmiseFaultOf (surmise_of names bytes) fault
-too_wide names bytes n read one two fault count told e f none is =
-    fault-as names bytes read fault told
-    (wide-fault (length names) read fault (ap₂ flaw (sym count) (sym e) ∙ none) (subst (λ (o : Option SurmiseFault). IsWideOf o fault) (ap₂ wide count f) is))
-
--- the clauses in order, as they are searched
-pub put-of : (names : List Text) (bytes : List ℕ) (n : ℕ) (read three put : List (List Items)) → n ≡ length names → clauses_read names bytes ≡ Ok read → three ≡ read → ((m : ℕ) → IsOn m (all_clauses three) → put ≡ map (in_order m) three) → put ≡ map (in_order n) read
-put-of names bytes n read three put count told g is =
-    is n (subst (λ (cs : List (List Items)). IsOn n (all_clauses cs)) (sym g) (subst (λ m. IsOn m (all_clauses read)) (sym count) (read-on names bytes read told))) ∙ ap (map (in_order n)) g
+pub made : (n : ℕ) (clauses put : List (List Items)) (b : BaseState) → length clauses ≡ n → IsOn n (all_clauses clauses) → flaw n clauses ≡ None
+    → b.item_count ≡ n → family b ≡ spanned n (all_clauses clauses) → base (family b) ≡ b.sets → ((m : ℕ) → IsOn m (all_clauses clauses) → put ≡ map (in_order m) clauses) → IsSurmiseOf b put
+made n clauses put b each small none items members is_base is =
+    subst (λ (cs : List (List Items)). IsSurmiseOf b cs) (sym (is n small)) (put-surmise n clauses b each small none items members is_base)

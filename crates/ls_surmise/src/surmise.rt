@@ -1,12 +1,13 @@
 // Surmise functions.
-ghost use Rattle.std.specs.Prelude.{◌≡◌, ◌<◌, Ok, length, IfOk, IfErr};
+ghost use Rattle.std.specs.Prelude.{◌≡◌, ◌<◌, ◌≤◌, Ok, length, IfOk, IfErr};
 ghost use Rattle.std.specs.List.{All};
-ghost use Rattle.ls_set.specs.ItemSet.{Items, is_among};
+ghost use Rattle.ls_set.specs.ItemSet.{Items, is_among, most_items};
 ghost use Rattle.ls_theory.specs.Bases.{base};
 ghost use Rattle.ls_base.specs.Bases.{family};
 ghost use Rattle.ls_theory.specs.Clauses.{clauses_of, all_clauses, clauses_at};
+ghost use Rattle.ls_laws.specs.Spans.{IsOn};
 ghost use Rattle.ls_clauses.specs.Surmise.{IsSurmise};
-ghost use Rattle.ls_files.specs.SurmiseFiles.{surmise_of, surmise_items, IsSurmiseFaultOf};
+ghost use Rattle.ls_files.specs.SurmiseFiles.{surmise_from, surmise_of, surmise_items, IsSurmiseFaultOf};
 ghost use Rattle.ls_surmise.specs.Surmises.{met_by, surmised, IsFromFaultOf};
 
 use crate::fault::FromFault;
@@ -114,17 +115,38 @@ impl Surmise {
         ensures items { IfErr result (λ e. All (λ q. q < length d.now) (surmise_items e)) }
     {
         let read = read_file(alloc, d, bytes)?;
-        let n = d.count();
-        let Ok(clauses) = put_clauses(alloc, &read) else {
+        Surmise::from_clauses(alloc, d.count(), &read)
+    }
+
+    /// The surmise function of the clauses of each of `n` items in turn. Those of an item may stand
+    /// in any order, and are put in order. The error is the first of these: an item has no clause; a
+    /// clause lacks its item; a clause has an item of which no clause lies within it; of two clauses
+    /// of an item one lies within the other; there are more distinct clauses than a base may have
+    /// sets; or memory ran out.
+    pub fn from_clauses(
+        alloc: Global,
+        n: u32,
+        clauses: &[SetList],
+    ) -> Result<Surmise, SurmiseFault>
+        requires few { n ≤ most_items }
+        requires items { length clauses.now ≡ n }
+        requires within { IsOn n (all_clauses clauses.now) }
+        ensures clauses { IfOk result (λ s. surmise_from n clauses.now ≡ Ok s.clauses) }
+        ensures item_count { IfOk result (λ s. s.item_count ≡ n) }
+        ensures surmise { IfOk result (λ s. IsSurmise s.item_count s.clauses) }
+        ensures fault { IfErr result (IsSurmiseFaultOf (surmise_from n clauses.now)) }
+        ensures items { IfErr result (λ e. All (λ q. q < n) (surmise_items e)) }
+    {
+        let Ok(ordered) = put_clauses(alloc, clauses) else {
             return Err(SurmiseFault::Memory(AllocError));
         };
-        if let Some(fault) = flaw(n, &read, &clauses) {
+        if let Some(fault) = flaw(n, clauses, &ordered) {
             return Err(fault);
         }
-        let base = base_of(alloc, n, &read)?;
+        let base = base_of(alloc, n, clauses)?;
         Ok(Surmise {
             base,
-            clauses,
+            clauses: ordered,
             alloc,
         })
     }
