@@ -1,3 +1,4 @@
 pub mod Adding
 pub mod Judging
+pub mod Passing
 pub mod Testing

@@ -3,6 +3,7 @@
 
 mod gradation;
 mod space;
+mod submembers;
 mod unions;
 
 pub use gradation::test_base;

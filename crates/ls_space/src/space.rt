@@ -6,8 +6,8 @@ ghost use Rattle.ls_laws.specs.Spans.{needed};
 ghost use Rattle.ls_spans.specs.Verdicts.{graded_by};
 
 use crate::gradation::judge;
+use crate::submembers::base_sets;
 use crate::unions::{first_lacking, first_partner};
-use ls_base::needed_sets;
 use ls_family::Family;
 use ls_set::{ItemSet, SetList};
 use ls_theory::{BaseVerdict, Verdict};
@@ -36,14 +36,13 @@ fn with_base(alloc: Global, base: &[ItemSet]) -> Result<Verdict, AllocError>
 pub fn test<R: Threads + Sync>(rt: &R, alloc: Global, f: &Family) -> Result<Verdict, AllocError>
     ensures verdict { IfOk result (λ v. v ≡ verdict (full f.now.item_count) f.now.sets) }
 {
-    let _ = rt;
     if !f.contains(ItemSet::empty()) {
         return Ok(Verdict::NoEmpty);
     }
     if !f.contains(ItemSet::full(f.items())) {
         return Ok(Verdict::NoFull);
     }
-    let base = needed_sets(alloc, f.members())?;
+    let base = base_sets(rt, alloc, f.members())?;
     if let Some(left) = first_lacking(f, &base) {
         let right = first_partner(f, left).unwrap_or(ItemSet::empty());
         return Ok(Verdict::NotClosed { left, right });

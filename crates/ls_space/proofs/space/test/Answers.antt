@@ -26,7 +26,7 @@ returns-then-not-contains-2 g c =
 pub returns-in-Some : goal.returns-in-Some
 returns-in-Some g c =
     let f = c.args.f.now.sets in
-    let is = c.deref.ensures.value ∙ c.in_ok-base.ensures.needed ∙ ap needed c.members.ensures.sets in
+    let is = c.deref.ensures.value ∙ c.in_ok-base.ensures ∙ ap needed c.members.ensures.sets in
     let right = c.unwrap_or-right.ensures ∙ ap₂ unwrap_or c.first_partner.ensures c.empty-in-Some.ensures in
     record {
       verdict = sym (not_closed (full c.args.f.now.item_count) f c.in-Some.left c.members.ensures.in_order
@@ -37,19 +37,19 @@ returns-in-Some g c =
 
 pub with_base-requires-clause-in_order : goal.with_base-requires-clause-in_order
 with_base-requires-clause-in_order g c =
-    let is = c.deref-2.ensures.value ∙ c.in_ok-base.ensures.needed ∙ ap needed c.members.ensures.sets in
+    let is = c.deref-2.ensures.value ∙ c.in_ok-base.ensures ∙ ap needed c.members.ensures.sets in
     subst IsInOrder (sym is) (needed-order c.args.f.now.sets c.members.ensures.in_order)
 
 pub with_base-requires-clause-needed : goal.with_base-requires-clause-needed
 with_base-requires-clause-needed g c =
-    let is = c.deref-2.ensures.value ∙ c.in_ok-base.ensures.needed ∙ ap needed c.members.ensures.sets in
+    let is = c.deref-2.ensures.value ∙ c.in_ok-base.ensures ∙ ap needed c.members.ensures.sets in
     subst (λ (b : List Items). needed b ≡ b) (sym is) (needed-again c.args.f.now.sets c.members.ensures.in_order)
 
 pub returns : goal.returns
 returns g c =
     let f = c.args.f.now.sets in
-    let is = c.deref.ensures.value ∙ c.in_ok-base.ensures.needed ∙ ap needed c.members.ensures.sets in
-    let too = c.deref-2.ensures.value ∙ c.in_ok-base.ensures.needed ∙ ap needed c.members.ensures.sets in
+    let is = c.deref.ensures.value ∙ c.in_ok-base.ensures ∙ ap needed c.members.ensures.sets in
+    let too = c.deref-2.ensures.value ∙ c.in_ok-base.ensures ∙ ap needed c.members.ensures.sets in
     let told = closed (full c.args.f.now.item_count) f c.members.ensures.in_order
     (ap (is_among f) (sym c.empty.ensures) ∙ sym c.contains.ensures ∙ c.if-not-contains.false)
     (ap (is_among f) (sym (c.full.ensures ∙ ap full c.items.ensures.count)) ∙ sym c.contains-2.ensures ∙ c.if-not-contains-2.false)

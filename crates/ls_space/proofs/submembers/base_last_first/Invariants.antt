@@ -1,0 +1,6 @@
+use Rattle.std.proofs.Common.{◌≡◌, reverse, drop}
+use Rattle.ls_laws.specs.Spans.{needed}
+use Rattle.ls_space.proofs.submembers.base_last_first.Given as goal
+
+abbrev pub invariant-loop-place : goal.invariant-loop-place
+invariant-loop-place l = reverse l.found.items ≡ needed (drop l.place l.sets)
