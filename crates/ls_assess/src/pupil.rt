@@ -11,7 +11,7 @@ use ls_set::{ItemSet, SetList};
 use ls_settings::Settings;
 use ls_theory::{Asked, Outcome, Reason, Reply, ReplyFault};
 use ls_weight::{WeightFault, Weights};
-use std::alloc::Global;
+use std::alloc::{AllocError, Global};
 use std::marker::Model;
 
 /// The assessment of one pupil. Contracts see the settings, the states and the replies.
@@ -70,6 +70,15 @@ impl Pupil {
     {
         let weights = self.weights.again(s)?;
         Ok(Pupil { weights })
+    }
+
+    /// The assessment once more, over the same states, from the replies so far on.
+    pub fn copy(&self) -> Result<Pupil, AllocError>
+        ensures { IfOk result (λ p. p ≡ self.now) }
+    {
+        Ok(Pupil {
+            weights: self.weights.copy()?,
+        })
     }
 
     /// The item that is asked next, or that the assessment is over: by share, or else by budget.

@@ -154,6 +154,26 @@ impl Weights {
         self.begin_again(s).map_err(WeightFault::Memory)
     }
 
+    /// The same weights once more, over the same states.
+    pub fn copy(&self) -> Result<Weights, AllocError>
+        ensures { IfOk result (λ w. w ≡ self.now) }
+    {
+        let settings = self.settings.copy()?;
+        let mut replies = Vec::with_capacity(self.alloc, settings.budget() as usize)?;
+        replies.extend_from_slice(&self.replies)?;
+        Ok(Weights {
+            alloc: self.alloc,
+            settings,
+            rows: self.rows.clone()?,
+            replies,
+            weights: Vec::from_slice(self.alloc, &self.weights)?,
+            masses: Vec::from_slice(self.alloc, &self.masses)?,
+            total: self.total,
+            heaviest: self.heaviest,
+            tables: Vec::from_slice(self.alloc, &self.tables)?,
+        })
+    }
+
     /// Takes one more reply, on the item `q`. It takes no memory.
     pub fn reply(&mut self, q: u32, right: bool)
         requires budget { length self.old.replies < self.old.settings.budget }
