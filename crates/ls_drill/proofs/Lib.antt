@@ -1,0 +1,3 @@
+pub mod DrawnPairs
+pub mod Chains
+pub mod Closures

@@ -1,0 +1,2 @@
+pub mod HiddenOrders
+pub mod Draws
