@@ -10,7 +10,7 @@ use Rattle.ls_theory.specs.declared.reply.Reply.{Reply}
 use Rattle.ls_theory.specs.declared.ratio.Ratios.{Ratios}
 use Rattle.ls_theory.specs.Settings.{Settings}
 use Rattle.ls_theory.specs.Assessment.{leader}
-use Rattle.ls_theory.specs.Classes.{Row, PupilResult, class_results}
+use Rattle.ls_theory.specs.Classes.{Row, PupilResult, replies_in, result_from, class_results}
 use Rattle.ls_laws.specs.Spans.{IsOn}
 
 found-within : (n : ℕ) (p : Items → Bool) (f : List Items) → IsOn n f → IsWithin (unwrap_or (find p f) empty) (full n)
@@ -25,6 +25,12 @@ leader-within : (n : ℕ) (ratios : List Ratios) (replies : List Reply) (f : Lis
 unfolding leader
 leader-within n ratios replies f h = found-within n _ f h
 
+-- the line of a row
+abbrev line : Settings → List Items → Row → PupilResult
+line s f row = result_from s f row.name (replies_in s.budget s f row.right [])
+
 pub results-within : (n : ℕ) (s : Settings) (f : List Items) (rows : List Row) → IsOn n f → All (λ (r : PupilResult). IsWithin r.state (full n)) (class_results s f rows)
 unfolding class_results
-results-within n s f rows h = All-map (λ (r : PupilResult). IsWithin r.state (full n)) _ rows (All-from_recursion _ rows (All-given _ (λ row. leader-within n s.ratios _ f h) rows))
+results-within n s f rows h =
+    let within : (row : Row) → IsWithin (line s f row).state (full n) = λ row. leader-within n s.ratios (replies_in s.budget s f row.right []) f h in
+    All-map (λ (r : PupilResult). IsWithin r.state (full n)) (line s f) rows (All-from_recursion (λ row. IsWithin (line s f row).state (full n)) rows (All-given (λ row. IsWithin (line s f row).state (full n)) within rows))

@@ -6,7 +6,7 @@ ghost use Rattle.ls_edge.specs.Files.{Folder, longest_file};
 ghost use Rattle.ls_lines.specs.Lines.{Text};
 ghost use Rattle.ls_words.specs.Modes.{mode_of};
 ghost use Rattle.ls_words.specs.declared.mode.Mode.TheVariants.{File, Drill};
-ghost use Rattle.ls_drill.specs.Drills.{drill_text};
+ghost use Rattle.ls_drill.specs.Summaries.{drill_text};
 ghost use Rattle.ls_edge.specs.Causes.{Rose};
 ghost use Rattle.ls_shell.specs.Runs.{longest_script, IsExtended, AnswersWhole};
 ghost use Rattle.ls_shell.specs.Runs.{TakesAndAnswers, TakesAndStops};

@@ -38,4 +38,5 @@ pub reading-effect : (s : Session) (calls : Calls) (c : Command) (v : View) → 
 reading-effect s calls c v reading some named asked =
     command_effect-asked s calls c (λ e. true≢false (sym reading ∙ ap is_reading e)) (λ names e. true≢false (sym reading ∙ ap is_reading e)) (λ file e. true≢false (sym reading ∙ ap is_reading e))
     (λ file e. true≢false (sym reading ∙ ap is_reading e)) (λ file e. true≢false (sym reading ∙ ap is_reading e)) (λ file e. true≢false (sym reading ∙ ap is_reading e))
+    (λ file e. true≢false (sym reading ∙ ap is_reading e)) (λ file e. true≢false (sym reading ∙ ap is_reading e)) (λ file e. true≢false (sym reading ∙ ap is_reading e))
     ∙ asked-view s c v some named asked

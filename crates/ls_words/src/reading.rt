@@ -1,8 +1,9 @@
 // Reading the words of the command line.
-ghost use Rattle.std.specs.Prelude.{◌≡◌, ◌↔◌, ◌≤◌, IfOk, IfSome, IsErrOf, None, Some, map};
+ghost use Rattle.std.specs.Prelude.{◌≡◌, ◌↔◌, ◌≤◌, [], Ok, IfOk, IfSome, IsErrOf, None, Some, map};
 ghost use Rattle.std.specs.Option.{ForSome};
 ghost use Rattle.ls_lines.specs.Kinds.{greatest_number};
 ghost use Rattle.ls_words.specs.Modes.{mode_of, mode_of_option, mode_of_options, IsInRange};
+ghost use Rattle.ls_words.specs.declared.mode.Mode.TheVariants.{Input};
 ghost use Rattle.ls_words.specs.Modes.{file, drill, number_of};
 
 use crate::{Mode, WordsFault};
@@ -16,6 +17,7 @@ const MOST_DRILLED: u32 = 48;
 pub fn read_words(alloc: Global, words: &[&str]) -> Result<Mode, WordsFault>
     ensures read { IfOk result (λ m. mode_of (map (λ w. w.now) words.now) ≡ Some m) }
     ensures range { IfOk result IsInRange }
+    ensures input { words.now ≡ [] → result ≡ Ok Input }
     ensures usage { IsErrOf result WordsFault.Usage
         ↔ (mode_of (map (λ w. w.now) words.now) ≡ None) }
 {

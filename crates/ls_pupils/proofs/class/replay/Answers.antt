@@ -12,7 +12,7 @@ use Rattle.ls_reply.specs.Pupils.{classed_by}
 use Rattle.ls_pupils.proofs.class.replay.Given as given
 use Rattle.ls_pupils.proofs.class.replay.Goals as goal
 
-module _ (g : given.Over) (c : goal.After-items g) where
+module _ (g : given.Over) (c : goal.After-sets-in-Ok-1 g) where
   sets_are : c.in-Ok.sets ≡ compatible_sets c.args.inquiry.now
   sets_are = c.in-Ok.ensures.members ∙ ap (λ r. filter (breaks_none r.rules) (compat r.inner.item_count r.inner.start [])) c.new-states.ensures ∙ c.family.ensures.members
 
@@ -22,8 +22,11 @@ module _ (g : given.Over) (c : goal.After-items g) where
   family : IsFamily c.args.inquiry.now.count c.in-Ok.sets
   family = let i = c.args.inquiry.now in subst (IsFamily i.count) (sym sets_are) (compat-IsFamily i.count i.start (yes_queries i.answers))
 
-pub replay_over-requires : goal.replay_over-requires
-replay_over-requires g c =
+pub replay_over-requires-clause-weighable : goal.replay_over-requires-clause-weighable
+replay_over-requires-clause-weighable g c =
     let i = c.args.inquiry.now in
     let count = c.items.ensures.count in
-    rw count (record { weighable = family-weighable i.count c.in-Ok.sets c.args.settings.now (family g c) (rw count at c.items.ensures.some) (rw count at c.items.ensures.few) c.requires (few_sets g c); small = (family g c).small })
+    λ _ _. rw count (family-weighable i.count c.in-Ok.sets c.args.settings.now (family g c) (rw count at c.items.ensures.some) (rw count at c.items.ensures.few) c.requires (few_sets g c))
+
+pub replay_over-requires-clause-small : goal.replay_over-requires-clause-small
+replay_over-requires-clause-small g c = λ _ _. rw c.items.ensures.count (family g c).small
