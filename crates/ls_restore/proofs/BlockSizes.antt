@@ -1,6 +1,5 @@
 -- Sizes above the number of items: no blocks are made up to them.
-use Rattle.std.proofs.Common.{◌≡◌, ℕ, ◌<◌, ◌≤◌, false, cond, Some, None, sym, ap, ◌∙◌, arith, true, Bool, refl}
-use Rattle.std.specs.Prelude.{◌-◌, max}
+use Rattle.std.proofs.Common.{◌≡◌, ℕ, ◌<◌, ◌≤◌, false, cond, Some, None, sym, ap, ◌∙◌, arith}
 use Rattle.std.proofs.lemmas.Bool.{false_from_ne_true}
 use Rattle.serde_json.specs.Data.{Data}
 use Rattle.ls_set.specs.ItemSet.{most_items}

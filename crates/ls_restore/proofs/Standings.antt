@@ -1,5 +1,5 @@
 -- Answers that were read, and whether they stand.
-use Rattle.std.proofs.Common.{◌≡◌, ℕ, Bool, true, false, cond, List, Option, Some, None, Result, Ok, Err, refl, sym, ap, ap₂, ◌∙◌, codes, option_map, true≢false}
+use Rattle.std.proofs.Common.{◌≡◌, ℕ, Bool, true, false, cond, List, Option, Some, None, Result, Err, refl, sym, ap, ap₂, ◌∙◌, codes, option_map, true≢false}
 use Rattle.std.specs.Option.{option_zip}
 use Rattle.std.specs.Result.{is_ok}
 use Rattle.std.specs.declared.alloc.AllocError.{AllocError}
@@ -33,16 +33,6 @@ next_in d = at_key (codes "next") read_number d
 
 abbrev from_parts : ℕ → Start → ℕ → Option (List Answer) → Option ℕ → Option Interview
 from_parts n start block answers next = only_if stands (option_map (interview_from n start block) (option_zip answers next))
-
-pub no-answers : (n : ℕ) (start : Start) (block : ℕ) (d : Data) → None ≡ answers_in n d → None ≡ read_interview n start block d
-no-answers n start block d e = ap (λ o. from_parts n start block o (next_in d)) e
-
-pub no-next : (n : ℕ) (start : Start) (block : ℕ) (d : Data) → None ≡ next_in d → None ≡ read_interview n start block d
-no-next n start block d e = none (answers_in n d) ∙ ap (from_parts n start block (answers_in n d)) e
-  where
-    none : (o : Option (List Answer)) → None ≡ from_parts n start block o None
-    none None = refl
-    none (Some answers) = refl
 
 by-standing : (n : ℕ) (start : Start) (block : ℕ) (d : Data) (answers : List Answer) (next : ℕ) (b : Bool) → Some answers ≡ answers_in n d → Some next ≡ next_in d
     → stands (interview_on n start block answers next) ≡ b → read_interview n start block d ≡ cond b (Some (interview_on n start block answers next)) None
