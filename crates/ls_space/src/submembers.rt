@@ -1,6 +1,5 @@
 // The base of a family, by unions of proper submembers.
-ghost use Rattle.std.specs.Prelude.{◌≡◌, ◌<◌, length, map, reverse, IfOk};
-ghost use Rattle.std.specs.List.{range_with_len};
+ghost use Rattle.std.specs.Prelude.{◌≡◌, ◌<◌, length, reverse, IfOk};
 ghost use Rattle.ls_set.specs.ItemSet.{is_same, IsInOrder};
 ghost use Rattle.ls_theory.specs.Families.{interior};
 ghost use Rattle.ls_laws.specs.Spans.{needed};
