@@ -2,6 +2,8 @@
 #![tactic(auto)]
 
 #[cfg(test)]
+mod classes;
+#[cfg(test)]
 mod faults;
 #[cfg(test)]
 mod files;
@@ -12,9 +14,13 @@ mod learning;
 #[cfg(test)]
 mod many_sets;
 #[cfg(test)]
+mod opening;
+#[cfg(test)]
 mod projecting;
 #[cfg(test)]
 mod pupils;
+#[cfg(test)]
+mod saving;
 #[cfg(test)]
 mod scripts;
 #[cfg(test)]
