@@ -2,7 +2,11 @@
 #![tactic(auto)]
 
 #[cfg(test)]
+mod causes;
+#[cfg(test)]
 mod classes;
+#[cfg(test)]
+mod command_lines;
 #[cfg(test)]
 mod faults;
 #[cfg(test)]
@@ -16,7 +20,11 @@ mod many_sets;
 #[cfg(test)]
 mod opening;
 #[cfg(test)]
+mod parts;
+#[cfg(test)]
 mod projecting;
+#[cfg(test)]
+mod pupil_causes;
 #[cfg(test)]
 mod pupils;
 #[cfg(test)]

@@ -46,8 +46,8 @@ const SESSIONS: [Saved; 6] = [
              ok 5\nask a : b\nok 6\nok 14\nset c {a b}\nset 4 {b}\nset 2 {c}\nset 1 {d}\n\
              base 4\n",
     },
-    // A start by a base, under which two pupils began, before and after an answer; each keeps its
-    // states and its settings.
+    // A start by a base. Pupils that began before it, under it, and after an answer keep their
+    // states and their settings.
     Saved {
         files: &[("g", "{a b}\n{a b c}\n")],
         script: "items a b c\npupil free\nstart base g\npupil two\nlimits 1 99\nratio a 5 3 9 2\n\

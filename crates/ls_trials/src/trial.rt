@@ -129,23 +129,32 @@ fn check_left<R: Threads + Sync + AllocGlobal + Abort>(
 }
 
 /// Runs a trial over the files of a folder, and compares what was written, how it ended, and which
-/// files are left.
+/// files are left. The label tells which trial failed.
 pub fn check_over<R: Threads + Sync + AllocGlobal + Abort>(
     rt: &R,
+    label: &str,
     trial: &Trial,
     shelf: &mut MemShelf,
 ) -> Result<(), Fail> {
     let outcome = run_over(rt, trial, shelf)?;
-    let script = trial.script;
-    assert_eq!(rt; outcome.written.as_str(), trial.replies, "for {script:?}");
-    assert_eq!(rt; outcome.status, trial.status);
+    assert_eq!(rt; outcome.written.as_str(), trial.replies, "for {label:?}");
+    assert_eq!(rt; outcome.status, trial.status, "for {label:?}");
     check_left(rt, shelf, trial.left)
 }
 
 /// Does so over the files of the trial.
-pub fn check<R: Threads + Sync + AllocGlobal + Abort>(rt: &R, trial: &Trial) -> Result<(), Fail> {
+pub fn check_as<R: Threads + Sync + AllocGlobal + Abort>(
+    rt: &R,
+    label: &str,
+    trial: &Trial,
+) -> Result<(), Fail> {
     let mut shelf = shelf_of(rt.alloc(), trial)?;
-    check_over(rt, trial, &mut shelf)
+    check_over(rt, label, trial, &mut shelf)
+}
+
+/// Does so, with the script as the label.
+pub fn check<R: Threads + Sync + AllocGlobal + Abort>(rt: &R, trial: &Trial) -> Result<(), Fail> {
+    check_as(rt, trial.script, trial)
 }
 
 /// Does so in pieces of several sizes.
@@ -202,7 +211,7 @@ pub fn check_files<R: Threads + Sync + AllocGlobal + Abort>(
             files: &[("f", *text)],
             ..answered(script, &replies)
         };
-        check(rt, &trial)?;
+        check_as(rt, text, &trial)?;
     }
     Ok(())
 }
