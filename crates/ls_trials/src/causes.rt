@@ -1,6 +1,6 @@
 // Files that are no saved session, each for one cause, or for two of which the first is told.
 use crate::parts::{FIRST_ODDS, PARTS, check_refused, object_of, quoted};
-use crate::trial::{answered, check_over};
+use crate::trial::{Trial, answered, check, check_over};
 use ls_edge::MemShelf;
 use std::process::Abort;
 use std::test::Fail;
@@ -320,16 +320,21 @@ fn a_part_of_a_file_is_no_session(rt: HostRuntime) -> Result<(), Fail> {
     check_fronts(&rt, &[("odds", FIRST_ODDS), ("version", "1")], 152)
 }
 
-// Lists within lists, deeper than a text is read.
+// Lists within lists are no object, however deep.
 #[test]
-fn a_file_that_nests_deep_is_no_session(rt: HostRuntime) -> Result<(), Fail> {
+fn a_file_of_nested_lists_is_no_session(rt: HostRuntime) -> Result<(), Fail> {
     let front = "[".repeat(rt.alloc(), 200)?;
     let back = "]".repeat(rt.alloc(), 200)?;
     check_refused(&rt, &front, "json")?;
     let both = format!(in rt.alloc(); "{front}{back}")?;
     check_refused(&rt, &both, "json")?;
-    let deep = object_of(rt.alloc(), &PARTS, &[("version", both.as_str())])?;
-    check_refused(&rt, &deep, "json")
+    let script = "items a\nstart surmise f\nopen f\nstates\n";
+    let replies = "ok 1\nno 14 json\nno 42 json\nset 8 {a}\nset 0 {}\nmore no\n";
+    let trial = Trial {
+        files: &[("f", both.as_str())],
+        ..answered(script, replies)
+    };
+    check(&rt, &trial)
 }
 
 // A byte of a name that no part has, and what is told of the session.
