@@ -2,7 +2,9 @@
 use crate::trial::{PLAIN, Trial, USAGE, check_as, check_in_pieces, check_length};
 use ls_edge::LONGEST_FILE;
 use ls_shell::Status;
+use std::process::Abort;
 use std::test::Fail;
+use std::thread::Threads;
 
 // A script that loads, saves and opens, and saves over its own file; and the session that it saves.
 const KEEPS: &str = "load-items i\nsave t\nload-items i\nopen t\nsave keeps\nstates 1";
@@ -111,7 +113,7 @@ fn the_script_of_a_file_has_a_limit(rt: HostRuntime) -> Result<(), Fail> {
 // Words, and the text of their drill. The texts were worked out by a program of its own: the words
 // of the generator by its formula, and each query of one item by the closures of what was answered.
 // Twice the same words give the same text.
-const DRILLS: [(&[&str], &str); 12] = [
+const DRILLS: [(&[&str], &str); 10] = [
     (
         &["--drill", "4", "--number", "42"],
         "drill 4 number 42\nasked 10 yes 1 no 9\nfilled 2 yes 0 no 2\nbase 4\nlearning yes\n\
@@ -162,21 +164,20 @@ const DRILLS: [(&[&str], &str); 12] = [
         "drill 17 number 1\nasked 123 yes 70 no 53\nfilled 149 yes 0 no 149\nbase 17\n\
          learning yes\nstates 298\n",
     ),
-    (
-        &["--drill", "48"],
-        "drill 48 number 1\nasked 1013 yes 850 no 163\nfilled 1243 yes 0 no 1243\nbase 48\n\
-         learning yes\nstates 1683\n",
-    ),
-    (
-        &["--drill", "48", "--number", "42"],
-        "drill 48 number 42\nasked 1090 yes 915 no 175\nfilled 1166 yes 0 no 1166\nbase 48\n\
-         learning yes\nstates 865\n",
-    ),
 ];
 
-#[test]
-fn drills_are_run(rt: HostRuntime) -> Result<(), Fail> {
-    for (words, replies) in &DRILLS {
+// The drill on as many items as there may be; 2,256 queries were asked or filled.
+const WIDEST: (&[&str], &str) = (
+    &["--drill", "48"],
+    "drill 48 number 1\nasked 1013 yes 850 no 163\nfilled 1243 yes 0 no 1243\nbase 48\n\
+     learning yes\nstates 1683\n",
+);
+
+fn check_drills<R: Threads + Sync + AllocGlobal + Abort>(
+    rt: &R,
+    drills: &[(&[&str], &str)],
+) -> Result<(), Fail> {
+    for (words, replies) in drills {
         let trial = Trial {
             words: *words,
             failing_reads: &[1],
@@ -184,9 +185,19 @@ fn drills_are_run(rt: HostRuntime) -> Result<(), Fail> {
             replies: *replies,
             ..PLAIN
         };
-        check_as(&rt, replies, &trial)?;
+        check_as(rt, replies, &trial)?;
     }
     Ok(())
+}
+
+#[test]
+fn drills_are_run(rt: HostRuntime) -> Result<(), Fail> {
+    check_drills(&rt, &DRILLS)
+}
+
+#[test]
+fn the_widest_drill_is_run(rt: HostRuntime) -> Result<(), Fail> {
+    check_drills(&rt, &[WIDEST])
 }
 
 // Words, how many bytes a write takes at most, the write that fails, what is written, and the
