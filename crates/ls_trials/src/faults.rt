@@ -7,7 +7,9 @@ use std::thread::Threads;
 
 const THREE_ITEMS: &str = "items a b c\nyes a : b\nstates\n";
 
-// Where each of its lines ends, and the replies to the lines before and to it.
+const SAVED: &str = "items a b c\nyes a : b\nsave s\nopen s\nstates\n";
+
+// Where each line of the first one ends, and the replies to the lines before and to it.
 const ENDS: [(usize, &str); 4] = [
     (0, ""),
     (12, "ok 3\n"),
@@ -20,13 +22,17 @@ const ENDS: [(usize, &str); 4] = [
 ];
 
 // A script, how many bytes a call of the sink takes at most, and how many calls a run makes.
-const WRITES: [(&str, usize, u64); 7] = [
+const WRITES: [(&str, usize, u64); 10] = [
     (THREE_ITEMS, 1, 85),
     (THREE_ITEMS, 2, 44),
     (THREE_ITEMS, 12, 9),
     // A reply that fits the room is one call.
     (THREE_ITEMS, 4096, 3),
     ("items a b c\nstates\n", 4096, 2),
+    // A session that is saved and opened.
+    (SAVED, 1, 97),
+    (SAVED, 12, 11),
+    (SAVED, 4096, 5),
     // A listing of 90,121 bytes is sent by rooms of 32,768 bytes.
     ("items a b c d e f g h i j k l\nstates\n", 65_536, 4),
     ("items a b c d e f g h i j k l\nstates\n", 16_384, 7),

@@ -1,9 +1,7 @@
 // Items that are read from a file of the folder.
-use crate::trial::{Trial, answered, check, check_calls, check_files};
+use crate::trial::{Trial, answered, check_calls, check_files, check_length};
 use ls_edge::LONGEST_FILE;
-use std::process::Abort;
 use std::test::Fail;
-use std::thread::Threads;
 
 // The script that begins from a table.
 const LOAD: &str = "load-items f\nstates 1\n";
@@ -120,28 +118,23 @@ fn files_are_refused_and_the_next_line_is_answered(rt: HostRuntime) -> Result<()
     check_calls(&rt, &FILES, &SCRIPTS)
 }
 
-// A table of one name of so many bytes.
-fn check_length<R: Threads + Sync + AllocGlobal + Abort>(
-    rt: &R,
-    length: usize,
-    failing_calls: &[u64],
-    replies: &str,
-) -> Result<(), Fail> {
-    let text = "a".repeat(rt.alloc(), length)?;
-    let trial = Trial {
-        files: &[("f", text.as_str())],
-        failing_calls,
-        ..answered(LOAD, replies)
-    };
-    check(rt, &trial)
-}
-
 // A file of the greatest length is read; one that is longer is told as such, also where the call is
 // to fail.
+const LENGTHS: [(usize, &[u64], &str); 4] = [
+    (LONGEST_FILE, &[], "no 12 name 1\nno 15 0\n"),
+    (LONGEST_FILE, &[1], "no 27\nno 15 0\n"),
+    (LONGEST_FILE + 1, &[], "no 28 16777217\nno 15 0\n"),
+    (LONGEST_FILE + 1, &[1], "no 28 16777217\nno 15 0\n"),
+];
+
 #[test]
 fn a_file_has_a_limit(rt: HostRuntime) -> Result<(), Fail> {
-    check_length(&rt, LONGEST_FILE, &[], "no 12 name 1\nno 15 0\n")?;
-    check_length(&rt, LONGEST_FILE, &[1], "no 27\nno 15 0\n")?;
-    check_length(&rt, LONGEST_FILE + 1, &[], "no 28 16777217\nno 15 0\n")?;
-    check_length(&rt, LONGEST_FILE + 1, &[1], "no 28 16777217\nno 15 0\n")
+    for (length, failing_calls, replies) in &LENGTHS {
+        let trial = Trial {
+            failing_calls: *failing_calls,
+            ..answered(LOAD, replies)
+        };
+        check_length(&rt, *length, &trial)?;
+    }
+    Ok(())
 }

@@ -2,6 +2,12 @@
 #![tactic(auto)]
 
 #[cfg(test)]
+mod causes;
+#[cfg(test)]
+mod classes;
+#[cfg(test)]
+mod command_lines;
+#[cfg(test)]
 mod faults;
 #[cfg(test)]
 mod files;
@@ -12,9 +18,17 @@ mod learning;
 #[cfg(test)]
 mod many_sets;
 #[cfg(test)]
+mod opening;
+#[cfg(test)]
+mod parts;
+#[cfg(test)]
 mod projecting;
 #[cfg(test)]
+mod pupil_causes;
+#[cfg(test)]
 mod pupils;
+#[cfg(test)]
+mod saving;
 #[cfg(test)]
 mod scripts;
 #[cfg(test)]

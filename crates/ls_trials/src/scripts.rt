@@ -1,8 +1,6 @@
 // Scripts and their replies, line for line.
-use crate::trial::{answered, check, check_scripts};
-use std::process::Abort;
+use crate::trial::check_scripts;
 use std::test::Fail;
-use std::thread::Threads;
 
 // A script, and its replies.
 const SCRIPTS: [(&str, &str); 17] = [
@@ -20,8 +18,8 @@ const SCRIPTS: [(&str, &str); 17] = [
     ),
     // Refusals, each with its cause.
     (
-        "items a a\nitems a b\nitems c\nyes a : a\nyes : b\nyes z : a\nyes a : z\nsave f\n",
-        "no 12 repeat 2 1\nok 2\nno 11\nno 18\nno 18\nno 15 2\nno 15 4\nno 49\n",
+        "items a a\nitems a b\nitems c\nyes a : a\nyes : b\nyes z : a\nyes a : z\n",
+        "no 12 repeat 2 1\nok 2\nno 11\nno 18\nno 18\nno 15 2\nno 15 4\n",
     ),
     (
         "items\nstates\nitems a b a b\nitems a\nitems\nitems a a\n",
@@ -68,37 +66,14 @@ const SCRIPTS: [(&str, &str); 17] = [
     ),
     // Names of files.
     (
-        "load-items\nload-items .a\nload-items a/b\nload-items a b\n",
-        "no 10 2\nno 10 2\nno 10 2\nno 10 3\n",
+        "load-items\nload-items .a\nload-items a/b\nload-items a b\nopen\nopen .a\nopen a b\n\
+         save\nsave a/b\nsave a b\nclass\nclass .a\nclass a b\n",
+        "no 10 2\nno 10 2\nno 10 2\nno 10 3\nno 10 2\nno 10 2\nno 10 3\n\
+         no 10 2\nno 10 2\nno 10 3\nno 10 2\nno 10 2\nno 10 3\n",
     ),
 ];
-
-// The forms of commands that aren't built.
-const UNBUILT: [&str; 3] = ["class f", "save f", "open f"];
 
 #[test]
 fn scripts_are_answered_in_any_pieces(rt: HostRuntime) -> Result<(), Fail> {
     check_scripts(&rt, &SCRIPTS)
-}
-
-// Begins each script by making a domain, or not.
-fn check_unbuilt<R: Threads + Sync + AllocGlobal + Abort>(
-    rt: &R,
-    domain: &str,
-    replies: &str,
-    commands: &[&str],
-) -> Result<(), Fail> {
-    for command in commands {
-        let script = format!(in rt.alloc(); "{domain}{command}\n")?;
-        check(rt, &answered(&script, replies))?;
-    }
-    Ok(())
-}
-
-// Without a domain, in a domain that lacks the names, and in one that has them.
-#[test]
-fn commands_that_are_not_built_are_refused(rt: HostRuntime) -> Result<(), Fail> {
-    check_unbuilt(&rt, "", "no 49\n", &UNBUILT)?;
-    check_unbuilt(&rt, "items z\n", "ok 1\nno 49\n", &UNBUILT)?;
-    check_unbuilt(&rt, "items a b c\n", "ok 3\nno 49\n", &UNBUILT)
 }

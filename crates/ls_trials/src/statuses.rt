@@ -14,7 +14,7 @@ const SIX_STATES: &str = "items a b c\nyes a : b\nstates\n";
 const ENDS: [(&[&str], usize, &[u64], &[u64], &str, Status); 9] = [
     (&[], 12, &[3], &[], "ok 3\nok 1\n", Status::ReadFault),
     (&[], 12, &[], &[2], "ok 3\n", Status::WriteFault),
-    (&["--script", "none"], 12, &[1], &[], USAGE, Status::Usage),
+    (&["--script", "none"], 12, &[1], &[], "", Status::NoScript),
     (&["--help"], 12, &[1], &[], USAGE, Status::Usage),
     (&["--help"], 12, &[1], &[1], "", Status::WriteFault),
     (

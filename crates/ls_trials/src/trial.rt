@@ -1,5 +1,5 @@
 // A run of the program over objects in memory.
-use ls_edge::{MemShelf, MemSink, MemSource};
+use ls_edge::{FetchFault, MemShelf, MemSink, MemSource, Shelf};
 use ls_shell::{Status, lspace};
 use std::alloc::{AllocError, Global};
 use std::process::Abort;
@@ -11,7 +11,8 @@ pub const USAGE: &str = "usage: lspace [--script NAME | --drill N [--number S]]\
 
 /// What a run is given: the words after the program's name, the script, how many bytes one read and
 /// one write move at most, the files of the folder, and which reads, writes and calls on the folder
-/// fail, counted from 1. And what it is to write, and how it is to end.
+/// fail, counted from 1. And what it is to write, how it is to end, and files that the folder is to
+/// have then.
 #[derive(Clone, Copy)]
 pub struct Trial<'a> {
     pub words: &'a [&'a str],
@@ -23,6 +24,7 @@ pub struct Trial<'a> {
     pub failing_calls: &'a [u64],
     pub replies: &'a str,
     pub status: Status,
+    pub left: &'a [(&'a str, &'a str)],
 }
 
 /// An empty script, no file, and nothing that fails.
@@ -36,6 +38,7 @@ pub const PLAIN: Trial = Trial {
     failing_calls: &[],
     replies: "",
     status: Status::Done,
+    left: &[],
 };
 
 /// What a run wrote, and how it ended.
@@ -68,14 +71,23 @@ fn text_of(alloc: Global, bytes: &[u8]) -> Result<String, Fail> {
     Ok(String::from_utf8(bytes.to_vec(alloc)?)?)
 }
 
-pub fn run<R: Threads + Sync + AllocGlobal>(rt: &R, trial: &Trial) -> Result<Outcome, Fail> {
+// Runs it over the files of a folder, which are then as the run left them.
+fn run_over<R: Threads + Sync + AllocGlobal>(
+    rt: &R,
+    trial: &Trial,
+    shelf: &mut MemShelf,
+) -> Result<Outcome, Fail> {
     let alloc = rt.alloc();
     let mut src = source_of(alloc, trial)?;
     let mut out = sink_of(alloc, trial)?;
-    let mut shelf = shelf_of(alloc, trial)?;
-    let status = lspace(rt, alloc, trial.words, &mut src, &mut out, &mut shelf);
+    let status = lspace(rt, alloc, trial.words, &mut src, &mut out, shelf);
     let written = text_of(alloc, out.written())?;
     Ok(Outcome { written, status })
+}
+
+pub fn run<R: Threads + Sync + AllocGlobal>(rt: &R, trial: &Trial) -> Result<Outcome, Fail> {
+    let mut shelf = shelf_of(rt.alloc(), trial)?;
+    run_over(rt, trial, &mut shelf)
 }
 
 /// A run over a script that is answered to its end by these replies.
@@ -94,13 +106,55 @@ pub fn answered<'a>(script: &'a str, replies: &'a str) -> Trial<'a> {
     }
 }
 
-/// Runs a trial, and compares what was written and how it ended.
-pub fn check<R: Threads + Sync + AllocGlobal + Abort>(rt: &R, trial: &Trial) -> Result<(), Fail> {
-    let outcome = run(rt, trial)?;
-    let script = trial.script;
-    assert_eq!(rt; outcome.written.as_str(), trial.replies, "for {script:?}");
-    assert_eq!(rt; outcome.status, trial.status);
+// The file of that name. A call that is to fail is made again.
+fn fetched(shelf: &mut MemShelf, name: &str) -> Result<Vec<u8>, FetchFault> {
+    match shelf.fetch(name) {
+        Err(FetchFault::Failed) => shelf.fetch(name),
+        found => found,
+    }
+}
+
+// Compares the files of a folder with those that it is to have.
+fn check_left<R: Threads + Sync + AllocGlobal + Abort>(
+    rt: &R,
+    shelf: &mut MemShelf,
+    left: &[(&str, &str)],
+) -> Result<(), Fail> {
+    for (name, text) in left {
+        let bytes = fetched(shelf, name)?;
+        let found = text_of(rt.alloc(), &bytes)?;
+        assert_eq!(rt; found.as_str(), *text, "in {name:?}");
+    }
     Ok(())
+}
+
+/// Runs a trial over the files of a folder, and compares what was written, how it ended, and which
+/// files are left. The label tells which trial failed.
+pub fn check_over<R: Threads + Sync + AllocGlobal + Abort>(
+    rt: &R,
+    label: &str,
+    trial: &Trial,
+    shelf: &mut MemShelf,
+) -> Result<(), Fail> {
+    let outcome = run_over(rt, trial, shelf)?;
+    assert_eq!(rt; outcome.written.as_str(), trial.replies, "for {label:?}");
+    assert_eq!(rt; outcome.status, trial.status, "for {label:?}");
+    check_left(rt, shelf, trial.left)
+}
+
+/// Does so over the files of the trial.
+pub fn check_as<R: Threads + Sync + AllocGlobal + Abort>(
+    rt: &R,
+    label: &str,
+    trial: &Trial,
+) -> Result<(), Fail> {
+    let mut shelf = shelf_of(rt.alloc(), trial)?;
+    check_over(rt, label, trial, &mut shelf)
+}
+
+/// Does so, with the script as the label.
+pub fn check<R: Threads + Sync + AllocGlobal + Abort>(rt: &R, trial: &Trial) -> Result<(), Fail> {
+    check_as(rt, trial.script, trial)
 }
 
 /// Does so in pieces of several sizes.
@@ -157,7 +211,7 @@ pub fn check_files<R: Threads + Sync + AllocGlobal + Abort>(
             files: &[("f", *text)],
             ..answered(script, &replies)
         };
-        check(rt, &trial)?;
+        check_as(rt, text, &trial)?;
     }
     Ok(())
 }
@@ -181,4 +235,15 @@ pub fn check_parts<R: Threads + Sync + AllocGlobal + Abort>(
     }
     assert_eq!(rt; rest, "");
     Ok(())
+}
+
+/// Runs a trial whose file `f` has so many bytes, all of them the letter a.
+pub fn check_length<R: Threads + Sync + AllocGlobal + Abort>(
+    rt: &R,
+    length: usize,
+    trial: &Trial,
+) -> Result<(), Fail> {
+    let text = "a".repeat(rt.alloc(), length)?;
+    let files = &[("f", text.as_str())];
+    check(rt, &Trial { files, ..*trial })
 }
