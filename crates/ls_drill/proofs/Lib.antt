@@ -1,3 +1,12 @@
 pub mod DrawnPairs
 pub mod Chains
 pub mod Closures
+pub mod Asking
+pub mod TurnsTaken
+pub mod OneAtom
+pub mod CountedQueries
+pub mod SettledDrills
+pub mod Relations
+pub mod Stood
+pub mod AskedInTurn
+mod Examples

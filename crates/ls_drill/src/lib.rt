@@ -3,7 +3,20 @@
 #![tactic(auto)]
 
 mod closing;
+mod counting;
 mod drawing;
+mod drill;
 mod hidden;
+mod settling;
+mod standing;
+mod states;
+mod summary;
+mod text;
+mod turns;
+mod walking;
 
+pub use drill::run_drill;
 pub use hidden::{Hidden, MOST_DRILLED};
+pub use settling::drills_are_settled;
+pub use summary::{MOST_STATES, Summary};
+pub use text::print_summary;

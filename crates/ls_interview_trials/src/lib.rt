@@ -2,6 +2,8 @@
 #![tactic(auto)]
 
 #[cfg(test)]
+mod drills;
+#[cfg(test)]
 mod interviews;
 #[cfg(test)]
 mod set_files;

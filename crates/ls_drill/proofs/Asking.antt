@@ -1,0 +1,111 @@
+-- The first open query is never refused, and what the turns keep.
+use Rattle.std.proofs.Common.{ℕ, zero, suc, ◌≡◌, ◌<◌, ◌≤◌, inl, inr, Bool, true, false, cond, not, ◌&&◌, ◌||◌, List, [], ◌∷◌, ◌++◌, map, filter, find, length, Option, Some, None, refl, sym, ap, ap₂, ◌∙◌, subst, arith, true≢false}
+use Rattle.std.specs.Option.{option_map, option_map_or}
+use Rattle.std.specs.List.{AllByRecursion, list_any, list_all}
+use Rattle.std.proofs.lemmas.Bool.{cases_Bool, and_parts, not-true, not_from_false, false_from_ne_true}
+use Rattle.std.proofs.lemmas.Bool.Decides.{nat_tests, Decides-eqb}
+use Rattle.ls_lists.specs.Lists.{IsIn}
+use Rattle.ls_lists.proofs.Elements.{in-filter, in-map, filter-in, each-in}
+use Rattle.ls_lists.proofs.Every.{All-append, list_all-All}
+use Rattle.ls_lists.proofs.Finds.{found-passes, find-is_none}
+use Rattle.ls_lists.proofs.Filters.{filter_true}
+use Rattle.ls_set.specs.ItemSet.{Items, len, is_among}
+use Rattle.ls_set.specs.Query.{is_good}
+use Rattle.ls_set.specs.declared.query.Query.{Query}
+use Rattle.ls_set.proofs.Sets.{Decides-is_same}
+use Rattle.ls_theory.specs.declared.answer.Answer.{Answer}
+use Rattle.ls_theory.specs.declared.known.Known.{Known}
+use Rattle.ls_theory.specs.declared.answer_fault.AnswerFault.{AnswerFault}
+use Rattle.ls_theory.specs.declared.answer_fault.AnswerFault.TheVariants.{BadQuery, Repeat, Full}
+use Rattle.ls_theory.specs.Queries.{breaks, some_breaks, query_before, queries}
+use Rattle.ls_theory.specs.Starts.{Start, meets}
+use Rattle.ls_theory.specs.Interviews.{Interview, begun, accepted, yes_queries, no_queries}
+use Rattle.ls_theory.specs.Compatible.{is_compatible, compatible_sets}
+use Rattle.ls_theory.specs.Fitting.{spaces_of}
+use Rattle.ls_theory.specs.Pages.{comes_after}
+use Rattle.ls_theory.specs.Forced.{is_forced_yes, is_forced_no, is_open, known, next_question}
+use Rattle.ls_theory.specs.Answering.{most_answers, most_number, is_same_query, is_full, opposed, first_fault, refusal}
+use Rattle.ls_laws.proofs.Lists.{some-from}
+use Rattle.ls_laws.proofs.Answering.{FitsIn, forced_yes_search, forced_no_search}
+use Rattle.ls_laws.proofs.Compat.{among-compat}
+
+found-in : {X : Type 0} (p : X → Bool) (xs : List X) (x : X) → find p xs ≡ Some x → IsIn x xs
+found-in p [] x e = cc
+found-in p (y ∷ ys) x e = elim (p y) as (λ b. cond b (Some y) (find p ys) ≡ Some x → IsIn x (y ∷ ys)) [
+  | true ↦ λ e. let same : y ≡ x = cc in inl (sym same)
+  | false ↦ λ e. inr (found-in p ys x e)
+] e
+
+-- ---- the first open query
+
+pub question-open : (i : Interview) (r : Query) → next_question i None ≡ Some r → is_open (spaces_of i) r ≡ true
+unfolding next_question
+question-open i r e = found-passes (is_open (spaces_of i)) (filter (comes_after query_before None) (queries i.count i.block)) r e
+
+pub question-in : (i : Interview) (r : Query) → next_question i None ≡ Some r → IsIn r (queries i.count i.block)
+unfolding next_question
+question-in i r e = (filter-in (comes_after query_before None) (queries i.count i.block) r (found-in (is_open (spaces_of i)) (filter (comes_after query_before None) (queries i.count i.block)) r e)).0
+
+-- ---- a query that was answered is not open
+
+-- a space that fits has no member that breaks a query that was answered Yes
+yes-unbroken : (i : Interview) (r : Query) (f : List Items) → IsIn r (yes_queries i.answers) → FitsIn i f → some_breaks f r ≡ false
+yes-unbroken i r f c fits = false_from_ne_true (some_breaks f r) (λ h.
+    let k = some-from (λ k. breaks k r) f h in
+    let a = and_parts _ (is_compatible i.start (yes_queries i.answers) k.0) (sym (among-compat i.count i.start (yes_queries i.answers) k.0) ∙ fits.compatible k.0 k.1) in
+    let b = and_parts (meets i.start k.0) (list_all (λ r. not (breaks k.0 r)) (yes_queries i.answers)) a.1 in
+    let none = not-true (breaks k.0 r) (each-in (λ r. not (breaks k.0 r) ≡ true) (yes_queries i.answers) r (list_all-All (λ r. not (breaks k.0 r)) (yes_queries i.answers) b.1) c) in
+    true≢false (sym k.2 ∙ none))
+
+answered-yes : (i : Interview) (r : Query) → IsIn r (yes_queries i.answers) → is_forced_yes (spaces_of i) r ≡ true
+answered-yes i r c = (forced_yes_search i r).1 (λ f fits. yes-unbroken i r f c fits)
+
+answered-no : (i : Interview) (r : Query) → IsIn r (no_queries i.answers) → is_forced_no (spaces_of i) r ≡ true
+answered-no i r c = (forced_no_search i r).1 (λ f fits. each-in (λ s. some_breaks f s ≡ true) (no_queries i.answers) r fits.broken c)
+
+same_query : (r s : Query) → is_same_query r s ≡ true → r ≡ s
+same_query r s h =
+    let p = and_parts _ _ h in
+    let a : r.a ≡ s.a = (Decides-is_same r.a s.a).0 p.0 in
+    let q : r.q ≡ s.q = (Decides-eqb r.q s.q).0 p.1 in
+    ap₂ (λ (x : Items) (n : ℕ). (let y : Query = record { a = x; q = n } in y)) a q
+
+pub answered-forced : (i : Interview) (a : Answer) → IsIn a i.answers → is_open (spaces_of i) a.query ≡ true → true ≡ false
+answered-forced i a c h =
+    let p = and_parts (not (is_forced_yes (spaces_of i) a.query)) (not (is_forced_no (spaces_of i) a.query)) h in
+    elim (cases_Bool a.yes) [
+      | inl y ↦ sym (answered-yes i a.query (in-map (λ (a : Answer). a.query) (filter (λ a. a.yes) i.answers) a (in-filter (λ a. a.yes) i.answers a c y))) ∙ not-true (is_forced_yes (spaces_of i) a.query) p.0
+      | inr n ↦ sym (answered-no i a.query (in-map (λ (a : Answer). a.query) (filter (λ a. not a.yes) i.answers) a (in-filter (λ a. not a.yes) i.answers a c (not_from_false a.yes n)))) ∙ not-true (is_forced_no (spaces_of i) a.query) p.1
+    ]
+
+pub open-unanswered : (i : Interview) (r : Query) → is_open (spaces_of i) r ≡ true → find (λ a. is_same_query a.query r) i.answers ≡ None
+open-unanswered i r h =
+    elim (find (λ a. is_same_query a.query r) i.answers) as (λ o. find (λ a. is_same_query a.query r) i.answers ≡ o → o ≡ None) [
+      | None ↦ λ e. refl
+      | Some a ↦ λ e.
+          let same : a.query ≡ r = same_query a.query r (found-passes (λ a. is_same_query a.query r) i.answers a e) in
+          absurd (true≢false (answered-forced i a (found-in (λ a. is_same_query a.query r) i.answers a e) (ap (λ s. is_open (spaces_of i) s) same ∙ h)))
+    ] refl
+
+-- ---- it is never refused
+
+unsettled : (y n : Bool) (m : ℕ) → y ≡ false → n ≡ false → cond y Known.Yes (cond n (Known.No m) Known.Unsettled) ≡ Known.Unsettled
+unsettled y n m e d = rw (e, d) refl
+
+pub open-unsettled : (i : Interview) (r : Query) → is_open (spaces_of i) r ≡ true → known i r ≡ Known.Unsettled
+unfolding known
+open-unsettled i r h =
+    let p = and_parts (not (is_forced_yes (spaces_of i) r)) (not (is_forced_no (spaces_of i) r)) h in
+    unsettled (is_forced_yes (spaces_of i) r) (is_forced_no (spaces_of i) r) _ (not-true (is_forced_yes (spaces_of i) r) p.0) (not-true (is_forced_no (spaces_of i) r) p.1)
+
+clear : (good : Bool) (o : Option Answer) (k : Known) (full is_yes : Bool) → good ≡ true → o ≡ None → k ≡ Known.Unsettled → full ≡ false
+    → first_fault (cond good None (Some BadQuery)) (first_fault (option_map Repeat (option_map (λ (a : Answer). a.number) o)) (first_fault (opposed k is_yes) (cond full (Some Full) None))) ≡ None
+clear good o k full is_yes a b c d = rw (a, b, c, d) refl
+
+room : (i : Interview) → length i.answers < most_answers → i.next ≤ most_number → is_full i ≡ false
+room i few numbers = grind (arith, nat_tests)
+
+pub question-taken : (i : Interview) (r : Query) (is_yes : Bool) → is_good i.count r ≡ true → next_question i None ≡ Some r → length i.answers < most_answers → i.next ≤ most_number → refusal i r is_yes ≡ None
+question-taken i r is_yes good e few numbers =
+    let open' = question-open i r e in
+    clear (is_good i.count r) (find (λ a. is_same_query a.query r) i.answers) (known i r) (is_full i) is_yes good (open-unanswered i r open') (open-unsettled i r open') (room i few numbers)

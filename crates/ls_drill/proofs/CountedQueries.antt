@@ -1,0 +1,183 @@
+-- Queries counted one after another, and how many there are.
+use Rattle.std.proofs.Common.{ℕ, zero, suc, ◌≡◌, ◌<◌, ◌≤◌, ◌+◌, ◌*◌, Bool, true, false, cond, ◌&&◌, find, List, [], ◌∷◌, ◌++◌, map, filter, length, take, slice_get, Option, Some, None, refl, sym, ap, ap₂, ◌∙◌, subst, arith, add-one, add-zero, zero-add, length-append}
+use Rattle.std.specs.Prelude.{count_by}
+use Rattle.std.specs.Option.{ForSome}
+use Rattle.std.specs.List.{flat_map}
+use Rattle.std.proofs.lemmas.List.{length-map}
+use Rattle.std.proofs.lemmas.List.Sums.{length-filter, count_by-le-length, sum_by-cons}
+use Rattle.ls_set.specs.ItemSet.{Items, numbers_from}
+use Rattle.ls_set.specs.Query.{is_good}
+use Rattle.ls_set.specs.declared.query.Query.{Query}
+use Rattle.ls_theory.specs.declared.known.Known.{Known}
+use Rattle.ls_theory.specs.Queries.{blocks, queries, query_before}
+use Rattle.ls_theory.specs.Interviews.{Interview}
+use Rattle.ls_theory.specs.Pages.{comes_after}
+use Rattle.ls_theory.specs.Forced.{known}
+use Rattle.ls_lists.proofs.Finds.{find-any}
+use Rattle.ls_lists.proofs.Sorted.{find-next}
+use Rattle.ls_lists.proofs.Elements.{get-in}
+use Rattle.ls_laws.proofs.Breaks.{good-to}
+use Rattle.ls_query.proofs.QuerySets.{queries-in, sorted-queries, query_before-asymmetric}
+use Rattle.ls_drill.specs.Summaries.{is_yes, is_no, is_filled, is_filled_yes, is_filled_no}
+use Rattle.ls_query.specs.Blocks.{choose}
+use Rattle.ls_query.proofs.Binomials.{choose-none, choose-more, choose-zero_more}
+use Rattle.ls_query.proofs.BySize.{length-blocks_more, length-blocks_none}
+
+pub count-cons : {X : Type 0} (p : X → Bool) (x : X) (xs : List X) → count_by p (x ∷ xs) ≡ cond {A = ℕ} (p x) 1 0 + count_by p xs
+count-cons p x xs = sum_by-cons (λ y. cond (p y) 1 0) x xs
+
+count-first : {X : Type 0} (p : X → Bool) (xs : List X) (k : ℕ) (x : X) → slice_get xs k ≡ Some x → count_by p (take (suc k) xs) ≡ count_by p (take k xs) + cond (p x) 1 0
+count-first p [] k x e = cc
+count-first p (y ∷ xs) zero x e = let same : y ≡ x = cc in rw same (omega arith)
+count-first p (y ∷ xs) (suc k) x e =
+    let rest = count-first p xs k x e in
+    let a : count_by p (y ∷ take (suc k) xs) ≡ cond {A = ℕ} (p y) 1 0 + count_by p (take (suc k) xs) = count-cons p y (take (suc k) xs) in
+    let b : count_by p (y ∷ take k xs) ≡ cond {A = ℕ} (p y) 1 0 + count_by p (take k xs) = count-cons p y (take k xs) in
+    omega arith
+
+-- one more
+pub count-next : {X : Type 0} (p : X → Bool) (xs : List X) (k : ℕ) (x : X) → slice_get xs k ≡ Some x → count_by p (take (k + 1) xs) ≡ count_by p (take k xs) + cond (p x) 1 0
+count-next p xs k x e = ap (λ m. count_by p (take m xs)) (add-one k) ∙ count-first p xs k x e
+
+take-whole : {X : Type 0} (xs : List X) (k : ℕ) → slice_get xs k ≡ None → take k xs ≡ xs
+take-whole [] zero e = refl
+take-whole [] (suc k) e = refl
+take-whole (x ∷ xs) zero e = absurd (cc e)
+take-whole (x ∷ xs) (suc k) e = ap (λ l. x ∷ l) (take-whole xs k e)
+
+-- no more
+pub count-all : {X : Type 0} (p : X → Bool) (xs : List X) (k : ℕ) → slice_get xs k ≡ None → count_by p (take k xs) ≡ count_by p xs
+count-all p xs k e = ap (count_by p) (take-whole xs k e)
+
+pub get-none : {X : Type 0} (xs : List X) (k : ℕ) → length xs ≤ k → slice_get xs k ≡ None
+get-none [] k le = refl
+get-none (x ∷ xs) zero le = absurd (omega arith)
+get-none (x ∷ xs) (suc k) le = get-none xs k (omega arith)
+
+-- ---- how many queries of single items there are
+
+choose-one : (m : ℕ) → choose m 1 ≡ m
+choose-one zero = choose-zero_more 0
+choose-one (suc m) = choose-more m 0 ∙ ap₂ (λ x y. x + y) (choose-none m) (choose-one m) ∙ omega arith
+
+length-singles : (n : ℕ) → length (blocks n 1) ≡ n
+length-singles n = length-blocks_more n 0 ∙ ap (λ x. x + choose n 1) (length-blocks_none n) ∙ zero-add (choose n 1) ∙ choose-one n
+
+length-numbers : (i m : ℕ) → length (numbers_from i m) ≡ m
+length-numbers i zero = refl
+length-numbers i (suc m) = ap suc (length-numbers (suc i) m)
+
+length-joined : {X Y : Type 0} (f : X → List Y) (m : ℕ) (xs : List X) → ((x : X) → length (f x) ≡ m) → length (flat_map f xs) ≡ length xs * m
+length-joined f m [] h = let e : 0 ≡ 0 * m = omega arith in e
+length-joined f m (x ∷ xs) h = length-append (f x) (flat_map f xs) ∙ ap₂ (λ a b. a + b) (h x) (length-joined f m xs h) ∙ grind arith
+
+pub queries-few : (n : ℕ) → length (queries n 1) ≤ n * n
+unfolding queries
+queries-few n =
+    let row = λ (a : Items). map (λ q. (let r : Query = record { a = a; q = q } in r)) (numbers_from 0 n) in
+    let all = flat_map row (blocks n 1) in
+    let e : length all ≡ n * n = length-joined row n (blocks n 1) (λ a. length-map (numbers_from 0 n) (λ q. (let r : Query = record { a = a; q = q } in r)) ∙ length-numbers 0 n) ∙ ap (λ m. m * n) (length-singles n) in
+    let few = count_by-le-length (is_good n) all in
+    let c = length-filter (is_good n) all in
+    omega arith
+
+-- ---- the count
+
+asked-out : (b : Bool) (x : Known) → cond b (Some x) None ≡ None → b ≡ false
+asked-out true x e = absurd (cc e)
+asked-out false x e = refl
+
+filled-in : (b : Bool) (x y : Known) → cond b (Some x) None ≡ Some y → (b ≡ true) × (x ≡ y)
+filled-in true x y e = (refl, cc)
+filled-in false x y e = absurd (cc e)
+
+length-take_le : {X : Type 0} (xs : List X) (k : ℕ) → length (take k xs) ≤ k
+length-take_le [] zero = omega arith
+length-take_le [] (suc k) = omega arith
+length-take_le (x ∷ xs) zero = omega arith
+length-take_le (x ∷ xs) (suc k) = let rest = length-take_le xs k in omega arith
+
+-- k of the queries of an interview are counted, and the last of them is given, if there is one
+pub record IsCounted (i : Interview) (k : ℕ) (last : Option Query) (all yeses nos : ℕ) : Type 0 where
+  pub turn : find (comes_after query_before last) (queries i.count i.block) ≡ slice_get (queries i.count i.block) k
+  pub good : ForSome last (λ r. is_good i.count r ≡ true)
+  pub all_filled : all ≡ count_by (is_filled i) (take k (queries i.count i.block))
+  pub yes_filled : yeses ≡ count_by (is_filled_yes i) (take k (queries i.count i.block))
+  pub no_filled : nos ≡ count_by (is_filled_no i) (take k (queries i.count i.block))
+
+pub none-counted : (i : Interview) → IsCounted i 0 None 0 0 0
+none-counted i = record { turn = find-any (queries i.count i.block); good = λ x e. absurd (cc e); all_filled = refl; yes_filled = refl; no_filled = refl }
+
+-- what one more query adds
+abbrev pub filled_known : Interview → Query → Option Known
+filled_known i r = cond (is_filled i r) (Some (known i r)) None
+
+module _ (i : Interview) (k : ℕ) (last : Option Query) (all yeses nos : ℕ) (h : IsCounted i k last all yeses nos) (r : Query) (q : find (comes_after query_before last) (queries i.count i.block) ≡ Some r) where
+  next-good : is_good i.count r ≡ true
+  next-good = good-to i.count r (queries-in i.count i.block r (get-in (queries i.count i.block) k r (sym h.turn ∙ q))).0
+
+  next-turn : find (query_before r) (queries i.count i.block) ≡ slice_get (queries i.count i.block) (k + 1)
+  next-turn = find-next query_before (queries i.count i.block) k r (sorted-queries i.count i.block) query_before-asymmetric (sym h.turn ∙ q) ∙ ap (slice_get (queries i.count i.block)) (sym (add-one k))
+
+  counted-next : (all' yeses' nos' : ℕ) → all' ≡ all + cond (is_filled i r) 1 0 → yeses' ≡ yeses + cond (is_filled_yes i r) 1 0 → nos' ≡ nos + cond (is_filled_no i r) 1 0 → IsCounted i (k + 1) (Some r) all' yeses' nos'
+  counted-next all' yeses' nos' a b c =
+      let qs = queries i.count i.block in
+      let at : slice_get qs k ≡ Some r = sym h.turn ∙ q in
+      record {
+        turn = next-turn;
+        good = λ x e. let same : r ≡ x = cc in subst (λ s. is_good i.count s ≡ true) same next-good;
+        all_filled = a ∙ ap (λ x. x + cond (is_filled i r) 1 0) h.all_filled ∙ sym (count-next (is_filled i) qs k r at);
+        yes_filled = b ∙ ap (λ x. x + cond (is_filled_yes i r) 1 0) h.yes_filled ∙ sym (count-next (is_filled_yes i) qs k r at);
+        no_filled = c ∙ ap (λ x. x + cond (is_filled_no i r) 1 0) h.no_filled ∙ sym (count-next (is_filled_no i) qs k r at);
+      }
+
+  -- a query that was asked adds nothing
+  pub counted-asked : filled_known i r ≡ None → IsCounted i (k + 1) (Some r) all yeses nos
+  counted-asked e =
+      let out : is_filled i r ≡ false = asked-out (is_filled i r) (known i r) e in
+      counted-next all yeses nos
+      (sym (ap (λ b. all + cond b 1 0) out ∙ add-zero all))
+      (sym (ap (λ b. yeses + cond (b && is_yes (known i r)) 1 0) out ∙ add-zero yeses))
+      (sym (ap (λ b. nos + cond (b && is_no (known i r)) 1 0) out ∙ add-zero nos))
+
+  -- one that was filled is counted as it is known
+  pub counted-filled : (x : Known) (all' yeses' nos' : ℕ) → filled_known i r ≡ Some x → all' ≡ all + 1 → yeses' ≡ yeses + cond (is_yes x) 1 0 → nos' ≡ nos + cond (is_no x) 1 0 → IsCounted i (k + 1) (Some r) all' yeses' nos'
+  counted-filled x all' yeses' nos' e a b c =
+      let p = filled-in (is_filled i r) (known i r) x e in
+      counted-next all' yeses' nos'
+      (a ∙ ap (λ f. all + cond f 1 0) (sym p.0))
+      (b ∙ ap₂ (λ f y. yeses + cond (f && is_yes y) 1 0) (sym p.0) (sym p.1))
+      (c ∙ ap₂ (λ f y. nos + cond (f && is_no y) 1 0) (sym p.0) (sym p.1))
+
+-- where no further query comes, all are counted
+pub record AllCounted (i : Interview) (all yeses nos : ℕ) : Type 0 where
+  pub all_filled : all ≡ count_by (is_filled i) (queries i.count i.block)
+  pub yes_filled : yeses ≡ count_by (is_filled_yes i) (queries i.count i.block)
+  pub no_filled : nos ≡ count_by (is_filled_no i) (queries i.count i.block)
+
+pub counted-end : (i : Interview) (k : ℕ) (last : Option Query) (all yeses nos : ℕ) → IsCounted i k last all yeses nos → slice_get (queries i.count i.block) k ≡ None → AllCounted i all yeses nos
+counted-end i k last all yeses nos h e = record {
+  all_filled = h.all_filled ∙ count-all (is_filled i) (queries i.count i.block) k e;
+  yes_filled = h.yes_filled ∙ count-all (is_filled_yes i) (queries i.count i.block) k e;
+  no_filled = h.no_filled ∙ count-all (is_filled_no i) (queries i.count i.block) k e;
+}
+
+-- so many turns are enough
+pub counted-last : (i : Interview) (k : ℕ) (last : Option Query) (all yeses nos : ℕ) → IsCounted i k last all yeses nos → i.block ≡ 1 → i.count * i.count ≤ k → AllCounted i all yeses nos
+counted-last i k last all yeses nos h e le =
+    let few = queries-few i.count in
+    let same : length (queries i.count i.block) ≡ length (queries i.count 1) = ap (λ m. length (queries i.count m)) e in
+    counted-end i k last all yeses nos h (get-none (queries i.count i.block) k (omega arith))
+
+-- no more are counted than come
+pub counted-few : (i : Interview) (k : ℕ) (last : Option Query) (all yeses nos : ℕ) → IsCounted i k last all yeses nos → (all ≤ k) × (yeses ≤ k) × (nos ≤ k)
+counted-few i k last all yeses nos h =
+    let qs = take k (queries i.count i.block) in
+    let l = length-take_le (queries i.count i.block) k in
+    let a = count_by-le-length (is_filled i) qs in
+    let b = count_by-le-length (is_filled_yes i) qs in
+    let c = count_by-le-length (is_filled_no i) qs in
+    let x = h.all_filled in
+    let y = h.yes_filled in
+    let z = h.no_filled in
+    (omega arith, omega arith, omega arith)

@@ -1,0 +1,89 @@
+-- The turns of a drill, one after another, and what they keep.
+use Rattle.std.proofs.Common.{ℕ, zero, suc, ◌≡◌, ◌<◌, ◌≤◌, ◌+◌, ◌-◌, ◌*◌, inl, inr, Bool, true, List, [], ◌∷◌, ◌++◌, map, filter, length, Option, Some, None, refl, sym, ap, ◌∙◌, subst, arith}
+use Rattle.std.specs.Option.{option_map_or}
+use Rattle.std.specs.List.{AllByRecursion}
+use Rattle.ls_lists.proofs.Every.{All-append, All-map, All-filter}
+use Rattle.ls_set.specs.ItemSet.{Items, len, least, has, full}
+use Rattle.ls_set.specs.Query.{is_good}
+use Rattle.ls_set.specs.declared.query.Query.{Query}
+use Rattle.ls_set.proofs.Listed.{least-is}
+use Rattle.ls_set.proofs.Sets.{has-full}
+use Rattle.ls_theory.specs.declared.answer.Answer.{Answer}
+use Rattle.ls_theory.specs.Starts.{Start, Free}
+use Rattle.ls_theory.specs.Interviews.{Interview, begun, accepted, yes_queries}
+use Rattle.ls_theory.specs.Forced.{next_question}
+use Rattle.ls_laws.proofs.Breaks.{good-from}
+use Rattle.ls_query.proofs.QuerySets.{queries-in}
+use Rattle.ls_query.proofs.BlockSets.{blocks-in}
+use Rattle.ls_drill.specs.Drills.{reply, after_turn, after_turns, drilled, IsDrill}
+use Rattle.ls_drill.proofs.Asking.{question-in}
+
+pub turn-some : (number : ℕ) (i : Interview) (r : Query) → next_question i None ≡ Some r → after_turn number i ≡ accepted i r (reply i.count number r)
+unfolding after_turn
+turn-some number i r e = ap (λ o. option_map_or (λ r. accepted i r (reply i.count number r)) o i) e
+
+pub turn-none : (number : ℕ) (i : Interview) → next_question i None ≡ None → after_turn number i ≡ i
+unfolding after_turn
+turn-none number i e = ap (λ o. option_map_or (λ r. accepted i r (reply i.count number r)) o i) e
+
+pub turns-none : (number turns : ℕ) (i : Interview) → next_question i None ≡ None → after_turns number turns i ≡ i
+unfolding after_turns
+turns-none number zero i e = refl
+turns-none number (suc turns) i e = ap (after_turns number turns) (turn-none number i e) ∙ turns-none number turns i e
+
+pub turns-more : (number turns k : ℕ) (i : Interview) → k < turns → after_turns number (turns - k) i ≡ after_turns number (turns - (k + 1)) (after_turn number i)
+unfolding after_turns
+turns-more number turns k i lt =
+    let e : turns - k ≡ suc (turns - (k + 1)) = omega arith in
+    ap (λ m. after_turns number m i) e
+
+pub no_turns : (number turns : ℕ) (i : Interview) → after_turns number (turns - turns) i ≡ i
+unfolding after_turns
+no_turns number turns i = let e : turns - turns ≡ 0 = omega arith in ap (λ m. after_turns number m i) e
+
+pub first_turn : (n number : ℕ) → after_turns number (n * n - 0) (begun n Free) ≡ drilled n number
+unfolding drilled
+first_turn n number = let e : n * n - 0 ≡ n * n = omega arith in ap (λ m. after_turns number m (begun n Free)) e
+
+-- ---- what the turns keep
+
+question-single : (i : Interview) (r : Query) → i.block ≡ 1 → next_question i None ≡ Some r → len r.a ≡ 1
+question-single i r e q =
+    let b = blocks-in i.count i.block r.a (queries-in i.count i.block r (question-in i r q)).1 in
+    let some' : 0 < len r.a = b.some in
+    let few' : len r.a ≤ i.block = b.few in
+    omega arith
+
+pub drill-turn : (n number : ℕ) (i : Interview) → IsDrill n i → IsDrill n (after_turn number i)
+drill-turn n number i d =
+    elim (next_question i None) as (λ o. next_question i None ≡ o → IsDrill n (after_turn number i)) [
+      | None ↦ λ e. subst (IsDrill n) (sym (turn-none number i e)) d
+      | Some r ↦ λ e. subst (IsDrill n) (sym (turn-some number i r e)) (record {
+        items = d.items;
+        start = d.start;
+        block = d.block;
+        single = All-append (λ (a : Answer). len a.query.a ≡ 1) i.answers _ d.single (question-single i r d.block e, tt);
+      })
+    ] refl
+
+drill-turns : (n number turns : ℕ) (i : Interview) → IsDrill n i → IsDrill n (after_turns number turns i)
+unfolding after_turns
+drill-turns n number zero i d = d
+drill-turns n number (suc turns) i d = drill-turns n number turns (after_turn number i) (drill-turn n number i d)
+
+pub drilled-is : (n number : ℕ) → IsDrill n (drilled n number)
+unfolding drilled
+drilled-is n number = drill-turns n number (n * n) (begun n Free) (record { items = refl; start = refl; block = refl; single = tt })
+
+-- the Yes queries among them have one item each
+pub single-yeses : (n : ℕ) (i : Interview) → IsDrill n i → AllByRecursion (λ (r : Query). len r.a ≡ 1) (yes_queries i.answers)
+single-yeses n i d = All-map (λ (r : Query). len r.a ≡ 1) (λ (a : Answer). a.query) (filter (λ a. a.yes) i.answers) (All-filter (λ (a : Answer). len a.query.a ≡ 1) (λ a. a.yes) i.answers d.single)
+
+-- ---- the reply
+
+-- the least item of A is one of the items
+pub least-small : (n : ℕ) (r : Query) (a : ℕ) → is_good n r ≡ true → least r.a ≡ Some a → a < n
+least-small n r a good e =
+    let g = good-from n r good in
+    let h = sym (has-full n a) ∙ g.small a ((least-is r.a a).0 e).0 in
+    grind arith

@@ -1,0 +1,57 @@
+-- The standing answers of a drill, with the closures of single items: these tell what is known.
+use Rattle.std.specs.Prelude.{ℕ, ◌≡◌, ◌<◌, ◌≤◌, ◌+◌, Bool, true, not, ◌&&◌, ◌||◌, if◌then◌else◌, List, map, find, length, slice_index_or, unwrap_or}
+use Rattle.std.specs.List.{list_all}
+use Rattle.std.specs.Option.{option_map_or}
+use Rattle.ls_set.specs.ItemSet.{Items, has, empty, full, single, union, least}
+use Rattle.ls_set.specs.Query.{is_good}
+use Rattle.ls_set.specs.declared.query.Query.{Query}
+use Rattle.ls_theory.specs.declared.answer.Answer.{Answer}
+use Rattle.ls_theory.specs.declared.known.Known.{Known}
+use Rattle.ls_theory.specs.Starts.{Free}
+use Rattle.ls_theory.specs.Families.{closure}
+use Rattle.ls_theory.specs.Interviews.{Interview}
+use Rattle.ls_theory.specs.Compatible.{compatible_sets}
+use Rattle.ls_laws.specs.Forced.{IsSound}
+use Rattle.ls_drill.specs.HiddenOrders.{most_drilled}
+use Rattle.ls_drill.specs.Drills.{IsDrill}
+
+-- the interview on n items in which the answers stand, of which none was taken back
+abbrev pub standing_on : ℕ → List Answer → Interview
+standing_on n answers = record { count = n; start = Free; block = 1; answers = answers; next = length answers + 1 }
+
+-- the item of a set of one
+abbrev pub item_of : Items → ℕ
+item_of s = unwrap_or (least s) 0
+
+-- the closure of an item
+abbrev pub closure_at : List Items → ℕ → Items
+closure_at closures a = slice_index_or closures a empty
+
+-- whether a No to s forces a No to r
+abbrev pub is_forcing : List Items → Query → Query → Bool
+is_forcing closures r s =
+    let closed = closure_at closures (item_of s.a) in
+    has closed (item_of r.a) && (has closed s.q || has (closure_at closures r.q) s.q)
+
+-- what the answers tell of the query
+unfoldable pub known_of : List Items → List Answer → Query → Known
+known_of closures answers r =
+    if has (closure_at closures (item_of r.a)) r.q then Known.Yes
+    else option_map_or (λ a. Known.No a.number) (find (λ a. not a.yes && is_forcing closures r a.query) answers) Known.Unsettled
+
+-- the closure, with those items too where it has a
+abbrev pub with_gained : ℕ → Items → Items → Items
+with_gained a gained closed = if has closed a then union closed gained else closed
+
+-- the closures after a Yes to ({a}, q)
+abbrev pub closures_after : List Items → ℕ → ℕ → List Items
+closures_after closures a q = map (with_gained a (closure_at closures q)) closures
+
+-- the closures are those of the single items, in what the answers leave, and some space fits the answers
+pub record IsStood (n : ℕ) (answers : List Answer) (closures : List Items) : Type 0 where
+  pub few : n ≤ most_drilled
+  pub items : length closures ≡ n
+  pub closed : (a : ℕ) → a < n → closure_at closures a ≡ closure (full n) (compatible_sets (standing_on n answers)) (single a)
+  pub sound : IsSound (standing_on n answers)
+  pub drill : IsDrill n (standing_on n answers)
+  pub good : list_all (λ a. is_good n a.query) answers ≡ true

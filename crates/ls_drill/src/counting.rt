@@ -1,0 +1,108 @@
+// How many queries were asked, and how many the answers force.
+ghost use Rattle.std.specs.Prelude.{◌≡◌, ◌<◌, ◌≤◌, ◌+◌, ◌^◌, true, not, if◌then◌else◌, length, count_by, Some, None};
+ghost use Rattle.std.specs.List.{list_any};
+ghost use Rattle.ls_set.specs.ItemSet.{len};
+ghost use Rattle.ls_set.specs.Query.{is_good};
+ghost use Rattle.ls_theory.specs.Queries.{queries};
+ghost use Rattle.ls_theory.specs.Forced.{known};
+ghost use Rattle.ls_theory.specs.Answering.{is_same_query, most_answers};
+ghost use Rattle.ls_drill.specs.Summaries.{is_yes, is_no, is_filled, is_filled_yes, is_filled_no};
+
+use crate::standing::Standing;
+use crate::walking::{query_after, single_blocks};
+use ls_set::Query;
+use ls_theory::{Answer, Known};
+
+/// How many of the answers are Yes.
+pub fn count_yes(answers: &[Answer]) -> u32
+    requires { length answers.now ≤ most_answers }
+    ensures { result ≡ count_by (λ a. a.yes) answers.now }
+{
+    answers.iter().filter(|a| a.yes).count() as u32
+}
+
+/// How many of the answers are No.
+pub fn count_no(answers: &[Answer]) -> u32
+    requires { length answers.now ≤ most_answers }
+    ensures { result ≡ count_by (λ a. not a.yes) answers.now }
+{
+    answers.iter().filter(|a| !a.yes).count() as u32
+}
+
+/// How many queries were not asked, and how many of these the answers force Yes and No.
+#[derive(Clone, Copy, Debug)]
+pub struct Filled {
+    pub all: u32,
+    pub yes: u32,
+    pub no: u32,
+}
+
+impl Filled {
+    // Counts a query of which this is known.
+    fn add(&mut self, known: Known)
+        requires all { self.old.all < 2 ^ 16 }
+        requires yes { self.old.yes < 2 ^ 16 }
+        requires no { self.old.no < 2 ^ 16 }
+        ensures all { self.new.all ≡ self.old.all + 1 }
+        ensures yes { self.new.yes ≡ self.old.yes + (if is_yes known then 1 else 0) }
+        ensures no { self.new.no ≡ self.old.no + (if is_no known then 1 else 0) }
+    {
+        self.all += 1;
+        match known {
+            Known::Yes => self.yes += 1,
+            Known::No { .. } => self.no += 1,
+            Known::Unsettled => {}
+        }
+    }
+}
+
+// Whether an answer to the query stands.
+#[tactic(auto, unfolding(ls_set::specs::ItemSet::is_same))]
+fn is_asked(answers: &[Answer], query: &Query) -> bool
+    ensures { result ≡ list_any (λ a. is_same_query a.query query.now) answers.now }
+{
+    answers.iter().any(|a| a.query == *query)
+}
+
+// What is known of a good query, where it was not asked.
+fn known_of_filled(standing: &Standing, query: &Query) -> Option<Known>
+    requires good { is_good standing.now.count query.now ≡ true }
+    requires single { len query.now.a ≡ 1 }
+    ensures { result ≡ (if is_filled standing.now query.now
+        then Some (known standing.now query.now) else None) }
+{
+    if is_asked(standing.answers(), query) {
+        return None;
+    }
+    Some(standing.known(query))
+}
+
+/// How many queries of single items were not asked, and how many of these the answers force.
+pub fn count_filled(standing: &Standing) -> Filled
+    requires { 0 < standing.now.count }
+    ensures all { result.all
+        ≡ count_by (is_filled standing.now) (queries standing.now.count standing.now.block) }
+    ensures yes { result.yes
+        ≡ count_by (is_filled_yes standing.now) (queries standing.now.count standing.now.block) }
+    ensures no { result.no
+        ≡ count_by (is_filled_no standing.now) (queries standing.now.count standing.now.block) }
+{
+    let n = standing.items();
+    let blocks = single_blocks(n);
+    let mut filled = Filled {
+        all: 0,
+        yes: 0,
+        no: 0,
+    };
+    let mut last = None;
+    for _ in 0..n * n {
+        let Some(query) = query_after(&blocks, last) else {
+            return filled;
+        };
+        if let Some(known) = known_of_filled(standing, &query) {
+            filled.add(known);
+        }
+        last = Some(query);
+    }
+    filled
+}

@@ -1,0 +1,199 @@
+// The standing answers of a drill.
+ghost use Rattle.std.specs.Prelude.{◌≡◌, ◌<◌, ◌≤◌, ◌+◌, ◌++◌, ◌∷◌, [], ◌&&◌, length, not, true, find, IfOk, OnOk, OnErr};
+ghost use Rattle.std.specs.List.{All};
+ghost use Rattle.std.specs.Option.{option_map};
+ghost use Rattle.ls_set.specs.ItemSet.{len};
+ghost use Rattle.ls_set.specs.Query.{is_good};
+ghost use Rattle.ls_theory.specs.declared.known.Known.TheVariants.{Unsettled};
+ghost use Rattle.ls_theory.specs.Starts.{Free};
+ghost use Rattle.ls_theory.specs.Interviews.{begun, accepted};
+ghost use Rattle.ls_theory.specs.Forced.{known};
+ghost use Rattle.ls_base.specs.Bases.{single_sets};
+ghost use Rattle.ls_drill.specs.Drills.{IsDrill};
+ghost use Rattle.ls_drill.specs.Standings.{item_of, closure_at, is_forcing, known_of, with_gained, closures_after};
+
+use crate::hidden::MOST_DRILLED;
+use ls_set::{ItemSet, PLACES, Query};
+use ls_theory::{Answer, Known};
+use std::alloc::{AllocError, Global};
+use std::marker::Model;
+
+/// The standing answers of a drill, each to a query of a single item. Contracts see the interview.
+#[derive(Debug, Drop)]
+pub struct Standing {
+    n: u32,
+    answers: Vec<Answer>,
+    // of each item the closure, which tells what is known
+    closures: Vec<ItemSet>,
+}
+
+impl Model for Standing {
+    ghost use Rattle.ls_theory.specs.Interviews.{Interview};
+    ghost use Rattle.ls_drill.specs.Standings.{IsStood, standing_on};
+
+    ghost Value = { Interview };
+
+    ghost view = { λ s. standing_on s.n s.answers.items };
+
+    ghost invariant = { λ s. IsStood s.n s.answers.items s.closures.items };
+}
+
+// The items below `n`, each as a set.
+fn single_sets(alloc: Global, n: u32) -> Result<Vec<ItemSet>, AllocError>
+    requires { n ≤ PLACES }
+    ensures { IfOk result (λ v. v.items ≡ single_sets n) }
+{
+    (0..n).map(|i| ItemSet::empty().with(i)).collect(alloc)
+}
+
+// The item of a set of one.
+fn item_of(set: ItemSet) -> u32
+    ensures value { result ≡ item_of set }
+    ensures small { result < PLACES }
+{
+    match set.least() {
+        Some(item) => item,
+        None => 0,
+    }
+}
+
+// The closure of an item.
+fn closure_at(closures: &[ItemSet], item: u32) -> ItemSet
+    ensures { result ≡ closure_at closures.now item }
+{
+    match closures.get(item as usize) {
+        Some(closed) => *closed,
+        None => ItemSet::empty(),
+    }
+}
+
+// Whether a No to the other query forces a No to the first.
+fn is_forcing(closures: &[ItemSet], query: &Query, other: &Query) -> bool
+    requires { other.now.q < PLACES }
+    ensures { result ≡ is_forcing closures.now query.now other.now }
+{
+    let closed = closure_at(closures, item_of(other.a));
+    closed.has(item_of(query.a))
+        && (closed.has(other.q) || closure_at(closures, query.q).has(other.q))
+}
+
+// The number of the first No that forces a No to the query.
+fn forcing(closures: &[ItemSet], answers: &[Answer], query: &Query) -> Option<u64>
+    requires { All (λ a. a.query.q < PLACES) answers.now }
+    ensures { result ≡ option_map (λ a. a.number)
+        (find (λ a. not a.yes && is_forcing closures.now query.now a.query) answers.now) }
+{
+    for answer in answers {
+        if !answer.yes && is_forcing(closures, query, &answer.query) {
+            return Some(answer.number);
+        }
+    }
+    None
+}
+
+// What the answers tell of the query.
+#[tactic(auto, unfolding(crate::specs::Standings::known_of))]
+fn known_of(closures: &[ItemSet], answers: &[Answer], query: &Query) -> Known
+    requires item { query.now.q < PLACES }
+    requires items { All (λ a. a.query.q < PLACES) answers.now }
+    ensures { result ≡ known_of closures.now answers.now query.now }
+{
+    if closure_at(closures, item_of(query.a)).has(query.q) {
+        return Known::Yes;
+    }
+    match forcing(closures, answers, query) {
+        Some(by) => Known::No { by },
+        None => Known::Unsettled,
+    }
+}
+
+// Has the closure gain the items, where it has `a`.
+fn gain(closed: &mut ItemSet, a: u32, gained: ItemSet)
+    requires { a < PLACES }
+    ensures { closed.new ≡ with_gained a gained closed.old }
+{
+    if closed.has(a) {
+        *closed = closed.union(gained);
+    }
+}
+
+// Closes again after a Yes to the query of `a` and `q`.
+fn close_again(closures: &mut [ItemSet], a: u32, q: u32)
+    requires { a < PLACES }
+    ensures { closures.new ≡ closures_after closures.old a q }
+{
+    let gained = closure_at(closures, q);
+    for closed in closures.iter_mut() {
+        gain(closed, a, gained);
+    }
+}
+
+// Puts the answer to a query last, with the next number.
+fn put_last(answers: &mut Vec<Answer>, query: &Query, yes: bool) -> Result<(), AllocError>
+    ensures ok { OnOk result (answers.new.items ≡ answers.old.items ++ (record {
+        number = length answers.old.items + 1; query = query.now; yes = yes }) ∷ []) }
+    ensures err { OnErr result (answers.new.items ≡ answers.old.items) }
+{
+    let number = answers.len() as u64 + 1;
+    answers.push(Answer {
+        number,
+        query: *query,
+        yes,
+    })?;
+    Ok(())
+}
+
+impl Standing {
+    /// No answers on `n` items.
+    pub fn new(alloc: Global, n: u32) -> Result<Standing, AllocError>
+        requires { n ≤ MOST_DRILLED }
+        ensures { IfOk result (λ s. s ≡ begun n Free) }
+    {
+        Ok(Standing {
+            n,
+            answers: Vec::new(alloc),
+            closures: single_sets(alloc, n)?,
+        })
+    }
+
+    /// The answers.
+    pub fn answers(&self) -> &[Answer]
+        ensures value { result.now ≡ self.now.answers }
+        ensures drill { IsDrill self.now.count self.now }
+    {
+        &self.answers
+    }
+
+    /// How many items there are.
+    pub fn items(&self) -> u32
+        ensures count { result ≡ self.now.count }
+        ensures few { result ≤ MOST_DRILLED }
+        ensures block { self.now.block ≡ 1 }
+    {
+        self.n
+    }
+
+    /// What the answers tell of a good query of a single item.
+    pub fn known(&self, query: &Query) -> Known
+        requires good { is_good self.now.count query.now ≡ true }
+        requires single { len query.now.a ≡ 1 }
+        ensures { result ≡ known self.now query.now }
+    {
+        known_of(&self.closures, &self.answers, query)
+    }
+
+    /// Takes the answer to an open query of a single item. Where memory runs out, nothing changes.
+    pub fn answer(&mut self, query: Query, yes: bool) -> Result<(), AllocError>
+        requires good { is_good self.old.count query ≡ true }
+        requires single { len query.a ≡ 1 }
+        requires open { known self.old query ≡ Unsettled }
+        ensures ok { OnOk result (self.new ≡ accepted self.old query yes) }
+        ensures err { OnErr result (self.new ≡ self.old) }
+    {
+        put_last(&mut self.answers, &query, yes)?;
+        if yes {
+            close_again(&mut self.closures, item_of(query.a), query.q);
+        }
+        Ok(())
+    }
+}
