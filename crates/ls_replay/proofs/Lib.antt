@@ -1,0 +1,3 @@
+pub mod Turns
+pub mod Parts
+pub mod Lines

@@ -1,0 +1,6 @@
+use Rattle.std.proofs.Common.{◌≡◌, take}
+use Rattle.ls_replay.specs.Replays.{lines_of}
+use Rattle.ls_replay.proofs.class.results_of.Given as goal
+
+abbrev pub invariant-loop-place : goal.invariant-loop-place
+invariant-loop-place l = l.results ≡ lines_of (take l.place l.t) (take l.place l.replays)

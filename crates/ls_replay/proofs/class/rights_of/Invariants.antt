@@ -1,0 +1,8 @@
+use Rattle.std.proofs.Common.{◌≡◌, map, take, length}
+use Rattle.ls_replay.proofs.class.rights_of.Given as goal
+
+abbrev pub invariant-loop-place : goal.invariant-loop-place
+invariant-loop-place l = record {
+  rights : l.rights.items ≡ map (λ row. row.right) (take l.place l.t);
+  count : length l.rights.items ≡ l.place;
+}
