@@ -38,6 +38,7 @@ told-pupil names j sets n response.Agreed e h = tt
 told-pupil names j sets n (response.Shown (shown.Asked (Item q))) e h = subst (λ m. q < m) e h
 told-pupil names j sets n (response.Shown (shown.Asked (Over reason))) e h = tt
 told-pupil names j sets n (response.Shown (shown.Report outcome fringes)) e h = let w = subst (λ m. pupils.CanTell m (response.Shown (shown.Report outcome fringes))) e h in (w.0, (w.1, w.2))
+told-pupil names j sets n (response.Shown (shown.Class results)) e h = subst (λ m. pupils.CanTell m (response.Shown (shown.Class results))) e h
 told-pupil names j sets n (response.Shown (shown.Known known)) e h = absurd h
 told-pupil names j sets n (response.Shown (shown.Question next)) e h = absurd h
 told-pupil names j sets n (response.Shown (shown.States count after)) e h = absurd h

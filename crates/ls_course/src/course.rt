@@ -16,7 +16,8 @@ ghost use Rattle.ls_reply.specs.Replies.{asked_effect, unnamed_at};
 ghost use Rattle.ls_writing.specs.Rooms.{Says};
 ghost use Rattle.ls_meanings.specs.Asked.{IsOn, IsSettingOn};
 ghost use Rattle.ls_views.specs.Views.{CanShow, is_based};
-ghost use Rattle.ls_course.specs.States.{CanTell};
+ghost use Rattle.ls_pupils.specs.Cases.{ArePupils};
+ghost use Rattle.ls_course.specs.States.{session_with, CanTell};
 
 use crate::changing::{set_blocks, take, take_back};
 use crate::following::follow;
@@ -32,7 +33,7 @@ use ls_lines::{Command, Word};
 use ls_meanings::{ResolveFault, resolve};
 use ls_pupils::{PupilCases, assess_class, attend, set};
 use ls_reply::{Edit, PupilRequest, Refusal, Request, Response, Setting, Shown, StartFile, View};
-use ls_store::{SessionFault, print_parts, read_parts};
+use ls_store::{Parts, SessionFault, print_parts, read_parts};
 use ls_views::{decide, decide_based, is_based, put_shown};
 use ls_writing::{Room, SetTexts};
 use std::alloc::{AllocError, Global};
@@ -77,13 +78,30 @@ impl Course {
     {
         let inquiry = Inquiry::new(alloc, domain.count(), Start::Free, steps)?;
         let settings = Settings::standard(alloc, domain.count())?;
+        Course::of(alloc, domain, inquiry, settings, PupilCases::new(alloc))
+    }
+
+    // The course of the parts of a session; its base is not followed yet.
+    fn of(
+        alloc: Global,
+        domain: Domain,
+        inquiry: Inquiry,
+        settings: Settings,
+        pupils: PupilCases,
+    ) -> Result<Course, AllocError>
+        requires items { length domain ≡ inquiry.count }
+        requires settings { length settings.ratios ≡ inquiry.count }
+        requires pupils { ArePupils inquiry.count pupils }
+        ensures { IfOk result (λ c. c.session ≡ session_with domain inquiry settings pupils) }
+    {
+        let _ = inquiry.items();
         Ok(Course {
             alloc,
             texts: SetTexts::new(alloc, domain)?,
             inquiry,
             trail: Trail::new(alloc),
             settings,
-            pupils: PupilCases::new(alloc),
+            pupils,
         })
     }
 
@@ -242,16 +260,13 @@ impl Course {
         ensures session { IfOk result (λ c. session_of bytes.now ≡ Ok c.session) }
         ensures fault { IfErr result (IsSessionFault (session_of bytes.now)) }
     {
-        let parts = read_parts(alloc, bytes, steps)?;
-        let texts = SetTexts::new(alloc, parts.domain).map_err(SessionFault::Memory)?;
-        Ok(Course {
-            alloc,
-            texts,
-            inquiry: parts.inquiry,
-            trail: Trail::new(alloc),
-            settings: parts.settings,
-            pupils: parts.pupils,
-        })
+        let Parts {
+            domain,
+            inquiry,
+            settings,
+            pupils,
+        } = read_parts(alloc, bytes, steps)?;
+        Ok(Course::of(alloc, domain, inquiry, settings, pupils)?)
     }
 
     // What is shown. The base is followed where it is asked for.
