@@ -18,10 +18,10 @@ among-take n f l h =
     ap (λ g. is_among g l) (sym (take-append-drop n f)) ∙ among-append (take n f) (drop n f) l ∙ or_left (is_among (take n f) l) (is_among (drop n f) l) h
 
 pub next-told : (f after part : List Items) (i m : ℕ) (k : Items) (b : Bool) → i < length f → k ≡ get_or f i k → after ≡ take (length f - (i + 1)) (drop (i + 1) f)
-    → m ≡ min 64 (length after) → part ≡ take m after → b ≡ is_same (interior part k) k → b ≡ is_union_of_next f i
+    → m ≡ min 32 (length after) → part ≡ take m after → b ≡ is_same (interior part k) k → b ≡ is_union_of_next f i
 next-told f after part i m k b l e is-after is-m is-part told =
     let whole : after ≡ drop (i + 1) f = is-after ∙ take_all (length f - (i + 1)) (drop (i + 1) f) (omega (arith, length-drop (i + 1) f)) in
-    let next : part ≡ next_sets f i = is-part ∙ ap (λ n. take n after) is-m ∙ take_min 64 after ∙ ap (take 64) whole in
+    let next : part ≡ next_sets f i = is-part ∙ ap (λ n. take n after) is-m ∙ take_min 32 after ∙ ap (take 32) whole in
     told ∙ ap (λ g. is_same (interior g k) k) next ∙ ap (λ s. is_same (interior (next_sets f i) s) s) (get_or_read_under f i (length f) k empty e l refl)
 
 -- what is told of a place of all
@@ -36,4 +36,4 @@ walk-told found f i k l e order had told =
     let same = (Decides-is_same (interior (next_sets f i) (slice_index_or f i empty)) (slice_index_or f i empty)).0 told in
     let whole = subst (λ s. interior (next_sets f i) s ≡ s) (sym (get_or_read_under f i (length f) k empty e l refl)) same in
     had ∙ sym (needed-passed k rest (subst IsInOrder step (drop-in_order f i order))
-    (interior-through (take 64 rest) (needed rest) k (λ s c. needed-spans rest s (among-take 64 rest s c)) whole)) ∙ ap needed (sym step)
+    (interior-through (take 32 rest) (needed rest) k (λ s c. needed-spans rest s (among-take 32 rest s c)) whole)) ∙ ap needed (sym step)

@@ -4,9 +4,9 @@ use Rattle.std.specs.List.{range_with_len}
 use Rattle.ls_set.specs.ItemSet.{Items, empty, is_same}
 use Rattle.ls_theory.specs.Families.{interior}
 
--- the sets after place i, at most 64 of them
+-- the sets after place i, at most 32 of them
 abbrev pub next_sets : List Items → ℕ → List Items
-next_sets f i = take 64 (drop (i + 1) f)
+next_sets f i = take 32 (drop (i + 1) f)
 
 -- the set at place i is the union of those of the next sets that lie within it
 abbrev pub is_union_of_next : List Items → ℕ → Bool

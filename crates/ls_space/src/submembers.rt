@@ -11,7 +11,7 @@ use std::alloc::{AllocError, Global};
 use std::thread::Threads;
 
 // How many sets after a set are looked at, before the base sets are.
-const NEXT: usize = 64;
+const NEXT: usize = 32;
 
 // How few sets are worth a thread of their own.
 const LEAST_PIECE: usize = 4096;
