@@ -115,14 +115,14 @@ fn check_each_read<R: Threads + Sync + AllocGlobal + Abort>(
     script: &str,
     piece: usize,
 ) -> Result<(), Fail> {
-    for call in 1..=1000u64 {
+    let mut taken = 0;
+    for call in 1..=1000 {
         let trial = Trial {
             piece,
             failing_reads: &[call],
             ..answered(script, "")
         };
         let outcome = run(rt, &trial)?;
-        let taken = piece.saturating_mul((call - 1) as usize);
         let ended = lines_within(rt.alloc(), script, taken)?;
         let whole = run(rt, &answered(&ended, ""))?;
         let written = outcome.written.as_str();
@@ -132,6 +132,7 @@ fn check_each_read<R: Threads + Sync + AllocGlobal + Abort>(
             assert_eq!(rt; ended.as_str(), script);
             return Ok(());
         }
+        taken = piece.saturating_add(taken);
     }
     assert!(rt; false, "each run has a fault");
     Ok(())
