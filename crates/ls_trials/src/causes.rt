@@ -1,6 +1,6 @@
 // Files that are no saved session, each for one cause, or for two of which the first is told.
 use crate::parts::{FIRST_ODDS, PARTS, check_refused, object_of, quoted};
-use crate::trial::{Trial, answered, check, check_over};
+use crate::trial::{answered, check_file, check_over};
 use ls_edge::MemShelf;
 use std::process::Abort;
 use std::test::Fail;
@@ -330,11 +330,7 @@ fn a_file_of_nested_lists_is_no_session(rt: HostRuntime) -> Result<(), Fail> {
     check_refused(&rt, &both, "json")?;
     let script = "items a\nstart surmise f\nopen f\nstates\n";
     let replies = "ok 1\nno 14 json\nno 42 json\nset 8 {a}\nset 0 {}\nmore no\n";
-    let trial = Trial {
-        files: &[("f", both.as_str())],
-        ..answered(script, replies)
-    };
-    check(&rt, &trial)
+    check_file(&rt, &both, script, replies)
 }
 
 // A byte of a name that no part has, and what is told of the session.

@@ -173,9 +173,9 @@ const WIDEST: (&[&str], &str) = (
      learning yes\nstates 1683\n",
 );
 
-fn check_drills<R: Threads + Sync + AllocGlobal + Abort>(
+fn check_drills<'a, R: Threads + Sync + AllocGlobal + Abort>(
     rt: &R,
-    drills: &[(&[&str], &str)],
+    drills: &[(&'a [&'a str], &'a str)],
 ) -> Result<(), Fail> {
     for (words, replies) in drills {
         let trial = Trial {

@@ -76,21 +76,32 @@ const STANDING: &str = "{'answers':[[1,true,'8',1]],'block':1,'items':['x','y'],
                         'name':'p','odds':[[[8,1],[8,1]],[[8,1],[8,1]]],'replies':[[0,true]],\
                         'start':'free','yes':[['8',1]]}],'start':'free','version':2}";
 
-/// Opens a text that is no session, for this cause: the session that stands is the same after it.
+// What is told where the file `f` is opened and is no session: the one that stands is the same
+// after it.
+fn check_standing<'a, R: Threads + Sync + AllocGlobal + Abort>(
+    rt: &R,
+    text: &'a str,
+    standing: &'a str,
+    replies: &'a str,
+) -> Result<(), Fail> {
+    let script = "items x y\nyes x : y\npupil p\nreply p x right\nopen f\nsave t\n";
+    let trial = Trial {
+        files: &[("f", text)],
+        left: &[("t", standing)],
+        ..answered(script, replies)
+    };
+    check_as(rt, text, &trial)
+}
+
+/// Opens a text that is no session, for this cause.
 pub fn check_refused<R: Threads + Sync + AllocGlobal + Abort>(
     rt: &R,
     text: &str,
     cause: &str,
 ) -> Result<(), Fail> {
-    let text = quoted(rt.alloc(), text)?;
+    let meant = quoted(rt.alloc(), text)?;
     let standing = quoted(rt.alloc(), STANDING)?;
-    let script = "items x y\nyes x : y\npupil p\nreply p x right\nopen f\nsave t\n";
     let front = "ok 2\nok 1\nok 3\nok 1\nno 42";
     let replies = format!(in rt.alloc(); "{front} {cause}\nok 276\n")?;
-    let trial = Trial {
-        files: &[("f", text.as_str())],
-        left: &[("t", standing.as_str())],
-        ..answered(script, &replies)
-    };
-    check_as(rt, &text, &trial)
+    check_standing(rt, &meant, &standing, &replies)
 }

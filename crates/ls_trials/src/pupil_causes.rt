@@ -1,6 +1,6 @@
 // Saved sessions whose pupils are at fault, and how many pupils, states and items there may be.
 use crate::parts::{FIRST_ODDS, ODDS, PARTS, PUPIL, check_refused, object_of, quoted};
-use crate::trial::{Trial, answered, check_as};
+use crate::trial::check_file;
 use std::alloc::{AllocError, Global};
 use std::process::Abort;
 use std::test::Fail;
@@ -113,13 +113,9 @@ fn check_told<R: Threads + Sync + AllocGlobal + Abort>(
     text: &str,
     told: &str,
 ) -> Result<(), Fail> {
-    let text = quoted(rt.alloc(), text)?;
+    let meant = quoted(rt.alloc(), text)?;
     let replies = format!(in rt.alloc(); "{told}\n")?;
-    let trial = Trial {
-        files: &[("f", text.as_str())],
-        ..answered("open f\n", &replies)
-    };
-    check_as(rt, &text, &trial)
+    check_file(rt, &meant, "open f\n", &replies)
 }
 
 // A pupil alone, with one of another name, with itself, and with both; and a pupil in a session of

@@ -1,14 +1,15 @@
 // Sessions that are saved, and then opened.
-use crate::trial::{Trial, answered, check, check_in_pieces};
+use crate::trial::{Trial, answered, check_in_pieces};
 use std::process::Abort;
 use std::test::Fail;
 use std::thread::Threads;
 
-// A session that is saved as the file `s`: the files of the folder, a script that makes the
-// session, and its replies; the text; and a script that opens the session and goes on with it, and
-// its replies.
+// A session that is saved as the file `s`: a file of the folder, a script that makes the session,
+// and its replies; the text; and a script that opens the session and goes on with it, and its
+// replies.
+#[derive(Clone, Copy)]
 struct Saved<'a> {
-    files: &'a [(&'a str, &'a str)],
+    file: (&'a str, &'a str),
     script: &'a str,
     replies: &'a str,
     text: &'a str,
@@ -19,7 +20,7 @@ struct Saved<'a> {
 const SESSIONS: [Saved; 6] = [
     // The answer that stands tells the states, and the next number goes on.
     Saved {
-        files: &[],
+        file: ("other", ""),
         script: "items a b c\nyes a : b\nsave s\n",
         replies: "ok 3\nok 1\nok 176\n",
         text: "{\"answers\":[[1,true,\"8\",1]],\"block\":1,\"items\":[\"a\",\"b\",\"c\"],\
@@ -32,7 +33,7 @@ const SESSIONS: [Saved; 6] = [
     // Answers that were taken back: their numbers aren't given again, and what they told isn't
     // known.
     Saved {
-        files: &[],
+        file: ("other", ""),
         script: "items a b c d\nno a : c\nyes a : b\nyes d : a\nretract 2\nblocks 2\nno b c : d\n\
              yes a c : d\nretract 3\nsave s\n",
         replies: "ok 4\nok 1\nok 2\nok 3\nok 2\nok 10\nok 4\nok 5\nok 3\nok 226\n",
@@ -49,7 +50,7 @@ const SESSIONS: [Saved; 6] = [
     // A start by a base. Pupils that began before it, under it, and after an answer keep their
     // states and their settings.
     Saved {
-        files: &[("g", "{a b}\n{a b c}\n")],
+        file: ("g", "{a b}\n{a b c}\n"),
         script: "items a b c\npupil free\nstart base g\npupil two\nlimits 1 99\nratio a 5 3 9 2\n\
              odds c 2 4\npupil ann\nyes c : a\npupil bob\nreply two a right\n\
              reply ann a wrong\nodds 3 3\nsave s\n",
@@ -76,10 +77,10 @@ const SESSIONS: [Saved; 6] = [
     },
     // A start by a surmise function, and answers within it; a pupil in the middle of its questions.
     Saved {
-        files: &[(
+        file: (
             "m",
             "{\"a\":[[\"a\"]],\"b\":[[\"a\",\"b\"],[\"c\",\"b\"]],\"c\":[[\"c\"]]}",
-        )],
+        ),
         script: "items a b c\nstart surmise m\nblocks 2\nno a : c\nno b c : a\npupil ann\n\
              reply ann a right\nyes c : b\npupil bob\nreply bob b wrong\nsave s\n",
         replies: "ok 3\nok 4\nok 6\nok 1\nok 2\nok 7\nok 1\nok 3\nok 6\nno 40 a\nok 549\n",
@@ -103,7 +104,7 @@ const SESSIONS: [Saved; 6] = [
     },
     // Pupils whose questions are over, by share and by budget; one that was closed is gone.
     Saved {
-        files: &[],
+        file: ("other", ""),
         script: "items a b c\nyes a : b\npupil r\npupil gone\nlimits 2 80\npupil q\n\
              reply r c wrong\nreply r a wrong\nreply q c right\nreply r a wrong\n\
              reply q a right\nreply r c wrong\nclose gone\npupil p\nsave s\n",
@@ -128,7 +129,7 @@ const SESSIONS: [Saved; 6] = [
     },
     // Six items, two digits of each cursor, and no answer.
     Saved {
-        files: &[],
+        file: ("other", ""),
         script: "items yes no after open-1 save_2 .x\nlimits 19 51\nratio after 64 63 2 1\n\
              pupil open-1\nsave s\n",
         replies: "ok 6\nok\nok\nok 64\nok 402\n",
@@ -146,38 +147,55 @@ const SESSIONS: [Saved; 6] = [
     },
 ];
 
-// The session is the same in the run that saved it and in a new one, and is saved as the same text.
-fn check_saved<R: Threads + Sync + AllocGlobal + Abort>(rt: &R, saved: &Saved) -> Result<(), Fail> {
-    let left = &[("s", saved.text)];
-    let left_twice = &[("s", saved.text), ("t", saved.text)];
-    let made = Trial {
-        files: saved.files,
-        left,
-        ..answered(saved.script, saved.replies)
+// The run that saves a session, over a file of this name.
+fn check_saved<'a, R: Threads + Sync + AllocGlobal + Abort>(
+    rt: &R,
+    name: &'a str,
+    file: &'a str,
+    script: &'a str,
+    replies: &'a str,
+    text: &'a str,
+) -> Result<(), Fail> {
+    let trial = Trial {
+        files: &[(name, file)],
+        left: &[("s", text)],
+        ..answered(script, replies)
     };
-    check_in_pieces(rt, &made)?;
-    let reopened = Trial {
-        files: left,
-        left: left_twice,
-        ..answered(saved.reopened, saved.told)
-    };
-    check_in_pieces(rt, &reopened)?;
-    let (first, then) = (saved.script, saved.reopened);
-    let script = format!(in rt.alloc(); "{first}{then}")?;
-    let (first, then) = (saved.replies, saved.told);
-    let replies = format!(in rt.alloc(); "{first}{then}")?;
-    let in_one_run = Trial {
-        files: saved.files,
-        left: left_twice,
-        ..answered(&script, &replies)
-    };
-    check(rt, &in_one_run)
+    check_in_pieces(rt, &trial)
 }
 
+// A new run, which opens the session and saves it again.
+fn check_reopened<'a, R: Threads + Sync + AllocGlobal + Abort>(
+    rt: &R,
+    text: &'a str,
+    script: &'a str,
+    replies: &'a str,
+) -> Result<(), Fail> {
+    let trial = Trial {
+        files: &[("s", text)],
+        left: &[("s", text), ("t", text)],
+        ..answered(script, replies)
+    };
+    check_in_pieces(rt, &trial)
+}
+
+// The session is the same in a new run and in the run that saved it.
 #[test]
 fn sessions_go_on_where_they_were_saved(rt: HostRuntime) -> Result<(), Fail> {
     for saved in &SESSIONS {
-        check_saved(&rt, saved)?;
+        let Saved {
+            file: (name, file),
+            script,
+            replies,
+            text,
+            reopened,
+            told,
+        } = *saved;
+        check_saved(&rt, name, file, script, replies, text)?;
+        check_reopened(&rt, text, reopened, told)?;
+        let script = format!(in rt.alloc(); "{script}{reopened}")?;
+        let replies = format!(in rt.alloc(); "{replies}{told}")?;
+        check_saved(&rt, name, file, &script, &replies, text)?;
     }
     Ok(())
 }

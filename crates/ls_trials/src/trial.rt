@@ -207,11 +207,7 @@ pub fn check_files<R: Threads + Sync + AllocGlobal + Abort>(
 ) -> Result<(), Fail> {
     for (text, told) in texts {
         let replies = format!(in rt.alloc(); "{front}{told}\n")?;
-        let trial = Trial {
-            files: &[("f", *text)],
-            ..answered(script, &replies)
-        };
-        check_as(rt, text, &trial)?;
+        check_file(rt, text, script, &replies)?;
     }
     Ok(())
 }
@@ -246,4 +242,18 @@ pub fn check_length<R: Threads + Sync + AllocGlobal + Abort>(
     let text = "a".repeat(rt.alloc(), length)?;
     let files = &[("f", text.as_str())];
     check(rt, &Trial { files, ..*trial })
+}
+
+/// Runs a script over the file `f` of this text, which is the label.
+pub fn check_file<'a, R: Threads + Sync + AllocGlobal + Abort>(
+    rt: &R,
+    text: &'a str,
+    script: &'a str,
+    replies: &'a str,
+) -> Result<(), Fail> {
+    let trial = Trial {
+        files: &[("f", text)],
+        ..answered(script, replies)
+    };
+    check_as(rt, text, &trial)
 }
