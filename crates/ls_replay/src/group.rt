@@ -52,6 +52,9 @@ pub(crate) fn replay_group<G: Gate>(
     ensures heavy { (r : ℕ) → result ≡ Err (Heavy r) →
         heavy_after s.now (length states.now) ≡ Some r }
 {
+    if rights.is_empty() {
+        return Ok(Vec::new(alloc));
+    }
     enter_all(gate, first, rights.len());
     let pupil = begin(alloc, n, states, s)?;
     replay_all(alloc, pupil, rights).map_err(WeightFault::Memory)
