@@ -17,8 +17,8 @@ use ls_project::Trace;
 use ls_reply::Shown;
 use ls_set::{ItemSet, Query};
 use ls_writing::{
-    Room, SetTexts, put_asked, put_base, put_class, put_fringes, put_learning, put_line, put_listing,
-    put_numbered, put_report, put_state, put_surmise, put_verdict,
+    Room, SetTexts, put_asked, put_base, put_class, put_fringes, put_learning, put_line,
+    put_listing, put_numbered, put_report, put_state, put_surmise, put_verdict,
 };
 use std::sync::ledger::Ledger;
 
