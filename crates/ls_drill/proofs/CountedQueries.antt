@@ -1,6 +1,10 @@
 -- Queries counted one after another, and how many there are.
 use Rattle.std.proofs.Common.{ℕ, zero, suc, ◌≡◌, ◌<◌, ◌≤◌, ◌+◌, ◌*◌, Bool, true, false, cond, ◌&&◌, find, List, [], ◌∷◌, ◌++◌, map, filter, length, take, slice_get, Option, Some, None, refl, sym, ap, ap₂, ◌∙◌, subst, arith, add-one, add-zero, zero-add, length-append}
-use Rattle.std.specs.Prelude.{count_by}
+use Rattle.std.specs.Prelude.{count_by, Result, Ok}
+use Rattle.ls_theory.specs.Blocks.{BlockRange, made, most_sets}
+use Rattle.ls_theory.specs.declared.block_fault.BlockFault.{BlockFault}
+use Rattle.ls_query.proofs.Counted.{made-ok, none_too_wide}
+use Rattle.ls_drill.specs.HiddenOrders.{most_drilled}
 use Rattle.std.specs.Option.{ForSome}
 use Rattle.std.specs.List.{flat_map}
 use Rattle.std.proofs.lemmas.List.{length-map}
@@ -181,3 +185,15 @@ counted-few i k last all yeses nos h =
     let y = h.yes_filled in
     let z = h.no_filled in
     (omega arith, omega arith, omega arith)
+
+-- ---- blocks of single items
+
+-- n sets of one item, which are never too many
+pub made-one : (n : ℕ) → 0 < n → n ≤ most_drilled → made n 1 ≡ Ok (record { item_count = n; largest = 1 })
+made-one n some few =
+    let sets = length-singles n in
+    let many : length (blocks n 1) ≤ most_sets = omega arith in
+    made-ok n 1 (λ e. cc) (omega arith) (none_too_wide n 1 many)
+
+pub one_block : (n : ℕ) (r : Result BlockRange BlockFault) (b : BlockRange) → 0 < n → n ≤ most_drilled → r ≡ made n 1 → r ≡ Ok b → b ≡ (let x : BlockRange = record { item_count = n; largest = 1 } in x)
+one_block n r b some few e f = let g : (let x : Result BlockRange BlockFault = Ok (record { item_count = n; largest = 1 }) in x) ≡ Ok b = sym (e ∙ made-one n some few) ∙ f in cc

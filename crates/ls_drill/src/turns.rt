@@ -1,6 +1,7 @@
 // The interview of the simulated expert.
-ghost use Rattle.std.specs.Prelude.{◌≡◌, ◌<◌, true, IfOk};
+ghost use Rattle.std.specs.Prelude.{◌≡◌, ◌<◌, ◌≤◌, true, length, IfOk};
 ghost use Rattle.ls_set.specs.Query.{is_good};
+ghost use Rattle.ls_theory.specs.Answering.{most_answers};
 ghost use Rattle.ls_drill.specs.Drills.{reply, drilled};
 
 use crate::hidden::Hidden;
@@ -25,7 +26,9 @@ fn reply(hidden: &Hidden, query: &Query) -> bool
 /// stays known, so the first open query comes after all that were met.
 pub fn interview(alloc: Global, hidden: &Hidden) -> Result<Standing, AllocError>
     requires { 0 < hidden.now.item_count }
-    ensures { IfOk result (λ i. i ≡ drilled hidden.now.item_count hidden.now.number) }
+    ensures drilled { IfOk result (λ i.
+        i ≡ drilled hidden.now.item_count hidden.now.number) }
+    ensures few { IfOk result (λ i. length i.answers ≤ most_answers) }
 {
     let n = hidden.items();
     let blocks = single_blocks(n);

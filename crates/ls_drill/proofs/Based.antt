@@ -1,0 +1,57 @@
+-- The base that is followed over the Yes answers of a drill is that of its states, and it is never past.
+use Rattle.std.proofs.Common.{ℕ, ◌≡◌, ◌≤◌, Bool, true, List, [], filter, length, Option, Some, None, refl, sym, ap, ap₂, ◌∙◌, subst, arith}
+use Rattle.ls_lists.proofs.Filters.{filter_true}
+use Rattle.ls_set.specs.ItemSet.{Items, subsets}
+use Rattle.ls_set.specs.declared.query.Query.{Query}
+use Rattle.ls_theory.specs.Starts.{Start, Free}
+use Rattle.ls_theory.specs.Interviews.{Interview, yes_queries}
+use Rattle.ls_theory.specs.Compatible.{compat, compatible_sets}
+use Rattle.ls_theory.specs.Bases.{Peak, base, peak, most_base_sets}
+use Rattle.ls_laws.specs.Spans.{spanned}
+use Rattle.ls_laws.proofs.Spans.{spanned-base}
+use Rattle.ls_laws.proofs.Compat.{compat-in_order, compat-IsUnionFamily}
+use Rattle.ls_base.specs.Bases.{BaseState, family}
+use Rattle.ls_base.specs.Followed.{IsFollowed}
+use Rattle.ls_base.specs.declared.followed.Followed.{Followed}
+use Rattle.ls_base.specs.declared.followed.Followed.TheVariants.{Within, Past}
+use Rattle.ls_drill.specs.HiddenOrders.{most_drilled}
+use Rattle.ls_drill.specs.Drills.{IsDrill}
+use Rattle.ls_drill.proofs.TurnsTaken.{single-yeses}
+use Rattle.ls_drill.proofs.OneAtom.{base-few, no-peak}
+
+-- the base of all sets, which meet the free start
+pub free-base : (n : ℕ) → base (subsets n) ≡ base (compat n Free [])
+unfolding compat
+free-base n = ap base (sym (filter_true (subsets n)))
+
+-- the base of the states of an interview
+pub record IsBaseOf (i : Interview) (b : BaseState) : Type 0 where
+  pub sets : b.sets ≡ base (compatible_sets i)
+  pub spans : family b ≡ compatible_sets i
+  pub few : length b.sets ≤ most_drilled
+
+module _ (i : Interview) (d : IsDrill i.count i) (few : i.count ≤ most_drilled) where
+  states-are : compatible_sets i ≡ compat i.count Free (yes_queries i.answers)
+  states-are = ap (λ (s : Start). compat i.count s (yes_queries i.answers)) d.start
+
+  pub followed-base : (b : BaseState) → IsFollowed i.count Free (yes_queries i.answers) (Within b) → IsBaseOf i b
+  followed-base b h =
+      let yeses = yes_queries i.answers in
+      let f = compat i.count Free yeses in
+      let size : length b.sets ≡ length (base f) = ap length h.is_base in
+      let most = base-few i.count yeses (single-yeses i.count i d) in
+      record {
+        sets = h.is_base ∙ ap base (sym states-are);
+        spans = ap₂ spanned h.items h.is_base ∙ spanned-base i.count f (compat-in_order i.count Free yeses) (compat-IsUnionFamily i.count Free yeses) ∙ sym states-are;
+        few = omega arith;
+      }
+
+  pub never-past : (position count : ℕ) → IsFollowed i.count Free (yes_queries i.answers) (Past position count) → ⊥
+  never-past position count h =
+      let none = no-peak most_base_sets i.count (yes_queries i.answers) (omega arith) (single-yeses i.count i d) in
+      let z : None ≡ Some (let p : Peak = record { position = position; count = count } in p) = sym none ∙ h in
+      cc
+
+-- the base before any answer is that of the free start
+pub first-base : (n : ℕ) (first : BaseState) → first ≡ (let b : BaseState = record { item_count = n; sets = base (subsets n) } in b) → first.sets ≡ base (compat first.item_count Free [])
+first-base n first e = ap (λ (b : BaseState). b.sets) e ∙ free-base n ∙ ap (λ (m : ℕ). base (compat m Free [])) (sym (ap (λ (b : BaseState). b.item_count) e))
