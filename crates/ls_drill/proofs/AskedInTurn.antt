@@ -20,6 +20,7 @@ use Rattle.ls_theory.specs.Interviews.{Interview, begun, accepted, no_queries}
 use Rattle.ls_theory.specs.Compatible.{compatible_sets}
 use Rattle.ls_theory.specs.Fitting.{spaces_of}
 use Rattle.ls_theory.specs.Pages.{comes_after}
+use Rattle.ls_theory.specs.Blocks.{BlockRange}
 use Rattle.ls_theory.specs.Forced.{is_forced_yes, is_forced_no, is_open, known, next_question}
 use Rattle.ls_laws.specs.Spans.{IsPart}
 use Rattle.ls_laws.proofs.Breaks.{good-to}
@@ -31,7 +32,7 @@ use Rattle.ls_query.proofs.QuerySets.{queries-in, sorted-queries, query_before-a
 use Rattle.ls_drill.specs.Drills.{reply, after_turn, after_turns, drilled, IsDrill}
 use Rattle.ls_drill.proofs.Asking.{answered-forced, open-unsettled}
 use Rattle.ls_drill.proofs.TurnsTaken.{turn-some, turns-none, turns-more, first_turn, drill-turn}
-use Rattle.ls_drill.proofs.CountedQueries.{queries-few, get-none}
+use Rattle.ls_drill.proofs.CountedQueries.{queries-few, get-none, nothing_left}
 use Rattle.ls_drill.proofs.Stood.{open-parts}
 
 -- ---- what is forced stays so
@@ -203,3 +204,12 @@ asked-end n number k last i h e =
 -- so many turns are enough
 pub asked-last : (n number k : ℕ) (last : Option Query) (i : Interview) → IsAskedTo n number k last i → n * n ≤ k → i ≡ drilled n number
 asked-last n number k last i h le = let few = queries-few n in asked-end n number k last i h (get-none (queries n 1) k (omega arith))
+
+-- ---- what is met on the walk
+
+module _ (n : ℕ) (b : BlockRange) (last found : Option Query) (h : b ≡ (let x : BlockRange = record { item_count = n; largest = 1 } in x)) (f : found ≡ find (comes_after query_before last) (queries b.item_count b.largest)) where
+  pub walk-some : (r : Query) → found ≡ Some r → find (comes_after query_before last) (queries n 1) ≡ Some r
+  walk-some r g = ap (λ (x : BlockRange). find (comes_after query_before last) (queries x.item_count x.largest)) (sym h) ∙ sym f ∙ g
+
+  pub walk-none : ((r : Query) → found ≡ Some r → ⊥) → find (comes_after query_before last) (queries n 1) ≡ None
+  walk-none g = ap (λ (x : BlockRange). find (comes_after query_before last) (queries x.item_count x.largest)) (sym h) ∙ sym f ∙ nothing_left found g

@@ -1,6 +1,10 @@
 -- The base that is followed over the Yes answers of a drill is that of its states, and it is never past.
 use Rattle.std.proofs.Common.{ℕ, ◌≡◌, ◌≤◌, Bool, true, List, [], filter, length, Option, Some, None, refl, sym, ap, ap₂, ◌∙◌, subst, arith}
+use Rattle.std.specs.List.{list_all}
 use Rattle.ls_lists.proofs.Filters.{filter_true}
+use Rattle.ls_lists.proofs.Every.{All-map, All-filter, All-list_all, list_all-All}
+use Rattle.ls_set.specs.Query.{is_good}
+use Rattle.ls_theory.specs.declared.answer.Answer.{Answer}
 use Rattle.ls_set.specs.ItemSet.{Items, subsets}
 use Rattle.ls_set.specs.declared.query.Query.{Query}
 use Rattle.ls_theory.specs.Starts.{Start, Free}
@@ -55,3 +59,15 @@ module _ (i : Interview) (d : IsDrill i.count i) (few : i.count ≤ most_drilled
 -- the base before any answer is that of the free start
 pub first-base : (n : ℕ) (first : BaseState) → first ≡ (let b : BaseState = record { item_count = n; sets = base (subsets n) } in b) → first.sets ≡ base (compat first.item_count Free [])
 first-base n first e = ap (λ (b : BaseState). b.sets) e ∙ free-base n ∙ ap (λ (m : ℕ). base (compat m Free [])) (sym (ap (λ (b : BaseState). b.item_count) e))
+
+-- the Yes queries are good
+pub good-yeses : (n : ℕ) (answers : List Answer) → list_all (λ a. is_good n a.query) answers ≡ true → list_all (is_good n) (yes_queries answers) ≡ true
+good-yeses n answers h =
+    All-list_all (is_good n) (yes_queries answers) (All-map (λ (r : Query). is_good n r ≡ true) (λ (a : Answer). a.query) (filter (λ a. a.yes) answers)
+    (All-filter (λ (a : Answer). is_good n a.query ≡ true) (λ a. a.yes) answers (list_all-All (λ a. is_good n a.query) answers h)))
+
+pub over-good : (i : Interview) (first : BaseState) (yeses : List Query) → first.item_count ≡ i.count → yeses ≡ yes_queries i.answers → list_all (λ a. is_good i.count a.query) i.answers ≡ true → list_all (is_good first.item_count) yeses ≡ true
+over-good i first yeses e f h = ap₂ (λ m (rs : List Query). list_all (is_good m) rs) e f ∙ good-yeses i.count i.answers h
+
+pub followed-as : (i : Interview) (first : BaseState) (yeses : List Query) (f : Followed) → first.item_count ≡ i.count → yeses ≡ yes_queries i.answers → IsFollowed first.item_count Free yeses f → IsFollowed i.count Free (yes_queries i.answers) f
+followed-as i first yeses f e g h = subst (λ (m : ℕ). IsFollowed m Free (yes_queries i.answers) f) e (subst (λ (rs : List Query). IsFollowed first.item_count Free rs f) g h)

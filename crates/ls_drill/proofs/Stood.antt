@@ -35,7 +35,7 @@ use Rattle.ls_laws.proofs.Answering.{known_is}
 use Rattle.ls_base.specs.Bases.{single_sets}
 use Rattle.ls_drill.specs.HiddenOrders.{most_drilled}
 use Rattle.ls_drill.specs.Drills.{IsDrill}
-use Rattle.ls_drill.specs.Standings.{standing_on, item_of, closure_at, is_forcing, known_of, with_gained, closures_after, IsStood}
+use Rattle.ls_drill.specs.Standings.{is_unsettled, standing_on, item_of, closure_at, is_forcing, known_of, with_gained, closures_after, IsStood}
 use Rattle.ls_drill.proofs.TurnsTaken.{single-yeses}
 use Rattle.ls_drill.proofs.OneAtom.{among-meet}
 use Rattle.ls_drill.proofs.Relations.{IsMeetClosed, single-within, closure-with, closure-yes, closure-kept}
@@ -228,3 +228,14 @@ module _ (n : ℕ) (answers : List Answer) (closures : List Items) (h : IsStood 
   pub stood-no : IsStood n (answers ++ (let x : Answer = record { number = length answers + 1; query = r; yes = false } in x) ∷ []) closures
   stood-no = stood-more false closures h.items
       (λ a lt. h.closed a lt ∙ ap (λ (g : List Items). closure (full n) g (single a)) (sym (compatible-still n answers r)))
+
+pub stood-as : (n : ℕ) (a a' : List Answer) (c c' : List Items) → IsStood n a c → a' ≡ a → c' ≡ c → IsStood n a' c'
+stood-as n a a' c c' h ea ec = subst (λ (x : List Items). IsStood n a' x) (sym ec) (subst (λ (x : List Answer). IsStood n x c) (sym ea) h)
+
+pub unsettled-is : (k : Known) → is_unsettled k ≡ true → k ≡ Known.Unsettled
+unsettled-is Known.Yes e = absurd (cc e)
+unsettled-is (Known.No by) e = absurd (cc e)
+unsettled-is Known.Unsettled e = refl
+
+pub settled-not : (k : Known) → is_unsettled k ≡ false → k ≡ Known.Unsettled → ⊥
+settled-not k e g = true≢false (sym (ap is_unsettled g) ∙ e)

@@ -38,3 +38,6 @@ summed-is i x h = same_parts _ _ _ _ _ _ _ _ _ _ _ _ _ _ _ _ _ _ _ _ _ _ h.items
 -- the most turns
 pub square-few : (n : ℕ) → n ≤ most_drilled → n * n ≤ 2304
 square-few n le = mul-le-mul {n₁ = n} {m₁ = n} {n₂ = 48} {m₂ = 48} le le
+
+pub summed-as : (s : ℕ) (i j : Interview) (x : Summary) → x.number ≡ s → i ≡ j → IsSummed i x → x ≡ summed_up s j
+summed-as s i j x n e h = summed-is i x h ∙ ap (λ m. summed_up m i) n ∙ ap (summed_up s) e

@@ -20,6 +20,3 @@ pub use hidden::{Hidden, MOST_DRILLED};
 pub use settling::drills_are_settled;
 pub use summary::{MOST_STATES, Summary};
 pub use text::print_summary;
-
-#[cfg(test)]
-mod trial;

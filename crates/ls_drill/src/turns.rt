@@ -8,7 +8,6 @@ use crate::hidden::Hidden;
 use crate::standing::Standing;
 use crate::walking::{query_after, single_blocks};
 use ls_set::Query;
-use ls_theory::Known;
 use std::alloc::{AllocError, Global};
 
 // The expert's reply to a query of a single item.
@@ -38,7 +37,7 @@ pub fn interview(alloc: Global, hidden: &Hidden) -> Result<Standing, AllocError>
         let Some(query) = query_after(&blocks, last) else {
             return Ok(standing);
         };
-        if standing.known(&query) == Known::Unsettled {
+        if standing.is_open(&query) {
             standing.answer(query, reply(hidden, &query))?;
         }
         last = Some(query);
