@@ -1,8 +1,8 @@
 -- Each query is met once, in its turn, and asked where it is open then: that makes the turns of a drill.
-use Rattle.std.proofs.Common.{ℕ, zero, suc, ◌≡◌, ◌<◌, ◌≤◌, ◌+◌, ◌-◌, ◌*◌, inl, inr, Bool, true, false, cond, not, ◌&&◌, List, [], ◌∷◌, ◌++◌, filter, find, take, slice_get, length, Option, Some, None, refl, sym, ap, ap₂, ◌∙◌, subst, arith, true≢false, add-one, length-append}
+use Rattle.std.proofs.Common.{ℕ, zero, suc, ◌≡◌, ◌<◌, ◌≤◌, ◌+◌, ◌-◌, ◌*◌, inl, Bool, true, false, not, List, [], ◌∷◌, ◌++◌, filter, find, take, slice_get, length, Option, Some, None, refl, sym, ap, ap₂, ◌∙◌, subst, arith, true≢false, add-one, length-append}
 use Rattle.std.specs.Option.{ForSome}
-use Rattle.std.specs.List.{AllByRecursion, list_all}
-use Rattle.std.proofs.lemmas.Bool.{cases_Bool, and_parts, and_from, not-true, not_from_false, false_from_ne_true}
+use Rattle.std.specs.List.{list_all}
+use Rattle.std.proofs.lemmas.Bool.{and_parts, and_from, not-true, not_from_false, false_from_ne_true}
 use Rattle.ls_lists.specs.Lists.{IsIn}
 use Rattle.ls_lists.proofs.Elements.{in-append_left, in-append_right, in-filter, filter-in, in-map, map-in, each-in, each-from, get-in}
 use Rattle.ls_lists.proofs.Every.{each, All-list_all, list_all-All}
@@ -197,8 +197,8 @@ pub asked-end : (n number k : ℕ) (last : Option Query) (i : Interview) → IsA
 unfolding next_question
 asked-end n number k last i h e =
     let none = ap₂ (λ (m b : ℕ). find (is_open (spaces_of i)) (filter (λ x. true) (queries m b))) h.drill.items h.drill.block
-        ∙ ap (λ (qs : List Query). find (is_open (spaces_of i)) qs) (filter_true (queries n 1))
-        ∙ none-passing (is_open (spaces_of i)) (queries n 1) k e h.passed in
+    ∙ ap (λ (qs : List Query). find (is_open (spaces_of i)) qs) (filter_true (queries n 1))
+    ∙ none-passing (is_open (spaces_of i)) (queries n 1) k e h.passed in
     sym (turns-none number (n * n - length i.answers) i none) ∙ h.turns
 
 -- so many turns are enough

@@ -1,26 +1,24 @@
 -- The first open query is never refused, and what the turns keep.
-use Rattle.std.proofs.Common.{ℕ, zero, suc, ◌≡◌, ◌<◌, ◌≤◌, inl, inr, Bool, true, false, cond, not, ◌&&◌, ◌||◌, List, [], ◌∷◌, ◌++◌, map, filter, find, length, Option, Some, None, refl, sym, ap, ap₂, ◌∙◌, subst, arith, true≢false}
-use Rattle.std.specs.Option.{option_map, option_map_or}
-use Rattle.std.specs.List.{AllByRecursion, list_any, list_all}
+use Rattle.std.proofs.Common.{ℕ, ◌≡◌, ◌<◌, ◌≤◌, inl, inr, Bool, true, false, cond, not, List, [], ◌∷◌, filter, find, length, Option, Some, None, refl, sym, ap, ap₂, ◌∙◌, arith, true≢false}
+use Rattle.std.specs.Option.{option_map}
+use Rattle.std.specs.List.{list_all}
 use Rattle.std.proofs.lemmas.Bool.{cases_Bool, and_parts, not-true, not_from_false, false_from_ne_true}
 use Rattle.std.proofs.lemmas.Bool.Decides.{nat_tests, Decides-eqb}
 use Rattle.ls_lists.specs.Lists.{IsIn}
 use Rattle.ls_lists.proofs.Elements.{in-filter, in-map, filter-in, each-in}
-use Rattle.ls_lists.proofs.Every.{All-append, list_all-All}
-use Rattle.ls_lists.proofs.Finds.{found-passes, find-is_none}
-use Rattle.ls_lists.proofs.Filters.{filter_true}
-use Rattle.ls_set.specs.ItemSet.{Items, len, is_among}
+use Rattle.ls_lists.proofs.Every.{list_all-All}
+use Rattle.ls_lists.proofs.Finds.{found-passes}
+use Rattle.ls_set.specs.ItemSet.{Items}
 use Rattle.ls_set.specs.Query.{is_good}
 use Rattle.ls_set.specs.declared.query.Query.{Query}
 use Rattle.ls_set.proofs.Sets.{Decides-is_same}
 use Rattle.ls_theory.specs.declared.answer.Answer.{Answer}
 use Rattle.ls_theory.specs.declared.known.Known.{Known}
-use Rattle.ls_theory.specs.declared.answer_fault.AnswerFault.{AnswerFault}
 use Rattle.ls_theory.specs.declared.answer_fault.AnswerFault.TheVariants.{BadQuery, Repeat, Full}
 use Rattle.ls_theory.specs.Queries.{breaks, some_breaks, query_before, queries}
-use Rattle.ls_theory.specs.Starts.{Start, meets}
-use Rattle.ls_theory.specs.Interviews.{Interview, begun, accepted, yes_queries, no_queries}
-use Rattle.ls_theory.specs.Compatible.{is_compatible, compatible_sets}
+use Rattle.ls_theory.specs.Starts.{meets}
+use Rattle.ls_theory.specs.Interviews.{Interview, yes_queries, no_queries}
+use Rattle.ls_theory.specs.Compatible.{is_compatible}
 use Rattle.ls_theory.specs.Fitting.{spaces_of}
 use Rattle.ls_theory.specs.Pages.{comes_after}
 use Rattle.ls_theory.specs.Forced.{is_forced_yes, is_forced_no, is_open, known, next_question}

@@ -1,16 +1,16 @@
 -- The base that is followed over the Yes answers of a drill is that of its states, and it is never past.
-use Rattle.std.proofs.Common.{ℕ, ◌≡◌, ◌≤◌, Bool, true, List, [], filter, length, Option, Some, None, refl, sym, ap, ap₂, ◌∙◌, subst, arith}
+use Rattle.std.proofs.Common.{ℕ, ◌≡◌, ◌≤◌, true, List, [], filter, length, Some, None, sym, ap, ap₂, ◌∙◌, subst, arith}
 use Rattle.std.specs.List.{list_all}
 use Rattle.ls_lists.proofs.Filters.{filter_true}
 use Rattle.ls_lists.proofs.Every.{All-map, All-filter, All-list_all, list_all-All}
 use Rattle.ls_set.specs.Query.{is_good}
 use Rattle.ls_theory.specs.declared.answer.Answer.{Answer}
-use Rattle.ls_set.specs.ItemSet.{Items, subsets}
+use Rattle.ls_set.specs.ItemSet.{subsets}
 use Rattle.ls_set.specs.declared.query.Query.{Query}
 use Rattle.ls_theory.specs.Starts.{Start, Free}
 use Rattle.ls_theory.specs.Interviews.{Interview, yes_queries}
 use Rattle.ls_theory.specs.Compatible.{compat, compatible_sets}
-use Rattle.ls_theory.specs.Bases.{Peak, base, peak, most_base_sets}
+use Rattle.ls_theory.specs.Bases.{Peak, base, most_base_sets}
 use Rattle.ls_laws.specs.Spans.{spanned}
 use Rattle.ls_laws.proofs.Spans.{spanned-base}
 use Rattle.ls_laws.proofs.Compat.{compat-in_order, compat-IsUnionFamily}

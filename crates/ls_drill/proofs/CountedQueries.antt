@@ -1,5 +1,5 @@
 -- Queries counted one after another, and how many there are.
-use Rattle.std.proofs.Common.{ℕ, zero, suc, ◌≡◌, ◌<◌, ◌≤◌, ◌+◌, ◌*◌, Bool, true, false, cond, ◌&&◌, find, List, [], ◌∷◌, ◌++◌, map, filter, length, take, slice_get, Option, Some, None, refl, sym, ap, ap₂, ◌∙◌, subst, arith, add-one, add-zero, zero-add, length-append}
+use Rattle.std.proofs.Common.{ℕ, zero, suc, ◌≡◌, ◌<◌, ◌≤◌, ◌+◌, ◌*◌, Bool, true, false, cond, ◌&&◌, find, List, [], ◌∷◌, map, length, take, slice_get, Option, Some, None, refl, sym, ap, ap₂, ◌∙◌, subst, arith, add-one, add-zero, zero-add, length-append}
 use Rattle.std.specs.Prelude.{count_by, Result, Ok}
 use Rattle.ls_theory.specs.Blocks.{BlockRange, made, most_sets}
 use Rattle.ls_theory.specs.declared.block_fault.BlockFault.{BlockFault}

@@ -1,16 +1,16 @@
 -- What the standing answers of a drill keep, and what they tell.
-use Rattle.std.proofs.Common.{ℕ, zero, suc, ◌≡◌, ◌<◌, ◌≤◌, ◌+◌, inl, inr, Bool, true, false, cond, not, ◌&&◌, ◌||◌, List, [], ◌∷◌, ◌++◌, map, filter, find, length, get_or, Option, Some, None, refl, sym, ap, ap₂, ◌∙◌, subst, arith, true≢false, length-append, ltb, ltb-true, lt-ltb, eqb, zero-add}
+use Rattle.std.proofs.Common.{ℕ, ◌≡◌, ◌<◌, ◌≤◌, ◌+◌, inl, inr, Bool, true, false, cond, not, ◌&&◌, ◌||◌, List, [], ◌∷◌, ◌++◌, map, filter, find, length, get_or, Option, Some, refl, sym, ap, ap₂, ◌∙◌, subst, arith, true≢false, length-append, ltb, ltb-true, lt-ltb, eqb, zero-add}
 use Rattle.std.specs.Prelude.{unwrap_or}
 use Rattle.std.specs.List.{AllByRecursion, list_all, range_with_len}
 use Rattle.std.specs.Option.{option_map_or}
-use Rattle.std.proofs.lemmas.Bool.{cases_Bool, and_parts, and_from, false_from_ne_true}
+use Rattle.std.proofs.lemmas.Bool.{cases_Bool, and_from, false_from_ne_true}
 use Rattle.std.proofs.lemmas.Bool.Decides.{Decides-eqb}
 use Rattle.std.proofs.lemmas.List.{length-map, get_or-map}
 use Rattle.std.proofs.lemmas.List.Folds.{list_all-append}
 use Rattle.std.proofs.lemmas.List.FromFn.{get_or-range_with_len, length-range_with_len}
 use Rattle.ls_lists.proofs.Bools.{both_out}
 use Rattle.ls_lists.proofs.Every.{each, All-append, list_all-All}
-use Rattle.ls_set.specs.ItemSet.{Items, has, empty, full, single, with, union, minus, least, len, is_within, is_among, IsWithin}
+use Rattle.ls_set.specs.ItemSet.{Items, has, empty, full, single, with, union, minus, len, is_within, is_among, IsWithin}
 use Rattle.ls_set.specs.Query.{is_good}
 use Rattle.ls_set.specs.declared.query.Query.{Query}
 use Rattle.ls_set.proofs.Sets.{has-full, has-minus, has-single, same_set, is_within-from, minus-within, union-empty_left, and-true}
@@ -19,8 +19,8 @@ use Rattle.ls_theory.specs.declared.answer.Answer.{Answer}
 use Rattle.ls_theory.specs.declared.known.Known.{Known}
 use Rattle.ls_theory.specs.declared.no.No.{No}
 use Rattle.ls_theory.specs.Starts.{Free}
-use Rattle.ls_theory.specs.Families.{interior, closure}
-use Rattle.ls_theory.specs.Interviews.{Interview, begun, accepted, yes_queries, nos}
+use Rattle.ls_theory.specs.Families.{closure}
+use Rattle.ls_theory.specs.Interviews.{Interview, accepted, yes_queries, nos}
 use Rattle.ls_theory.specs.Compatible.{compat, compatible_sets}
 use Rattle.ls_theory.specs.Fitting.{spaces_of}
 use Rattle.ls_theory.specs.Forced.{known, is_forced_yes, is_forced_no}

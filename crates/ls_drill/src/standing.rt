@@ -131,7 +131,10 @@ fn close_again(closures: &mut [ItemSet], a: u32, q: u32)
 // Puts the answer to a query last, with the next number.
 fn put_last(answers: &mut Vec<Answer>, query: &Query, yes: bool) -> Result<(), AllocError>
     ensures ok { OnOk result (answers.new.items ≡ answers.old.items ++ (record {
-        number = length answers.old.items + 1; query = query.now; yes = yes }) ∷ []) }
+      number = length answers.old.items + 1;
+      query = query.now;
+      yes = yes;
+    }) ∷ []) }
     ensures err { OnErr result (answers.new.items ≡ answers.old.items) }
 {
     let number = answers.len() as u64 + 1;

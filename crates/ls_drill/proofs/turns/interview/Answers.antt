@@ -1,4 +1,4 @@
-use Rattle.std.proofs.Common.{ℕ, ◌≡◌, ◌+◌, true, Some, None, sym, ap, subst, ◌∙◌}
+use Rattle.std.proofs.Common.{◌≡◌, ◌+◌, true, Some, None, sym, ap, subst, ◌∙◌}
 use Rattle.ls_set.specs.Query.{is_good}
 use Rattle.ls_theory.specs.Interviews.{Interview}
 use Rattle.ls_theory.specs.Forced.{known}

@@ -17,7 +17,7 @@ invariant_of-self-then-yes c =
     let good = subst (λ (i : Interview). is_good i.count r ≡ true) (sym c.self.view_is) c.requires.good in
     let open' = subst (λ (i : Interview). known i r ≡ Known.Unsettled) (sym c.self.view_is) c.requires.open in
     let made : c.close_again.new.closures ≡ closures_after s.closures.items (item_of r.a) r.q =
-        c.close_again.ensures ∙ ap₂ (λ (l : List Items) (a : ℕ). closures_after l a r.q) c.deref_mut.ensures.value c.item_of.ensures.value in
+    c.close_again.ensures ∙ ap₂ (λ (l : List Items) (a : ℕ). closures_after l a r.q) c.deref_mut.ensures.value c.item_of.ensures.value in
     stood-as s.n _ c.put_last.new.answers.items _ _ (stood-yes s.n s.answers.items s.closures.items c.self.invariant r good c.requires.single open')
     (c.in_ok-put_last.ensures.ok ∙ ap (λ (y : Bool). s.answers.items ++ (let x : Answer = record { number = length s.answers.items + 1; query = r; yes = y } in x) ∷ []) c.if-yes.true)
     (with_items_is s.closures c.close_again.new.closures (omega (arith, ap length made, length-map s.closures.items (with_gained (item_of r.a) (closure_at s.closures.items r.q)))) ∙ made)
