@@ -96,12 +96,6 @@ filled-in : (b : Bool) (x y : Known) → cond b (Some x) None ≡ Some y → (b 
 filled-in true x y e = (refl, cc)
 filled-in false x y e = absurd (cc e)
 
-length-take_le : {X : Type 0} (xs : List X) (k : ℕ) → length (take k xs) ≤ k
-length-take_le [] zero = omega arith
-length-take_le [] (suc k) = omega arith
-length-take_le (x ∷ xs) zero = omega arith
-length-take_le (x ∷ xs) (suc k) = let rest = length-take_le xs k in omega arith
-
 -- k of the queries of an interview are counted, and the last of them is given, if there is one
 pub record IsCounted (i : Interview) (k : ℕ) (last : Option Query) (all yeses nos : ℕ) : Type 0 where
   pub turn : find (comes_after query_before last) (queries i.count i.block) ≡ slice_get (queries i.count i.block) k
@@ -180,19 +174,6 @@ counted-last i k last all yeses nos h e le =
     let few = queries-few i.count in
     let same : length (queries i.count i.block) ≡ length (queries i.count 1) = ap (λ m. length (queries i.count m)) e in
     counted-end i k last all yeses nos h (get-none (queries i.count i.block) k (omega arith))
-
--- no more are counted than come
-pub counted-few : (i : Interview) (k : ℕ) (last : Option Query) (all yeses nos : ℕ) → IsCounted i k last all yeses nos → (all ≤ k) × (yeses ≤ k) × (nos ≤ k)
-counted-few i k last all yeses nos h =
-    let qs = take k (queries i.count i.block) in
-    let l = length-take_le (queries i.count i.block) k in
-    let a = count_by-le-length (is_filled i) qs in
-    let b = count_by-le-length (is_filled_yes i) qs in
-    let c = count_by-le-length (is_filled_no i) qs in
-    let x = h.all_filled in
-    let y = h.yes_filled in
-    let z = h.no_filled in
-    (omega arith, omega arith, omega arith)
 
 -- ---- blocks of single items
 

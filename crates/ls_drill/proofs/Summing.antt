@@ -1,13 +1,11 @@
 -- A summary by its parts.
-use Rattle.std.proofs.Common.{ℕ, ◌≡◌, ◌≤◌, ◌*◌, Bool, not, length, Option, refl, ap, ◌∙◌}
-use Rattle.std.proofs.Math.Nat.{mul-le-mul}
+use Rattle.std.proofs.Common.{ℕ, ◌≡◌, Bool, not, length, Option, refl, ap, ◌∙◌}
 use Rattle.std.specs.Prelude.{count_by}
 use Rattle.ls_theory.specs.Queries.{queries}
 use Rattle.ls_theory.specs.Interviews.{Interview}
 use Rattle.ls_theory.specs.Compatible.{compatible_sets}
 use Rattle.ls_theory.specs.Bases.{base}
 use Rattle.ls_theory.specs.Verdict.{base_verdict}
-use Rattle.ls_drill.specs.HiddenOrders.{most_drilled}
 use Rattle.ls_drill.specs.Summaries.{is_filled, is_filled_yes, is_filled_no, is_learning, counted, summed_up}
 use Rattle.ls_drill.specs.declared.summary.Summary.{Summary}
 
@@ -35,9 +33,6 @@ pub summed-is : (i : Interview) (x : Summary) → IsSummed i x → x ≡ summed_
 unfolding summed_up
 summed-is i x h = same_parts _ _ _ _ _ _ _ _ _ _ _ _ _ _ _ _ _ _ _ _ _ _ h.items refl h.asked_all h.asked_yes h.asked_no h.filled_all h.filled_yes h.filled_no h.base_sets h.is_learned h.state_count
 
--- the most turns
-pub square-few : (n : ℕ) → n ≤ most_drilled → n * n ≤ 2304
-square-few n le = mul-le-mul {n₁ = n} {m₁ = n} {n₂ = 48} {m₂ = 48} le le
-
+-- the same, told of the interview that it is
 pub summed-as : (s : ℕ) (i j : Interview) (x : Summary) → x.number ≡ s → i ≡ j → IsSummed i x → x ≡ summed_up s j
 summed-as s i j x n e h = summed-is i x h ∙ ap (λ m. summed_up m i) n ∙ ap (summed_up s) e

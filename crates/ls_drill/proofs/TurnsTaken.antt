@@ -37,10 +37,6 @@ turns-more number turns k i lt =
     let e : turns - k ≡ suc (turns - (k + 1)) = omega arith in
     ap (λ m. after_turns number m i) e
 
-pub no_turns : (number turns : ℕ) (i : Interview) → after_turns number (turns - turns) i ≡ i
-unfolding after_turns
-no_turns number turns i = let e : turns - turns ≡ 0 = omega arith in ap (λ m. after_turns number m i) e
-
 pub first_turn : (n number : ℕ) → after_turns number (n * n - 0) (begun n Free) ≡ drilled n number
 unfolding drilled
 first_turn n number = let e : n * n - 0 ≡ n * n = omega arith in ap (λ m. after_turns number m (begun n Free)) e
