@@ -1,8 +1,8 @@
 -- Each query is met once, in its turn, and asked where it is open then: that makes the turns of a drill.
-use Rattle.std.proofs.Common.{ℕ, zero, suc, ◌≡◌, ◌<◌, ◌≤◌, ◌+◌, ◌-◌, ◌*◌, inl, inr, Bool, true, false, cond, not, ◌&&◌, List, [], ◌∷◌, ◌++◌, filter, find, take, slice_get, length, Option, Some, None, refl, sym, ap, ap₂, ◌∙◌, subst, arith, true≢false, add-one, length-append}
+use Rattle.std.proofs.Common.{ℕ, zero, suc, ◌≡◌, ◌<◌, ◌≤◌, ◌+◌, ◌-◌, ◌*◌, inl, Bool, true, false, not, List, [], ◌∷◌, ◌++◌, filter, find, take, slice_get, length, Option, Some, None, refl, sym, ap, ap₂, ◌∙◌, subst, arith, true≢false, add-one, length-append}
 use Rattle.std.specs.Option.{ForSome}
-use Rattle.std.specs.List.{AllByRecursion, list_all}
-use Rattle.std.proofs.lemmas.Bool.{cases_Bool, and_parts, and_from, not-true, not_from_false, false_from_ne_true}
+use Rattle.std.specs.List.{list_all}
+use Rattle.std.proofs.lemmas.Bool.{and_parts, and_from, not-true, not_from_false, false_from_ne_true}
 use Rattle.ls_lists.specs.Lists.{IsIn}
 use Rattle.ls_lists.proofs.Elements.{in-append_left, in-append_right, in-filter, filter-in, in-map, map-in, each-in, each-from, get-in}
 use Rattle.ls_lists.proofs.Every.{each, All-list_all, list_all-All}
@@ -20,6 +20,7 @@ use Rattle.ls_theory.specs.Interviews.{Interview, begun, accepted, no_queries}
 use Rattle.ls_theory.specs.Compatible.{compatible_sets}
 use Rattle.ls_theory.specs.Fitting.{spaces_of}
 use Rattle.ls_theory.specs.Pages.{comes_after}
+use Rattle.ls_theory.specs.Blocks.{BlockRange}
 use Rattle.ls_theory.specs.Forced.{is_forced_yes, is_forced_no, is_open, known, next_question}
 use Rattle.ls_laws.specs.Spans.{IsPart}
 use Rattle.ls_laws.proofs.Breaks.{good-to}
@@ -31,7 +32,7 @@ use Rattle.ls_query.proofs.QuerySets.{queries-in, sorted-queries, query_before-a
 use Rattle.ls_drill.specs.Drills.{reply, after_turn, after_turns, drilled, IsDrill}
 use Rattle.ls_drill.proofs.Asking.{answered-forced, open-unsettled}
 use Rattle.ls_drill.proofs.TurnsTaken.{turn-some, turns-none, turns-more, first_turn, drill-turn}
-use Rattle.ls_drill.proofs.CountedQueries.{queries-few, get-none}
+use Rattle.ls_drill.proofs.CountedQueries.{queries-few, get-none, nothing_left}
 use Rattle.ls_drill.proofs.Stood.{open-parts}
 
 -- ---- what is forced stays so
@@ -196,10 +197,19 @@ pub asked-end : (n number k : ℕ) (last : Option Query) (i : Interview) → IsA
 unfolding next_question
 asked-end n number k last i h e =
     let none = ap₂ (λ (m b : ℕ). find (is_open (spaces_of i)) (filter (λ x. true) (queries m b))) h.drill.items h.drill.block
-        ∙ ap (λ (qs : List Query). find (is_open (spaces_of i)) qs) (filter_true (queries n 1))
-        ∙ none-passing (is_open (spaces_of i)) (queries n 1) k e h.passed in
+    ∙ ap (λ (qs : List Query). find (is_open (spaces_of i)) qs) (filter_true (queries n 1))
+    ∙ none-passing (is_open (spaces_of i)) (queries n 1) k e h.passed in
     sym (turns-none number (n * n - length i.answers) i none) ∙ h.turns
 
 -- so many turns are enough
 pub asked-last : (n number k : ℕ) (last : Option Query) (i : Interview) → IsAskedTo n number k last i → n * n ≤ k → i ≡ drilled n number
 asked-last n number k last i h le = let few = queries-few n in asked-end n number k last i h (get-none (queries n 1) k (omega arith))
+
+-- ---- what is met on the walk
+
+module _ (n : ℕ) (b : BlockRange) (last found : Option Query) (h : b ≡ (let x : BlockRange = record { item_count = n; largest = 1 } in x)) (f : found ≡ find (comes_after query_before last) (queries b.item_count b.largest)) where
+  pub walk-some : (r : Query) → found ≡ Some r → find (comes_after query_before last) (queries n 1) ≡ Some r
+  walk-some r g = ap (λ (x : BlockRange). find (comes_after query_before last) (queries x.item_count x.largest)) (sym h) ∙ sym f ∙ g
+
+  pub walk-none : ((r : Query) → found ≡ Some r → ⊥) → find (comes_after query_before last) (queries n 1) ≡ None
+  walk-none g = ap (λ (x : BlockRange). find (comes_after query_before last) (queries x.item_count x.largest)) (sym h) ∙ sym f ∙ nothing_left found g

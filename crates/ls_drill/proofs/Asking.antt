@@ -1,30 +1,25 @@
--- The first open query is never refused, and what the turns keep.
-use Rattle.std.proofs.Common.{ℕ, zero, suc, ◌≡◌, ◌<◌, ◌≤◌, inl, inr, Bool, true, false, cond, not, ◌&&◌, ◌||◌, List, [], ◌∷◌, ◌++◌, map, filter, find, length, Option, Some, None, refl, sym, ap, ap₂, ◌∙◌, subst, arith, true≢false}
-use Rattle.std.specs.Option.{option_map, option_map_or}
-use Rattle.std.specs.List.{AllByRecursion, list_any, list_all}
+-- The first open query was not answered, and nothing is known of it.
+use Rattle.std.proofs.Common.{ℕ, ◌≡◌, inl, inr, Bool, true, false, cond, not, List, [], ◌∷◌, filter, find, Some, None, refl, sym, ap, ap₂, ◌∙◌, true≢false}
+use Rattle.std.specs.List.{list_all}
 use Rattle.std.proofs.lemmas.Bool.{cases_Bool, and_parts, not-true, not_from_false, false_from_ne_true}
-use Rattle.std.proofs.lemmas.Bool.Decides.{nat_tests, Decides-eqb}
+use Rattle.std.proofs.lemmas.Bool.Decides.{Decides-eqb}
 use Rattle.ls_lists.specs.Lists.{IsIn}
 use Rattle.ls_lists.proofs.Elements.{in-filter, in-map, filter-in, each-in}
-use Rattle.ls_lists.proofs.Every.{All-append, list_all-All}
-use Rattle.ls_lists.proofs.Finds.{found-passes, find-is_none}
-use Rattle.ls_lists.proofs.Filters.{filter_true}
-use Rattle.ls_set.specs.ItemSet.{Items, len, is_among}
-use Rattle.ls_set.specs.Query.{is_good}
+use Rattle.ls_lists.proofs.Every.{list_all-All}
+use Rattle.ls_lists.proofs.Finds.{found-passes}
+use Rattle.ls_set.specs.ItemSet.{Items}
 use Rattle.ls_set.specs.declared.query.Query.{Query}
 use Rattle.ls_set.proofs.Sets.{Decides-is_same}
 use Rattle.ls_theory.specs.declared.answer.Answer.{Answer}
 use Rattle.ls_theory.specs.declared.known.Known.{Known}
-use Rattle.ls_theory.specs.declared.answer_fault.AnswerFault.{AnswerFault}
-use Rattle.ls_theory.specs.declared.answer_fault.AnswerFault.TheVariants.{BadQuery, Repeat, Full}
 use Rattle.ls_theory.specs.Queries.{breaks, some_breaks, query_before, queries}
-use Rattle.ls_theory.specs.Starts.{Start, meets}
-use Rattle.ls_theory.specs.Interviews.{Interview, begun, accepted, yes_queries, no_queries}
-use Rattle.ls_theory.specs.Compatible.{is_compatible, compatible_sets}
+use Rattle.ls_theory.specs.Starts.{meets}
+use Rattle.ls_theory.specs.Interviews.{Interview, yes_queries, no_queries}
+use Rattle.ls_theory.specs.Compatible.{is_compatible}
 use Rattle.ls_theory.specs.Fitting.{spaces_of}
 use Rattle.ls_theory.specs.Pages.{comes_after}
 use Rattle.ls_theory.specs.Forced.{is_forced_yes, is_forced_no, is_open, known, next_question}
-use Rattle.ls_theory.specs.Answering.{most_answers, most_number, is_same_query, is_full, opposed, first_fault, refusal}
+use Rattle.ls_theory.specs.Answering.{is_same_query}
 use Rattle.ls_laws.proofs.Lists.{some-from}
 use Rattle.ls_laws.proofs.Answering.{FitsIn, forced_yes_search, forced_no_search}
 use Rattle.ls_laws.proofs.Compat.{among-compat}
@@ -87,7 +82,7 @@ open-unanswered i r h =
           absurd (true≢false (answered-forced i a (found-in (λ a. is_same_query a.query r) i.answers a e) (ap (λ s. is_open (spaces_of i) s) same ∙ h)))
     ] refl
 
--- ---- it is never refused
+-- ---- nothing is known of it
 
 unsettled : (y n : Bool) (m : ℕ) → y ≡ false → n ≡ false → cond y Known.Yes (cond n (Known.No m) Known.Unsettled) ≡ Known.Unsettled
 unsettled y n m e d = rw (e, d) refl
@@ -97,15 +92,3 @@ unfolding known
 open-unsettled i r h =
     let p = and_parts (not (is_forced_yes (spaces_of i) r)) (not (is_forced_no (spaces_of i) r)) h in
     unsettled (is_forced_yes (spaces_of i) r) (is_forced_no (spaces_of i) r) _ (not-true (is_forced_yes (spaces_of i) r) p.0) (not-true (is_forced_no (spaces_of i) r) p.1)
-
-clear : (good : Bool) (o : Option Answer) (k : Known) (full is_yes : Bool) → good ≡ true → o ≡ None → k ≡ Known.Unsettled → full ≡ false
-    → first_fault (cond good None (Some BadQuery)) (first_fault (option_map Repeat (option_map (λ (a : Answer). a.number) o)) (first_fault (opposed k is_yes) (cond full (Some Full) None))) ≡ None
-clear good o k full is_yes a b c d = rw (a, b, c, d) refl
-
-room : (i : Interview) → length i.answers < most_answers → i.next ≤ most_number → is_full i ≡ false
-room i few numbers = grind (arith, nat_tests)
-
-pub question-taken : (i : Interview) (r : Query) (is_yes : Bool) → is_good i.count r ≡ true → next_question i None ≡ Some r → length i.answers < most_answers → i.next ≤ most_number → refusal i r is_yes ≡ None
-question-taken i r is_yes good e few numbers =
-    let open' = question-open i r e in
-    clear (is_good i.count r) (find (λ a. is_same_query a.query r) i.answers) (known i r) (is_full i) is_yes good (open-unanswered i r open') (open-unsettled i r open') (room i few numbers)

@@ -1,11 +1,15 @@
 -- Queries counted one after another, and how many there are.
-use Rattle.std.proofs.Common.{ℕ, zero, suc, ◌≡◌, ◌<◌, ◌≤◌, ◌+◌, ◌*◌, Bool, true, false, cond, ◌&&◌, find, List, [], ◌∷◌, ◌++◌, map, filter, length, take, slice_get, Option, Some, None, refl, sym, ap, ap₂, ◌∙◌, subst, arith, add-one, add-zero, zero-add, length-append}
-use Rattle.std.specs.Prelude.{count_by}
+use Rattle.std.proofs.Common.{ℕ, zero, suc, ◌≡◌, ◌<◌, ◌≤◌, ◌+◌, ◌*◌, Bool, true, false, cond, ◌&&◌, find, List, [], ◌∷◌, map, length, take, slice_get, Option, Some, None, refl, sym, ap, ap₂, ◌∙◌, subst, arith, add-one, add-zero, zero-add, length-append}
+use Rattle.std.specs.Prelude.{count_by, Result, Ok}
+use Rattle.ls_theory.specs.Blocks.{BlockRange, made, most_sets}
+use Rattle.ls_theory.specs.declared.block_fault.BlockFault.{BlockFault}
+use Rattle.ls_query.proofs.Counted.{made-ok, none_too_wide}
+use Rattle.ls_drill.specs.HiddenOrders.{most_drilled}
 use Rattle.std.specs.Option.{ForSome}
 use Rattle.std.specs.List.{flat_map}
 use Rattle.std.proofs.lemmas.List.{length-map}
 use Rattle.std.proofs.lemmas.List.Sums.{length-filter, count_by-le-length, sum_by-cons}
-use Rattle.ls_set.specs.ItemSet.{Items, numbers_from}
+use Rattle.ls_set.specs.ItemSet.{Items, len, numbers_from}
 use Rattle.ls_set.specs.Query.{is_good}
 use Rattle.ls_set.specs.declared.query.Query.{Query}
 use Rattle.ls_theory.specs.declared.known.Known.{Known}
@@ -17,6 +21,7 @@ use Rattle.ls_lists.proofs.Finds.{find-any}
 use Rattle.ls_lists.proofs.Sorted.{find-next}
 use Rattle.ls_lists.proofs.Elements.{get-in}
 use Rattle.ls_laws.proofs.Breaks.{good-to}
+use Rattle.ls_query.proofs.BlockSets.{blocks-in}
 use Rattle.ls_query.proofs.QuerySets.{queries-in, sorted-queries, query_before-asymmetric}
 use Rattle.ls_drill.specs.Summaries.{is_yes, is_no, is_filled, is_filled_yes, is_filled_no}
 use Rattle.ls_query.specs.Blocks.{choose}
@@ -91,12 +96,6 @@ filled-in : (b : Bool) (x y : Known) → cond b (Some x) None ≡ Some y → (b 
 filled-in true x y e = (refl, cc)
 filled-in false x y e = absurd (cc e)
 
-length-take_le : {X : Type 0} (xs : List X) (k : ℕ) → length (take k xs) ≤ k
-length-take_le [] zero = omega arith
-length-take_le [] (suc k) = omega arith
-length-take_le (x ∷ xs) zero = omega arith
-length-take_le (x ∷ xs) (suc k) = let rest = length-take_le xs k in omega arith
-
 -- k of the queries of an interview are counted, and the last of them is given, if there is one
 pub record IsCounted (i : Interview) (k : ℕ) (last : Option Query) (all yeses nos : ℕ) : Type 0 where
   pub turn : find (comes_after query_before last) (queries i.count i.block) ≡ slice_get (queries i.count i.block) k
@@ -113,8 +112,15 @@ abbrev pub filled_known : Interview → Query → Option Known
 filled_known i r = cond (is_filled i r) (Some (known i r)) None
 
 module _ (i : Interview) (k : ℕ) (last : Option Query) (all yeses nos : ℕ) (h : IsCounted i k last all yeses nos) (r : Query) (q : find (comes_after query_before last) (queries i.count i.block) ≡ Some r) where
-  next-good : is_good i.count r ≡ true
+  pub next-good : is_good i.count r ≡ true
   next-good = good-to i.count r (queries-in i.count i.block r (get-in (queries i.count i.block) k r (sym h.turn ∙ q))).0
+
+  pub next-single : i.block ≡ 1 → len r.a ≡ 1
+  next-single e =
+      let b = blocks-in i.count i.block r.a (queries-in i.count i.block r (get-in (queries i.count i.block) k r (sym h.turn ∙ q))).1 in
+      let some' : 0 < len r.a = b.some in
+      let few' : len r.a ≤ i.block = b.few in
+      omega arith
 
   next-turn : find (query_before r) (queries i.count i.block) ≡ slice_get (queries i.count i.block) (k + 1)
   next-turn = find-next query_before (queries i.count i.block) k r (sorted-queries i.count i.block) query_before-asymmetric (sym h.turn ∙ q) ∙ ap (slice_get (queries i.count i.block)) (sym (add-one k))
@@ -169,15 +175,34 @@ counted-last i k last all yeses nos h e le =
     let same : length (queries i.count i.block) ≡ length (queries i.count 1) = ap (λ m. length (queries i.count m)) e in
     counted-end i k last all yeses nos h (get-none (queries i.count i.block) k (omega arith))
 
--- no more are counted than come
-pub counted-few : (i : Interview) (k : ℕ) (last : Option Query) (all yeses nos : ℕ) → IsCounted i k last all yeses nos → (all ≤ k) × (yeses ≤ k) × (nos ≤ k)
-counted-few i k last all yeses nos h =
-    let qs = take k (queries i.count i.block) in
-    let l = length-take_le (queries i.count i.block) k in
-    let a = count_by-le-length (is_filled i) qs in
-    let b = count_by-le-length (is_filled_yes i) qs in
-    let c = count_by-le-length (is_filled_no i) qs in
-    let x = h.all_filled in
-    let y = h.yes_filled in
-    let z = h.no_filled in
-    (omega arith, omega arith, omega arith)
+-- ---- blocks of single items
+
+-- n sets of one item, which are never too many
+pub made-one : (n : ℕ) → 0 < n → n ≤ most_drilled → made n 1 ≡ Ok (record { item_count = n; largest = 1 })
+made-one n some few =
+    let sets = length-singles n in
+    let many : length (blocks n 1) ≤ most_sets = omega arith in
+    made-ok n 1 (λ e. cc) (omega arith) (none_too_wide n 1 many)
+
+pub one_block : (n : ℕ) (r : Result BlockRange BlockFault) (b : BlockRange) → 0 < n → n ≤ most_drilled → r ≡ made n 1 → r ≡ Ok b → b ≡ (let x : BlockRange = record { item_count = n; largest = 1 } in x)
+one_block n r b some few e f = let g : (let x : Result BlockRange BlockFault = Ok (record { item_count = n; largest = 1 }) in x) ≡ Ok b = sym (e ∙ made-one n some few) ∙ f in cc
+
+-- ---- what is met on the walk
+
+pub nothing_left : {X : Type 0} (o : Option X) → ((x : X) → o ≡ Some x → ⊥) → o ≡ None
+nothing_left None h = refl
+nothing_left (Some x) h = absurd (h x refl)
+
+module _ (i : Interview) (n : ℕ) (b : BlockRange) (last : Option Query) (found : Option Query) where
+  pub met-some : (r : Query) → n ≡ i.count → i.block ≡ 1 → b ≡ (let x : BlockRange = record { item_count = n; largest = 1 } in x) → found ≡ find (comes_after query_before last) (queries b.item_count b.largest) → found ≡ Some r
+      → find (comes_after query_before last) (queries i.count i.block) ≡ Some r
+  met-some r e one h f g =
+      ap₂ (λ m k. find (comes_after query_before last) (queries m k)) (sym (ap (λ (x : BlockRange). x.item_count) h ∙ e)) (one ∙ sym (ap (λ (x : BlockRange). x.largest) h)) ∙ sym f ∙ g
+
+  pub met-none : n ≡ i.count → i.block ≡ 1 → b ≡ (let x : BlockRange = record { item_count = n; largest = 1 } in x) → found ≡ find (comes_after query_before last) (queries b.item_count b.largest) → ((r : Query) → found ≡ Some r → ⊥)
+      → find (comes_after query_before last) (queries i.count i.block) ≡ None
+  met-none e one h f g =
+      ap₂ (λ m k. find (comes_after query_before last) (queries m k)) (sym (ap (λ (x : BlockRange). x.item_count) h ∙ e)) (one ∙ sym (ap (λ (x : BlockRange). x.largest) h)) ∙ sym f ∙ nothing_left found g
+
+pub enough : (i : Interview) (n k : ℕ) → n ≡ i.count → n * n ≤ k → i.count * i.count ≤ k
+enough i n k e le = subst (λ m. m * m ≤ k) e le

@@ -1,5 +1,5 @@
 -- The definitions at small cases, computed.
-use Rattle.std.proofs.Common.{◌≡◌, ℕ, true, false, List, [], ◌∷◌, ◌++◌, Some, None, codes, refl}
+use Rattle.std.proofs.Common.{◌≡◌, true, false, [], ◌∷◌, ◌++◌, Some, None, codes, refl}
 use Rattle.std.specs.Fmt.{digits}
 use Rattle.ls_drill.specs.HiddenOrders.{words, generator_of, item_pairs, related, is_chained, implied}
 use Rattle.ls_drill.specs.Summaries.{summary_text}

@@ -9,4 +9,6 @@ pub mod SettledDrills
 pub mod Relations
 pub mod Stood
 pub mod AskedInTurn
+pub mod Based
+pub mod Summing
 mod Examples

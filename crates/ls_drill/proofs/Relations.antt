@@ -1,9 +1,9 @@
 -- Closures of single items, where the family is closed under meets too: they join, and tell what is known and what a Yes changes.
-use Rattle.std.proofs.Common.{ℕ, ◌≡◌, ◌<◌, ◌≤◌, ◌⊎◌, inl, inr, Bool, true, false, cond, not, ◌&&◌, ◌||◌, ltb, List, [], ◌∷◌, map, filter, find, Option, Some, None, refl, sym, ap, ap₂, ◌∙◌, subst, arith, true≢false, lt-ltb, ltb-true}
-use Rattle.std.proofs.lemmas.Bool.{cases_Bool, cases_lt, and_parts, and_from, or_cases, not-true, not_from_false, false_from_ne_true}
+use Rattle.std.proofs.Common.{ℕ, ◌≡◌, ◌<◌, ◌≤◌, inl, inr, Bool, true, false, not, ◌&&◌, ◌||◌, List, refl, sym, ap, ap₂, ◌∙◌, arith, true≢false, ltb-true}
+use Rattle.std.proofs.lemmas.Bool.{cases_lt, and_parts, and_from, not-true, false_from_ne_true}
 use Rattle.std.proofs.lemmas.Bool.Decides.{Decides-eqb}
 use Rattle.ls_lists.proofs.Bools.{same_truth}
-use Rattle.ls_set.specs.ItemSet.{Items, has, empty, full, single, with, union, meet, minus, is_within, is_among, IsWithin}
+use Rattle.ls_set.specs.ItemSet.{Items, has, full, single, with, union, meet, minus, is_within, is_among}
 use Rattle.ls_set.specs.declared.query.Query.{Query}
 use Rattle.ls_set.proofs.Sets.{has-full, has-meet, has-union, has-single, has-minus, same_set, union-left, union-right, IsWithin-from, is_within-from}
 use Rattle.ls_theory.specs.Queries.{breaks, some_breaks}
@@ -11,7 +11,7 @@ use Rattle.ls_theory.specs.Families.{interior, closure}
 use Rattle.ls_laws.specs.Spans.{left_by}
 use Rattle.ls_laws.proofs.Lists.{some-among, some-from}
 use Rattle.ls_laws.proofs.Interiors.{IsUnionFamily}
-use Rattle.ls_laws.proofs.Breaks.{Breaks, Breaks-from, breaks-from, IsGood, among-left_from, among-left_parts}
+use Rattle.ls_laws.proofs.Breaks.{Breaks-from, breaks-from, IsGood, among-left_from, among-left_parts}
 use Rattle.ls_laws.proofs.Closures.{has-closure, closure_stays, left-IsUnionFamily}
 use Rattle.ls_laws.proofs.ClosureChanges.{closure_again}
 
@@ -112,8 +112,8 @@ module _ (n : ℕ) (f : List Items) (family : IsUnionFamily n f) (meets : IsMeet
         let k = some-from (λ k. breaks k (asked (union s (single q)) p)) f x in
         let b = Breaks-from k.0 (asked (union s (single q)) p) k.2 in
         let stays : breaks k.0 r ≡ false = false_from_ne_true (breaks k.0 r) (λ y.
-            let z = (Breaks-from k.0 r y).has_q in
-            true≢false (sym (union-right s (single q) q (single-self q)) ∙ b.apart q z)) in
+        let z = (Breaks-from k.0 r y).has_q in
+        true≢false (sym (union-right s (single q) q (single-self q)) ∙ b.apart q z)) in
         some-among (λ k. breaks k (asked s p)) (left_by r f) k.0 (among-left_from f r k.0 k.1 stays) (breaks-from k.0 (asked s p) (record {
           apart = λ i y. false_from_ne_true (has s i) (λ z. true≢false (sym (union-left s (single q) i z) ∙ b.apart i y));
           has_q = b.has_q;

@@ -1,9 +1,9 @@
 -- Each turn answers a query that was not answered, so after as many turns as there are queries none is open.
-use Rattle.std.proofs.Common.{ℕ, zero, suc, ◌≡◌, ◌<◌, ◌≤◌, ◌+◌, ◌*◌, inl, inr, Bool, true, false, cond, not, ◌&&◌, ◌||◌, eqb, List, [], ◌∷◌, ◌++◌, find, length, is_some, Option, Some, None, refl, sym, ap, ◌∙◌, subst, arith, true≢false}
+use Rattle.std.proofs.Common.{ℕ, zero, suc, ◌≡◌, ◌<◌, ◌≤◌, ◌*◌, inl, inr, Bool, true, false, cond, not, ◌||◌, eqb, List, [], ◌∷◌, ◌++◌, is_some, Option, Some, None, refl, sym, ap, ◌∙◌, arith, true≢false}
 use Rattle.std.specs.Prelude.{count_by}
 use Rattle.std.specs.Option.{option_map}
 use Rattle.std.specs.List.{list_any}
-use Rattle.std.proofs.lemmas.Bool.{cases_Bool, and_from, or_cases, or_left, or_right, not-true, not_from_false, false_from_ne_true}
+use Rattle.std.proofs.lemmas.Bool.{cases_Bool, and_from, or_left, or_right, not-true, not_from_false, false_from_ne_true}
 use Rattle.std.proofs.lemmas.Bool.Decides.{Decides-eqb}
 use Rattle.std.proofs.lemmas.List.Folds.{list_any-append}
 use Rattle.std.proofs.lemmas.List.Sums.{count_by-le-length}
@@ -60,7 +60,7 @@ answered-still i r s is_yes h =
     let none = not-true (list_any (is_to s) (i.answers ++ new ∷ [])) (sym (filled-any (accepted i r is_yes) s) ∙ h) in
     filled-any i s
     ∙ not_from_false (list_any (is_to s) i.answers) (false_from_ne_true (list_any (is_to s) i.answers) (λ t.
-      true≢false (sym (list_any-append (is_to s) i.answers (new ∷ []) ∙ or_left (list_any (is_to s) i.answers) (list_any (is_to s) (new ∷ [])) t) ∙ none)))
+    true≢false (sym (list_any-append (is_to s) i.answers (new ∷ []) ∙ or_left (list_any (is_to s) i.answers) (list_any (is_to s) (new ∷ [])) t) ∙ none)))
 
 -- ---- counts
 

@@ -1,16 +1,16 @@
 -- What the standing answers of a drill keep, and what they tell.
-use Rattle.std.proofs.Common.{ℕ, zero, suc, ◌≡◌, ◌<◌, ◌≤◌, ◌+◌, inl, inr, Bool, true, false, cond, not, ◌&&◌, ◌||◌, List, [], ◌∷◌, ◌++◌, map, filter, find, length, get_or, Option, Some, None, refl, sym, ap, ap₂, ◌∙◌, subst, arith, true≢false, length-append, ltb, ltb-true, lt-ltb, eqb, zero-add}
+use Rattle.std.proofs.Common.{ℕ, ◌≡◌, ◌<◌, ◌≤◌, ◌+◌, inl, inr, Bool, true, false, cond, not, ◌&&◌, ◌||◌, List, [], ◌∷◌, ◌++◌, map, filter, find, length, get_or, Option, Some, refl, sym, ap, ap₂, ◌∙◌, subst, arith, true≢false, length-append, ltb, ltb-true, lt-ltb, eqb, zero-add}
 use Rattle.std.specs.Prelude.{unwrap_or}
 use Rattle.std.specs.List.{AllByRecursion, list_all, range_with_len}
 use Rattle.std.specs.Option.{option_map_or}
-use Rattle.std.proofs.lemmas.Bool.{cases_Bool, and_parts, and_from, false_from_ne_true}
+use Rattle.std.proofs.lemmas.Bool.{cases_Bool, and_from, false_from_ne_true}
 use Rattle.std.proofs.lemmas.Bool.Decides.{Decides-eqb}
 use Rattle.std.proofs.lemmas.List.{length-map, get_or-map}
 use Rattle.std.proofs.lemmas.List.Folds.{list_all-append}
 use Rattle.std.proofs.lemmas.List.FromFn.{get_or-range_with_len, length-range_with_len}
 use Rattle.ls_lists.proofs.Bools.{both_out}
 use Rattle.ls_lists.proofs.Every.{each, All-append, list_all-All}
-use Rattle.ls_set.specs.ItemSet.{Items, has, empty, full, single, with, union, minus, least, len, is_within, is_among, IsWithin}
+use Rattle.ls_set.specs.ItemSet.{Items, has, empty, full, single, with, union, minus, len, is_within, is_among, IsWithin}
 use Rattle.ls_set.specs.Query.{is_good}
 use Rattle.ls_set.specs.declared.query.Query.{Query}
 use Rattle.ls_set.proofs.Sets.{has-full, has-minus, has-single, same_set, is_within-from, minus-within, union-empty_left, and-true}
@@ -19,8 +19,8 @@ use Rattle.ls_theory.specs.declared.answer.Answer.{Answer}
 use Rattle.ls_theory.specs.declared.known.Known.{Known}
 use Rattle.ls_theory.specs.declared.no.No.{No}
 use Rattle.ls_theory.specs.Starts.{Free}
-use Rattle.ls_theory.specs.Families.{interior, closure}
-use Rattle.ls_theory.specs.Interviews.{Interview, begun, accepted, yes_queries, nos}
+use Rattle.ls_theory.specs.Families.{closure}
+use Rattle.ls_theory.specs.Interviews.{Interview, accepted, yes_queries, nos}
 use Rattle.ls_theory.specs.Compatible.{compat, compatible_sets}
 use Rattle.ls_theory.specs.Fitting.{spaces_of}
 use Rattle.ls_theory.specs.Forced.{known, is_forced_yes, is_forced_no}
@@ -35,7 +35,7 @@ use Rattle.ls_laws.proofs.Answering.{known_is}
 use Rattle.ls_base.specs.Bases.{single_sets}
 use Rattle.ls_drill.specs.HiddenOrders.{most_drilled}
 use Rattle.ls_drill.specs.Drills.{IsDrill}
-use Rattle.ls_drill.specs.Standings.{standing_on, item_of, closure_at, is_forcing, known_of, with_gained, closures_after, IsStood}
+use Rattle.ls_drill.specs.Standings.{is_unsettled, standing_on, item_of, closure_at, is_forcing, known_of, with_gained, closures_after, IsStood}
 use Rattle.ls_drill.proofs.TurnsTaken.{single-yeses}
 use Rattle.ls_drill.proofs.OneAtom.{among-meet}
 use Rattle.ls_drill.proofs.Relations.{IsMeetClosed, single-within, closure-with, closure-yes, closure-kept}
@@ -228,3 +228,14 @@ module _ (n : ℕ) (answers : List Answer) (closures : List Items) (h : IsStood 
   pub stood-no : IsStood n (answers ++ (let x : Answer = record { number = length answers + 1; query = r; yes = false } in x) ∷ []) closures
   stood-no = stood-more false closures h.items
       (λ a lt. h.closed a lt ∙ ap (λ (g : List Items). closure (full n) g (single a)) (sym (compatible-still n answers r)))
+
+pub stood-as : (n : ℕ) (a a' : List Answer) (c c' : List Items) → IsStood n a c → a' ≡ a → c' ≡ c → IsStood n a' c'
+stood-as n a a' c c' h ea ec = subst (λ (x : List Items). IsStood n a' x) (sym ec) (subst (λ (x : List Answer). IsStood n x c) (sym ea) h)
+
+pub unsettled-is : (k : Known) → is_unsettled k ≡ true → k ≡ Known.Unsettled
+unsettled-is Known.Yes e = absurd (cc e)
+unsettled-is (Known.No by) e = absurd (cc e)
+unsettled-is Known.Unsettled e = refl
+
+pub settled-not : (k : Known) → is_unsettled k ≡ false → k ≡ Known.Unsettled → ⊥
+settled-not k e g = true≢false (sym (ap is_unsettled g) ∙ e)

@@ -1,15 +1,15 @@
 -- The turns of a drill, one after another, and what they keep.
-use Rattle.std.proofs.Common.{ℕ, zero, suc, ◌≡◌, ◌<◌, ◌≤◌, ◌+◌, ◌-◌, ◌*◌, inl, inr, Bool, true, List, [], ◌∷◌, ◌++◌, map, filter, length, Option, Some, None, refl, sym, ap, ◌∙◌, subst, arith}
+use Rattle.std.proofs.Common.{ℕ, zero, suc, ◌≡◌, ◌<◌, ◌≤◌, ◌+◌, ◌-◌, ◌*◌, true, filter, Some, None, refl, sym, ap, ◌∙◌, subst, arith}
 use Rattle.std.specs.Option.{option_map_or}
 use Rattle.std.specs.List.{AllByRecursion}
 use Rattle.ls_lists.proofs.Every.{All-append, All-map, All-filter}
-use Rattle.ls_set.specs.ItemSet.{Items, len, least, has, full}
+use Rattle.ls_set.specs.ItemSet.{len, least}
 use Rattle.ls_set.specs.Query.{is_good}
 use Rattle.ls_set.specs.declared.query.Query.{Query}
 use Rattle.ls_set.proofs.Listed.{least-is}
 use Rattle.ls_set.proofs.Sets.{has-full}
 use Rattle.ls_theory.specs.declared.answer.Answer.{Answer}
-use Rattle.ls_theory.specs.Starts.{Start, Free}
+use Rattle.ls_theory.specs.Starts.{Free}
 use Rattle.ls_theory.specs.Interviews.{Interview, begun, accepted, yes_queries}
 use Rattle.ls_theory.specs.Forced.{next_question}
 use Rattle.ls_laws.proofs.Breaks.{good-from}
@@ -36,10 +36,6 @@ unfolding after_turns
 turns-more number turns k i lt =
     let e : turns - k ≡ suc (turns - (k + 1)) = omega arith in
     ap (λ m. after_turns number m i) e
-
-pub no_turns : (number turns : ℕ) (i : Interview) → after_turns number (turns - turns) i ≡ i
-unfolding after_turns
-no_turns number turns i = let e : turns - turns ≡ 0 = omega arith in ap (λ m. after_turns number m i) e
 
 pub first_turn : (n number : ℕ) → after_turns number (n * n - 0) (begun n Free) ≡ drilled n number
 unfolding drilled

@@ -1,5 +1,5 @@
 -- The standing answers of a drill, with the closures of single items: these tell what is known.
-use Rattle.std.specs.Prelude.{ℕ, ◌≡◌, ◌<◌, ◌≤◌, ◌+◌, Bool, true, not, ◌&&◌, ◌||◌, if◌then◌else◌, List, map, find, length, slice_index_or, unwrap_or}
+use Rattle.std.specs.Prelude.{ℕ, ◌≡◌, ◌<◌, ◌≤◌, ◌+◌, Bool, true, false, not, ◌&&◌, ◌||◌, if◌then◌else◌, List, map, find, length, slice_index_or, unwrap_or}
 use Rattle.std.specs.List.{list_all}
 use Rattle.std.specs.Option.{option_map_or}
 use Rattle.ls_set.specs.ItemSet.{Items, has, empty, full, single, union, least}
@@ -46,6 +46,12 @@ with_gained a gained closed = if has closed a then union closed gained else clos
 -- the closures after a Yes to ({a}, q)
 abbrev pub closures_after : List Items → ℕ → ℕ → List Items
 closures_after closures a q = map (with_gained a (closure_at closures q)) closures
+
+-- nothing is known
+abbrev pub is_unsettled : Known → Bool
+is_unsettled Known.Yes = false
+is_unsettled (Known.No by) = false
+is_unsettled Known.Unsettled = true
 
 -- the closures are those of the single items, in what the answers leave, and some space fits the answers
 pub record IsStood (n : ℕ) (answers : List Answer) (closures : List Items) : Type 0 where

@@ -1,6 +1,6 @@
 // The standing answers of a drill.
 ghost use Rattle.std.specs.Prelude.{◌≡◌, ◌<◌, ◌≤◌, ◌+◌, ◌++◌, ◌∷◌, [], ◌&&◌, length, not, true, find, IfOk, OnOk, OnErr};
-ghost use Rattle.std.specs.List.{All};
+ghost use Rattle.std.specs.List.{All, list_all};
 ghost use Rattle.std.specs.Option.{option_map};
 ghost use Rattle.ls_set.specs.ItemSet.{len};
 ghost use Rattle.ls_set.specs.Query.{is_good};
@@ -10,7 +10,7 @@ ghost use Rattle.ls_theory.specs.Interviews.{begun, accepted};
 ghost use Rattle.ls_theory.specs.Forced.{known};
 ghost use Rattle.ls_base.specs.Bases.{single_sets};
 ghost use Rattle.ls_drill.specs.Drills.{IsDrill};
-ghost use Rattle.ls_drill.specs.Standings.{item_of, closure_at, is_forcing, known_of, with_gained, closures_after};
+ghost use Rattle.ls_drill.specs.Standings.{item_of, closure_at, is_forcing, known_of, is_unsettled, with_gained, closures_after};
 
 use crate::hidden::MOST_DRILLED;
 use ls_set::{ItemSet, PLACES, Query};
@@ -131,7 +131,10 @@ fn close_again(closures: &mut [ItemSet], a: u32, q: u32)
 // Puts the answer to a query last, with the next number.
 fn put_last(answers: &mut Vec<Answer>, query: &Query, yes: bool) -> Result<(), AllocError>
     ensures ok { OnOk result (answers.new.items ≡ answers.old.items ++ (record {
-        number = length answers.old.items + 1; query = query.now; yes = yes }) ∷ []) }
+      number = length answers.old.items + 1;
+      query = query.now;
+      yes = yes;
+    }) ∷ []) }
     ensures err { OnErr result (answers.new.items ≡ answers.old.items) }
 {
     let number = answers.len() as u64 + 1;
@@ -160,6 +163,7 @@ impl Standing {
     pub fn answers(&self) -> &[Answer]
         ensures value { result.now ≡ self.now.answers }
         ensures drill { IsDrill self.now.count self.now }
+        ensures good { list_all (λ a. is_good self.now.count a.query) self.now.answers ≡ true }
     {
         &self.answers
     }
@@ -180,6 +184,19 @@ impl Standing {
         ensures { result ≡ known self.now query.now }
     {
         known_of(&self.closures, &self.answers, query)
+    }
+
+    /// Whether the answers leave a good query of a single item open.
+    pub fn is_open(&self, query: &Query) -> bool
+        requires good { is_good self.now.count query.now ≡ true }
+        requires single { len query.now.a ≡ 1 }
+        ensures { result ≡ is_unsettled (known self.now query.now) }
+    {
+        match self.known(query) {
+            Known::Yes => false,
+            Known::No { .. } => false,
+            Known::Unsettled => true,
+        }
     }
 
     /// Takes the answer to an open query of a single item. Where memory runs out, nothing changes.

@@ -7,13 +7,7 @@ use std::alloc::{AllocError, Global};
 use std::fmt::Write;
 
 // Adds a line of a number of queries and of their answers.
-fn put_replies(
-    text: &mut String,
-    name: &str,
-    all: u32,
-    yes: u32,
-    no: u32,
-) -> Result<(), AllocError>
+fn put_replies(text: &mut String, name: &str, all: u32, yes: u32, no: u32) -> Result<(), AllocError>
     ensures { OnOk result (string_bytes text.new
         ≡ string_bytes text.old ++ replies_line name.now all yes no) }
 {

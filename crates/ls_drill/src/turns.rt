@@ -1,13 +1,13 @@
 // The interview of the simulated expert.
-ghost use Rattle.std.specs.Prelude.{◌≡◌, ◌<◌, true, IfOk};
+ghost use Rattle.std.specs.Prelude.{◌≡◌, ◌<◌, ◌≤◌, true, length, IfOk};
 ghost use Rattle.ls_set.specs.Query.{is_good};
+ghost use Rattle.ls_theory.specs.Answering.{most_answers};
 ghost use Rattle.ls_drill.specs.Drills.{reply, drilled};
 
 use crate::hidden::Hidden;
 use crate::standing::Standing;
 use crate::walking::{query_after, single_blocks};
 use ls_set::Query;
-use ls_theory::Known;
 use std::alloc::{AllocError, Global};
 
 // The expert's reply to a query of a single item.
@@ -25,7 +25,9 @@ fn reply(hidden: &Hidden, query: &Query) -> bool
 /// stays known, so the first open query comes after all that were met.
 pub fn interview(alloc: Global, hidden: &Hidden) -> Result<Standing, AllocError>
     requires { 0 < hidden.now.item_count }
-    ensures { IfOk result (λ i. i ≡ drilled hidden.now.item_count hidden.now.number) }
+    ensures drilled { IfOk result (λ i.
+        i ≡ drilled hidden.now.item_count hidden.now.number) }
+    ensures few { IfOk result (λ i. length i.answers ≤ most_answers) }
 {
     let n = hidden.items();
     let blocks = single_blocks(n);
@@ -35,7 +37,7 @@ pub fn interview(alloc: Global, hidden: &Hidden) -> Result<Standing, AllocError>
         let Some(query) = query_after(&blocks, last) else {
             return Ok(standing);
         };
-        if standing.known(&query) == Known::Unsettled {
+        if standing.is_open(&query) {
             standing.answer(query, reply(hidden, &query))?;
         }
         last = Some(query);

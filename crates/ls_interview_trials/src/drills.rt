@@ -6,7 +6,6 @@ use ls_drill::{Hidden, Summary, print_summary, run_drill};
 use ls_interior::Steps;
 use std::alloc::{AllocError, Global};
 use std::marker::Brand;
-use std::process::Abort;
 use std::sync::ledger::{Blank, Ledger};
 use std::test::Fail;
 

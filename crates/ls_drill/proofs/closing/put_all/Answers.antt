@@ -11,7 +11,7 @@ pub loop-place-preserved : goal.loop-place-preserved
 loop-place-preserved c =
     let place = c.loop-place.place - 1 in
     let e : c.loop-place.place ≡ place + 1 = omega arith in
-    put-next c.loop-place.after c.put_before.new.after c.args.pairs.now place (omega arith) 
+    put-next c.loop-place.after c.put_before.new.after c.args.pairs.now place (omega arith)
     (subst (λ (m : ℕ). IsPair m (get_or c.args.pairs.now place (0, 0))) (sym c.loop-place.auto.after) (c.requires.pairs place (0, 0) (omega arith)))
     (subst (λ (p : ℕ). (a q : ℕ) → a < length c.loop-place.after → has (get_or c.loop-place.after a empty) q ≡ reached (drop p c.args.pairs.now) a q) e c.loop-place.invariant)
     c.put_before.ensures

@@ -1,0 +1,54 @@
+use Rattle.std.proofs.Common.{◌+◌, Some, sym, ◌∙◌, subst}
+use Rattle.ls_drill.proofs.CountedQueries.{IsCounted, none-counted, next-good, next-single, counted-asked, counted-filled, counted-end, counted-last, met-none, met-some, nothing_left, enough}
+use Rattle.ls_drill.specs.declared.counting.Filled.{Filled}
+use Rattle.ls_drill.proofs.counting.count_filled.Goals as goal
+use Rattle.ls_drill.proofs.counting.count_filled.Goals.{in-Some-known_of_filled, in_default-known_of_filled}
+
+pub loop-init : goal.loop-init
+loop-init c = none-counted c.args.standing.now
+
+pub returns-in_default-clause-all : goal.returns-in_default-clause-all
+returns-in_default-clause-all c = (counted-end c.args.standing.now c.loop.counter c.loop.last c.loop.filled.all c.loop.filled.yes c.loop.filled.no c.loop.invariant
+    (sym c.loop.invariant.turn ∙ met-none c.args.standing.now c.items-n.result c.single_blocks-blocks.result c.loop.last c.query_after.result c.items-n.ensures.count c.items-n.ensures.block c.single_blocks-blocks.ensures c.query_after.ensures c.in_default.not-Some)).all_filled
+
+pub returns-in_default-clause-yes : goal.returns-in_default-clause-yes
+returns-in_default-clause-yes c = (counted-end c.args.standing.now c.loop.counter c.loop.last c.loop.filled.all c.loop.filled.yes c.loop.filled.no c.loop.invariant
+    (sym c.loop.invariant.turn ∙ met-none c.args.standing.now c.items-n.result c.single_blocks-blocks.result c.loop.last c.query_after.result c.items-n.ensures.count c.items-n.ensures.block c.single_blocks-blocks.ensures c.query_after.ensures c.in_default.not-Some)).yes_filled
+
+pub returns-in_default-clause-no : goal.returns-in_default-clause-no
+returns-in_default-clause-no c = (counted-end c.args.standing.now c.loop.counter c.loop.last c.loop.filled.all c.loop.filled.yes c.loop.filled.no c.loop.invariant
+    (sym c.loop.invariant.turn ∙ met-none c.args.standing.now c.items-n.result c.single_blocks-blocks.result c.loop.last c.query_after.result c.items-n.ensures.count c.items-n.ensures.block c.single_blocks-blocks.ensures c.query_after.ensures c.in_default.not-Some)).no_filled
+
+pub known_of_filled-requires-clause-good : goal.known_of_filled-requires-clause-good
+known_of_filled-requires-clause-good c = next-good c.args.standing.now c.loop.counter c.loop.last c.loop.filled.all c.loop.filled.yes c.loop.filled.no c.loop.invariant c.in-Some.query
+    (met-some c.args.standing.now c.items-n.result c.single_blocks-blocks.result c.loop.last c.query_after.result c.in-Some.query c.items-n.ensures.count c.items-n.ensures.block c.single_blocks-blocks.ensures c.query_after.ensures c.in-Some.is)
+
+pub known_of_filled-requires-clause-single : goal.known_of_filled-requires-clause-single
+known_of_filled-requires-clause-single c = next-single c.args.standing.now c.loop.counter c.loop.last c.loop.filled.all c.loop.filled.yes c.loop.filled.no c.loop.invariant c.in-Some.query
+    (met-some c.args.standing.now c.items-n.result c.single_blocks-blocks.result c.loop.last c.query_after.result c.in-Some.query c.items-n.ensures.count c.items-n.ensures.block c.single_blocks-blocks.ensures c.query_after.ensures c.in-Some.is)
+    c.items-n.ensures.block
+
+pub loop-preserved : goal.loop-preserved
+loop-preserved c =
+    let i = c.args.standing.now in
+    let k = c.loop.counter in
+    let f = c.loop.filled in
+    let r = c.in-Some.query in
+    let q = met-some i c.items-n.result c.single_blocks-blocks.result c.loop.last c.query_after.result r c.items-n.ensures.count c.items-n.ensures.block c.single_blocks-blocks.ensures c.query_after.ensures c.in-Some.is in
+    elim c.match-known_of_filled.branch [
+      | in-Some-known_of_filled w ↦
+          subst (λ (x : Filled). IsCounted i (k + 1) (Some r) x.all x.yes x.no) (sym w.filled-is)
+          (counted-filled i k c.loop.last f.all f.yes f.no c.loop.invariant r q w.in-Some-known_of_filled.known _ _ _ (sym c.known_of_filled.ensures ∙ w.in-Some-known_of_filled.is) w.add.ensures.all w.add.ensures.yes w.add.ensures.no)
+      | in_default-known_of_filled w ↦
+          subst (λ (x : Filled). IsCounted i (k + 1) (Some r) x.all x.yes x.no) (sym w.filled-is)
+          (counted-asked i k c.loop.last f.all f.yes f.no c.loop.invariant r q (sym c.known_of_filled.ensures ∙ nothing_left c.known_of_filled.result w.in_default-known_of_filled.not-Some))
+    ]
+
+pub returns-clause-all : goal.returns-clause-all
+returns-clause-all c = (counted-last c.args.standing.now c.loop.counter c.loop.last c.loop.filled.all c.loop.filled.yes c.loop.filled.no c.loop.invariant c.items-n.ensures.block (enough c.args.standing.now c.items-n.result c.loop.counter c.items-n.ensures.count c.loop-test.false)).all_filled
+
+pub returns-clause-yes : goal.returns-clause-yes
+returns-clause-yes c = (counted-last c.args.standing.now c.loop.counter c.loop.last c.loop.filled.all c.loop.filled.yes c.loop.filled.no c.loop.invariant c.items-n.ensures.block (enough c.args.standing.now c.items-n.result c.loop.counter c.items-n.ensures.count c.loop-test.false)).yes_filled
+
+pub returns-clause-no : goal.returns-clause-no
+returns-clause-no c = (counted-last c.args.standing.now c.loop.counter c.loop.last c.loop.filled.all c.loop.filled.yes c.loop.filled.no c.loop.invariant c.items-n.ensures.block (enough c.args.standing.now c.items-n.result c.loop.counter c.items-n.ensures.count c.loop-test.false)).no_filled

@@ -1,0 +1,37 @@
+use Rattle.std.proofs.Common.{◌≡◌, List, not, length, sym, ap, refl, ◌∙◌, arith}
+use Rattle.std.specs.Prelude.{count_by}
+use Rattle.ls_set.specs.ItemSet.{Items}
+use Rattle.ls_theory.specs.declared.answer.Answer.{Answer}
+use Rattle.ls_theory.specs.Interviews.{Interview}
+use Rattle.ls_theory.specs.Verdict.{base_verdict}
+use Rattle.ls_drill.specs.HiddenOrders.{HiddenOrder}
+use Rattle.ls_drill.specs.Drills.{drilled}
+use Rattle.ls_drill.specs.Summaries.{is_learning, counted}
+use Rattle.ls_drill.proofs.TurnsTaken.{drilled-is}
+use Rattle.ls_drill.proofs.Summing.{summed-as}
+use Rattle.ls_drill.proofs.drill.run_drill.Goals as goal
+
+pub count_filled-filled-requires : goal.count_filled-filled-requires
+count_filled-filled-requires g c =
+    let h = c.in_ok-hidden.hidden in
+    let e : c.in_ok-standing.standing.count ≡ c.args.n = ap (λ (i : Interview). i.count) c.in_ok-standing.ensures.drilled ∙ (drilled-is h.item_count h.number).items ∙ ap (λ (o : HiddenOrder). o.item_count) c.in_ok-hidden.ensures in
+    omega arith
+
+pub returns : goal.returns
+returns g c =
+    let h = c.in_ok-hidden.hidden in
+    let i = c.in_ok-standing.standing in
+    let drill : i ≡ drilled c.args.n c.args.s = c.in_ok-standing.ensures.drilled ∙ ap (λ (o : HiddenOrder). drilled o.item_count o.number) c.in_ok-hidden.ensures in
+    let answers = c.answers-answers.ensures.value in
+    summed-as c.args.s i (drilled c.args.n c.args.s) _ refl drill (record {
+      items = sym (ap (λ (i : Interview). i.count) drill ∙ (drilled-is c.args.n c.args.s).items);
+      asked_all = ap length answers;
+      asked_yes = c.count_yes.ensures ∙ ap (λ (l : List Answer). count_by (λ a. a.yes) l) answers;
+      asked_no = c.count_no.ensures ∙ ap (λ (l : List Answer). count_by (λ a. not a.yes) l) answers;
+      filled_all = c.count_filled-filled.ensures.all;
+      filled_yes = c.count_filled-filled.ensures.yes;
+      filled_no = c.count_filled-filled.ensures.no;
+      base_sets = ap length (c.sets.ensures.value ∙ c.in_ok-base.ensures.sets);
+      is_learned = c.is_learning.ensures ∙ ap (λ (f : List Items). is_learning (base_verdict f)) c.in_ok-base.ensures.family;
+      state_count = c.in_ok-states.ensures ∙ ap (λ (f : List Items). counted (length f)) c.in_ok-base.ensures.family;
+    })
