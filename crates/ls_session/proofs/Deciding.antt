@@ -1,5 +1,5 @@
 -- Lines that are decided without the folder.
-use Rattle.std.proofs.Common.{◌≡◌, ◌==◌, ◌<◌, ℕ, true, false, not, ne_eqb, cond, ltb, List, [], ◌∷◌, length, Option, Some, None, is_some, Result, Ok, Err, IfOk, OnOk, OnErr, refl, sym, ap, ◌∙◌, subst, arith}
+use Rattle.std.proofs.Common.{◌≡◌, ◌==◌, ◌<◌, ℕ, true, false, not, ne_eqb, cond, ltb, List, [], ◌∷◌, length, Option, Some, None, is_some, Result, Ok, Err, IfOk, OnOk, OnErr, IsErrAnd, refl, sym, ap, ◌∙◌, subst, arith}
 use Rattle.std.specs.declared.alloc.AllocError.{AllocError}
 use Rattle.std.specs.FinMap as map
 use Rattle.std.proofs.lemmas.Bool.{true≢false}
@@ -46,7 +46,7 @@ abbrev pub calls_told : Option Folder → Calls
 calls_told None = record { file = λ name. Missing; failed = false }
 calls_told (Some m) = calls_of m false
 
-sees_told : (folder : Option Folder) (faults : ℕ) → Sees (calls_told folder) folder faults faults
+pub sees_told : (folder : Option Folder) (faults : ℕ) → Sees (calls_told folder) folder faults faults
 sees_told None faults = record { told = λ m e. absurd (cc e); failed = λ name e. absurd (cc e); cause = λ e. absurd (cc e) }
 sees_told (Some m) faults = record {
   told = λ k e name. ap (λ (x : Folder). (calls_of x false).file name) (let same : m ≡ k = cc e in same);
@@ -134,3 +134,8 @@ decides_nothing s folder faults e = record {
   alone = λ _. (refl, refl);
   later = omega arith;
 }
+
+-- the same of an error that is passed on
+pub decides_err : {effect : Calls → Effect} (P : AllocError → Type 0) (s : Session) (folder : Option Folder) (faults : ℕ) (r : Result Response AllocError) → IsErrAnd r P → Decides effect s s folder folder faults faults r
+decides_err P s folder faults (Ok x) h = absurd h
+decides_err P s folder faults (Err e) h = decides_nothing s folder faults e

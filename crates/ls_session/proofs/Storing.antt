@@ -56,8 +56,8 @@ module _ (s : Session) (name text : List ℕ) where
   depends : ((a b : Calls) → effect a.failed ≡ effect b.failed) → ⊥
   depends one =
       let same : effect true ≡ effect false = one (record { file = λ _. Missing; failed = true }) (record { file = λ _. Missing; failed = false }) in
-      let as : Refused FileFailed ≡ Done (length text) = ap (λ (e : Effect). e.response) same in
-      cc as
+      let both : Refused FileFailed ≡ Done (length text) = ap (λ (e : Effect). e.response) same in
+      cc both
 
   inserted : (folder left : Option Folder) → Stores folder left name text (Ok tt) → (m : Folder) → folder ≡ Some m → left ≡ Some (map.insert m name text)
   inserted None left h m e = absurd (cc e)

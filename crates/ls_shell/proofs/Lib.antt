@@ -9,4 +9,4 @@ pub mod Pieces
 pub mod Scripts
 mod Numbers
 mod Faulting
-pub mod Named
+pub mod Fetched

@@ -1,4 +1,4 @@
-use Rattle.std.proofs.Common.{◌≡◌, ◌∙◌, [], length, refl, sym, ap, subst}
+use Rattle.std.proofs.Common.{◌≡◌, ◌∙◌, sym, ap, subst}
 use Rattle.ls_reply.specs.Scenes.{Fetched, Bytes}
 use Rattle.ls_reply.specs.Effects.{answers}
 use Rattle.ls_reply.specs.Rows.{test_row}

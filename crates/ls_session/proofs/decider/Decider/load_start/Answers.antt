@@ -1,4 +1,4 @@
-use Rattle.std.proofs.Common.{◌≡◌, ◌∙◌, true, Option, Ok, refl, sym, ap, subst}
+use Rattle.std.proofs.Common.{◌≡◌, ◌∙◌, true, Option, Ok, refl, sym, subst}
 use Rattle.ls_edge.specs.Files.{Fetches}
 use Rattle.ls_lines.specs.Lines.{Text}
 use Rattle.ls_reply.specs.Sessions.{has_domain}

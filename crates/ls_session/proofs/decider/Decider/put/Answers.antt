@@ -1,4 +1,4 @@
-use Rattle.std.proofs.Common.{◌≡◌, List, ◌∷◌, [], ◌∙◌, sym, ap, subst, codes, decimal}
+use Rattle.std.proofs.Common.{List, ◌∷◌, [], ◌∙◌, sym, ap, subst, codes, decimal}
 use Rattle.ls_lines.specs.Lines.{Text}
 use Rattle.ls_reply.specs.Texts.{line_of, bytes_of}
 use Rattle.ls_reply.specs.Refusals.{refusal_words}

@@ -7,7 +7,7 @@ use Rattle.ls_reply.specs.Saving.{opened_by}
 use Rattle.ls_session.specs.Courses.{standing_session}
 use Rattle.ls_session.specs.Decides.{IsFetched}
 use Rattle.ls_session.proofs.Deciding.{makes_as}
-use Rattle.ls_session.proofs.decider.files.Decider.open_fetched.Goals as goal
+use Rattle.ls_session.proofs.decider.Decider.open_fetched.Goals as goal
 
 pub returns-in-Ok-clause-makes : goal.returns-in-Ok-clause-makes
 returns-in-Ok-clause-makes g c = λ given h.

@@ -5,7 +5,7 @@ use Rattle.ls_reply.specs.Effects.{changes}
 use Rattle.ls_reply.specs.Saving.{open_row}
 use Rattle.ls_session.specs.Courses.{standing_session}
 use Rattle.ls_session.proofs.Fetching.{decides_fetched}
-use Rattle.ls_session.proofs.decider.files.Decider.open.Goals as goal
+use Rattle.ls_session.proofs.decider.Decider.open.Goals as goal
 
 pub returns-clause-decides : goal.returns-clause-decides
 returns-clause-decides g c =

@@ -14,7 +14,7 @@ use Rattle.ls_session.specs.Courses.{standing_session}
 use Rattle.ls_session.specs.Decides.{Decides}
 use Rattle.ls_session.proofs.Deciding.{decides_made}
 use Rattle.ls_session.proofs.Fetching.{decides_shown}
-use Rattle.ls_session.proofs.decider.files.Decider.load_class.Goals as goal
+use Rattle.ls_session.proofs.decider.Decider.load_class.Goals as goal
 
 abbrev row : Session → Fetched → Response
 row s given = class_row s.interview s.settings s.names given
