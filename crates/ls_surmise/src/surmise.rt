@@ -123,11 +123,7 @@ impl Surmise {
     /// clause lacks its item; a clause has an item of which no clause lies within it; of two clauses
     /// of an item one lies within the other; there are more distinct clauses than a base may have
     /// sets; or memory ran out.
-    pub fn from_clauses(
-        alloc: Global,
-        n: u32,
-        clauses: &[SetList],
-    ) -> Result<Surmise, SurmiseFault>
+    pub fn from_clauses(alloc: Global, n: u32, clauses: &[SetList]) -> Result<Surmise, SurmiseFault>
         requires few { n ≤ most_items }
         requires items { length clauses.now ≡ n }
         requires within { IsOn n (all_clauses clauses.now) }

@@ -1,0 +1,27 @@
+-- Whether listed sets are those of the base that they give.
+use Rattle.std.proofs.Common.{◌≡◌, ℕ, Bool, true, false, cond, List, Some, None, Result, Ok, sym, ap, ◌∙◌, option_map}
+use Rattle.std.specs.Option.{option_map_or}
+use Rattle.std.specs.Result.{result_ok}
+use Rattle.std.specs.Cmp.Lexicographic.{pointwise, pointwise_decides}
+use Rattle.ls_set.specs.ItemSet.{Items, is_same}
+use Rattle.ls_set.proofs.Sets.{Decides-is_same}
+use Rattle.ls_theory.specs.Starts as theory
+use Rattle.ls_theory.specs.Bases.{based}
+use Rattle.ls_theory.specs.declared.base_fault.BaseFault.{BaseFault}
+use Rattle.ls_saved.specs.Readers.{only_if}
+use Rattle.ls_saved.specs.Standing.{is_base}
+
+-- the start by the sets, where the test holds of them
+pub kept : (n : ℕ) (sets : List Items) (b : Bool) → is_base n sets ≡ b → option_map theory.Sets (only_if (is_base n) (Some sets)) ≡ cond b (Some (theory.Sets sets)) None
+kept n sets true e = ap (λ b. option_map theory.Sets (cond b (Some sets) None)) e
+kept n sets false e = ap (λ b. option_map theory.Sets (cond b (Some sets) None)) e
+
+-- the base that was found is compared with the sets
+compared : (n : ℕ) (sets found : List Items) → based n sets ≡ Ok found → is_base n sets ≡ pointwise is_same found sets
+compared n sets found e = ap (λ (r : Result (List Items) BaseFault). option_map_or (λ fs. pointwise is_same fs sets) (result_ok r) false) e
+
+pub same-sets : (sets found : List Items) → pointwise is_same found sets ≡ true → found ≡ sets
+same-sets sets found h = (pointwise_decides Decides-is_same found sets).0 h
+
+pub same-start : (n : ℕ) (sets found : List Items) → based n sets ≡ Ok found → pointwise is_same found sets ≡ true → Some (theory.Sets found) ≡ option_map theory.Sets (only_if (is_base n) (Some sets))
+same-start n sets found e h = ap (λ s. Some (theory.Sets s)) (same-sets sets found h) ∙ sym (kept n sets true (compared n sets found e ∙ h))

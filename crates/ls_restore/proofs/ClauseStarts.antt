@@ -1,0 +1,24 @@
+-- The sets of clauses that were read are of the items.
+use Rattle.std.proofs.Common.{◌≡◌, inl, inr, ℕ, List, [], ◌∷◌, Some, sym, ◌∙◌, true≢false}
+use Rattle.std.specs.List.{AllByRecursion}
+use Rattle.std.proofs.lemmas.Bool.{or_cases}
+use Rattle.serde_json.specs.Data.{Data}
+use Rattle.ls_set.specs.ItemSet.{Items, is_among}
+use Rattle.ls_set.proofs.Members.{among-append}
+use Rattle.ls_theory.specs.Clauses.{all_clauses}
+use Rattle.ls_laws.specs.Spans.{IsOn}
+use Rattle.ls_files.specs.SurmiseFiles.{read_list}
+use Rattle.ls_saved.specs.Parts.{read_set}
+use Rattle.ls_saved.proofs.Inverse.{list-some}
+use Rattle.ls_saved.proofs.Read.{on-from}
+
+each-on : (n : ℕ) (clauses : List (List Items)) → AllByRecursion (IsOn n) clauses → IsOn n (all_clauses clauses)
+each-on n [] h k c = absurd (true≢false (sym c))
+each-on n (own ∷ clauses) h k c =
+    elim (or_cases (is_among own k) (is_among (all_clauses clauses) k) (sym (among-append own (all_clauses clauses) k) ∙ c)) [
+      | inl a ↦ h.0 k a
+      | inr b ↦ each-on n clauses h.1 k b
+    ]
+
+pub lists-on : (n : ℕ) (d : Data) (clauses : List (List Items)) → Some clauses ≡ read_list (read_list (read_set n)) d → IsOn n (all_clauses clauses)
+lists-on n d clauses e = each-on n clauses (list-some (read_list (read_set n)) (IsOn n) (on-from n) d clauses (sym e))

@@ -1,0 +1,4 @@
+mod BaseStarts
+mod ClauseStarts
+mod BlockSizes
+mod Standings
