@@ -7,6 +7,7 @@ use Rattle.serde_json.specs.Data.{Data}
 use Rattle.ls_theory.specs.Settings.{Settings, are_ratios, are_limits}
 use Rattle.ls_theory.specs.declared.ratio.Ratios.{Ratios}
 use Rattle.ls_saved.specs.declared.version.Version.{Version}
+use Rattle.ls_saved.specs.Values.{pair_value, number_value}
 use Rattle.ls_saved.specs.Readers.{at_key}
 use Rattle.ls_saved.specs.Parts.{read_limits, read_odds, read_settings, settings_from}
 use Rattle.ls_saved.proofs.Read.{at-sound}
@@ -27,6 +28,13 @@ module _ (v : Version) (n : ℕ) (d : Data) where
       let parts = and_parts (eqb (length rs) n && list_all are_ratios rs) (are_limits l.0 l.1) all in
       let first = and_parts (eqb (length rs) n) (list_all are_ratios rs) parts.0 in
       record { count = eqb-true (length rs) n first.0; each = first.1; within = parts.1 }
+
+  -- the ratios that are read are in their ranges
+  pub each_read : (rs : List Ratios) → Some rs ≡ at_key (codes "odds") (read_odds v n) d → list_all are_ratios rs ≡ true
+  each_read rs f =
+      let at_odds = at-sound (codes "odds") (read_odds v n) d rs (sym f) in
+      let all = settings-sound v n at_odds.0 (pair_value (number_value 1) (number_value 51)) rs (1, 51) at_odds.1 refl in
+      (and_parts (eqb (length rs) n) (list_all are_ratios rs) (and_parts (eqb (length rs) n && list_all are_ratios rs) (are_limits 1 51) all).0).1
 
   zip_none : (o : Option (List Ratios)) → option_map (λ p. settings_from p.0 p.1) (option_zip o (let none : Option (ℕ × ℕ) = None in none)) ≡ None
   zip_none None = refl

@@ -1,5 +1,5 @@
 -- Lists of pupils: which are read, and in which a name comes twice or which are too long.
-use Rattle.std.proofs.Common.{◌≡◌, ℕ, suc, ◌+◌, ◌<◌, ◌≤◌, Bool, true, false, cond, not, ◌&&◌, ◌||◌, leb, List, [], ◌∷◌, ◌++◌, map, drop, get_or, length, Option, Some, None, option_map, option_and_then, refl, sym, ap, ap₂, ◌∙◌, arith, append_assoc}
+use Rattle.std.proofs.Common.{◌≡◌, ℕ, suc, inl, inr, ◌+◌, ◌<◌, ◌≤◌, Bool, true, false, cond, not, ◌&&◌, ◌||◌, leb, List, [], ◌∷◌, ◌++◌, map, drop, get_or, length, Option, Some, None, option_map, option_and_then, refl, sym, ap, ap₂, ◌∙◌, arith, append_assoc}
 use Rattle.std.specs.Prelude.{bytes_eq}
 use Rattle.std.specs.List.{list_any}
 use Rattle.std.proofs.lemmas.Bool.{cases_Bool, and_parts, and_from, lt-leb, le-leb}
@@ -107,14 +107,15 @@ all-read n f cases values i whole end are h =
 
 -- ---- too many
 
-read-length : (f : Data → Option Pupil) (values : List Value) (o : Option (List Pupil)) (ps : List Pupil) → read_each f (items_view values) ≡ o → o ≡ Some ps → length ps ≡ length values
-read-length f [] o ps e is = let same : [] ≡ ps = cc (e, is) in ap (λ l. length l) (sym same)
-read-length f (v ∷ values) o ps e is = told (f (view v)) (read_each f (items_view values)) refl (e ∙ is)
+read-length : (f : Data → Option Pupil) (values : List Value) (ps : List Pupil) → read_each f (items_view values) ≡ Some ps → length ps ≡ length values
+read-length f [] ps e = let same : [] ≡ ps = cc e in ap (λ l. length l) (sym same)
+read-length f (v ∷ values) ps e = told (f (view v)) (read_each f (items_view values)) refl e (λ qs. read-length f values qs)
   where
-    told : (first : Option Pupil) (rest : Option (List Pupil)) → read_each f (items_view values) ≡ rest → option_and_then (λ y. option_map (λ ys. y ∷ ys) rest) first ≡ Some ps → length ps ≡ suc (length values)
-    told None rest r h = absurd (cc h)
-    told (Some p) None r h = absurd (cc h)
-    told (Some p) (Some qs) r h = let same : p ∷ qs ≡ ps = cc h in ap (λ l. length l) (sym same) ∙ ap suc (read-length f values (Some qs) qs r refl)
+    told : (first : Option Pupil) (rest : Option (List Pupil)) → read_each f (items_view values) ≡ rest → option_and_then (λ y. option_map (λ ys. y ∷ ys) rest) first ≡ Some ps
+        → ((qs : List Pupil) → read_each f (items_view values) ≡ Some qs → length qs ≡ length values) → length ps ≡ suc (length values)
+    told None rest r h again = absurd (cc h)
+    told (Some p) None r h again = absurd (cc h)
+    told (Some p) (Some qs) r h again = let same : p ∷ qs ≡ ps = cc h in ap (λ l. length l) (sym same) ∙ ap suc (again qs r)
 
 pub too-many : (f : Data → Option Pupil) (values : List Value) (d : Data) → most_pupils < length values → Some (items_view values) ≡ as_array d → None ≡ only_if are_pupils (read_list f d)
 too-many f values d many e = told (read_each f (items_view values)) refl ∙ ap (λ o. only_if are_pupils (option_and_then (read_each f) o)) e
@@ -122,5 +123,5 @@ too-many f values d many e = told (read_each f (items_view values)) refl ∙ ap 
     told : (o : Option (List Pupil)) → read_each f (items_view values) ≡ o → None ≡ only_if are_pupils o
     told None r = refl
     told (Some ps) r =
-        let long : most_pupils < length ps = rw (read-length f values (Some ps) ps r refl) many in
+        let long : most_pupils < length ps = rw (read-length f values ps r) many in
         not_kept ps (ap (λ b. b && are_apart bytes_eq (names_of ps)) (lt-leb (length ps) most_pupils long))

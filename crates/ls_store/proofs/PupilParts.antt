@@ -43,25 +43,25 @@ when-spelled n p h = rw h refl
 -- ---- the parts
 
 abbrev joined : Option Text → Option Settings → Option Start → Option (List Query) → Option (List Reply) → Option Pupil
-joined name settings start yes replies = option_map pupil_from (option_zip (option_zip name settings) (option_zip start (option_zip yes replies)))
+joined name settings start own replies = option_map pupil_from (option_zip (option_zip name settings) (option_zip start (option_zip own replies)))
 
 joined-no_yes : (name : Text) (s : Settings) (start : Option Start) (replies : Option (List Reply)) → joined (Some name) (Some s) start None replies ≡ None
 joined-no_yes name s None replies = refl
 joined-no_yes name s (Some start) replies = refl
 
-joined-no_replies : (name : Text) (s : Settings) (start : Option Start) (yes : List Query) → joined (Some name) (Some s) start (Some yes) None ≡ None
-joined-no_replies name s None yes = refl
-joined-no_replies name s (Some start) yes = refl
+joined-no_replies : (name : Text) (s : Settings) (start : Option Start) (own : List Query) → joined (Some name) (Some s) start (Some own) None ≡ None
+joined-no_replies name s None own = refl
+joined-no_replies name s (Some start) own = refl
 
 module _ (v : Version) (n : ℕ) (d : Data) (name : Text) (named : at_key (codes "name") as_str d ≡ Some name) where
-  parted : (name : Option Text) (settings : Option Settings) (start : Option Start) (yes : Option (List Query)) (replies : Option (List Reply))
+  parted : (name : Option Text) (settings : Option Settings) (start : Option Start) (own : Option (List Query)) (replies : Option (List Reply))
       → name ≡ at_key (codes "name") as_str d → settings ≡ read_settings v n d → start ≡ at_key (codes "start") (read_start n) d
-      → yes ≡ at_key (codes "yes") (read_list (read_query n)) d → replies ≡ at_key (codes "replies") (read_list (read_reply n)) d
-      → only_if (is_pupil n) (joined name settings start yes replies) ≡ read_pupil v n d
-  parted name settings start yes replies a b c e f =
-      ap (λ x. only_if (is_pupil n) (joined x settings start yes replies)) a
-      ∙ ap (λ x. only_if (is_pupil n) (joined (at_key (codes "name") as_str d) x start yes replies)) b
-      ∙ ap (λ x. only_if (is_pupil n) (joined (at_key (codes "name") as_str d) (read_settings v n d) x yes replies)) c
+      → own ≡ at_key (codes "yes") (read_list (read_query n)) d → replies ≡ at_key (codes "replies") (read_list (read_reply n)) d
+      → only_if (is_pupil n) (joined name settings start own replies) ≡ read_pupil v n d
+  parted name settings start own replies a b c e f =
+      ap (λ x. only_if (is_pupil n) (joined x settings start own replies)) a
+      ∙ ap (λ x. only_if (is_pupil n) (joined (at_key (codes "name") as_str d) x start own replies)) b
+      ∙ ap (λ x. only_if (is_pupil n) (joined (at_key (codes "name") as_str d) (read_settings v n d) x own replies)) c
       ∙ ap (λ x. only_if (is_pupil n) (joined (at_key (codes "name") as_str d) (read_settings v n d) (at_key (codes "start") (read_start n) d) x replies)) e
       ∙ ap (λ x. only_if (is_pupil n) (joined (at_key (codes "name") as_str d) (read_settings v n d) (at_key (codes "start") (read_start n) d) (at_key (codes "yes") (read_list (read_query n)) d) x)) f
 
@@ -74,24 +74,24 @@ module _ (v : Version) (n : ℕ) (d : Data) (name : Text) (named : at_key (codes
       let replies = at_key (codes "replies") (read_list (read_reply n)) d in
       ap (only_if (is_pupil n)) (sym (joined-no_yes name s start replies)) ∙ parted (Some name) (Some s) start None replies (sym named) e refl f refl
 
-  pub no_replies : (s : Settings) (yes : List Query) → Some s ≡ read_settings v n d → Some yes ≡ at_key (codes "yes") (read_list (read_query n)) d
+  pub no_replies : (s : Settings) (own : List Query) → Some s ≡ read_settings v n d → Some own ≡ at_key (codes "yes") (read_list (read_query n)) d
       → None ≡ at_key (codes "replies") (read_list (read_reply n)) d → None ≡ read_pupil v n d
-  no_replies s yes e f g =
+  no_replies s own e f g =
       let start = at_key (codes "start") (read_start n) d in
-      ap (only_if (is_pupil n)) (sym (joined-no_replies name s start yes)) ∙ parted (Some name) (Some s) start (Some yes) None (sym named) e refl f g
+      ap (only_if (is_pupil n)) (sym (joined-no_replies name s start own)) ∙ parted (Some name) (Some s) start (Some own) None (sym named) e refl f g
 
-  pub no_start : (s : Settings) (yes : List Query) (rs : List Reply) → Some s ≡ read_settings v n d → Some yes ≡ at_key (codes "yes") (read_list (read_query n)) d
+  pub no_start : (s : Settings) (own : List Query) (rs : List Reply) → Some s ≡ read_settings v n d → Some own ≡ at_key (codes "yes") (read_list (read_query n)) d
       → Some rs ≡ at_key (codes "replies") (read_list (read_reply n)) d → None ≡ at_key (codes "start") (read_start n) d → None ≡ read_pupil v n d
-  no_start s yes rs e f g h = parted (Some name) (Some s) None (Some yes) (Some rs) (sym named) e h f g
+  no_start s own rs e f g h = parted (Some name) (Some s) None (Some own) (Some rs) (sym named) e h f g
 
   -- all parts are read
-  module _ (s : Settings) (yes : List Query) (rs : List Reply) (start : Start) (e : Some s ≡ read_settings v n d) (f : Some yes ≡ at_key (codes "yes") (read_list (read_query n)) d)
+  module _ (s : Settings) (own : List Query) (rs : List Reply) (start : Start) (e : Some s ≡ read_settings v n d) (f : Some own ≡ at_key (codes "yes") (read_list (read_query n)) d)
       (g : Some rs ≡ at_key (codes "replies") (read_list (read_reply n)) d) (h : Some start ≡ at_key (codes "start") (read_start n) d) where
     abbrev pub own_pupil : Pupil
-    own_pupil = record { name = name; start = start; yeses = yes; settings = s; replies = rs }
+    own_pupil = record { name = name; start = start; yeses = own; settings = s; replies = rs }
 
     tested : only_if (is_pupil n) (Some own_pupil) ≡ read_pupil v n d
-    tested = parted (Some name) (Some s) (Some start) (Some yes) (Some rs) (sym named) e h f g
+    tested = parted (Some name) (Some s) (Some start) (Some own) (Some rs) (sym named) e h f g
 
     fails : is_pupil n own_pupil ≡ false → None ≡ read_pupil v n d
     fails t = sym (ap (λ b. cond b (Some own_pupil) None) t) ∙ tested

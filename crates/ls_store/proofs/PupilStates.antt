@@ -15,10 +15,10 @@ use Rattle.ls_expert.specs.Starts.{StartOn}
 use Rattle.ls_expert.proofs.Ruling.{ruled-compat}
 use Rattle.ls_saved.specs.Readers.{only_if}
 
-pub are-states : (inner : StartOn) (rules : List Query) (n : ℕ) (start : Start) (yes : List Query) (sets : List Items) → inner ≡ (let s : StartOn = record { item_count = n; start = start } in s) → rules ≡ yes
-    → sets ≡ filter (breaks_none rules) (compat inner.item_count inner.start []) → sets ≡ compat n start yes
-are-states inner rules n start yes sets e f is =
-    is ∙ ap (λ (s : StartOn). filter (breaks_none rules) (compat s.item_count s.start [])) e ∙ ap (λ qs. filter (breaks_none qs) (compat n start [])) f ∙ ruled-compat n start yes
+pub are-states : (inner : StartOn) (rules : List Query) (n : ℕ) (start : Start) (own : List Query) (sets : List Items) → inner ≡ (let s : StartOn = record { item_count = n; start = start } in s) → rules ≡ own
+    → sets ≡ filter (breaks_none rules) (compat inner.item_count inner.start []) → sets ≡ compat n start own
+are-states inner rules n start own sets e f is =
+    is ∙ ap (λ (s : StartOn). filter (breaks_none rules) (compat s.item_count s.start [])) e ∙ ap (λ qs. filter (breaks_none qs) (compat n start [])) f ∙ ruled-compat n start own
 
 pub states-kept : (sets f : List Items) → sets ≡ f → length sets ≤ most_states → Some sets ≡ only_if (λ g. leb (length g) most_states) (Some f)
 states-kept sets f e few = ap Some e ∙ sym (ap (λ b. cond b (Some f) None) (le-leb (length f) most_states (subst (λ (g : List Items). length g ≤ most_states) e few)))
@@ -45,9 +45,9 @@ lost-from f e = told (leb (length f) most_states) refl e
     told true t h = absurd (cc h)
     told false t h = t
 
-pub weighable : (n : ℕ) (start : Start) (yes : List Query) (sets : List Items) (s : Settings) → AreKept (compat n start yes) sets → 0 < n → n ≤ most_items → length s.ratios ≡ n → IsWeighable n sets s
-weighable n start yes sets s kept some few each =
-    let family : IsFamily n sets = subst (IsFamily n) (sym kept.same) (compat-IsFamily n start yes) in
+pub weighable : (n : ℕ) (start : Start) (own : List Query) (sets : List Items) (s : Settings) → AreKept (compat n start own) sets → 0 < n → n ≤ most_items → length s.ratios ≡ n → IsWeighable n sets s
+weighable n start own sets s kept some few each =
+    let family : IsFamily n sets = subst (IsFamily n) (sym kept.same) (compat-IsFamily n start own) in
     family-weighable n sets s family some few each (few_enough (length sets) (ap (λ (g : List Items). leb (length g) most_states) kept.same ∙ kept.test))
   where
     few_enough : (m : ℕ) → leb m most_states ≡ true → m ≤ most_states
