@@ -1,4 +1,4 @@
-use Rattle.std.proofs.Common.{sym, ◌∙◌}
+use Rattle.std.proofs.Common.{rules, sym, ◌∙◌}
 use Rattle.serde_json.specs.View.{view}
 use Rattle.ls_saved.specs.Parts.{read_pupil}
 use Rattle.ls_store.proofs.PupilLists.{too-many}
