@@ -1,0 +1,41 @@
+-- Replies that are given once more, one after another.
+use Rattle.std.proofs.Common.{◌≡◌, ℕ, ◌+◌, ◌<◌, Bool, true, false, ◌&&◌, inl, inr, eqb, List, [], ◌∷◌, ◌++◌, take, drop, get_or, length, Option, Some, None, refl, sym, ap, ap₂, ◌∙◌}
+use Rattle.std.proofs.lemmas.Bool.{cases_Bool}
+use Rattle.ls_lists.proofs.Places.{drop-next}
+use Rattle.ls_set.specs.ItemSet.{Items}
+use Rattle.ls_theory.specs.Settings.{Settings}
+use Rattle.ls_theory.specs.Assessment.{asked, reply_fault}
+use Rattle.ls_theory.specs.declared.reply.Reply.{Reply}
+use Rattle.ls_theory.specs.declared.asked.Asked.{Asked}
+use Rattle.ls_theory.specs.declared.asked.Asked.TheVariants.{Item, Over}
+use Rattle.ls_theory.specs.declared.reply_fault.ReplyFault.{ReplyFault}
+use Rattle.ls_theory.specs.declared.reply_fault.ReplyFault.TheVariants.{WrongItem}
+use Rattle.ls_saved.specs.Standing.{is_asked, follow}
+
+asked-taken : (x : Asked) (q : ℕ) → reply_fault x q ≡ None → is_asked x q ≡ true
+asked-taken (Over reason) q h = absurd (cc h)
+asked-taken (Item p) q h =
+    elim (cases_Bool (eqb p q)) [
+      | inl e ↦ e
+      | inr e ↦ let z : (let o : Option ReplyFault = Some (WrongItem p) in o) ≡ None = rw e at h in absurd (cc z)
+    ]
+
+asked-refused : (x : Asked) (q : ℕ) (fault : ReplyFault) → reply_fault x q ≡ Some fault → is_asked x q ≡ false
+asked-refused (Over reason) q fault h = refl
+asked-refused (Item p) q fault h =
+    elim (cases_Bool (eqb p q)) [
+      | inl e ↦ let z : (let o : Option ReplyFault = None in o) ≡ Some fault = rw e at h in absurd (cc z)
+      | inr e ↦ e
+    ]
+
+module _ (s : Settings) (f : List Items) (replies : List Reply) (i : ℕ) (r : Reply) (within : i < length replies) (at : r ≡ get_or replies i r) where
+  here : follow s f (take i replies) (drop i replies) ≡ (is_asked (asked s f (take i replies)) r.q && follow s f (take i replies ++ r ∷ []) (drop (i + 1) replies))
+  here = ap (follow s f (take i replies)) (drop-next replies i r within at)
+
+  pub follow-next : reply_fault (asked s f (take i replies)) r.q ≡ None → take (i + 1) replies ≡ take i replies ++ r ∷ [] → follow s f (take (i + 1) replies) (drop (i + 1) replies) ≡ follow s f (take i replies) (drop i replies)
+  follow-next taken more =
+      let ok = asked-taken (asked s f (take i replies)) r.q taken in
+      ap (λ l. follow s f l (drop (i + 1) replies)) more ∙ sym (here ∙ ap (λ b. b && follow s f (take i replies ++ r ∷ []) (drop (i + 1) replies)) ok)
+
+  pub follow-fails : (fault : ReplyFault) → reply_fault (asked s f (take i replies)) r.q ≡ Some fault → false ≡ follow s f (take i replies) (drop i replies)
+  follow-fails fault refused = sym (here ∙ ap (λ b. b && follow s f (take i replies ++ r ∷ []) (drop (i + 1) replies)) (asked-refused (asked s f (take i replies)) r.q fault refused))

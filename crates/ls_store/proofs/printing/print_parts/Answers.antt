@@ -1,0 +1,13 @@
+use Rattle.std.proofs.lemmas.Result.{IfOk-weaker}
+use Rattle.ls_saved.specs.Sessions.{Session}
+use Rattle.ls_saved.specs.Values.{session_text}
+use Rattle.ls_pupils.specs.Cases.{pupils_of}
+use Rattle.ls_store.proofs.Printed.{session-no_float}
+use Rattle.ls_store.proofs.printing.print_parts.Goals as goal
+
+pub returns : goal.returns
+unfolding session_text
+returns c =
+    let s : Session = record { names = c.args.domain.now; interview = c.args.inquiry.now; settings = c.args.settings.now; pupils = pupils_of c.args.pupils.now } in
+    let value = c.in_ok-value.ensures in
+    IfOk-weaker c.to_vec.result _ _ (λ v h. let k = rw value at h in k (session-no_float s)) c.to_vec.ensures.text

@@ -1,0 +1,10 @@
+use Rattle.std.proofs.Common.{◌≡◌, take}
+use Rattle.ls_expert.specs.Starts.{StartOn, start_of}
+use Rattle.ls_store.proofs.replaying.family_of.Given as goal
+
+-- the queries so far are rules
+abbrev pub invariant-loop-query : goal.invariant-loop-query
+invariant-loop-query l = record {
+  inner : l.family.inner ≡ (let s : StartOn = record { item_count = l.n; start = start_of l.start } in s);
+  rules : l.family.rules ≡ take l.query-index l.yes;
+}
