@@ -1,9 +1,9 @@
 -- Lists of pupils: which are read, and in which a name comes twice or which are too long.
-use Rattle.std.proofs.Common.{◌≡◌, ℕ, suc, inl, inr, ◌+◌, ◌<◌, ◌≤◌, Bool, true, false, cond, not, ◌&&◌, ◌||◌, leb, List, [], ◌∷◌, ◌++◌, map, drop, get_or, length, Option, Some, None, option_map, option_and_then, refl, sym, ap, ap₂, ◌∙◌, arith, append_assoc}
+use Rattle.std.proofs.Common.{◌≡◌, ℕ, suc, inl, inr, ◌+◌, ◌<◌, ◌≤◌, Bool, true, false, cond, not, ◌&&◌, ◌||◌, leb, List, [], ◌∷◌, ◌++◌, map, drop, get_or, length, Option, Some, None, option_map, option_and_then, refl, sym, ap, ap₂, ◌∙◌, arith, append_assoc, subst}
 use Rattle.std.specs.Prelude.{bytes_eq}
 use Rattle.std.specs.List.{list_any}
 use Rattle.std.proofs.lemmas.Bool.{cases_Bool, and_parts, and_from, lt-leb, le-leb}
-use Rattle.std.proofs.lemmas.List.{length-map}
+use Rattle.std.proofs.lemmas.List.{length-map, map_push}
 use Rattle.std.proofs.lemmas.Slice.Eq.{bytes_eq-Decides}
 use Rattle.serde_json.specs.Data.{Data, Items as Values}
 use Rattle.serde_json.specs.Find.{as_array}
@@ -97,6 +97,13 @@ module _ (f : Data → Option Pupil) (cases : List PupilCase) (values : List Val
       told : (o : Option Pupil) → f (view value) ≡ o → None ≡ only_if are_pupils whole
       told None e = ap (only_if are_pupils) (read-none f (pupils_of cases) values i value whole within at e h)
       told (Some p) e = repeated p e (named p e) h
+
+-- one more pupil
+pub next-read : (f : Data → Option Pupil) (cases new : List PupilCase) (c : PupilCase) (values : List Value) (i : ℕ) (value : Value) (whole : Option (List Pupil)) → i < length values → value ≡ get_or values i value
+    → f (view value) ≡ Some (pupil_of c) → new ≡ cases ++ c ∷ [] → IsRead f (pupils_of cases) (drop i values) whole → IsRead f (pupils_of new) (drop (i + 1) values) whole
+next-read f cases new c values i value whole within at is more h =
+    subst (λ (ps : List Pupil). IsRead f ps (drop (i + 1) values) whole) (sym (ap pupils_of more ∙ map_push pupil_of cases c))
+    (read-next f (pupils_of cases) (pupil_of c) values i value whole within at is h)
 
 -- the end
 pub all-read : (n : ℕ) (f : Data → Option Pupil) (cases : List PupilCase) (values : List Value) (i : ℕ) (whole : Option (List Pupil)) → length values ≤ i → ArePupils n cases → IsRead f (pupils_of cases) (drop i values) whole
