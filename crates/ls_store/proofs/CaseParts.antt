@@ -41,8 +41,8 @@ module _ (n : ℕ) (s : Settings) (start : Start) (own qs : List Query) (rs repl
   is-after w is h =
       subst (λ (o : Option Weighing). IfSome o (λ p. p ≡ after n s start qs replies)) is h ∙ ap₂ (λ (a : List Query) (b : List Reply). after n s start a b) same_queries same_replies
 
-pub with_replies : (p : Pupil) (w : Weighing) → w.replies ≡ p.replies → Some (record p { replies = w.replies }) ≡ Some p
-with_replies p w e = ap (λ (rs : List Reply). let q : Pupil = record p { replies = rs } in Some q) e
+pub with_replies : (p : Pupil) (w : Weighing) (read : Option Pupil) → w.replies ≡ p.replies → Some p ≡ read → Some (record p { replies = w.replies }) ≡ read
+with_replies p w read e h = ap (λ (rs : List Reply). let q : Pupil = record p { replies = rs } in Some q) e ∙ h
 
 -- ---- the case
 

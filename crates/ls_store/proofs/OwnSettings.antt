@@ -1,5 +1,5 @@
 -- The settings that an object has.
-use Rattle.std.proofs.Common.{◌≡◌, ℕ, ◌&&◌, true, eqb, List, length, codes, Option, Some, None, refl, sym, ap, ap₂, ◌∙◌, option_map, eqb-true}
+use Rattle.std.proofs.Common.{◌≡◌, ℕ, ◌&&◌, true, eqb, List, length, codes, Option, Some, None, refl, sym, ap, ◌∙◌, option_map, eqb-true}
 use Rattle.std.specs.Option.{option_zip}
 use Rattle.std.specs.List.{list_all}
 use Rattle.std.proofs.lemmas.Bool.{and_parts}

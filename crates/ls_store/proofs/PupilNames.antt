@@ -1,5 +1,5 @@
 -- The names of pupils that are read, among those that stand.
-use Rattle.std.proofs.Common.{◌≡◌, ℕ, Bool, true, false, cond, List, codes, Option, Some, None, option_map, is_some, refl, sym, ap, ◌∙◌, subst}
+use Rattle.std.proofs.Common.{◌≡◌, ℕ, Bool, true, false, cond, List, codes, Option, Some, None, option_map, is_some, sym, ap, ◌∙◌, subst}
 use Rattle.std.specs.Prelude.{IfSome}
 use Rattle.std.specs.Option.{option_zip}
 use Rattle.std.specs.List.{list_any, position}
@@ -19,9 +19,7 @@ use Rattle.ls_saved.specs.Parts.{read_settings, read_start, read_course, read_pu
 use Rattle.ls_pupils.specs.Own.{is_named}
 use Rattle.ls_pupils.specs.Cases.{pupil_of}
 use Rattle.ls_pupils.specs.declared.cases.PupilCase.{PupilCase}
-
-abbrev case_name : PupilCase → List ℕ
-case_name c = c.name
+use Rattle.ls_pupils.proofs.Named.{name_of}
 
 -- ---- the name of a pupil is the one that stands in its object
 
@@ -43,13 +41,13 @@ module _ (v : Version) (n : ℕ) (d : Data) (name : Text) (named : at_key (codes
       (ap (λ (o : Option Text). only_if (is_pupil n) (option_map pupil_from (option_zip (option_zip o (read_settings v n d)) rest))) (sym named) ∙ h)
 
   -- a case has the name
-  pub name-there : (p : Pupil) → true ≡ is_some (position (is_named case_name name) cases) → read_pupil v n d ≡ Some p → list_any (is_named case_name p.name) cases ≡ true
+  pub name-there : (p : Pupil) → true ≡ is_some (position (is_named name_of name) cases) → read_pupil v n d ≡ Some p → list_any (is_named name_of p.name) cases ≡ true
   name-there p there h =
-      subst (λ (w : List ℕ). list_any (is_named case_name w) cases ≡ true) (name-read p h) (sym (there ∙ is_some-position (is_named case_name name) cases))
+      subst (λ (w : List ℕ). list_any (is_named name_of w) cases ≡ true) (name-read p h) (sym (there ∙ is_some-position (is_named name_of name) cases))
 
   -- no case has it
-  pub name-free : (found : Option PupilCase) → false ≡ is_some (position (is_named case_name name) cases) → option_map pupil_of found ≡ read_pupil v n d
-      → IfSome found (λ c. list_any (is_named case_name c.name) cases ≡ false)
+  pub name-free : (found : Option PupilCase) → false ≡ is_some (position (is_named name_of name) cases) → option_map pupil_of found ≡ read_pupil v n d
+      → IfSome found (λ c. list_any (is_named name_of c.name) cases ≡ false)
   name-free None free h = tt
   name-free (Some c) free h =
-      subst (λ (w : List ℕ). list_any (is_named case_name w) cases ≡ false) (name-read (pupil_of c) (sym h)) (sym (free ∙ is_some-position (is_named case_name name) cases))
+      subst (λ (w : List ℕ). list_any (is_named name_of w) cases ≡ false) (name-read (pupil_of c) (sym h)) (sym (free ∙ is_some-position (is_named name_of name) cases))

@@ -1,4 +1,4 @@
-use Rattle.std.proofs.Common.{◌≡◌, ◌&&◌, true, List, sym, ap, ◌∙◌}
+use Rattle.std.proofs.Common.{◌&&◌, List, sym, ap, ◌∙◌}
 use Rattle.std.specs.List.{list_all}
 use Rattle.serde_json.specs.View.{view}
 use Rattle.ls_set.specs.Query.{is_good}
@@ -8,6 +8,7 @@ use Rattle.ls_domain.specs.Domains.{is_name}
 use Rattle.ls_expert.specs.Starts.{start_of}
 use Rattle.ls_weight.specs.Weighings.{Weighing}
 use Rattle.ls_saved.specs.Standing.{are_apart}
+use Rattle.ls_saved.specs.Parts.{read_pupil}
 use Rattle.ls_pupils.specs.declared.cases.PupilCase.{PupilCase}
 use Rattle.ls_store.proofs.CaseParts.{followed, lost, is-after, with_replies, second, is-case}
 use Rattle.ls_store.proofs.OwnSettings.{settings-count}
@@ -41,8 +42,8 @@ returns-in-Some-5-clause-value g c =
     let f = rw c.in-Some-2.is at c.in_ok-yes.ensures in
     let h = rw c.in-Some-3.is at c.in_ok-replies.ensures in
     let k = rw c.in-Some-4.is at c.in_ok-start.ensures.value in
-    with_replies (own_pupil v n d name c.requires.name s own rs start e f h k) w (ap (λ (x : Weighing). x.replies) is)
-    ∙ all_parts v n d name c.requires.name s own rs start e f h k (sym spelled ∙ c.if-not-can_have.false) can
+    with_replies (own_pupil v n d name c.requires.name s own rs start e f h k) w (read_pupil v n d) (ap (λ (x : Weighing). x.replies) is)
+    (all_parts v n d name c.requires.name s own rs start e f h k (sym spelled ∙ c.if-not-can_have.false) can)
 
 pub returns-in-Some-5-clause-case : goal.returns-in-Some-5-clause-case
 returns-in-Some-5-clause-case g c =
