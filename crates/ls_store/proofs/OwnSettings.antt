@@ -1,5 +1,5 @@
 -- The settings that an object has.
-use Rattle.std.proofs.Common.{◌≡◌, ℕ, ◌&&◌, true, eqb, List, length, codes, Option, Some, None, refl, sym, ap, ap₂, ◌∙◌, option_map, eqb-true}
+use Rattle.std.proofs.Common.{◌≡◌, ℕ, ◌&&◌, true, eqb, List, length, codes, Option, Some, None, refl, sym, ap, ◌∙◌, option_map, eqb-true}
 use Rattle.std.specs.Option.{option_zip}
 use Rattle.std.specs.List.{list_all}
 use Rattle.std.proofs.lemmas.Bool.{and_parts}
@@ -54,3 +54,13 @@ module _ (v : Version) (n : ℕ) (d : Data) where
   with_both l rs e f =
       ap (λ (o : Option (List Ratios)). option_map (λ p. settings_from p.0 p.1) (option_zip o (Some l))) f
       ∙ ap (λ (l : Option (ℕ × ℕ)). option_map (λ p. settings_from p.0 p.1) (option_zip (at_key (codes "odds") (read_odds v n) d) l)) e
+
+  -- the settings that are read are those of n items
+  pub settings-count : (s : Settings) → Some s ≡ read_settings v n d → length s.ratios ≡ n
+  settings-count s h = told (at_key (codes "odds") (read_odds v n) d) (at_key (codes "limits") read_limits d) refl refl h
+    where
+      told : (o : Option (List Ratios)) (l : Option (ℕ × ℕ)) → o ≡ at_key (codes "odds") (read_odds v n) d → l ≡ at_key (codes "limits") read_limits d
+          → Some s ≡ option_map (λ p. settings_from p.0 p.1) (option_zip o l) → length s.ratios ≡ n
+      told None l e f h = absurd (cc h)
+      told (Some rs) None e f h = absurd (cc h)
+      told (Some rs) (Some l) e f h = let same : s ≡ settings_from rs l = cc h in ap (λ (t : Settings). length t.ratios) same ∙ (are-read l rs f e).count

@@ -1,5 +1,5 @@
 -- A pupil, from the parts of its object.
-use Rattle.std.proofs.Common.{◌≡◌, ℕ, Bool, true, false, cond, ◌&&◌, leb, List, [], length, codes, Option, Some, None, option_map, is_none, is_some, refl, sym, ap, ◌∙◌}
+use Rattle.std.proofs.Common.{◌≡◌, ℕ, Bool, true, false, cond, ◌&&◌, List, codes, Option, Some, None, option_map, refl, sym, ap, ◌∙◌}
 use Rattle.std.specs.Option.{option_zip}
 use Rattle.std.specs.List.{list_all}
 use Rattle.serde_json.specs.Data.{Data}
@@ -8,25 +8,23 @@ use Rattle.ls_set.specs.Query.{is_good}
 use Rattle.ls_set.specs.declared.query.Query.{Query}
 use Rattle.ls_theory.specs.Starts.{Start}
 use Rattle.ls_theory.specs.Answering.{is_same_query}
-use Rattle.ls_theory.specs.Settings.{Settings, most_states, heavy_after}
+use Rattle.ls_theory.specs.Settings.{Settings}
 use Rattle.ls_theory.specs.declared.reply.Reply.{Reply}
 use Rattle.ls_domain.specs.Domains.{is_name}
 use Rattle.ls_files.specs.SurmiseFiles.{read_list}
 use Rattle.ls_lines.specs.Lines.{Text}
 use Rattle.ls_saved.specs.declared.version.Version.{Version}
-use Rattle.ls_saved.specs.Sessions.{Pupil, pupil_states}
-use Rattle.ls_saved.specs.Standing.{are_apart, follow, is_pupil}
+use Rattle.ls_saved.specs.Sessions.{Pupil}
+use Rattle.ls_saved.specs.Standing.{are_apart, is_pupil}
 use Rattle.ls_saved.specs.Readers.{at_key, only_if}
 use Rattle.ls_saved.specs.Parts.{read_settings, read_start, read_query, read_reply, read_pupil, pupil_from}
+use Rattle.ls_store.proofs.CaseParts.{can_follow}
 
 -- ---- the tests
 
 -- whether the states are not too many and can be weighed, and the replies follow
 abbrev pub is_followed : ℕ → Pupil → Bool
-is_followed n p =
-    leb (length (pupil_states n p)) most_states
-    && is_none (heavy_after p.settings (length (pupil_states n p)))
-    && follow p.settings (pupil_states n p) [] p.replies
+is_followed n p = can_follow n p.settings p.start p.yeses p.replies
 
 -- whether the name and the queries are those of a pupil
 abbrev pub is_spelled : ℕ → Pupil → Bool
