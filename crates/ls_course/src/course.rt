@@ -4,7 +4,7 @@ ghost use Rattle.ls_theory.specs.Compatible.{compatible_sets};
 ghost use Rattle.ls_class.specs.Tables.{class_of};
 ghost use Rattle.ls_saved.specs.Values.{session_text};
 ghost use Rattle.ls_saved.specs.Reading.{session_of};
-ghost use Rattle.ls_store.specs.Stored.{IsSessionFault};
+ghost use Rattle.ls_store.specs.Chains.{IsSessionFault};
 ghost use Rattle.ls_reply.specs.Texts.{bytes_of};
 ghost use Rattle.ls_reply.specs.Sessions.{started};
 ghost use Rattle.ls_reply.specs.Meanings.{request_of};

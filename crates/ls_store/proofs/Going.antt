@@ -1,5 +1,5 @@
 -- How the parts of a session go on one after another.
-use Rattle.std.proofs.Common.{◌≡◌, ℕ, List, length, codes, Option, Some, None, true, Result, Ok, Err, refl, sym, ap, ◌∙◌, subst}
+use Rattle.std.proofs.Common.{◌≡◌, ℕ, List, length, codes, Option, Some, None, true, Result, Ok, Err, IfErr, IsErrAnd, refl, sym, ap, ◌∙◌, subst}
 use Rattle.serde_json.specs.Data.{Data}
 use Rattle.ls_theory.specs.Starts.{Start}
 use Rattle.ls_theory.specs.Settings.{Settings}
@@ -16,7 +16,8 @@ use Rattle.ls_saved.specs.Reading.{or_cause, session_from, session_of}
 use Rattle.ls_saved.specs.Standing.{are_made}
 use Rattle.ls_saved.proofs.Read.{at-sound, interview-sound}
 use Rattle.ls_saved.proofs.Sound.{block-sound}
-use Rattle.ls_store.specs.Chains.{settings_chain, interview_chain}
+use Rattle.ls_store.specs.Chains.{IsSessionFault, settings_chain, interview_chain}
+use Rattle.ls_store.specs.declared.fault.SessionFault.{SessionFault}
 
 none : {X : Type 0} (c : Cause) (o : Option X) (next : X → Result Session Cause) → None ≡ o → or_cause c o next ≡ Err c
 none c o next e = ap (λ o. or_cause c o next) (sym e)
@@ -105,3 +106,10 @@ no_object bytes e = none cause.Json _ _ e
 pub an_object : (bytes : List ℕ) (d : Data) → Some d ≡ read_object bytes → session_of bytes ≡ session_from d
 unfolding session_of
 an_object bytes d e = some cause.Json _ d _ e
+
+-- ---- faults
+
+-- a fault that is passed on
+pub passed_on : {T : Type 0} (answer : Result Session Cause) (fault : SessionFault) (r : Result T SessionFault) → IsErrAnd r (λ f. f ≡ fault) → IsSessionFault answer fault → IfErr r (IsSessionFault answer)
+passed_on answer fault (Ok x) same h = tt
+passed_on answer fault (Err f) same h = subst (IsSessionFault answer) (sym same) h

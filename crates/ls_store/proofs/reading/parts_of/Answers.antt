@@ -2,7 +2,7 @@ use Rattle.std.proofs.Common.{sym, ◌∙◌, subst}
 use Rattle.serde_json.specs.View.{view}
 use Rattle.ls_pupils.specs.Cases.{pupils_of}
 use Rattle.ls_store.specs.Chains.{IsSessionFault}
-use Rattle.ls_store.proofs.Going.{no_version, no_items, items_next, after_settings, after_interview, no_pupils, all_pupils}
+use Rattle.ls_store.proofs.Going.{no_version, no_items, items_next, after_settings, after_interview, no_pupils, all_pupils, passed_on}
 use Rattle.ls_store.proofs.reading.parts_of.Goals as goal
 
 pub returns-in_default-clause-fault : goal.returns-in_default-clause-fault
@@ -19,7 +19,8 @@ returns-in_err-settings-clause-fault g c =
     let n = c.count-n.result in
     let names = c.in-Some-2.domain in
     let begun = items_next d v names n c.count-n.ensures.value (sym c.in-Some.is ∙ c.own_version.ensures) (rw c.in-Some-2.is at c.in_ok-domain.ensures) in
-    subst (λ r. IsSessionFault r c.in_err-settings.field-0.0) (sym begun) (c.in_err-settings.ensures.chain (after_settings v n d names))
+    passed_on _ c.in_err-settings.field-0.0 c.from_residual-in_err-settings.result c.from_residual-in_err-settings.ensures.1
+    (subst (λ r. IsSessionFault r c.in_err-settings.field-0.0) (sym begun) (c.in_err-settings.ensures.chain (after_settings v n d names)))
 
 pub returns-in_err-inquiry-clause-fault : goal.returns-in_err-inquiry-clause-fault
 returns-in_err-inquiry-clause-fault g c =
@@ -29,7 +30,8 @@ returns-in_err-inquiry-clause-fault g c =
     let names = c.in-Some-2.domain in
     let begun = items_next d v names n c.count-n.ensures.value (sym c.in-Some.is ∙ c.own_version.ensures) (rw c.in-Some-2.is at c.in_ok-domain.ensures) in
     let settled = begun ∙ c.in_ok-settings.ensures.chain (after_settings v n d names) in
-    subst (λ r. IsSessionFault r c.in_err-inquiry.field-0.0) (sym settled) (c.in_err-inquiry.ensures.chain (after_interview v n d names c.in_ok-settings.settings))
+    passed_on _ c.in_err-inquiry.field-0.0 c.from_residual-in_err-inquiry.result c.from_residual-in_err-inquiry.ensures.1
+    (subst (λ r. IsSessionFault r c.in_err-inquiry.field-0.0) (sym settled) (c.in_err-inquiry.ensures.chain (after_interview v n d names c.in_ok-settings.settings)))
 
 pub returns-in-Some-3-clause-session : goal.returns-in-Some-3-clause-session
 returns-in-Some-3-clause-session g c =
