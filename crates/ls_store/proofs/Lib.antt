@@ -1,3 +1,4 @@
+pub mod ApartQueries
 pub mod Going
 pub mod OwnSettings
 pub mod Printed
