@@ -1,4 +1,5 @@
 pub mod CaseParts
+pub mod ApartQueries
 pub mod Going
 pub mod OwnSettings
 pub mod Printed

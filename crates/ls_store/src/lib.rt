@@ -1,6 +1,7 @@
 //! Saved sessions in code: the parts of a session are printed, and read again.
 #![tactic(auto)]
 
+mod apart;
 mod fault;
 mod members;
 mod parts;

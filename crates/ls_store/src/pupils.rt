@@ -15,6 +15,7 @@ ghost use Rattle.ls_pupils.specs.Own.{is_named};
 ghost use Rattle.ls_pupils.specs.Cases.{pupil_of, pupils_of, IsCase, ArePupils};
 ghost use Rattle.ls_pupils.specs.declared.cases.PupilCase.{PupilCase as Case};
 
+use crate::apart::are_apart;
 use crate::members::{own_limits, own_name, own_odds, own_start};
 use crate::replaying::pupil_after;
 use ls_assess::Reply;
@@ -78,33 +79,17 @@ fn are_good(n: u32, queries: &[Query]) -> bool
     queries.iter().all(|query| query.is_good(n))
 }
 
-// Whether the query is among the others.
-#[tactic(auto, unfolding(ls_set::specs::ItemSet::is_same))]
-fn has_query(query: &Query, others: &[Query]) -> bool
-    ensures { result ≡ list_any (is_same_query query.now) others.now }
-{
-    others.iter().any(|other| *query == *other)
-}
-
-// Whether no two queries are the same.
-fn are_apart(queries: &[Query]) -> bool
-    ensures { result ≡ are_apart is_same_query queries.now }
-{
-    for (place, query) in queries.iter().enumerate() {
-        if has_query(query, &queries[place + 1..]) {
-            return false;
-        }
-    }
-    true
-}
-
 // Whether a pupil can have the name and the Yes queries, on `n` items.
-fn can_have(n: u32, name: &Word, yes: &[Query]) -> bool
+fn can_have(alloc: Global, n: u32, name: &Word, yes: &[Query]) -> Result<bool, AllocError>
     requires { n ≤ PLACES }
-    ensures { result ≡ (is_name name.now && list_all (is_good n) yes.now
-        && are_apart is_same_query yes.now) }
+    ensures { IfOk result (λ b. b ≡ (is_name name.now && list_all (is_good n) yes.now
+        && are_apart is_same_query yes.now)) }
 {
-    Kind::Name.takes(name.as_str().as_bytes()) && are_good(n, yes) && are_apart(yes)
+    if Kind::Name.takes(name.as_str().as_bytes()) && are_good(n, yes) {
+        are_apart(alloc, yes)
+    } else {
+        Ok(false)
+    }
 }
 
 // The case of the pupil that an object is, whose name is given.
@@ -135,7 +120,8 @@ fn read_case<L: Ledger>(
     let Some(start) = own_start(alloc, n, object)? else {
         return Ok(None);
     };
-    if !can_have(n, &name, yes.as_slice()) {
+    let fits = can_have(alloc, n, &name, yes.as_slice())?;
+    if !fits {
         return Ok(None);
     }
     match pupil_after(alloc, n, &start, yes.as_slice(), &settings, &replies, steps)? {
