@@ -67,7 +67,7 @@ pub again-next : (queries : List Query) (i : ℕ) (r : Query) → i < length que
     → list_any (is_same_query r) (take i queries) ≡ true → are_apart is_same_query queries ≡ false
 again-next queries i r l e found =
     let split : take i queries ++ r ∷ drop (i + 1) queries ≡ queries =
-      ap (λ rest. take i queries ++ rest) (sym (drop-next queries i r l e)) ∙ take-append-drop i queries in
+    ap (λ rest. take i queries ++ rest) (sym (drop-next queries i r l e)) ∙ take-append-drop i queries in
     sym (ap (are_apart is_same_query) split) ∙ comes-again (take i queries) r (drop (i + 1) queries) found
 
 -- what is seen once it is seen too

@@ -1,5 +1,5 @@
 -- How the parts of a session go on one after another.
-use Rattle.std.proofs.Common.{◌≡◌, ℕ, List, length, codes, Option, Some, None, true, Result, Ok, Err, IfErr, IsErrAnd, refl, sym, ap, ◌∙◌, subst}
+use Rattle.std.proofs.Common.{◌≡◌, ℕ, List, length, codes, Option, Some, None, true, Result, Ok, Err, IfErr, IsErrAnd, sym, ap, ◌∙◌, subst}
 use Rattle.serde_json.specs.Data.{Data}
 use Rattle.ls_theory.specs.Starts.{Start}
 use Rattle.ls_theory.specs.Settings.{Settings}

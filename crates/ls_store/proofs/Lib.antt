@@ -7,5 +7,4 @@ pub mod PupilLists
 pub mod PupilNames
 pub mod PupilParts
 pub mod PupilStates
-pub mod QueryLists
 pub mod Replays

@@ -1,10 +1,7 @@
 -- The value of a session has no float.
-use Rattle.std.proofs.Common.{◌≡◌, ℕ, List, [], ◌∷◌, map, false, refl}
+use Rattle.std.proofs.Common.{◌≡◌, ℕ, List, [], ◌∷◌, false, refl}
 use Rattle.serde_json.specs.Data.{Data}
-use Rattle.serde_json.specs.View.{items_of}
-use Rattle.serde_json.specs.Written.{has_float, items_have_float}
-use Rattle.ls_set.specs.ItemSet.{Items}
-use Rattle.ls_set.specs.declared.query.Query.{Query}
+use Rattle.serde_json.specs.Written.{has_float}
 use Rattle.ls_theory.specs.Starts.{Start, Free, Clauses, Sets}
 use Rattle.ls_files.specs.SurmiseFiles.{list_value}
 use Rattle.ls_saved.specs.Sessions.{Pupil, Session}

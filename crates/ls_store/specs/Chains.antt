@@ -1,7 +1,7 @@
 -- Parts of a session that are read one after another.
 --     IsSessionFault answer fault      the fault is the cause why bytes are no session, or memory ran out
 --     GoesOn chain result      what was read goes on along the chain, or the chain ends with the fault
-use Rattle.std.specs.Prelude.{ℕ, ◌≡◌, Option, Result, Ok, Err, codes, ⊤}
+use Rattle.std.specs.Prelude.{ℕ, ◌≡◌, Result, Ok, Err, codes, ⊤}
 use Rattle.serde_json.specs.Data.{Data}
 use Rattle.ls_theory.specs.Settings.{Settings}
 use Rattle.ls_theory.specs.Interviews.{Interview}

@@ -10,7 +10,7 @@ returns-then-not-branch c =
     let l = c.loop-query in
     let r = c.query-item.result in
     let was : contains query_order l.seen r ≡ true =
-      ap (contains query_order l.seen) (sym c.new.ensures) ∙ not-false _ (sym c.in_ok-insert.ensures.added ∙ c.if-not-branch.true) in
+    ap (contains query_order l.seen) (sym c.new.ensures) ∙ not-false _ (sym c.in_ok-insert.ensures.added ∙ c.if-not-branch.true) in
     sym (again-next c.args.queries.now l.query-index r c.loop-query-test.true c.query-item.is (sym (l.invariant.seen r) ∙ was))
 
 pub loop-query-preserved : goal.loop-query-preserved
@@ -19,7 +19,7 @@ loop-query-preserved c =
     let all = c.args.queries.now in
     let r = c.query-item.result in
     let new : contains query_order l.seen r ≡ false =
-      ap (contains query_order l.seen) (sym c.new.ensures) ∙ not-true _ (sym c.in_ok-insert.ensures.added ∙ c.if-not-branch.false) in
+    ap (contains query_order l.seen) (sym c.new.ensures) ∙ not-true _ (sym c.in_ok-insert.ensures.added ∙ c.if-not-branch.false) in
     record {
       seen = λ s.
           c.in_ok-insert.ensures.updates.0 s
