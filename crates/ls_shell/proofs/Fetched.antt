@@ -1,34 +1,44 @@
 -- The script of a named file, by what was fetched; and a run over a script that is there whole.
-use Rattle.std.proofs.Common.{◌≡◌, ℕ, ◌+◌, ◌<◌, ◌≤◌, inl, inr, Bool, true, false, cond, ltb, List, [], ◌++◌, length, Option, Some, None, Result, Ok, Err, Vec, MatchResult, refl, sym, ap, ◌∙◌, subst, append-nil, arith}
+use Rattle.std.proofs.Common.{◌≡◌, ℕ, ◌+◌, ◌<◌, ◌≤◌, inl, inr, Bool, true, false, cond, ltb, List, [], ◌∷◌, ◌++◌, length, Option, Some, None, Result, Ok, Err, IsErrOf, IsErrAnd, Vec, MatchResult, refl, sym, ap, ◌∙◌, subst, append-nil, arith, le-ltb}
 use Rattle.std.specs.declared.alloc.AllocError.{AllocError}
 use Rattle.std.specs.declared.alloc.Global.{Global}
 use Rattle.std.specs.FinMap as map
 use Rattle.std.specs.Io.KnownBytes.{Keeps}
 use Rattle.std.proofs.KnownBytes.{Keeps-refl}
 use Rattle.ls_edge.specs.Causes.{Rose}
-use Rattle.ls_edge.specs.Files.{Folder, longest_file, Fetches, FetchedFrom, GivesBytes, Stays}
+use Rattle.ls_edge.specs.Files.{Folder, longest_file, given, Fetches, FetchedFrom, GivesBytes, Stays}
 use Rattle.ls_edge.specs.declared.traits.FetchFault.{FetchFault}
 use Rattle.ls_edge.specs.declared.traits.FetchFault.TheVariants as fetch
 use Rattle.ls_lines.specs.Lines.{Text, lines}
 use Rattle.ls_reply.specs.Transcripts.{Marked, count_marks}
 use Rattle.ls_shell.specs.Progress.{FewMarks, HasAnswered, StopsAt}
 use Rattle.ls_shell.specs.Runs.{AnswersWhole}
-use Rattle.ls_shell.specs.Named.{LeavesAll, AnswersFile, AnswersFound, TellsLong}
+use Rattle.ls_shell.specs.Named.{LeavesAll, AnswersFile, AnswersGiven, AnswersNamed}
 use Rattle.ls_shell.specs.declared.status.Status.{Status}
-use Rattle.ls_shell.specs.declared.status.Status.TheVariants.{NoScript, InputLong, ReadFault, NoMemory}
+use Rattle.ls_shell.specs.declared.status.Status.TheVariants.{Done, Refused, Usage, ReadFault, WriteFault, InputLong, NoMemory, NoScript}
+use Rattle.ls_session.specs.declared.step_fault.StepFault.{StepFault}
+use Rattle.ls_session.specs.declared.step_fault.StepFault.TheVariants.{Write, Memory}
+use Rattle.ls_shell.specs.Scripts.{AnswersScript}
+use Rattle.ls_shell.proofs.Scripts.{whole_unmarked}
 
--- ---- what the folder has, by what was fetched
+-- ---- what a fetch has to give, by what was fetched
 
 module _ (m : Folder) (left : Option Folder) (hb hn : ℕ) (before after : Option (List ℕ)) where
   abbrev Found : Option (List ℕ) → Status → Type 0
-  Found o status = AnswersFound o m left hb hn before after status
+  Found o status = AnswersGiven (given o) m left hb hn before after status
+
+  -- what a test on the length has to give
+  abbrev tested : List ℕ → Bool → Result (List ℕ) FetchFault
+  tested bytes t = cond t (Err (fetch.TooLarge (length bytes))) (Ok bytes)
+
+  abbrev Gives : Result (List ℕ) FetchFault → Result (Vec ℕ Global) FetchFault → Type 0
+  Gives g r = MatchResult g (λ b. GivesBytes b r) (λ e. r ≡ Err e)
 
   -- the bytes are those of the file
   pub found-read : (o : Option (List ℕ)) (v : Vec ℕ Global) (status : Status) → FetchedFrom o (Ok v) → AnswersFile m v.items left hb hn before after status → Found o status
   found-read None v status h a = absurd (cc h)
   found-read (Some bytes) v status h a =
-      elim (ltb longest_file (length bytes)) as (λ t. MatchResult (cond t (Err (fetch.TooLarge (length bytes))) (Ok bytes)) (λ b. GivesBytes b (Ok v)) (λ e. Ok v ≡ Err e)
-          → cond t (TellsLong m left before after status) (AnswersFile m bytes left hb hn before after status)) [
+      elim (ltb longest_file (length bytes)) as (λ t. Gives (tested bytes t) (Ok v) → AnswersGiven (tested bytes t) m left hb hn before after status) [
         | true ↦ λ e. absurd (cc e)
         | false ↦ λ e. subst (λ (bs : List ℕ). AnswersFile m bs left hb hn before after status) e a
       ] h
@@ -37,8 +47,7 @@ module _ (m : Folder) (left : Option Folder) (hb hn : ℕ) (before after : Optio
   pub found-missing : (o : Option (List ℕ)) → FetchedFrom o (Err fetch.Missing) → LeavesAll m left before after → Found o NoScript
   found-missing None h a = a
   found-missing (Some bytes) h a =
-      elim (ltb longest_file (length bytes)) as (λ t. MatchResult (cond t (Err (fetch.TooLarge (length bytes))) (Ok bytes)) (λ b. GivesBytes b (Err fetch.Missing)) (λ e. (Err fetch.Missing : Result (Vec ℕ Global) FetchFault) ≡ Err e)
-          → cond t (TellsLong m left before after NoScript) (AnswersFile m bytes left hb hn before after NoScript)) [
+      elim (ltb longest_file (length bytes)) as (λ t. Gives (tested bytes t) (Err fetch.Missing) → AnswersGiven (tested bytes t) m left hb hn before after NoScript) [
         | true ↦ λ e. absurd (cc e)
         | false ↦ λ e. absurd e
       ] h
@@ -47,8 +56,7 @@ module _ (m : Folder) (left : Option Folder) (hb hn : ℕ) (before after : Optio
   pub found-long : (o : Option (List ℕ)) (n : ℕ) → FetchedFrom o (Err (fetch.TooLarge n)) → LeavesAll m left before after → Found o InputLong
   found-long None n h a = absurd (cc h)
   found-long (Some bytes) n h a =
-      elim (ltb longest_file (length bytes)) as (λ t. MatchResult (cond t (Err (fetch.TooLarge (length bytes))) (Ok bytes)) (λ b. GivesBytes b (Err (fetch.TooLarge n))) (λ e. (Err (fetch.TooLarge n) : Result (Vec ℕ Global) FetchFault) ≡ Err e)
-          → cond t (TellsLong m left before after InputLong) (AnswersFile m bytes left hb hn before after InputLong)) [
+      elim (ltb longest_file (length bytes)) as (λ t. Gives (tested bytes t) (Err (fetch.TooLarge n)) → AnswersGiven (tested bytes t) m left hb hn before after InputLong) [
         | true ↦ λ e. a
         | false ↦ λ e. absurd e
       ] h
@@ -57,8 +65,7 @@ module _ (m : Folder) (left : Option Folder) (hb hn : ℕ) (before after : Optio
   pub found-failed : (o : Option (List ℕ)) → FetchedFrom o (Err fetch.Failed) → LeavesAll m left before after → Rose hb hn → Found o ReadFault
   found-failed None h a r = absurd (cc h)
   found-failed (Some bytes) h a r =
-      elim (ltb longest_file (length bytes)) as (λ t. MatchResult (cond t (Err (fetch.TooLarge (length bytes))) (Ok bytes)) (λ b. GivesBytes b (Err fetch.Failed)) (λ e. (Err fetch.Failed : Result (Vec ℕ Global) FetchFault) ≡ Err e)
-          → cond t (TellsLong m left before after ReadFault) (AnswersFile m bytes left hb hn before after ReadFault)) [
+      elim (ltb longest_file (length bytes)) as (λ t. Gives (tested bytes t) (Err fetch.Failed) → AnswersGiven (tested bytes t) m left hb hn before after ReadFault) [
         | true ↦ λ e. absurd (cc e)
         | false ↦ λ e. (a, r)
       ] h
@@ -66,10 +73,14 @@ module _ (m : Folder) (left : Option Folder) (hb hn : ℕ) (before after : Optio
   -- there was no memory for it
   pub found-none : (o : Option (List ℕ)) → LeavesAll m left before after → ((bytes : List ℕ) → StopsAt ⊥ m (lines bytes) left hb hn before after) → Found o NoMemory
   found-none None a h = a
-  found-none (Some bytes) a h = elim (ltb longest_file (length bytes)) as (λ t. cond t (TellsLong m left before after NoMemory) (AnswersFile m bytes left hb hn before after NoMemory)) [
+  found-none (Some bytes) a h = elim (ltb longest_file (length bytes)) as (λ t. AnswersGiven (tested bytes t) m left hb hn before after NoMemory) [
     | true ↦ a
     | false ↦ h bytes
   ]
+
+-- a file that is not too long is given
+pub given-short : (bytes : List ℕ) → length bytes ≤ longest_file → given (Some bytes) ≡ Ok bytes
+given-short bytes h = ap (λ b. cond b (Err (fetch.TooLarge (length bytes))) (Ok bytes)) (le-ltb longest_file (length bytes) h)
 
 -- ---- counts from earlier on
 
@@ -92,7 +103,7 @@ module _ (m : Folder) (left : Option Folder) (before then now : ℕ) (l : before
     front = h.front;
     written = h.written;
     files = h.files;
-    few = few-earlier _ before then now l h.few;
+    few = few-earlier (h.ended ++ h.at ∷ []) before then now l h.few;
   }
 
 -- a told folder stays
@@ -103,3 +114,33 @@ stays-told (Some k) new m h e = h ∙ e
 pub fetched-told : (old new : Option Folder) (name : Text) (r : Result (Vec ℕ Global) FetchFault) (m : Folder) → Fetches old new name r → old ≡ Some m → FetchedFrom (map.get m name) r
 fetched-told None new name r m h e = absurd (cc e)
 fetched-told (Some k) new name r m h e = subst (λ (x : Folder). FetchedFrom (map.get x name) r) (let same : k ≡ m = cc e in same) h.1
+
+-- ---- faults that are passed on
+
+pub told_same : {T U : Type 0} (q : Result U StepFault) (r : Result T StepFault) (e : StepFault) → r ≡ Err e → IsErrAnd q (λ f. f ≡ e) → IsErrOf q Write → IsErrOf r Write
+told_same (Ok x) r e was is h = absurd is
+told_same (Err f) r e was is h = was ∙ ap Err (sym is ∙ (let same : f ≡ Write = cc h in same))
+
+pub never_write : {U : Type 0} (q : Result U StepFault) (e : AllocError) → IsErrAnd q (λ f. f ≡ Memory e) → IsErrOf q Write → ⊥
+never_write (Ok x) e is h = absurd is
+never_write (Err f) e is h = let same : f ≡ Write = cc h in absurd (cc (is, same))
+
+-- ---- a script of a told folder
+
+-- where no call on the folder failed, the transcript was written
+pub script-answered : (m : Folder) (script : List ℕ) (left : Option Folder) (hb hn : ℕ) (before after : Option (List ℕ)) (status : Status) → AnswersFile m script left hb hn before after status → (Rose hb hn → ⊥) → (status ≡ WriteFault → ⊥)
+    → AnswersScript m script left before after status
+script-answered m script left hb hn before after Done a quiet sink = whole_unmarked m script left hb hn before after false a quiet
+script-answered m script left hb hn before after Refused a quiet sink = whole_unmarked m script left hb hn before after true a quiet
+script-answered m script left hb hn before after ReadFault a quiet sink = absurd (quiet a.1)
+script-answered m script left hb hn before after WriteFault a quiet sink = absurd (sink refl)
+script-answered m script left hb hn before after NoMemory a quiet sink = tt
+script-answered m script left hb hn before after Usage a quiet sink = absurd a
+script-answered m script left hb hn before after InputLong a quiet sink = absurd a
+script-answered m script left hb hn before after NoScript a quiet sink = absurd a
+
+-- the file of the name is given
+pub named-script : (m : Folder) (name : Text) (script : List ℕ) (left : Option Folder) (hb hn : ℕ) (before after : Option (List ℕ)) (status : Status) → AnswersNamed name m left hb hn before after status → map.get m name ≡ Some script → length script ≤ longest_file
+    → AnswersFile m script left hb hn before after status
+named-script m name script left hb hn before after status a got short =
+    subst (λ (r : Result (List ℕ) FetchFault). AnswersGiven r m left hb hn before after status) (ap given got ∙ given-short script short) a

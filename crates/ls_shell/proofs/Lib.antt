@@ -10,3 +10,4 @@ pub mod Scripts
 mod Numbers
 mod Faulting
 pub mod Fetched
+pub mod Asked

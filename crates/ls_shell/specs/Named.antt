@@ -1,10 +1,12 @@
 -- What a run over the script of a named file does, by its status, and what a drill writes.
-use Rattle.std.specs.Prelude.{◌≡◌, ℕ, nat_lt, if◌then◌else◌, true, false, List, length, Some, None, ⊤}
+use Rattle.std.specs.Prelude.{◌≡◌, ℕ, true, false, List, Some, None, Result, Ok, Err, ⊤}
 use Rattle.std.specs.declared.option.Option.{Option}
 use Rattle.std.specs.FinMap as map
 use Rattle.std.specs.Io.KnownBytes.{Appends, Keeps}
 use Rattle.ls_edge.specs.Causes.{Rose, AppendsFront}
-use Rattle.ls_edge.specs.Files.{Folder, longest_file}
+use Rattle.ls_edge.specs.Files.{Folder, given}
+use Rattle.ls_edge.specs.declared.traits.FetchFault.{FetchFault}
+use Rattle.ls_edge.specs.declared.traits.FetchFault.TheVariants as fetch
 use Rattle.ls_lines.specs.Lines.{Text, lines}
 use Rattle.ls_words.specs.declared.mode.Mode.{Mode}
 use Rattle.ls_words.specs.declared.mode.Mode.TheVariants.{File, Drill}
@@ -59,19 +61,23 @@ AnswersFile folder script left shelf_before shelf_now before after NoMemory =
     StopsAt ⊥ folder (lines script) left shelf_before shelf_now before after
 AnswersFile folder script left shelf_before shelf_now before after status = ⊥
 
--- what is done by what the folder has under the name
-abbrev pub AnswersFound : Option (List ℕ) → Folder → Option Folder → ℕ → ℕ
+-- what is done by what a fetch of the file has to give
+abbrev pub AnswersGiven : Result (List ℕ) FetchFault → Folder → Option Folder → ℕ → ℕ
     → Option (List ℕ) → Option (List ℕ) → Status → Type 0
-AnswersFound None folder left shelf_before shelf_now before after status =
+AnswersGiven (Ok script) folder left shelf_before shelf_now before after status =
+    AnswersFile folder script left shelf_before shelf_now before after status
+AnswersGiven (Err fetch.Missing) folder left shelf_before shelf_now before after status =
     TellsNone folder left before after status
-AnswersFound (Some script) folder left shelf_before shelf_now before after status =
-    if nat_lt longest_file (length script) then TellsLong folder left before after status
-    else AnswersFile folder script left shelf_before shelf_now before after status
+AnswersGiven (Err (fetch.TooLarge bytes)) folder left shelf_before shelf_now before after status =
+    TellsLong folder left before after status
+AnswersGiven (Err fetch.Failed) folder left shelf_before shelf_now before after status = ⊥
+AnswersGiven (Err (fetch.Memory e)) folder left shelf_before shelf_now before after status = ⊥
 
+-- by what the folder has under the name
 abbrev pub AnswersNamed : Text → Folder → Option Folder → ℕ → ℕ
     → Option (List ℕ) → Option (List ℕ) → Status → Type 0
 AnswersNamed name folder left shelf_before shelf_now before after status =
-    AnswersFound (map.get folder name) folder left shelf_before shelf_now before after status
+    AnswersGiven (given (map.get folder name)) folder left shelf_before shelf_now before after status
 
 -- the text of a drill was written, or a front of it where the sink failed or memory ran out
 abbrev pub WritesDrill : List ℕ → Option (List ℕ) → Option (List ℕ) → ℕ → ℕ → Status → Type 0

@@ -4,7 +4,7 @@ ghost use Rattle.std.specs.Io.KnownBytes.{Keeps};
 ghost use Rattle.ls_edge.specs.Causes.{Rose};
 ghost use Rattle.ls_edge.specs.Files.{Folder, Stays};
 ghost use Rattle.ls_lines.specs.Lines.{lines};
-ghost use Rattle.ls_shell.specs.Progress.{StopsAt};
+ghost use Rattle.ls_shell.specs.Progress.{IsFresh, StopsAt};
 ghost use Rattle.ls_shell.specs.Runs.{IsExtended, AnswersWhole};
 ghost use Rattle.ls_shell.specs.Named.{AnswersNamed};
 ghost use Rattle.ls_session.specs.Follows.{MovesSink};
@@ -63,6 +63,7 @@ fn answer_whole<R: Threads + Sync, K: Sink, H: Shelf>(
     out: &mut K,
     shelf: &mut H,
 ) -> Result<bool, StepFault>
+    requires { length script.now < 2 ^ 64 }
     ensures answered { IfOk result (λ b. (m : Folder) → H.files shelf.old ≡ Some m
         → AnswersWhole m script.now (H.files shelf.new) (H.faults shelf.old) (H.faults shelf.new)
         (K.written out.old) (K.written out.new) b) }
@@ -75,6 +76,30 @@ fn answer_whole<R: Threads + Sync, K: Sink, H: Shelf>(
     ensures later { H.faults shelf.old ≤ H.faults shelf.new }
 {
     let mut run = Run::new(alloc)?;
+    answer_by(rt, &mut run, script, out, shelf)
+}
+
+// Does so by a run that has answered nothing.
+fn answer_by<R: Threads + Sync, K: Sink, H: Shelf>(
+    rt: &R,
+    run: &mut Run,
+    script: &[u8],
+    out: &mut K,
+    shelf: &mut H,
+) -> Result<bool, StepFault>
+    requires fresh { IsFresh run.old }
+    requires short { length script.now < 2 ^ 64 }
+    ensures answered { IfOk result (λ b. (m : Folder) → H.files shelf.old ≡ Some m
+        → AnswersWhole m script.now (H.files shelf.new) (H.faults shelf.old) (H.faults shelf.new)
+        (K.written out.old) (K.written out.new) b) }
+    ensures stopped { OnErr result ((m : Folder) → H.files shelf.old ≡ Some m
+        → StopsAt (IsErrOf result StepFault.Write) m (lines script.now)
+        (H.files shelf.new) (H.faults shelf.old) (H.faults shelf.new)
+        (K.written out.old) (K.written out.new)) }
+    ensures sink { MovesSink StepFault.Write
+        (K.written out.old) (K.written out.new) (K.faults out.old) (K.faults out.new) result }
+    ensures later { H.faults shelf.old ≤ H.faults shelf.new }
+{
     run.take(rt, script, out, shelf)?;
     run.finish(rt, out, shelf)
 }

@@ -1,0 +1,46 @@
+use Rattle.std.proofs.Common.{[], Err, IsErrOf, refl, sym, subst, append-nil, List, ℕ}
+use Rattle.std.specs.declared.option.Option.{Option}
+use Rattle.std.proofs.lemmas.Result.{IfOk-weaker, on_err_weaker}
+use Rattle.ls_edge.specs.Files.{Folder}
+use Rattle.ls_lines.specs.Lines.{lines}
+use Rattle.ls_session.specs.declared.step_fault.StepFault.TheVariants.{Write}
+use Rattle.ls_shell.specs.Progress.{Answers, StopsAt}
+use Rattle.ls_shell.proofs.Followed.{OnErr_from}
+use Rattle.ls_shell.proofs.Moves.{moves_more}
+use Rattle.ls_shell.proofs.Answered.{stops_if}
+use Rattle.ls_shell.proofs.Fetched.{told_same}
+use Rattle.ls_shell.proofs.named.answer_by.Goals as goal
+
+pub returns-in_err-take-clause-stopped : goal.returns-in_err-take-clause-stopped
+returns-in_err-take-clause-stopped g c =
+    let faults = g.H.Shelf.faults c.args.shelf.now in
+    let written = g.K.Sink.written c.args.out.now in
+    let script = c.args.script.now in
+    let e = c.in_err-take.field-0.0 in
+    let W = IsErrOf {T = Unit {0}} (Err e) Write in
+    OnErr_from c.from_residual.result (λ m told.
+    let fresh = subst (λ (o : Option Folder). Answers m (lines []) [] c.args.run.now o faults faults written written) (sym told) (c.requires.fresh m faults written) in
+    let stops = c.in_err-take.ensures.stopped m [] [] faults written c.requires.short fresh in
+    stops_if W (IsErrOf c.from_residual.result Write) m _ _ _ _ _ _ (told_same c.from_residual.result (Err e) e refl c.from_residual.ensures.1)
+    (subst (λ (bytes : List ℕ). StopsAt W m (lines bytes) (g.H.Shelf.files c.take.new.shelf) faults (g.H.Shelf.faults c.take.new.shelf) written (g.K.Sink.written c.take.new.out)) (append-nil script) stops))
+
+pub returns-clause-answered : goal.returns-clause-answered
+returns-clause-answered g c =
+    let faults = g.H.Shelf.faults c.args.shelf.now in
+    let written = g.K.Sink.written c.args.out.now in
+    IfOk-weaker c.finish.result _ _ (λ b f m told.
+    let fresh = subst (λ (o : Option Folder). Answers m (lines []) [] c.args.run.now o faults faults written written) (sym told) (c.requires.fresh m faults written) in
+    f m c.args.script.now faults written c.requires.short (c.in_ok-take.ensures.answered m [] faults written c.requires.short fresh)) c.finish.ensures.answered
+
+pub returns-clause-stopped : goal.returns-clause-stopped
+returns-clause-stopped g c =
+    let faults = g.H.Shelf.faults c.args.shelf.now in
+    let written = g.K.Sink.written c.args.out.now in
+    on_err_weaker c.finish.result (λ f m told.
+    let fresh = subst (λ (o : Option Folder). Answers m (lines []) [] c.args.run.now o faults faults written written) (sym told) (c.requires.fresh m faults written) in
+    f m c.args.script.now faults written c.requires.short (c.in_ok-take.ensures.answered m [] faults written c.requires.short fresh)) c.finish.ensures.stopped
+
+pub returns-clause-sink : goal.returns-clause-sink
+returns-clause-sink g c =
+    let k = c.take.ensures.sink in
+    moves_more Write _ _ _ _ _ _ c.finish.result k.kept.0 k.kept.1 k.later c.finish.ensures.sink
