@@ -1,6 +1,6 @@
 -- The standing answers of a drill, with the closures of single items: these tell what is known.
-use Rattle.std.specs.Prelude.{ℕ, ◌≡◌, ◌<◌, ◌≤◌, ◌+◌, Bool, true, false, not, ◌&&◌, ◌||◌, if◌then◌else◌, List, map, find, length, slice_index_or, unwrap_or}
-use Rattle.std.specs.List.{list_all}
+use Rattle.std.specs.Prelude.{ℕ, ◌≡◌, ◌<◌, ◌≤◌, ◌+◌, ◌==◌, Bool, true, false, not, ◌&&◌, ◌||◌, if◌then◌else◌, List, map, find, length, slice_index_or, unwrap_or}
+use Rattle.std.specs.List.{list_all, list_any}
 use Rattle.std.specs.Option.{option_map_or}
 use Rattle.ls_set.specs.ItemSet.{Items, has, empty, full, single, union, least}
 use Rattle.ls_set.specs.Query.{is_good}
@@ -61,3 +61,17 @@ pub record IsStood (n : ℕ) (answers : List Answer) (closures : List Items) : T
   pub sound : IsSound (standing_on n answers)
   pub drill : IsDrill n (standing_on n answers)
   pub good : list_all (λ a. is_good n a.query) answers ≡ true
+
+-- whether the answer is to the query ({a}, q)
+abbrev pub is_on : ℕ → ℕ → Answer → Bool
+is_on a q x = item_of x.query.a == a && x.query.q == q
+
+-- the marks of each item a: those items q for which some of the answers to ({a}, q) has the property
+pub record AreMarks (n : ℕ) (property : Answer → Bool) (answers : List Answer) (marks : List Items) : Type 0 where
+  pub items : length marks ≡ n
+  pub marked : (a q : ℕ) → a < n → has (slice_index_or marks a empty) q ≡ list_any (λ x. property x && is_on a q x) answers
+
+-- beside the closures the queries that were asked are marked
+pub record IsKeptBeside (n : ℕ) (answers : List Answer) (closures asked : List Items) : Type 0 where
+  pub stands : IsStood n answers closures
+  pub asked_marked : AreMarks n (λ x. true) answers asked

@@ -56,14 +56,6 @@ impl Filled {
     }
 }
 
-// Whether an answer to the query stands.
-#[tactic(auto, unfolding(ls_set::specs::ItemSet::is_same))]
-fn is_asked(answers: &[Answer], query: &Query) -> bool
-    ensures { result ≡ list_any (λ a. is_same_query a.query query.now) answers.now }
-{
-    answers.iter().any(|a| a.query == *query)
-}
-
 // What is known of a good query, where it was not asked.
 fn known_of_filled(standing: &Standing, query: &Query) -> Option<Known>
     requires good { is_good standing.now.count query.now ≡ true }
@@ -71,7 +63,7 @@ fn known_of_filled(standing: &Standing, query: &Query) -> Option<Known>
     ensures { result ≡ (if is_filled standing.now query.now
         then Some (known standing.now query.now) else None) }
 {
-    if is_asked(standing.answers(), query) {
+    if standing.has_asked(query) {
         return None;
     }
     Some(standing.known(query))

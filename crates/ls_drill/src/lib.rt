@@ -7,6 +7,7 @@ mod counting;
 mod drawing;
 mod drill;
 mod hidden;
+mod marking;
 mod settling;
 mod standing;
 mod states;

@@ -1,6 +1,6 @@
 // The standing answers of a drill.
 ghost use Rattle.std.specs.Prelude.{◌≡◌, ◌<◌, ◌≤◌, ◌+◌, ◌++◌, ◌∷◌, [], ◌&&◌, length, not, true, find, IfOk, OnOk, OnErr};
-ghost use Rattle.std.specs.List.{All, list_all};
+ghost use Rattle.std.specs.List.{All, list_all, list_any};
 ghost use Rattle.std.specs.Option.{option_map};
 ghost use Rattle.ls_set.specs.ItemSet.{len};
 ghost use Rattle.ls_set.specs.Query.{is_good};
@@ -8,11 +8,14 @@ ghost use Rattle.ls_theory.specs.declared.known.Known.TheVariants.{Unsettled};
 ghost use Rattle.ls_theory.specs.Starts.{Free};
 ghost use Rattle.ls_theory.specs.Interviews.{begun, accepted};
 ghost use Rattle.ls_theory.specs.Forced.{known};
+ghost use Rattle.ls_theory.specs.Answering.{is_same_query};
 ghost use Rattle.ls_base.specs.Bases.{single_sets};
 ghost use Rattle.ls_drill.specs.Drills.{IsDrill};
 ghost use Rattle.ls_drill.specs.Standings.{item_of, closure_at, is_forcing, known_of, is_unsettled, with_gained, closures_after};
 
+use crate::closing::no_items;
 use crate::hidden::MOST_DRILLED;
+use crate::marking::{is_marked, mark};
 use ls_set::{ItemSet, PLACES, Query};
 use ls_theory::{Answer, Known};
 use std::alloc::{AllocError, Global};
@@ -25,17 +28,20 @@ pub struct Standing {
     answers: Vec<Answer>,
     // of each item the closure, which tells what is known
     closures: Vec<ItemSet>,
+    // of each item those items that were asked about after it alone
+    asked: Vec<ItemSet>,
 }
 
 impl Model for Standing {
     ghost use Rattle.ls_theory.specs.Interviews.{Interview};
-    ghost use Rattle.ls_drill.specs.Standings.{IsStood, standing_on};
+    ghost use Rattle.ls_drill.specs.Standings.{IsKeptBeside, standing_on};
 
     ghost Value = { Interview };
 
     ghost view = { λ s. standing_on s.n s.answers.items };
 
-    ghost invariant = { λ s. IsStood s.n s.answers.items s.closures.items };
+    ghost invariant = { λ s. IsKeptBeside s.n s.answers.items s.closures.items
+        s.asked.items };
 }
 
 // The items below `n`, each as a set.
@@ -156,6 +162,7 @@ impl Standing {
             n,
             answers: Vec::new(alloc),
             closures: single_sets(alloc, n)?,
+            asked: no_items(alloc, n)?,
         })
     }
 
@@ -186,6 +193,15 @@ impl Standing {
         known_of(&self.closures, &self.answers, query)
     }
 
+    /// Whether a good query of a single item was asked.
+    pub fn has_asked(&self, query: &Query) -> bool
+        requires good { is_good self.now.count query.now ≡ true }
+        requires single { len query.now.a ≡ 1 }
+        ensures { result ≡ list_any (λ a. is_same_query a.query query.now) self.now.answers }
+    {
+        is_marked(&self.asked, item_of(query.a), query.q)
+    }
+
     /// Whether the answers leave a good query of a single item open.
     pub fn is_open(&self, query: &Query) -> bool
         requires good { is_good self.now.count query.now ≡ true }
@@ -208,8 +224,10 @@ impl Standing {
         ensures err { OnErr result (self.new ≡ self.old) }
     {
         put_last(&mut self.answers, &query, yes)?;
+        let a = item_of(query.a);
+        mark(&mut self.asked, a, query.q);
         if yes {
-            close_again(&mut self.closures, item_of(query.a), query.q);
+            close_again(&mut self.closures, a, query.q);
         }
         Ok(())
     }

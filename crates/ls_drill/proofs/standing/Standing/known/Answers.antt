@@ -14,5 +14,5 @@ returns c =
     let r = c.args.query.now in
     c.known_of.ensures
     ∙ ap₂ (λ (closures : List Items) (answers : List Answer). known_of closures answers r) c.deref.ensures.value c.deref-2.ensures.value
-    ∙ known-is s.n s.answers.items s.closures.items c.self.invariant r (subst (λ (i : Interview). is_good i.count r ≡ true) (sym c.self.view_is) c.requires.good) c.requires.single
+    ∙ known-is s.n s.answers.items s.closures.items c.self.invariant.stands r (subst (λ (i : Interview). is_good i.count r ≡ true) (sym c.self.view_is) c.requires.good) c.requires.single
     ∙ ap (λ (i : Interview). known i r) c.self.view_is
