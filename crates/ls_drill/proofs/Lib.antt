@@ -9,6 +9,7 @@ pub mod SettledDrills
 pub mod Relations
 pub mod Stood
 pub mod Marked
+pub mod Refused
 pub mod AskedInTurn
 pub mod Based
 pub mod Summing

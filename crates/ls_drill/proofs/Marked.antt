@@ -13,7 +13,7 @@ use Rattle.ls_set.specs.declared.query.Query.{Query}
 use Rattle.ls_set.proofs.Sets.{has-with, Decides-is_same}
 use Rattle.ls_theory.specs.declared.answer.Answer.{Answer}
 use Rattle.ls_theory.specs.Answering.{is_same_query}
-use Rattle.ls_drill.specs.Standings.{standing_on, item_of, is_on, AreMarks, IsStood, IsKeptBeside}
+use Rattle.ls_drill.specs.Standings.{item_of, is_on, AreMarks, IsStood, IsKeptBeside}
 use Rattle.ls_drill.proofs.Closures.{none-before}
 use Rattle.ls_drill.proofs.Stood.{single-item, stood-as}
 
@@ -99,14 +99,29 @@ asked-is n answers closures marks h m r one small =
 
 -- ---- after an answer
 
-module _ (n : ℕ) (answers : List Answer) (closures asked : List Items) (h : IsKeptBeside n answers closures asked) (r : Query) (small : item_of r.a < n) (y : Bool) where
-  abbrev new-answer : Answer
-  new-answer = record { number = length answers + 1; query = r; yes = y }
+module _ (n : ℕ) (answers : List Answer) (closures asked refused : List Items) (h : IsKeptBeside n answers closures asked refused) (r : Query) (small : item_of r.a < n) where
+  abbrev answered : Bool → Answer
+  answered y = record { number = length answers + 1; query = r; yes = y }
 
-  pub kept-after : (answers' : List Answer) (after closures' asked' : List Items) → IsStood n (answers ++ new-answer ∷ []) after → answers' ≡ answers ++ new-answer ∷ [] → closures' ≡ after
-      → asked' ≡ set asked (item_of r.a) (with (get_or asked (item_of r.a) empty) r.q) → IsKeptBeside n answers' closures' asked'
-  kept-after answers' after closures' asked' stands e f g = record {
-    stands = stood-as n (answers ++ new-answer ∷ []) answers' after closures' stands e f;
-    asked_marked = marked-as n (λ x. true) (answers ++ new-answer ∷ []) answers' asked' asked'
-        (marked-more n (λ x. true) answers asked h.asked_marked new-answer asked' (item_of r.a) refl refl small g) e refl;
+  -- a Yes is marked as asked
+  pub kept-yes : (answers' : List Answer) (after closures' asked' : List Items) → IsStood n (answers ++ answered true ∷ []) after → answers' ≡ answers ++ answered true ∷ [] → closures' ≡ after
+      → asked' ≡ set asked (item_of r.a) (with (get_or asked (item_of r.a) empty) r.q) → IsKeptBeside n answers' closures' asked' refused
+  kept-yes answers' after closures' asked' stands e f g = record {
+    stands = stood-as n (answers ++ answered true ∷ []) answers' after closures' stands e f;
+    asked_marked = marked-as n (λ x. true) (answers ++ answered true ∷ []) answers' asked' asked'
+        (marked-more n (λ x. true) answers asked h.asked_marked (answered true) asked' (item_of r.a) refl refl small g) e refl;
+    refused_marked = marked-as n (λ x. not x.yes) (answers ++ answered true ∷ []) answers' refused refused
+        (marked-still n (λ x. not x.yes) answers refused h.refused_marked (answered true) refl) e refl;
+  }
+
+  -- and a No as refused too
+  pub kept-no : (answers' : List Answer) (closures' asked' refused' : List Items) → IsStood n (answers ++ answered false ∷ []) closures → answers' ≡ answers ++ answered false ∷ [] → closures' ≡ closures
+      → asked' ≡ set asked (item_of r.a) (with (get_or asked (item_of r.a) empty) r.q) → refused' ≡ set refused (item_of r.a) (with (get_or refused (item_of r.a) empty) r.q)
+      → IsKeptBeside n answers' closures' asked' refused'
+  kept-no answers' closures' asked' refused' stands e f g k = record {
+    stands = stood-as n (answers ++ answered false ∷ []) answers' closures closures' stands e f;
+    asked_marked = marked-as n (λ x. true) (answers ++ answered false ∷ []) answers' asked' asked'
+        (marked-more n (λ x. true) answers asked h.asked_marked (answered false) asked' (item_of r.a) refl refl small g) e refl;
+    refused_marked = marked-as n (λ x. not x.yes) (answers ++ answered false ∷ []) answers' refused' refused'
+        (marked-more n (λ x. not x.yes) answers refused h.refused_marked (answered false) refused' (item_of r.a) refl refl small k) e refl;
   }

@@ -8,6 +8,7 @@ mod drawing;
 mod drill;
 mod hidden;
 mod marking;
+mod refusing;
 mod settling;
 mod standing;
 mod states;

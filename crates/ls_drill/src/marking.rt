@@ -21,3 +21,13 @@ pub fn is_marked(marks: &[ItemSet], a: u32, q: u32) -> bool
 {
     marks[a as usize].has(q)
 }
+
+/// The set of an item, which is empty past the last.
+pub fn set_at(sets: &[ItemSet], item: u32) -> ItemSet
+    ensures { result ≡ slice_index_or sets.now item empty }
+{
+    match sets.get(item as usize) {
+        Some(set) => *set,
+        None => ItemSet::empty(),
+    }
+}
