@@ -10,7 +10,7 @@ use Rattle.ls_drill.specs.HiddenOrders.{most_drilled, related}
 use Rattle.ls_drill.specs.Draws.{IsPair, IsKept, reached}
 use Rattle.ls_drill.proofs.Chains.{reached-implied}
 
-none-of : (n a : ℕ) → get_or (replicate n empty) a empty ≡ empty
+pub none-of : (n a : ℕ) → get_or (replicate n empty) a empty ≡ empty
 none-of zero a = refl
 none-of (suc n) zero = refl
 none-of (suc n) (suc a) = none-of n a

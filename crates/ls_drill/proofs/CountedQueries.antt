@@ -12,7 +12,6 @@ use Rattle.std.proofs.lemmas.List.Sums.{length-filter, count_by-le-length, sum_b
 use Rattle.ls_set.specs.ItemSet.{Items, len, numbers_from}
 use Rattle.ls_set.specs.Query.{is_good}
 use Rattle.ls_set.specs.declared.query.Query.{Query}
-use Rattle.ls_theory.specs.declared.known.Known.{Known}
 use Rattle.ls_theory.specs.Queries.{blocks, queries, query_before}
 use Rattle.ls_theory.specs.Interviews.{Interview}
 use Rattle.ls_theory.specs.Pages.{comes_after}
@@ -88,14 +87,6 @@ queries-few n =
 
 -- ---- the count
 
-asked-out : (b : Bool) (x : Known) → cond b (Some x) None ≡ None → b ≡ false
-asked-out true x e = absurd (cc e)
-asked-out false x e = refl
-
-filled-in : (b : Bool) (x y : Known) → cond b (Some x) None ≡ Some y → (b ≡ true) × (x ≡ y)
-filled-in true x y e = (refl, cc)
-filled-in false x y e = absurd (cc e)
-
 -- k of the queries of an interview are counted, and the last of them is given, if there is one
 pub record IsCounted (i : Interview) (k : ℕ) (last : Option Query) (all yeses nos : ℕ) : Type 0 where
   pub turn : find (comes_after query_before last) (queries i.count i.block) ≡ slice_get (queries i.count i.block) k
@@ -106,10 +97,6 @@ pub record IsCounted (i : Interview) (k : ℕ) (last : Option Query) (all yeses 
 
 pub none-counted : (i : Interview) → IsCounted i 0 None 0 0 0
 none-counted i = record { turn = find-any (queries i.count i.block); good = λ x e. absurd (cc e); all_filled = refl; yes_filled = refl; no_filled = refl }
-
--- what one more query adds
-abbrev pub filled_known : Interview → Query → Option Known
-filled_known i r = cond (is_filled i r) (Some (known i r)) None
 
 module _ (i : Interview) (k : ℕ) (last : Option Query) (all yeses nos : ℕ) (h : IsCounted i k last all yeses nos) (r : Query) (q : find (comes_after query_before last) (queries i.count i.block) ≡ Some r) where
   pub next-good : is_good i.count r ≡ true
@@ -138,22 +125,20 @@ module _ (i : Interview) (k : ℕ) (last : Option Query) (all yeses nos : ℕ) (
       }
 
   -- a query that was asked adds nothing
-  pub counted-asked : filled_known i r ≡ None → IsCounted i (k + 1) (Some r) all yeses nos
-  counted-asked e =
-      let out : is_filled i r ≡ false = asked-out (is_filled i r) (known i r) e in
+  pub counted-asked : is_filled i r ≡ false → IsCounted i (k + 1) (Some r) all yeses nos
+  counted-asked out =
       counted-next all yeses nos
       (sym (ap (λ b. all + cond b 1 0) out ∙ add-zero all))
       (sym (ap (λ b. yeses + cond (b && is_yes (known i r)) 1 0) out ∙ add-zero yeses))
       (sym (ap (λ b. nos + cond (b && is_no (known i r)) 1 0) out ∙ add-zero nos))
 
   -- one that was filled is counted as it is known
-  pub counted-filled : (x : Known) (all' yeses' nos' : ℕ) → filled_known i r ≡ Some x → all' ≡ all + 1 → yeses' ≡ yeses + cond (is_yes x) 1 0 → nos' ≡ nos + cond (is_no x) 1 0 → IsCounted i (k + 1) (Some r) all' yeses' nos'
-  counted-filled x all' yeses' nos' e a b c =
-      let p = filled-in (is_filled i r) (known i r) x e in
+  pub counted-filled : (all' yeses' nos' : ℕ) → is_filled i r ≡ true → all' ≡ all + 1 → yeses' ≡ yeses + cond (is_yes (known i r)) 1 0 → nos' ≡ nos + cond (is_no (known i r)) 1 0 → IsCounted i (k + 1) (Some r) all' yeses' nos'
+  counted-filled all' yeses' nos' e a b c =
       counted-next all' yeses' nos'
-      (a ∙ ap (λ f. all + cond f 1 0) (sym p.0))
-      (b ∙ ap₂ (λ f y. yeses + cond (f && is_yes y) 1 0) (sym p.0) (sym p.1))
-      (c ∙ ap₂ (λ f y. nos + cond (f && is_no y) 1 0) (sym p.0) (sym p.1))
+      (a ∙ ap (λ f. all + cond f 1 0) (sym e))
+      (b ∙ ap (λ f. yeses + cond (f && is_yes (known i r)) 1 0) (sym e))
+      (c ∙ ap (λ f. nos + cond (f && is_no (known i r)) 1 0) (sym e))
 
 -- where no further query comes, all are counted
 pub record AllCounted (i : Interview) (all yeses nos : ℕ) : Type 0 where

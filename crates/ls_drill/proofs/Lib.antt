@@ -8,6 +8,8 @@ pub mod CountedQueries
 pub mod SettledDrills
 pub mod Relations
 pub mod Stood
+pub mod Marked
+pub mod Refused
 pub mod AskedInTurn
 pub mod Based
 pub mod Summing

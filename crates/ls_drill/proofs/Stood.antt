@@ -101,7 +101,7 @@ find-nos p (a ∷ answers) =
 meets : (n : ℕ) (answers : List Answer) → IsDrill n (standing_on n answers) → IsMeetClosed (compatible_sets (standing_on n answers))
 meets n answers d k l a b = among-meet n (yes_queries answers) (single-yeses n (standing_on n answers) d) k l a b
 
-both : {X : Type 0} (P Q : X → Type 0) (xs : List X) → AllByRecursion P xs → AllByRecursion Q xs → AllByRecursion (λ x. P x × Q x) xs
+pub both : {X : Type 0} (P Q : X → Type 0) (xs : List X) → AllByRecursion P xs → AllByRecursion Q xs → AllByRecursion (λ x. P x × Q x) xs
 both P Q [] h k = tt
 both P Q (x ∷ xs) h k = ((h.0, k.0), both P Q xs h.1 k.1)
 

@@ -1,8 +1,8 @@
 -- The standing answers of a drill, with the closures of single items: these tell what is known.
-use Rattle.std.specs.Prelude.{ℕ, ◌≡◌, ◌<◌, ◌≤◌, ◌+◌, Bool, true, false, not, ◌&&◌, ◌||◌, if◌then◌else◌, List, map, find, length, slice_index_or, unwrap_or}
-use Rattle.std.specs.List.{list_all}
+use Rattle.std.specs.Prelude.{ℕ, ◌≡◌, ◌<◌, ◌≤◌, ◌+◌, ◌==◌, Bool, true, false, not, ◌&&◌, ◌||◌, if◌then◌else◌, List, map, find, length, slice_index_or, unwrap_or}
+use Rattle.std.specs.List.{list_all, list_any, range_with_len}
 use Rattle.std.specs.Option.{option_map_or}
-use Rattle.ls_set.specs.ItemSet.{Items, has, empty, full, single, union, least}
+use Rattle.ls_set.specs.ItemSet.{Items, has, empty, full, single, union, meet, is_same, least}
 use Rattle.ls_set.specs.Query.{is_good}
 use Rattle.ls_set.specs.declared.query.Query.{Query}
 use Rattle.ls_theory.specs.declared.answer.Answer.{Answer}
@@ -61,3 +61,28 @@ pub record IsStood (n : ℕ) (answers : List Answer) (closures : List Items) : T
   pub sound : IsSound (standing_on n answers)
   pub drill : IsDrill n (standing_on n answers)
   pub good : list_all (λ a. is_good n a.query) answers ≡ true
+
+-- whether the answer is to the query ({a}, q)
+abbrev pub is_on : ℕ → ℕ → Answer → Bool
+is_on a q x = item_of x.query.a == a && x.query.q == q
+
+-- the marks of each item a: those items q for which some of the answers to ({a}, q) has the property
+pub record AreMarks (n : ℕ) (property : Answer → Bool) (answers : List Answer) (marks : List Items) : Type 0 where
+  pub items : length marks ≡ n
+  pub marked : (a q : ℕ) → a < n → has (slice_index_or marks a empty) q ≡ list_any (λ x. property x && is_on a q x) answers
+
+-- whether some No to a query of the item b forces a No to those of a, where after is the closure of what they ask about
+abbrev pub is_refused_by : List Items → List Items → ℕ → Items → ℕ → Bool
+is_refused_by closures refused a after b =
+    let closed = closure_at closures b in
+    has closed a && not (is_same (meet (slice_index_or refused b empty) (union closed after)) empty)
+
+-- whether some No to a query of one of n items forces a No to r
+abbrev pub is_refused : ℕ → List Items → List Items → Query → Bool
+is_refused n closures refused r = list_any (is_refused_by closures refused (item_of r.a) (closure_at closures r.q)) (range_with_len 0 n)
+
+-- beside the closures the queries that were asked are marked, and those that were answered No
+pub record IsKeptBeside (n : ℕ) (answers : List Answer) (closures asked refused : List Items) : Type 0 where
+  pub stands : IsStood n answers closures
+  pub asked_marked : AreMarks n (λ x. true) answers asked
+  pub refused_marked : AreMarks n (λ x. not x.yes) answers refused

@@ -10,8 +10,7 @@ ghost use Rattle.ls_drill.specs.Summaries.{is_yes, is_no, is_filled, is_filled_y
 
 use crate::standing::Standing;
 use crate::walking::{query_after, single_blocks};
-use ls_set::Query;
-use ls_theory::{Answer, Known};
+use ls_theory::Answer;
 
 /// How many of the answers are Yes.
 pub fn count_yes(answers: &[Answer]) -> u32
@@ -38,43 +37,23 @@ pub struct Filled {
 }
 
 impl Filled {
-    // Counts a query of which this is known.
-    fn add(&mut self, known: Known)
+    // Counts a query, and whether a Yes or a No to it is forced.
+    fn add(&mut self, yes: bool, no: bool)
         requires all { self.old.all < 2 ^ 16 }
         requires yes { self.old.yes < 2 ^ 16 }
         requires no { self.old.no < 2 ^ 16 }
         ensures all { self.new.all ≡ self.old.all + 1 }
-        ensures yes { self.new.yes ≡ self.old.yes + (if is_yes known then 1 else 0) }
-        ensures no { self.new.no ≡ self.old.no + (if is_no known then 1 else 0) }
+        ensures yes { self.new.yes ≡ self.old.yes + (if yes then 1 else 0) }
+        ensures no { self.new.no ≡ self.old.no + (if no then 1 else 0) }
     {
         self.all += 1;
-        match known {
-            Known::Yes => self.yes += 1,
-            Known::No { .. } => self.no += 1,
-            Known::Unsettled => {}
+        if yes {
+            self.yes += 1;
+        }
+        if no {
+            self.no += 1;
         }
     }
-}
-
-// Whether an answer to the query stands.
-#[tactic(auto, unfolding(ls_set::specs::ItemSet::is_same))]
-fn is_asked(answers: &[Answer], query: &Query) -> bool
-    ensures { result ≡ list_any (λ a. is_same_query a.query query.now) answers.now }
-{
-    answers.iter().any(|a| a.query == *query)
-}
-
-// What is known of a good query, where it was not asked.
-fn known_of_filled(standing: &Standing, query: &Query) -> Option<Known>
-    requires good { is_good standing.now.count query.now ≡ true }
-    requires single { len query.now.a ≡ 1 }
-    ensures { result ≡ (if is_filled standing.now query.now
-        then Some (known standing.now query.now) else None) }
-{
-    if is_asked(standing.answers(), query) {
-        return None;
-    }
-    Some(standing.known(query))
 }
 
 /// How many queries of single items were not asked, and how many of these the answers force.
@@ -99,8 +78,8 @@ pub fn count_filled(standing: &Standing) -> Filled
         let Some(query) = query_after(&blocks, last) else {
             return filled;
         };
-        if let Some(known) = known_of_filled(standing, &query) {
-            filled.add(known);
+        if !standing.has_asked(&query) {
+            filled.add(standing.is_yes(&query), standing.is_no(&query));
         }
         last = Some(query);
     }

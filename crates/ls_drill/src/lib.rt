@@ -7,6 +7,8 @@ mod counting;
 mod drawing;
 mod drill;
 mod hidden;
+mod marking;
+mod refusing;
 mod settling;
 mod standing;
 mod states;

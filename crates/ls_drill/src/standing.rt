@@ -1,6 +1,6 @@
 // The standing answers of a drill.
 ghost use Rattle.std.specs.Prelude.{◌≡◌, ◌<◌, ◌≤◌, ◌+◌, ◌++◌, ◌∷◌, [], ◌&&◌, length, not, true, find, IfOk, OnOk, OnErr};
-ghost use Rattle.std.specs.List.{All, list_all};
+ghost use Rattle.std.specs.List.{list_all, list_any};
 ghost use Rattle.std.specs.Option.{option_map};
 ghost use Rattle.ls_set.specs.ItemSet.{len};
 ghost use Rattle.ls_set.specs.Query.{is_good};
@@ -8,13 +8,18 @@ ghost use Rattle.ls_theory.specs.declared.known.Known.TheVariants.{Unsettled};
 ghost use Rattle.ls_theory.specs.Starts.{Free};
 ghost use Rattle.ls_theory.specs.Interviews.{begun, accepted};
 ghost use Rattle.ls_theory.specs.Forced.{known};
+ghost use Rattle.ls_theory.specs.Answering.{is_same_query};
 ghost use Rattle.ls_base.specs.Bases.{single_sets};
 ghost use Rattle.ls_drill.specs.Drills.{IsDrill};
-ghost use Rattle.ls_drill.specs.Standings.{item_of, closure_at, is_forcing, known_of, is_unsettled, with_gained, closures_after};
+ghost use Rattle.ls_drill.specs.Standings.{item_of, is_unsettled, with_gained, closures_after};
+ghost use Rattle.ls_drill.specs.Summaries.{is_yes, is_no};
 
+use crate::closing::no_items;
 use crate::hidden::MOST_DRILLED;
+use crate::marking::{is_marked, mark, set_at};
+use crate::refusing::is_refused;
 use ls_set::{ItemSet, PLACES, Query};
-use ls_theory::{Answer, Known};
+use ls_theory::Answer;
 use std::alloc::{AllocError, Global};
 use std::marker::Model;
 
@@ -25,17 +30,22 @@ pub struct Standing {
     answers: Vec<Answer>,
     // of each item the closure, which tells what is known
     closures: Vec<ItemSet>,
+    // of each item those items that were asked about after it alone
+    asked: Vec<ItemSet>,
+    // and those of them where the answer was No
+    refused: Vec<ItemSet>,
 }
 
 impl Model for Standing {
     ghost use Rattle.ls_theory.specs.Interviews.{Interview};
-    ghost use Rattle.ls_drill.specs.Standings.{IsStood, standing_on};
+    ghost use Rattle.ls_drill.specs.Standings.{IsKeptBeside, standing_on};
 
     ghost Value = { Interview };
 
     ghost view = { λ s. standing_on s.n s.answers.items };
 
-    ghost invariant = { λ s. IsStood s.n s.answers.items s.closures.items };
+    ghost invariant = { λ s. IsKeptBeside s.n s.answers.items s.closures.items
+        s.asked.items s.refused.items };
 }
 
 // The items below `n`, each as a set.
@@ -46,64 +56,14 @@ fn single_sets(alloc: Global, n: u32) -> Result<Vec<ItemSet>, AllocError>
     (0..n).map(|i| ItemSet::empty().with(i)).collect(alloc)
 }
 
-// The item of a set of one.
-fn item_of(set: ItemSet) -> u32
+/// The item of a set of one.
+pub fn item_of(set: ItemSet) -> u32
     ensures value { result ≡ item_of set }
     ensures small { result < PLACES }
 {
     match set.least() {
         Some(item) => item,
         None => 0,
-    }
-}
-
-// The closure of an item.
-fn closure_at(closures: &[ItemSet], item: u32) -> ItemSet
-    ensures { result ≡ closure_at closures.now item }
-{
-    match closures.get(item as usize) {
-        Some(closed) => *closed,
-        None => ItemSet::empty(),
-    }
-}
-
-// Whether a No to the other query forces a No to the first.
-fn is_forcing(closures: &[ItemSet], query: &Query, other: &Query) -> bool
-    requires { other.now.q < PLACES }
-    ensures { result ≡ is_forcing closures.now query.now other.now }
-{
-    let closed = closure_at(closures, item_of(other.a));
-    closed.has(item_of(query.a))
-        && (closed.has(other.q) || closure_at(closures, query.q).has(other.q))
-}
-
-// The number of the first No that forces a No to the query.
-fn forcing(closures: &[ItemSet], answers: &[Answer], query: &Query) -> Option<u64>
-    requires { All (λ a. a.query.q < PLACES) answers.now }
-    ensures { result ≡ option_map (λ a. a.number)
-        (find (λ a. not a.yes && is_forcing closures.now query.now a.query) answers.now) }
-{
-    for answer in answers {
-        if !answer.yes && is_forcing(closures, query, &answer.query) {
-            return Some(answer.number);
-        }
-    }
-    None
-}
-
-// What the answers tell of the query.
-#[tactic(auto, unfolding(crate::specs::Standings::known_of))]
-fn known_of(closures: &[ItemSet], answers: &[Answer], query: &Query) -> Known
-    requires item { query.now.q < PLACES }
-    requires items { All (λ a. a.query.q < PLACES) answers.now }
-    ensures { result ≡ known_of closures.now answers.now query.now }
-{
-    if closure_at(closures, item_of(query.a)).has(query.q) {
-        return Known::Yes;
-    }
-    match forcing(closures, answers, query) {
-        Some(by) => Known::No { by },
-        None => Known::Unsettled,
     }
 }
 
@@ -122,7 +82,7 @@ fn close_again(closures: &mut [ItemSet], a: u32, q: u32)
     requires { a < PLACES }
     ensures { closures.new ≡ closures_after closures.old a q }
 {
-    let gained = closure_at(closures, q);
+    let gained = set_at(closures, q);
     for closed in closures.iter_mut() {
         gain(closed, a, gained);
     }
@@ -156,6 +116,8 @@ impl Standing {
             n,
             answers: Vec::new(alloc),
             closures: single_sets(alloc, n)?,
+            asked: no_items(alloc, n)?,
+            refused: no_items(alloc, n)?,
         })
     }
 
@@ -177,13 +139,31 @@ impl Standing {
         self.n
     }
 
-    /// What the answers tell of a good query of a single item.
-    pub fn known(&self, query: &Query) -> Known
+    /// Whether the answers force a Yes to a good query of a single item.
+    pub fn is_yes(&self, query: &Query) -> bool
         requires good { is_good self.now.count query.now ≡ true }
         requires single { len query.now.a ≡ 1 }
-        ensures { result ≡ known self.now query.now }
+        ensures { result ≡ is_yes (known self.now query.now) }
     {
-        known_of(&self.closures, &self.answers, query)
+        set_at(&self.closures, item_of(query.a)).has(query.q)
+    }
+
+    /// Whether the answers force a No to a good query of a single item.
+    pub fn is_no(&self, query: &Query) -> bool
+        requires good { is_good self.now.count query.now ≡ true }
+        requires single { len query.now.a ≡ 1 }
+        ensures { result ≡ is_no (known self.now query.now) }
+    {
+        !self.is_yes(query) && is_refused(self.n, &self.closures, &self.refused, query)
+    }
+
+    /// Whether a good query of a single item was asked.
+    pub fn has_asked(&self, query: &Query) -> bool
+        requires good { is_good self.now.count query.now ≡ true }
+        requires single { len query.now.a ≡ 1 }
+        ensures { result ≡ list_any (λ a. is_same_query a.query query.now) self.now.answers }
+    {
+        is_marked(&self.asked, item_of(query.a), query.q)
     }
 
     /// Whether the answers leave a good query of a single item open.
@@ -192,11 +172,7 @@ impl Standing {
         requires single { len query.now.a ≡ 1 }
         ensures { result ≡ is_unsettled (known self.now query.now) }
     {
-        match self.known(query) {
-            Known::Yes => false,
-            Known::No { .. } => false,
-            Known::Unsettled => true,
-        }
+        !self.is_yes(query) && !self.is_no(query)
     }
 
     /// Takes the answer to an open query of a single item. Where memory runs out, nothing changes.
@@ -208,8 +184,12 @@ impl Standing {
         ensures err { OnErr result (self.new ≡ self.old) }
     {
         put_last(&mut self.answers, &query, yes)?;
+        let a = item_of(query.a);
+        mark(&mut self.asked, a, query.q);
         if yes {
-            close_again(&mut self.closures, item_of(query.a), query.q);
+            close_again(&mut self.closures, a, query.q);
+        } else {
+            mark(&mut self.refused, a, query.q);
         }
         Ok(())
     }

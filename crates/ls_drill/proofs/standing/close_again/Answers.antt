@@ -8,6 +8,6 @@ pub loop-closed-preserved : goal.loop-closed-preserved
 loop-closed-preserved c =
     let ys = c.loop-closed.closures in
     let i = c.loop-closed.closed-index in
-    let g = with_gained c.args.a c.closure_at-gained.result in
+    let g = with_gained c.args.a c.set_at-gained.result in
     ap (set ys i) (c.gain.ensures ∙ ap g (sym c.closed-item.is))
     ∙ map_over_more g c.args.closures.now ys i c.closed-item.result c.loop-closed-test.true c.loop-closed.invariant c.closed-item.is
