@@ -43,4 +43,15 @@ impl<F: Inside> Interior for Counted<'_, F> {
         steps.tick();
         self.family.inside(s)
     }
+
+    fn interior_without<L: Ledger>(
+        &self,
+        member: ItemSet,
+        item: u32,
+        keep: ItemSet,
+        steps: &mut Steps<L>,
+    ) -> Option<ItemSet> {
+        steps.tick();
+        self.family.inside_without(member, item, keep)
+    }
 }

@@ -1,8 +1,9 @@
 // Families that are known by their interiors.
-ghost use Rattle.std.specs.Prelude.{◌≡◌, ℕ, ◌+◌, ◌≤◌, List};
-ghost use Rattle.ls_set.specs.ItemSet.{Items, full, is_among, IsWithin};
+ghost use Rattle.std.specs.Prelude.{◌≡◌, ℕ, ◌+◌, ◌<◌, ◌≤◌, true, List, IfSome};
+ghost use Rattle.ls_set.specs.ItemSet.{Items, full, without, is_among, IsWithin};
 ghost use Rattle.ls_theory.specs.Families.{interior, closure};
 ghost use Rattle.ls_laws.specs.Families.{IsFamily};
+ghost use Rattle.ls_interior.specs.Keeping.{interior_keeping};
 
 use crate::steps::Steps;
 use ls_set::{ItemSet, PLACES};
@@ -30,6 +31,26 @@ pub trait Inside {
         requires { IsWithin s (full (item_count self.now)) }
         ensures { result ≡ interior (members self.now) s };
 
+    /// The interior of a member without an item, where it has all items of `keep`. Of a set that is
+    /// no member any part may be given, or none. All items of the set are below `items()`.
+    ///
+    /// A family may find it faster than an interior: only what the item takes with it falls out of
+    /// a member, and where an item of `keep` does, the rest need not be found.
+    fn inside_without(&self, member: ItemSet, item: u32, keep: ItemSet) -> Option<ItemSet>
+        requires within { IsWithin member (full (item_count self.now)) }
+        requires item { item < PLACES }
+        ensures value { is_among (members self.now) member ≡ true →
+            result ≡ interior_keeping (members self.now) (without member item) keep }
+        ensures part { IfSome result (λ k. IsWithin k member) }
+    {
+        let inside = self.inside(member.without(item));
+        if keep.is_within(inside) {
+            Some(inside)
+        } else {
+            None
+        }
+    }
+
     /// The members are a family on the items.
     ghost is_family: { (f : Self) → IsFamily (item_count f) (members f) };
 }
@@ -52,6 +73,23 @@ pub trait Interior {
     fn interior<L: Ledger>(&self, s: ItemSet, steps: &mut Steps<L>) -> ItemSet
         requires { IsWithin s (full (item_count self.now)) }
         ensures value { result ≡ interior (members self.now) s }
+        ensures cost { steps.new ≡ steps.old + 1 };
+
+    /// The interior of a member without an item, where it has all items of `keep`. Of a set that is
+    /// no member any part may be given, or none. All items of the set are below `items()`. It
+    /// counts as one step.
+    fn interior_without<L: Ledger>(
+        &self,
+        member: ItemSet,
+        item: u32,
+        keep: ItemSet,
+        steps: &mut Steps<L>,
+    ) -> Option<ItemSet>
+        requires within { IsWithin member (full (item_count self.now)) }
+        requires item { item < PLACES }
+        ensures value { is_among (members self.now) member ≡ true →
+            result ≡ interior_keeping (members self.now) (without member item) keep }
+        ensures part { IfSome result (λ k. IsWithin k member) }
         ensures cost { steps.new ≡ steps.old + 1 };
 
     /// The members are a family on the items.
