@@ -1,2 +1,4 @@
 pub mod Tables
 pub mod Forced
+pub mod Changes
+pub mod Fronts

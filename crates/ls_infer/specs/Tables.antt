@@ -17,6 +17,7 @@ use Rattle.ls_theory.specs.Blocks.{BlockRange, most_sets}
 use Rattle.ls_laws.specs.Forced.{is_forced_by_closures}
 use Rattle.ls_query.specs.Blocks.{sets_of}
 use Rattle.ls_infer.specs.declared.standing_no.StandingNo.{StandingNo}
+use Rattle.ls_infer.specs.Changes.{is_kept}
 
 -- the items r below n such that q is in the closure of the closed set with r
 abbrev pub enough_for : ℕ → List Items → Items → ℕ → Items
@@ -47,10 +48,6 @@ table_of b f nos = record {
   standing = map (standing b.item_count f) nos;
 }
 
--- a closure after a Yes to (A, q) that leaves the family f: it is closed again where it has the items of A, and not q
-abbrev pub closed_after : ℕ → List Items → Query → Items → Items
-closed_after n f r c = if is_within r.a c && not (has c r.q) then closure (full n) f c else c
-
 -- the No forces the query (A, q): A is within the closure of its set, and q is enough with that
 abbrev pub forces : Query → StandingNo → Bool
 forces r s = is_within r.a s.closed && has s.enough r.q
@@ -70,11 +67,11 @@ told n f nos r =
     if has (closure (full n) f r.a) r.q then Known.Yes
     else option_map_or (λ a. Known.No a.number) (first_least (λ a. a.number) forcing) Known.Unsettled
 
--- the number of items; for each block set, of which there are not too many, a closure of items alone; and standing Nos of good queries
+-- the number of items; for each block set, of which there are not too many, a closure of items alone; and standing Nos
 pub record IsTable (n : ℕ) (t : TableState) : Type 0 where
   pub items : n ≡ t.blocks.item_count
   pub few : n ≤ most_items
   pub each : length t.closures ≡ length (sets_of t.blocks)
   pub few_sets : length t.closures ≤ most_sets
   pub within : list_all (λ c. is_within c (full n)) t.closures ≡ true
-  pub good : list_all (λ s. is_good n s.no.query) t.standing ≡ true
+  pub kept : list_all (is_kept n) t.standing ≡ true

@@ -1,22 +1,24 @@
 // The lists that make up a table.
-ghost use Rattle.std.specs.Prelude.{◌≡◌, ◌+◌, ◌*◌, ◌<◌, ◌≤◌, true, if◌then◌else◌, map, length, count_by, IfOk};
+ghost use Rattle.std.specs.Prelude.{◌≡◌, ◌+◌, ◌*◌, ◌<◌, ◌≤◌, true, List, map, length, count_by, IfOk};
 ghost use Rattle.std.specs.List.{list_all};
-ghost use Rattle.ls_set.specs.ItemSet.{full, is_within, IsWithin};
+ghost use Rattle.ls_set.specs.ItemSet.{Items, full, is_within};
 ghost use Rattle.ls_set.specs.Query.{is_good};
 ghost use Rattle.ls_theory.specs.Families.{closure};
-ghost use Rattle.ls_laws.specs.Spans.{left_by};
 ghost use Rattle.ls_query.specs.Blocks.{sets_of};
-ghost use Rattle.ls_infer.specs.Tables.{standing, closed_after};
+ghost use Rattle.ls_infer.specs.Changes.{IsChange, is_stale};
+ghost use Rattle.ls_infer.specs.Tables.{standing};
 
+use crate::fronts::{Front, close_block};
 use crate::standing_no::StandingNo;
-use ls_interior::{Interior, Steps, closure};
+use crate::yes_change::YesChange;
+use ls_interior::{Interior, Steps};
 use ls_query::{Blocks, MOST_SETS};
 use ls_set::{ItemSet, PLACES, Query};
 use ls_theory::No;
 use std::alloc::{AllocError, Global};
 use std::sync::ledger::Ledger;
 
-/// The closures of the sets of the blocks, in their order, in a step for each.
+/// The closures of the sets of the blocks, in their order, in a step at most for each.
 pub fn closures_of<I: Interior, L: Ledger>(
     alloc: Global,
     blocks: Blocks,
@@ -31,11 +33,12 @@ pub fn closures_of<I: Interior, L: Ledger>(
 {
     let mut closures = Vec::new(alloc);
     let mut last = ItemSet::empty();
+    let mut front = Front::new();
     for _place in 0..blocks.count() {
         let Some(set) = blocks.next_set(Some(last)) else {
             return Ok(closures);
         };
-        closures.push(closure(f, set, steps))?;
+        closures.push(close_block(&closures, blocks, f, set, &mut front, steps))?;
         last = set;
     }
     Ok(closures)
@@ -61,71 +64,24 @@ pub fn standing_of<I: Interior, L: Ledger>(
     Ok(kept)
 }
 
-// The closure after a Yes to `r`, in a step where it has the items of its A.
-fn closed_after<I: Interior, L: Ledger>(
-    closed: ItemSet,
-    f: &I,
-    r: &Query,
-    steps: &mut Steps<L>,
-) -> ItemSet
-    requires within { IsWithin closed (full (I.item_count f.now)) }
-    requires item { r.now.q < PLACES }
-    ensures value { result ≡ closed_after (I.item_count f.now) (I.members f.now) r.now closed }
-    ensures cost { steps.new ≤ steps.old + (if is_within r.now.a closed then 1 else 0) }
+// Whether a closure from before the change can be another after it.
+fn is_stale(change: YesChange, r: &Query, closed: ItemSet) -> bool
+    requires { r.now.q < PLACES }
+    ensures { result ≡ is_stale change r.now closed }
 {
-    if r.a.is_within(closed) && !closed.has(r.q) {
-        closure(f, closed, steps)
-    } else {
-        closed
+    match change {
+        YesChange::Added => r.a.is_within(closed) && !closed.has(r.q),
+        YesChange::Removed => r.a.is_within(closed),
     }
 }
 
-/// Makes the closures those after a Yes to `r`, in a step for each that has the items of its A. `f`
-/// is the family that the Yes leaves.
+/// Makes the closures of the sets of the blocks those after the change of a Yes to `r`, in a step at
+/// most for each that has the items of its A. `f` is the family after the change.
 pub fn close_again<I: Interior, L: Ledger>(
-    closures: &mut [ItemSet],
-    f: &I,
-    r: &Query,
-    steps: &mut Steps<L>,
-)
-    requires within { list_all (λ c. is_within c (full (I.item_count f.now))) closures.old ≡ true }
-    requires item { r.now.q < PLACES }
-    ensures each { closures.new
-        ≡ map (closed_after (I.item_count f.now) (I.members f.now) r.now) closures.old }
-    ensures cost { steps.new ≤ steps.old + count_by (λ c. is_within r.now.a c) closures.old }
-{
-    for closed in closures.iter_mut() {
-        *closed = closed_after(*closed, f, r, steps);
-    }
-}
-
-// The closure of a set without a Yes to `r`, in a step where the one with it has the items of its
-// A.
-fn closed_before<I: Interior, L: Ledger>(
-    closed: ItemSet,
-    set: ItemSet,
-    f: &I,
-    r: &Query,
-    steps: &mut Steps<L>,
-) -> ItemSet
-    requires within { IsWithin set (full (I.item_count f.now)) }
-    ensures value { let again = closure (full (I.item_count f.now)) (I.members f.now) set in
-        result ≡ (if is_within r.now.a closed then again else closed) }
-    ensures cost { steps.new ≤ steps.old + (if is_within r.now.a closed then 1 else 0) }
-{
-    if r.a.is_within(closed) {
-        closure(f, set, steps)
-    } else {
-        closed
-    }
-}
-
-/// Makes the closures of the sets of the blocks those without a Yes to `r`, in a step for each that
-/// has the items of its A. `f` is the family without the Yes.
-pub fn close_blocks<I: Interior, L: Ledger>(
     closures: &mut [ItemSet],
     blocks: Blocks,
     f: &I,
+    change: YesChange,
     r: &Query,
     steps: &mut Steps<L>,
 )
@@ -133,15 +89,21 @@ pub fn close_blocks<I: Interior, L: Ledger>(
     requires good { is_good (I.item_count f.now) r.now ≡ true }
     requires each { length closures.old ≡ length (sets_of blocks) }
     requires within { list_all (λ c. is_within c (full (I.item_count f.now))) closures.old ≡ true }
-    ensures each { let n = I.item_count f.now in
-        closures.old ≡ map (closure (full n) (left_by r.now (I.members f.now))) (sets_of blocks) →
-        closures.new ≡ map (closure (full n) (I.members f.now)) (sets_of blocks) }
+    ensures each { (before : List Items) →
+        IsChange change (I.item_count f.now) r.now before (I.members f.now) →
+        closures.old ≡ map (closure (full (I.item_count f.now)) before) (sets_of blocks) →
+        closures.new
+        ≡ map (closure (full (I.item_count f.now)) (I.members f.now)) (sets_of blocks) }
     ensures within { list_all (λ c. is_within c (full (I.item_count f.now))) closures.new ≡ true }
     ensures cost { steps.new ≤ steps.old + count_by (λ c. is_within r.now.a c) closures.old }
 {
     let mut last = ItemSet::empty();
-    for closed in closures.iter_mut() {
+    let mut front = Front::new();
+    for place in 0..closures.len() {
         last = blocks.next_set(Some(last)).unwrap();
-        *closed = closed_before(*closed, last, f, r, steps);
+        if is_stale(change, r, closures[place]) {
+            let first = &closures[..place];
+            closures[place] = close_block(first, blocks, f, last, &mut front, steps);
+        }
     }
 }

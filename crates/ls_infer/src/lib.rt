@@ -2,9 +2,12 @@
 #![tactic(auto)]
 
 mod closures;
+mod enough;
+mod fronts;
 mod laws;
 mod standing_no;
 mod table;
+mod yes_change;
 
 pub use laws::told_is_forced;
 pub use ls_theory::{Known, No};

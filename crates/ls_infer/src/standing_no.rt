@@ -1,12 +1,17 @@
 // What is kept of a standing answer that is No.
-ghost use Rattle.std.specs.Prelude.{◌≡◌, ◌+◌, ◌*◌, ◌<◌, ◌==◌, ℕ, true, not, min, map, length, filter, option_map};
+ghost use Rattle.std.specs.Prelude.{◌≡◌, ◌+◌, ◌*◌, ◌<◌, ◌≤◌, ◌==◌, ℕ, List, true, not, min, map, length, filter, option_map};
 ghost use Rattle.std.specs.List.{list_all, list_any};
 ghost use Rattle.std.specs.Option.{option_map_or};
-ghost use Rattle.ls_set.specs.ItemSet.{full, has, IsWithin};
+ghost use Rattle.ls_set.specs.ItemSet.{Items, full, has, minus, is_among, IsWithin};
 ghost use Rattle.ls_set.specs.Query.{is_good};
 ghost use Rattle.ls_theory.specs.Words.{first_least};
+ghost use Rattle.ls_theory.specs.declared.no.No.{No};
+ghost use Rattle.ls_infer.specs.Changes.{IsChange, is_kept};
 ghost use Rattle.ls_infer.specs.Tables.{enough_for, standing, forces};
+ghost use Rattle.ls_infer.specs.declared.yes_change.YesChange.TheVariants as YesChange;
 
+use crate::enough::{are_none_enough, enough_among, enough_for};
+use crate::yes_change::YesChange;
 use ls_interior::{Interior, Steps, closure};
 use ls_set::{ItemSet, PLACES, Query};
 use ls_theory::No;
@@ -23,26 +28,28 @@ pub struct StandingNo {
     pub enough: ItemSet,
 }
 
-// The items `r` such that `q` is in the closure of the closed set with `r`, in a step for each
-// item.
-fn enough_for<I: Interior, L: Ledger>(
+// The items that are enough after a Yes that comes, where those that were are known. Mostly none of
+// the others is, which one interior shows.
+fn enough_after<I: Interior, L: Ledger>(
     f: &I,
     closed: ItemSet,
     q: u32,
+    known: ItemSet,
     steps: &mut Steps<L>,
 ) -> ItemSet
-    requires within { IsWithin closed (full (I.item_count f.now)) }
     requires item { q < I.item_count f.now }
-    ensures value { result ≡ enough_for (I.item_count f.now) (I.members f.now) closed q }
-    ensures cost { steps.new ≡ steps.old + I.item_count f.now }
+    ensures value { is_among (I.members f.now) (minus (full (I.item_count f.now)) closed) ≡ true →
+        IsWithin known (enough_for (I.item_count f.now) (I.members f.now) closed q) →
+        result ≡ enough_for (I.item_count f.now) (I.members f.now) closed q }
+    ensures cost { steps.new ≤ steps.old + I.item_count f.now }
 {
-    let mut enough = ItemSet::empty();
-    for r in 0..f.items() {
-        if closure(f, closed.with(r), steps).has(q) {
-            enough = enough.with(r);
-        }
+    let all = ItemSet::full(f.items());
+    let others = all.minus(known);
+    let reached = closed.has(q);
+    if !reached && others.len() < f.items() && are_none_enough(f, closed, q, others, steps) {
+        return known;
     }
-    enough
+    enough_among(f, closed, q, known, others, steps)
 }
 
 impl StandingNo {
@@ -57,6 +64,100 @@ impl StandingNo {
             no: *answer,
             closed,
             enough: enough_for(f, closed, answer.query.q, steps),
+        }
+    }
+
+    // What is kept of it under a Yes to the good query `r` that comes. What was enough stays so.
+    fn after_yes<I: Interior, L: Ledger>(
+        &self,
+        f: &I,
+        r: &Query,
+        steps: &mut Steps<L>,
+    ) -> StandingNo
+        requires kept { is_kept (I.item_count f.now) self.now ≡ true }
+        requires good { is_good (I.item_count f.now) r.now ≡ true }
+        ensures value { (before : List Items) → let n = I.item_count f.now in
+            IsChange YesChange.Added n r.now before (I.members f.now) →
+            self.now ≡ standing n before self.now.no →
+            result ≡ standing n (I.members f.now) self.now.no }
+        ensures no { result.no ≡ self.now.no }
+        ensures within { IsWithin result.closed (full (I.item_count f.now)) }
+        ensures cost { steps.new ≤ steps.old + (I.item_count f.now + 1) }
+    {
+        if self.closed.has(r.q) {
+            return *self;
+        }
+        let has_all = r.a.is_within(self.closed);
+        if !has_all && r.a.meet(self.enough).least().is_some() {
+            return *self;
+        }
+        let closed = if has_all {
+            closure(f, self.closed, steps)
+        } else {
+            self.closed
+        };
+        StandingNo {
+            no: self.no,
+            closed,
+            enough: enough_after(f, closed, self.no.query.q, self.enough, steps),
+        }
+    }
+
+    // What is kept of it where a Yes to the good query `r` is taken back. Nothing more is enough.
+    fn before_yes<I: Interior, L: Ledger>(
+        &self,
+        f: &I,
+        r: &Query,
+        steps: &mut Steps<L>,
+    ) -> StandingNo
+        requires kept { is_kept (I.item_count f.now) self.now ≡ true }
+        requires good { is_good (I.item_count f.now) r.now ≡ true }
+        ensures value { (before : List Items) → let n = I.item_count f.now in
+            IsChange YesChange.Removed n r.now before (I.members f.now) →
+            self.now ≡ standing n before self.now.no →
+            result ≡ standing n (I.members f.now) self.now.no }
+        ensures no { result.no ≡ self.now.no }
+        ensures within { IsWithin result.closed (full (I.item_count f.now)) }
+        ensures cost { steps.new ≤ steps.old + (I.item_count f.now + 1) }
+    {
+        let has_all = r.a.is_within(self.closed);
+        if !has_all && self.closed.has(r.q) {
+            return *self;
+        }
+        let closed = if has_all {
+            closure(f, self.no.query.a, steps)
+        } else {
+            self.closed
+        };
+        let others = self.enough.meet(ItemSet::full(f.items()));
+        let q = self.no.query.q;
+        StandingNo {
+            no: self.no,
+            closed,
+            enough: enough_among(f, closed, q, ItemSet::empty(), others, steps),
+        }
+    }
+
+    // What is kept of it after a Yes to the good query `r` came or was taken back.
+    fn after<I: Interior, L: Ledger>(
+        &self,
+        f: &I,
+        change: YesChange,
+        r: &Query,
+        steps: &mut Steps<L>,
+    ) -> StandingNo
+        requires kept { is_kept (I.item_count f.now) self.now ≡ true }
+        requires good { is_good (I.item_count f.now) r.now ≡ true }
+        ensures value { (before : List Items) → let n = I.item_count f.now in
+            IsChange change n r.now before (I.members f.now) →
+            self.now ≡ standing n before self.now.no →
+            result ≡ standing n (I.members f.now) self.now.no }
+        ensures kept { is_kept (I.item_count f.now) result ≡ true }
+        ensures cost { steps.new ≤ steps.old + (I.item_count f.now + 1) }
+    {
+        match change {
+            YesChange::Added => self.after_yes(f, r, steps),
+            YesChange::Removed => self.before_yes(f, r, steps),
         }
     }
 
@@ -107,15 +208,26 @@ pub fn forced_items(standing: &[StandingNo], a: ItemSet) -> ItemSet
     forced
 }
 
-/// Makes anew what is kept of each answer, in a step for each item and one more for each answer.
-pub fn make_anew<I: Interior, L: Ledger>(kept: &mut [StandingNo], f: &I, steps: &mut Steps<L>)
-    requires { list_all (λ s. is_good (I.item_count f.now) s.no.query) kept.old ≡ true }
-    ensures each { kept.new
-        ≡ map (λ s. standing (I.item_count f.now) (I.members f.now) s.no) kept.old }
-    ensures cost { steps.new ≡ steps.old + (I.item_count f.now + 1) * length kept.old }
+/// Makes what is kept of each answer that after a Yes to `r` came or was taken back, in a step at
+/// most for each item and one more for each answer. `f` is the family after the change.
+pub fn change_each<I: Interior, L: Ledger>(
+    kept: &mut [StandingNo],
+    f: &I,
+    change: YesChange,
+    r: &Query,
+    steps: &mut Steps<L>,
+)
+    requires kept { list_all (is_kept (I.item_count f.now)) kept.old ≡ true }
+    requires good { is_good (I.item_count f.now) r.now ≡ true }
+    ensures each { (before : List Items) (nos : List No) → let n = I.item_count f.now in
+        IsChange change n r.now before (I.members f.now) →
+        kept.old ≡ map (standing n before) nos →
+        kept.new ≡ map (standing n (I.members f.now)) nos }
+    ensures kept { list_all (is_kept (I.item_count f.now)) kept.new ≡ true }
+    ensures cost { steps.new ≤ steps.old + (I.item_count f.now + 1) * length kept.old }
 {
     for s in kept.iter_mut() {
-        *s = StandingNo::new(f, &s.no, steps);
+        *s = s.after(f, change, r, steps);
     }
 }
 

@@ -15,8 +15,9 @@ ghost use Rattle.ls_laws.specs.Families.{IsFamily};
 ghost use Rattle.ls_laws.specs.Forced.{IsSound, IsNumbered};
 ghost use Rattle.ls_query.specs.Blocks.{sets_of, queries_of};
 
-use crate::closures::{close_again, close_blocks, closures_of, standing_of};
-use crate::standing_no::{StandingNo, forced_items, forcing, make_anew, take_out};
+use crate::closures::{close_again, closures_of, standing_of};
+use crate::standing_no::{StandingNo, change_each, forced_items, forcing, take_out};
+use crate::yes_change::YesChange;
 use ls_interior::{Interior, Steps, closure};
 use ls_query::Blocks;
 use ls_set::{ItemSet, PLACES, Query};
@@ -67,6 +68,7 @@ fn closure_at(closures: &[ItemSet], place: u32) -> ItemSet
 }
 
 impl Table {
+    ghost use Rattle.ls_infer.specs.Changes.{IsChange};
     ghost use Rattle.ls_infer.specs.Tables.{table_of, standing, closed_of, forces, is_open_in, told};
 
     /// The table of a family, for blocks of its items and the standing answers that are No, whose
@@ -102,6 +104,29 @@ impl Table {
         self.blocks
     }
 
+    // Keeps the table where a Yes to the good query `r` comes or is taken back.
+    fn change<I: Interior, L: Ledger>(
+        &mut self,
+        f: &I,
+        change: YesChange,
+        r: &Query,
+        steps: &mut Steps<L>,
+    )
+        requires items { I.item_count f.now ≡ self.old.table.blocks.item_count }
+        requires good { is_good self.old.table.blocks.item_count r.now ≡ true }
+        ensures kept { (before : List Items) (nos : List No) →
+            IsChange change self.old.table.blocks.item_count r.now before (I.members f.now) →
+            self.old.table ≡ table_of self.old.table.blocks before nos →
+            self.new.table ≡ table_of self.old.table.blocks (I.members f.now) nos }
+        ensures cost { steps.new ≤ steps.old
+            + (count_by (λ c. is_within r.now.a c) self.old.table.closures
+            + (self.old.table.blocks.item_count + 1) * length self.old.table.standing) }
+        ensures blocks { self.new.table.blocks ≡ self.old.table.blocks }
+    {
+        close_again(&mut self.closures, self.blocks, f, change, r, steps);
+        change_each(&mut self.standing, f, change, r, steps);
+    }
+
     /// Keeps the table under a Yes to the good query `r`, of which `f` is the family that is left.
     /// It takes no memory, and at most a step for each block set whose closure before the change
     /// has the items of `r`'s A, and for each standing No a step for each item and one more.
@@ -118,8 +143,7 @@ impl Table {
             + (self.old.table.blocks.item_count + 1) * length self.old.table.standing) }
         ensures blocks { self.new.table.blocks ≡ self.old.table.blocks }
     {
-        close_again(&mut self.closures, f, r, steps);
-        make_anew(&mut self.standing, f, steps);
+        self.change(f, YesChange::Added, r, steps);
     }
 
     /// Keeps the table where a Yes to the good query `r` is taken back, of which `f` is the family
@@ -137,8 +161,7 @@ impl Table {
             + (self.old.table.blocks.item_count + 1) * length self.old.table.standing) }
         ensures blocks { self.new.table.blocks ≡ self.old.table.blocks }
     {
-        close_blocks(&mut self.closures, self.blocks, f, r, steps);
-        make_anew(&mut self.standing, f, steps);
+        self.change(f, YesChange::Removed, r, steps);
     }
 
     /// Makes room for one standing No, unless memory runs out.

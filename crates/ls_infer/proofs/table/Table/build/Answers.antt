@@ -1,7 +1,7 @@
 use Rattle.std.proofs.Common.{◌∙◌, arith}
 use Rattle.std.proofs.lemmas.Grind.{common_steps}
 use Rattle.ls_query.specs.Blocks.{sets_of}
-use Rattle.ls_infer.proofs.Changes.{closures-within, standing-good}
+use Rattle.ls_infer.proofs.Changes.{closures-within, standing-kept}
 use Rattle.ls_infer.proofs.table.Table.build.Goals as goal
 
 pub invariant_of-result : goal.invariant_of-result
@@ -14,5 +14,5 @@ invariant_of-result g c =
       each = grind (arith, common_steps);
       few_sets = grind (arith, common_steps);
       within = rw (c.items.ensures.count, c.in_ok-closures.ensures.list) (closures-within n f (sets_of c.args.blocks));
-      good = rw (c.items.ensures.count, c.in_ok-standing.ensures.list) (standing-good n n f c.args.answers.now c.requires.good);
+      kept = rw (c.items.ensures.count, c.in_ok-standing.ensures.list) (standing-kept n f c.args.answers.now c.requires.good);
     }

@@ -1,6 +1,6 @@
 use Rattle.std.proofs.Common.{not, eqb, filter, ap, ◌∙◌}
 use Rattle.ls_infer.specs.Tables.{TableState}
-use Rattle.ls_infer.proofs.Changes.{good-removed, standing-removed, table_is}
+use Rattle.ls_infer.proofs.Changes.{kept-removed, standing-removed, table_is}
 use Rattle.ls_infer.proofs.table.Table.no_removed.Goals as goal
 
 pub invariant_of-self : goal.invariant_of-self
@@ -12,7 +12,7 @@ invariant_of-self c =
       each = t.each;
       few_sets = t.few_sets;
       within = t.within;
-      good = rw c.take_out.ensures (good-removed c.self.inside.n c.args.number c.self.inside.standing.items t.good);
+      kept = rw c.take_out.ensures (kept-removed c.self.inside.n c.args.number c.self.inside.standing.items t.kept);
     }
 
 pub returns-clause-kept : goal.returns-clause-kept

@@ -5,8 +5,8 @@ use Rattle.ls_set.proofs.Sets.{members, has-with, same_set}
 use Rattle.ls_theory.specs.Families.{closure}
 use Rattle.ls_infer.specs.Tables.{enough_for}
 use Rattle.ls_infer.proofs.Kept.{has-enough, with-within, taken, left}
-use Rattle.ls_infer.proofs.standing_no.enough_for.Goals as goal
-use Rattle.ls_infer.proofs.standing_no.enough_for.Goals.{then-has, else-has}
+use Rattle.ls_infer.proofs.enough.enough_for.Goals as goal
+use Rattle.ls_infer.proofs.enough.enough_for.Goals.{then-has, else-has}
 
 pub loop-r-init : goal.loop-r-init
 loop-r-init g c = record { enough = λ i. rw c.empty-enough.ensures (grind (arith, members, nat_tests)); cost = omega arith }

@@ -1,7 +1,7 @@
 use Rattle.std.proofs.Common.{◌≡◌, ◌+◌, ℕ, ◌&&◌, nat_lt}
 use Rattle.ls_set.specs.ItemSet.{has, full, with}
 use Rattle.ls_theory.specs.Families.{closure}
-use Rattle.ls_infer.proofs.standing_no.enough_for.Given as goal
+use Rattle.ls_infer.proofs.enough.enough_for.Given as goal
 
 -- the items so far are those that are enough, and each was one step
 abbrev pub invariant-loop-r : goal.invariant-loop-r

@@ -1,0 +1,15 @@
+-- Closures of block sets, each from that of the set without one of its items.
+--     IsFront n f e      the set in front has the closure that is kept with it, unless it is empty
+--     AreFirst n f b cs      the closures are those of the first sets of the blocks
+use Rattle.std.specs.Prelude.{ℕ, ◌≡◌, true, List, map, take, length}
+use Rattle.ls_set.specs.ItemSet.{Items, has, full}
+use Rattle.ls_theory.specs.Families.{closure}
+use Rattle.ls_theory.specs.Blocks.{BlockRange}
+use Rattle.ls_query.specs.Blocks.{sets_of}
+use Rattle.ls_infer.specs.declared.fronts.Front.{Front}
+
+abbrev pub IsFront : ℕ → List Items → Front → Type 0
+IsFront n f e = (i : ℕ) → has e.set i ≡ true → e.closed ≡ closure (full n) f e.set
+
+abbrev pub AreFirst : ℕ → List Items → BlockRange → List Items → Type 0
+AreFirst n f b cs = cs ≡ map (closure (full n) f) (take (length cs) (sets_of b))

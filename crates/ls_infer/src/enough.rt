@@ -1,0 +1,84 @@
+// The items that are enough with a closed set for an item.
+ghost use Rattle.std.specs.Prelude.{◌≡◌, ◌+◌, ◌<◌, ◌≤◌, ◌⊎◌, ℕ, true, false};
+ghost use Rattle.ls_set.specs.ItemSet.{full, has, with, minus, len, is_among, IsWithin};
+ghost use Rattle.ls_theory.specs.Families.{closure};
+ghost use Rattle.ls_infer.specs.Tables.{enough_for};
+
+use ls_interior::{Interior, Steps};
+use ls_set::{ItemSet, PLACES};
+use std::sync::ledger::Ledger;
+
+/// The items `r` such that `q` is in the closure of the closed set with `r`, in a step for each
+/// item.
+pub fn enough_for<I: Interior, L: Ledger>(
+    f: &I,
+    closed: ItemSet,
+    q: u32,
+    steps: &mut Steps<L>,
+) -> ItemSet
+    requires member { is_among (I.members f.now) (minus (full (I.item_count f.now)) closed) ≡ true }
+    requires item { q < I.item_count f.now }
+    ensures value { result ≡ enough_for (I.item_count f.now) (I.members f.now) closed q }
+    ensures cost { steps.new ≡ steps.old + I.item_count f.now }
+{
+    let outside = ItemSet::full(f.items()).minus(closed);
+    let keep = ItemSet::empty().with(q);
+    let mut enough = ItemSet::empty();
+    for r in 0..f.items() {
+        if f.interior_without(outside, r, keep, steps).is_none() {
+            enough = enough.with(r);
+        }
+    }
+    enough
+}
+
+/// The items that are enough: those that are known to be, and those of `others` that are, in a step
+/// at most for each of `others`. What is not enough is shared: where `r` is not, no item of the
+/// closure with `r` is.
+pub fn enough_among<I: Interior, L: Ledger>(
+    f: &I,
+    closed: ItemSet,
+    q: u32,
+    known: ItemSet,
+    others: ItemSet,
+    steps: &mut Steps<L>,
+) -> ItemSet
+    requires item { q < I.item_count f.now }
+    requires others { IsWithin others (full (I.item_count f.now)) }
+    ensures value { is_among (I.members f.now) (minus (full (I.item_count f.now)) closed) ≡ true →
+        IsWithin known (enough_for (I.item_count f.now) (I.members f.now) closed q) →
+        ((r : ℕ) → has (enough_for (I.item_count f.now) (I.members f.now) closed q) r ≡ true →
+            (has known r ≡ true) ⊎ (has others r ≡ true)) →
+        result ≡ enough_for (I.item_count f.now) (I.members f.now) closed q }
+    ensures cost { steps.new ≤ steps.old + len others }
+{
+    let outside = ItemSet::full(f.items()).minus(closed);
+    let keep = ItemSet::empty().with(q);
+    let mut enough = known;
+    let mut left = others;
+    while let Some(r) = left.least() {
+        left = left.without(r);
+        match f.interior_without(outside, r, keep, steps) {
+            Some(missed) => left = left.meet(missed),
+            None => enough = enough.with(r),
+        }
+    }
+    enough
+}
+
+/// Whether all items of `others` together are not enough, so that none of them is; in a step.
+pub fn are_none_enough<I: Interior, L: Ledger>(
+    f: &I,
+    closed: ItemSet,
+    q: u32,
+    others: ItemSet,
+    steps: &mut Steps<L>,
+) -> bool
+    requires item { q < I.item_count f.now }
+    ensures value { result ≡ true → (r : ℕ) → has others r ≡ true →
+        has (enough_for (I.item_count f.now) (I.members f.now) closed q) r ≡ false }
+    ensures cost { steps.new ≤ steps.old + 1 }
+{
+    let all = ItemSet::full(f.items());
+    !f.interior(all.minus(closed).minus(others), steps).has(q)
+}

@@ -1,0 +1,10 @@
+// Changes of the Yes answers.
+
+/// How the standing Yes answers change by one.
+#[derive(Clone, Copy, Debug, PartialEq, Eq)]
+pub enum YesChange {
+    /// One comes.
+    Added,
+    /// One is taken back.
+    Removed,
+}
