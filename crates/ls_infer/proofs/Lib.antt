@@ -3,5 +3,6 @@ mod Kept
 mod Told
 mod Questions
 mod Changes
+mod Standing
 pub mod Least
 pub mod WithinFamily

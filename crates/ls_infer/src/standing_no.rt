@@ -76,6 +76,7 @@ impl StandingNo {
     ) -> StandingNo
         requires kept { is_kept (I.item_count f.now) self.now ≡ true }
         requires good { is_good (I.item_count f.now) r.now ≡ true }
+        requires item { r.now.q < PLACES }
         ensures value { (before : List Items) → let n = I.item_count f.now in
             IsChange YesChange.Added n r.now before (I.members f.now) →
             self.now ≡ standing n before self.now.no →
@@ -112,6 +113,7 @@ impl StandingNo {
     ) -> StandingNo
         requires kept { is_kept (I.item_count f.now) self.now ≡ true }
         requires good { is_good (I.item_count f.now) r.now ≡ true }
+        requires item { r.now.q < PLACES }
         ensures value { (before : List Items) → let n = I.item_count f.now in
             IsChange YesChange.Removed n r.now before (I.members f.now) →
             self.now ≡ standing n before self.now.no →
@@ -148,6 +150,7 @@ impl StandingNo {
     ) -> StandingNo
         requires kept { is_kept (I.item_count f.now) self.now ≡ true }
         requires good { is_good (I.item_count f.now) r.now ≡ true }
+        requires item { r.now.q < PLACES }
         ensures value { (before : List Items) → let n = I.item_count f.now in
             IsChange change n r.now before (I.members f.now) →
             self.now ≡ standing n before self.now.no →
@@ -219,6 +222,7 @@ pub fn change_each<I: Interior, L: Ledger>(
 )
     requires kept { list_all (is_kept (I.item_count f.now)) kept.old ≡ true }
     requires good { is_good (I.item_count f.now) r.now ≡ true }
+    requires item { r.now.q < PLACES }
     ensures each { (before : List Items) (nos : List No) → let n = I.item_count f.now in
         IsChange change n r.now before (I.members f.now) →
         kept.old ≡ map (standing n before) nos →

@@ -1,0 +1,18 @@
+use Rattle.std.proofs.Common.{◌≡◌, ◌+◌, ◌*◌, ◌≤◌, true, List, map, drop}
+use Rattle.std.specs.List.{list_all}
+use Rattle.ls_lists.specs.Lists.{images}
+use Rattle.ls_set.specs.ItemSet.{Items}
+use Rattle.ls_theory.specs.declared.no.No.{No}
+use Rattle.ls_infer.specs.Changes.{IsChange, is_kept}
+use Rattle.ls_infer.specs.Tables.{standing}
+use Rattle.ls_infer.proofs.standing_no.change_each.Given as goal
+
+-- those so far are what is kept after the change, those that are left are as they were, and the steps
+abbrev pub invariant-loop-s : goal.invariant-loop-s
+invariant-loop-s g l = record {
+  kept : list_all (is_kept (g.I.Interior.item_count l.f)) l.kept ≡ true;
+  made : (before : List Items) (nos : List No) → IsChange l.change (g.I.Interior.item_count l.f) l.r before (g.I.Interior.members l.f)
+      → l.initial.kept ≡ map (standing (g.I.Interior.item_count l.f) before) nos
+      → l.kept ≡ images (standing (g.I.Interior.item_count l.f) (g.I.Interior.members l.f)) (standing (g.I.Interior.item_count l.f) before) nos l.s-index;
+  cost : l.steps ≤ l.fn.steps + (g.I.Interior.item_count l.f + 1) * l.s-index;
+}
