@@ -80,5 +80,5 @@ pub fn are_none_enough<I: Interior, L: Ledger>(
     ensures cost { steps.new ≤ steps.old + 1 }
 {
     let all = ItemSet::full(f.items());
-    !f.interior(all.minus(closed).minus(others), steps).has(q)
+    f.interior(all.minus(closed).minus(others), steps).has(q)
 }
