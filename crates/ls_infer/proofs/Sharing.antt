@@ -1,7 +1,8 @@
 -- What the interior without an item tells of the closure with it, and what one such closure tells of the items in it.
 use Rattle.std.proofs.Common.{ℕ, zero, suc, ◌<◌, ◌≤◌, ◌≡◌, ◌⊎◌, inl, inr, Bool, true, false, cond, not, ◌&&◌, ◌||◌, eqb, ltb, List, [], ◌∷◌, filter, length, Option, Some, None, refl, sym, ap, ap₂, ◌∙◌, subst, arith, true≢false, eqb-true, eq-eqb, lt-ltb, ltb-true}
-use Rattle.std.proofs.lemmas.Bool.{and_parts, and_from, or_cases, or_left, or_right, not-true, not_from_false, false_from_ne_true, true_from_ne_false}
+use Rattle.std.proofs.lemmas.Bool.{and_parts, and_from, or_cases, or_left, or_right, not-true, not-false, not_from_false, false_from_ne_true, true_from_ne_false}
 use Rattle.std.proofs.lemmas.Bool.Decides.{nat_tests}
+use Rattle.std.specs.Option.{is_some}
 use Rattle.ls_lists.proofs.Filters.{filter-fewer}
 use Rattle.ls_set.specs.ItemSet.{Items, has, empty, full, with, without, meet, minus, len, items, least, numbers_from, is_within, IsWithin}
 use Rattle.ls_set.proofs.Sets.{members, has-empty, has-meet, has-minus, has-with, has-without, has-full, same_set, same_within, minus-within, without-within, IsWithin-from, is_within-from}
@@ -80,6 +81,12 @@ miss n f closed outside keep q r missed l o k h =
     let told : interior_keeping f (without (minus (full n) closed) r) (with empty q) ≡ Some missed = sym (h ∙ ap₂ (λ s t. interior_keeping f (without s r) t) o k) in
     let p = some-chosen (is_within (with empty q) inside) inside missed told in
     (has-closure_with n f closed r q l ∙ ap not (sym (is_within-one q inside) ∙ p.0), p.1)
+
+-- so q is in the closure with r where nothing is kept without r
+pub told : (n : ℕ) (f : List Items) (closed outside keep : Items) (q r : ℕ) (kept : Option Items) (none : Bool) → q < n → outside ≡ minus (full n) closed → keep ≡ with empty q
+    → kept ≡ interior_keeping f (without outside r) keep → is_some kept ≡ not none → none ≡ has (closure (full n) f (with closed r)) q
+told n f closed outside keep q r None none l o k h e = not-false none (sym e) ∙ sym (hit n f closed outside keep q r l o k h)
+told n f closed outside keep q r (Some missed) none l o k h e = not-true none (sym e) ∙ sym (miss n f closed outside keep q r missed l o k h).0
 
 -- ---- what the closure with one item tells of the items in it
 
@@ -173,6 +180,12 @@ fewer-miss left rest missed next r e same kept =
     rw kept (omega arith)
 
 -- ---- all others together
+
+pub outside-within : (n : ℕ) (whole closed outside others left : Items) → whole ≡ full n → outside ≡ minus whole closed → left ≡ minus outside others → IsWithin left (full n)
+outside-within n whole closed outside others left w o e i h =
+    let a = minus-within outside others i (subst (λ s. has s i ≡ true) e h) in
+    let b = minus-within whole closed i (subst (λ s. has s i ≡ true) o a) in
+    subst (λ s. has s i ≡ true) w b
 
 -- what is enough is below n, so that it is known or among the others
 pub others-left : (n : ℕ) (f : List Items) (closed : Items) (q : ℕ) (known : Items) (i : ℕ) → has (enough_for n f closed q) i ≡ true → (has known i ≡ true) ⊎ (has (minus (full n) known) i ≡ true)
