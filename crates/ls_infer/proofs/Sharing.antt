@@ -1,10 +1,10 @@
 -- What the interior without an item tells of the closure with it, and what one such closure tells of the items in it.
-use Rattle.std.proofs.Common.{ℕ, zero, suc, ◌<◌, ◌≤◌, ◌≡◌, ◌⊎◌, inl, inr, Bool, true, false, cond, not, ◌&&◌, ◌||◌, eqb, ltb, List, [], ◌∷◌, filter, length, Option, Some, None, refl, sym, ap, ap₂, ◌∙◌, subst, arith, true≢false, eqb-true, eq-eqb, lt-ltb, ltb-true}
+use Rattle.std.proofs.Common.{ℕ, zero, suc, ◌<◌, ◌≤◌, ◌≡◌, ◌⊎◌, inl, inr, Bool, true, false, cond, not, ◌&&◌, eqb, ltb, List, [], ◌∷◌, filter, length, Option, Some, None, refl, sym, ap, ap₂, ◌∙◌, subst, arith, true≢false, eqb-true, eq-eqb, lt-ltb, ltb-true}
 use Rattle.std.proofs.lemmas.Bool.{and_parts, and_from, or_cases, or_left, or_right, not-true, not-false, not_from_false, false_from_ne_true, true_from_ne_false}
 use Rattle.std.proofs.lemmas.Bool.Decides.{nat_tests}
 use Rattle.std.specs.Option.{is_some}
 use Rattle.ls_lists.proofs.Filters.{filter-fewer}
-use Rattle.ls_set.specs.ItemSet.{Items, has, empty, full, with, without, meet, minus, len, items, least, numbers_from, is_within, IsWithin}
+use Rattle.ls_set.specs.ItemSet.{Items, has, empty, full, with, without, meet, minus, len, least, numbers_from, is_within, IsWithin}
 use Rattle.ls_set.proofs.Sets.{members, has-empty, has-meet, has-minus, has-with, has-without, has-full, same_set, same_within, minus-within, without-within, IsWithin-from, is_within-from}
 use Rattle.ls_set.proofs.Ascending.{least-cases}
 use Rattle.ls_set.proofs.Sizes.{items-within, len-within, len-less}
@@ -99,7 +99,7 @@ closure-shared n f c r s h i a =
     let p = out-parts whole wide j b in
     out-from whole (with c s) j p.0 (false_from_ne_true (has (with c s) j) (λ e. elim (with-cases c s j e) [
       | inl x ↦ true≢false (sym (out-from whole inside j p.0 (false_from_ne_true (has inside j) (λ y.
-        true≢false (sym (with-left c r j x) ∙ (out-parts whole (with c r) j (interior-within f (minus whole (with c r)) j y)).1)))) ∙ p.1)
+          true≢false (sym (with-left c r j x) ∙ (out-parts whole (with c r) j (interior-within f (minus whole (with c r)) j y)).1)))) ∙ p.1)
       | inr x ↦ true≢false (sym (subst (λ k. has wide k ≡ true) (sym x) h) ∙ p.1)
     ])))) i a)
 
@@ -141,9 +141,9 @@ found-miss n f closed q r found left missed lacks same so = record {
   complete = λ i a. elim (so.complete i a) [
     | inl x ↦ inl x
     | inr y ↦
-      let inside = enough-missed n f closed q r lacks i a in
-      let p = and_parts (has (minus (full n) closed) i) (not (eqb i r)) (sym (has-without (minus (full n) closed) r i) ∙ interior-within f (without (minus (full n) closed) r) i inside) in
-      inr (has-meet (without left r) missed i ∙ and_from (has (without left r) i) (has missed i)
+        let inside = enough-missed n f closed q r lacks i a in
+        let p = and_parts (has (minus (full n) closed) i) (not (eqb i r)) (sym (has-without (minus (full n) closed) r i) ∙ interior-within f (without (minus (full n) closed) r) i inside) in
+        inr (has-meet (without left r) missed i ∙ and_from (has (without left r) i) (has missed i)
         (has-without left r i ∙ and_from (has left i) (not (eqb i r)) y p.1)
         (subst (λ s. has s i ≡ true) (sym same) inside))
   ];

@@ -1,5 +1,5 @@
-use Rattle.std.proofs.Common.{ℕ, ◌<◌, ◌≡◌, true, Some, None, refl, sym, subst, arith}
-use Rattle.ls_set.specs.ItemSet.{Items, full, has, with, without, meet, empty, minus, is_among}
+use Rattle.std.proofs.Common.{◌<◌, ◌≡◌, true, refl, sym, subst, arith}
+use Rattle.ls_set.specs.ItemSet.{full, has, with, meet, empty, minus, is_among}
 use Rattle.ls_set.proofs.Sets.{minus-within}
 use Rattle.ls_infer.specs.Tables.{enough_for}
 use Rattle.ls_infer.proofs.Sharing.{IsFound, hit, miss, found-hit, found-miss, found-all, fewer-hit, fewer-miss, left-hit, left-miss, left-below}

@@ -1,4 +1,4 @@
-use Rattle.std.proofs.Common.{◌<◌, ◌≤◌, ◌≡◌, true, refl, sym, ap, subst, arith}
+use Rattle.std.proofs.Common.{◌≤◌, ◌≡◌, true, refl, sym, subst, arith}
 use Rattle.ls_set.specs.ItemSet.{full, has, len, minus}
 use Rattle.ls_set.proofs.Sets.{minus-within}
 use Rattle.ls_infer.proofs.Sharing.{none-more, others-left, others-few}
