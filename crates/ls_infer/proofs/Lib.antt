@@ -2,6 +2,7 @@ mod Places
 mod Kept
 mod Told
 mod Questions
+mod Sharing
 mod Changes
 mod Standing
 pub mod Least

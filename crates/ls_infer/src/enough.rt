@@ -48,7 +48,7 @@ pub fn enough_among<I: Interior, L: Ledger>(
     ensures value { is_among (I.members f.now) (minus (full (I.item_count f.now)) closed) ≡ true →
         IsWithin known (enough_for (I.item_count f.now) (I.members f.now) closed q) →
         ((r : ℕ) → has (enough_for (I.item_count f.now) (I.members f.now) closed q) r ≡ true →
-            (has known r ≡ true) ⊎ (has others r ≡ true)) →
+        (has known r ≡ true) ⊎ (has others r ≡ true)) →
         result ≡ enough_for (I.item_count f.now) (I.members f.now) closed q }
     ensures cost { steps.new ≤ steps.old + len others }
 {
@@ -80,5 +80,5 @@ pub fn are_none_enough<I: Interior, L: Ledger>(
     ensures cost { steps.new ≤ steps.old + 1 }
 {
     let all = ItemSet::full(f.items());
-    !f.interior(all.minus(closed).minus(others), steps).has(q)
+    f.interior(all.minus(closed).minus(others), steps).has(q)
 }

@@ -6,6 +6,6 @@ use Rattle.ls_infer.proofs.enough.enough_for.Given as goal
 -- the items so far are those that are enough, and each was one step
 abbrev pub invariant-loop-r : goal.invariant-loop-r
 invariant-loop-r g l = record {
-  enough : (i : ℕ) → has l.enough i ≡ (nat_lt i l.r && has (closure (full (g.I.Interior.item_count l.f)) (g.I.Interior.members l.f) (with l.closed i)) l.q);
+  enough : (i : ℕ) → has l.enough i ≡ (nat_lt i l.r && has (closure (full (g.I.Interior.item_count l.f)) (g.I.Interior.members l.f) (with l.fn.closed i)) l.q);
   cost : l.steps ≡ l.fn.steps + l.r;
 }

@@ -1,0 +1,235 @@
+-- What the interior without an item tells of the closure with it, and what one such closure tells of the items in it.
+use Rattle.std.proofs.Common.{ℕ, zero, suc, ◌<◌, ◌≤◌, ◌≡◌, ◌⊎◌, inl, inr, Bool, true, false, cond, not, ◌&&◌, eqb, ltb, List, [], ◌∷◌, filter, length, Option, Some, None, refl, sym, ap, ap₂, ◌∙◌, subst, arith, true≢false, eqb-true, eq-eqb, lt-ltb, ltb-true}
+use Rattle.std.proofs.lemmas.Bool.{and_parts, and_from, or_cases, or_left, or_right, not-true, not-false, not_from_false, false_from_ne_true, true_from_ne_false}
+use Rattle.std.proofs.lemmas.Bool.Decides.{nat_tests}
+use Rattle.std.specs.Option.{is_some}
+use Rattle.ls_lists.proofs.Filters.{filter-fewer}
+use Rattle.ls_set.specs.ItemSet.{Items, has, empty, full, with, without, meet, minus, len, least, numbers_from, is_within, IsWithin}
+use Rattle.ls_set.proofs.Sets.{members, has-empty, has-meet, has-minus, has-with, has-without, has-full, same_set, same_within, minus-within, without-within, IsWithin-from, is_within-from}
+use Rattle.ls_set.proofs.Ascending.{least-cases}
+use Rattle.ls_set.proofs.Sizes.{items-within, len-within, len-less}
+use Rattle.ls_set.proofs.Listed.{least-none_left}
+use Rattle.ls_theory.specs.Families.{interior, closure}
+use Rattle.ls_interior.specs.Keeping.{interior_keeping}
+use Rattle.ls_laws.proofs.Interiors.{interior-within, interior_grows}
+use Rattle.ls_laws.proofs.ClosureChanges.{minus_shrinks, closure_again}
+use Rattle.ls_infer.specs.Tables.{enough_for}
+use Rattle.ls_infer.proofs.Kept.{has-enough}
+
+-- ---- complements, and a further item
+
+out-parts : (whole s : Items) (i : ℕ) → has (minus whole s) i ≡ true → (has whole i ≡ true) × (has s i ≡ false)
+out-parts whole s i h = let p = and_parts (has whole i) (not (has s i)) (sym (has-minus whole s i) ∙ h) in (p.0, not-true (has s i) p.1)
+
+out-from : (whole s : Items) (i : ℕ) → has whole i ≡ true → has s i ≡ false → has (minus whole s) i ≡ true
+out-from whole s i w h = has-minus whole s i ∙ and_from (has whole i) (not (has s i)) w (not_from_false (has s i) h)
+
+with-left : (c : Items) (s : ℕ) → IsWithin c (with c s)
+with-left c s i h = has-with c s i ∙ or_left (has c i) (eqb i s) h
+
+with-here : (c : Items) (s : ℕ) → has (with c s) s ≡ true
+with-here c s = has-with c s s ∙ or_right (has c s) (eqb s s) (eq-eqb s s refl)
+
+with-cases : (c : Items) (s i : ℕ) → has (with c s) i ≡ true → (has c i ≡ true) ⊎ (i ≡ s)
+with-cases c s i h = elim (or_cases (has c i) (eqb i s) (sym (has-with c s i) ∙ h)) [ inl a ↦ inl a | inr e ↦ inr (eqb-true i s e) ]
+
+pub outside-with : (n : ℕ) (closed : Items) (r : ℕ) → minus (full n) (with closed r) ≡ without (minus (full n) closed) r
+outside-with n closed r = same_set (minus (full n) (with closed r)) (without (minus (full n) closed) r) (λ i. grind (arith, members, nat_tests))
+
+-- ---- the closure with an item, and the interior without it
+
+abbrev pub inside_without : ℕ → List Items → Items → ℕ → Items
+inside_without n f closed r = interior f (without (minus (full n) closed) r)
+
+-- an item is in the closure with r where it is not in the interior without r
+pub has-closure_with : (n : ℕ) (f : List Items) (closed : Items) (r i : ℕ) → i < n → has (closure (full n) f (with closed r)) i ≡ not (has (inside_without n f closed r) i)
+has-closure_with n f closed r i l =
+    has-minus (full n) (interior f (minus (full n) (with closed r))) i
+    ∙ ap (λ b. b && not (has (interior f (minus (full n) (with closed r))) i)) (has-full n i ∙ lt-ltb i n l)
+    ∙ ap (λ s. not (has (interior f s) i)) (outside-with n closed r)
+
+pub is_within-one : (q : ℕ) (s : Items) → is_within (with empty q) s ≡ has s q
+is_within-one q s = elim (has s q) as (λ b. has s q ≡ b → is_within (with empty q) s ≡ b) [
+  | true ↦ λ h. is_within-from (with empty q) s (λ i a. elim (with-cases empty q i a) [
+    | inl e ↦ absurd (true≢false (sym e ∙ has-empty i))
+    | inr e ↦ subst (λ j. has s j ≡ true) (sym e) h
+  ])
+  | false ↦ λ h. false_from_ne_true (is_within (with empty q) s) (λ w. true≢false (sym (IsWithin-from (with empty q) s w q (with-here empty q)) ∙ h))
+] refl
+
+none-chosen : (b : Bool) (x : Items) → cond b (Some x) None ≡ None → b ≡ false
+none-chosen true x h = cc
+none-chosen false x h = refl
+
+some-chosen : (b : Bool) (x k : Items) → cond b (Some x) None ≡ Some k → (b ≡ true) × (k ≡ x)
+some-chosen true x k h = (refl, cc)
+some-chosen false x k h = cc
+
+-- where the interior that keeps q is none, q is in the closure
+pub hit : (n : ℕ) (f : List Items) (closed outside keep : Items) (q r : ℕ) → q < n → outside ≡ minus (full n) closed → keep ≡ with empty q → None ≡ interior_keeping f (without outside r) keep
+    → has (closure (full n) f (with closed r)) q ≡ true
+hit n f closed outside keep q r l o k h =
+    let inside = inside_without n f closed r in
+    let told : interior_keeping f (without (minus (full n) closed) r) (with empty q) ≡ None = sym (h ∙ ap₂ (λ s t. interior_keeping f (without s r) t) o k) in
+    has-closure_with n f closed r q l ∙ ap not (sym (is_within-one q inside) ∙ none-chosen (is_within (with empty q) inside) inside told)
+
+-- and where it is one, q is not, and that is the interior
+pub miss : (n : ℕ) (f : List Items) (closed outside keep : Items) (q r : ℕ) (missed : Items) → q < n → outside ≡ minus (full n) closed → keep ≡ with empty q → Some missed ≡ interior_keeping f (without outside r) keep
+    → (has (closure (full n) f (with closed r)) q ≡ false) × (missed ≡ inside_without n f closed r)
+miss n f closed outside keep q r missed l o k h =
+    let inside = inside_without n f closed r in
+    let told : interior_keeping f (without (minus (full n) closed) r) (with empty q) ≡ Some missed = sym (h ∙ ap₂ (λ s t. interior_keeping f (without s r) t) o k) in
+    let p = some-chosen (is_within (with empty q) inside) inside missed told in
+    (has-closure_with n f closed r q l ∙ ap not (sym (is_within-one q inside) ∙ p.0), p.1)
+
+-- so q is in the closure with r where nothing is kept without r
+pub told : (n : ℕ) (f : List Items) (closed outside keep : Items) (q r : ℕ) (kept : Option Items) (none : Bool) → q < n → outside ≡ minus (full n) closed → keep ≡ with empty q
+    → kept ≡ interior_keeping f (without outside r) keep → is_some kept ≡ not none → none ≡ has (closure (full n) f (with closed r)) q
+told n f closed outside keep q r None none l o k h e = not-false none (sym e) ∙ sym (hit n f closed outside keep q r l o k h)
+told n f closed outside keep q r (Some missed) none l o k h e = not-true none (sym e) ∙ sym (miss n f closed outside keep q r missed l o k h).0
+
+-- ---- what the closure with one item tells of the items in it
+
+closure-shared : (n : ℕ) (f : List Items) (c : Items) (r s : ℕ) → has (closure (full n) f (with c r)) s ≡ true → IsWithin (closure (full n) f (with c s)) (closure (full n) f (with c r))
+closure-shared n f c r s h i a =
+    let whole = full n in
+    let inside = interior f (minus whole (with c r)) in
+    let wide = closure whole f (with c r) in
+    subst (λ d. has d i ≡ true) (closure_again whole f (with c r)) (minus_shrinks whole (interior f (minus whole wide)) (interior f (minus whole (with c s))) (interior_grows f (minus whole wide) (minus whole (with c s)) (λ j b.
+    let p = out-parts whole wide j b in
+    out-from whole (with c s) j p.0 (false_from_ne_true (has (with c s) j) (λ e. elim (with-cases c s j e) [
+      | inl x ↦ true≢false (sym (out-from whole inside j p.0 (false_from_ne_true (has inside j) (λ y.
+          true≢false (sym (with-left c r j x) ∙ (out-parts whole (with c r) j (interior-within f (minus whole (with c r)) j y)).1)))) ∙ p.1)
+      | inr x ↦ true≢false (sym (subst (λ k. has wide k ≡ true) (sym x) h) ∙ p.1)
+    ])))) i a)
+
+-- where r is not enough, what is enough is in the interior without r
+pub enough-missed : (n : ℕ) (f : List Items) (closed : Items) (q r : ℕ) → has (closure (full n) f (with closed r)) q ≡ false → IsWithin (enough_for n f closed q) (inside_without n f closed r)
+enough-missed n f closed q r lacks i h =
+    let p = and_parts (ltb i n) (has (closure (full n) f (with closed i)) q) (sym (has-enough n f closed q i) ∙ h) in
+    let l : i < n = grind (arith, nat_tests, p.0) in
+    true_from_ne_false (has (inside_without n f closed r) i) (λ e.
+    true≢false (sym (closure-shared n f closed r i (has-closure_with n f closed r i l ∙ ap not e) q p.1) ∙ lacks))
+
+-- ---- what is enough, as far as it is found
+
+-- the items found are enough, and all that are enough are found or left
+pub record IsFound (enough found left : Items) : Type 0 where
+  pub sound : IsWithin found enough
+  pub complete : (i : ℕ) → has enough i ≡ true → (has found i ≡ true) ⊎ (has left i ≡ true)
+
+pub found-hit : (n : ℕ) (f : List Items) (closed : Items) (q r : ℕ) (found left : Items) → r < n → has (closure (full n) f (with closed r)) q ≡ true → IsFound (enough_for n f closed q) found left
+    → IsFound (enough_for n f closed q) (with found r) (without left r)
+found-hit n f closed q r found left l h so = record {
+  sound = λ i a. elim (with-cases found r i a) [
+    | inl x ↦ so.sound i x
+    | inr e ↦ subst (λ j. has (enough_for n f closed q) j ≡ true) (sym e) (has-enough n f closed q r ∙ and_from (ltb r n) (has (closure (full n) f (with closed r)) q) (lt-ltb r n l) h)
+  ];
+  complete = λ i a. elim (so.complete i a) [
+    | inl x ↦ inl (with-left found r i x)
+    | inr y ↦ elim (eqb i r) as (λ b. eqb i r ≡ b → (has (with found r) i ≡ true) ⊎ (has (without left r) i ≡ true)) [
+      | true ↦ λ e. inl (has-with found r i ∙ or_right (has found i) (eqb i r) e)
+      | false ↦ λ e. inr (has-without left r i ∙ and_from (has left i) (not (eqb i r)) y (not_from_false (eqb i r) e))
+    ] refl
+  ];
+}
+
+pub found-miss : (n : ℕ) (f : List Items) (closed : Items) (q r : ℕ) (found left missed : Items) → has (closure (full n) f (with closed r)) q ≡ false → missed ≡ inside_without n f closed r
+    → IsFound (enough_for n f closed q) found left → IsFound (enough_for n f closed q) found (meet (without left r) missed)
+found-miss n f closed q r found left missed lacks same so = record {
+  sound = so.sound;
+  complete = λ i a. elim (so.complete i a) [
+    | inl x ↦ inl x
+    | inr y ↦
+        let inside = enough-missed n f closed q r lacks i a in
+        let p = and_parts (has (minus (full n) closed) i) (not (eqb i r)) (sym (has-without (minus (full n) closed) r i) ∙ interior-within f (without (minus (full n) closed) r) i inside) in
+        inr (has-meet (without left r) missed i ∙ and_from (has (without left r) i) (has missed i)
+        (has-without left r i ∙ and_from (has left i) (not (eqb i r)) y p.1)
+        (subst (λ s. has s i ≡ true) (sym same) inside))
+  ];
+}
+
+-- with none left, those found are those that are enough
+pub found-all : (enough found left : Items) → IsFound enough found left → least left ≡ None → found ≡ enough
+found-all enough found left so none = same_within found enough so.sound (λ i a. elim (so.complete i a) [
+  | inl x ↦ x
+  | inr y ↦ absurd (true≢false (sym y ∙ least-none_left left i none))
+])
+
+meet-left : (s t : Items) → IsWithin (meet s t) s
+meet-left s t i h = (and_parts (has s i) (has t i) (sym (has-meet s t i) ∙ h)).0
+
+pub left-hit : (others left rest : Items) (r : ℕ) → IsWithin left others → rest ≡ without left r → IsWithin rest others
+left-hit others left rest r w same i h = w i (without-within left r i (subst (λ s. has s i ≡ true) same h))
+
+pub left-miss : (others left rest missed next : Items) (r : ℕ) → IsWithin left others → rest ≡ without left r → next ≡ meet rest missed → IsWithin next others
+left-miss others left rest missed next r w same kept i h = left-hit others left rest r w same i (meet-left rest missed i (subst (λ s. has s i ≡ true) kept h))
+
+pub left-below : (n : ℕ) (others left : Items) (r : ℕ) → IsWithin others (full n) → IsWithin left others → Some r ≡ least left → r < n
+left-below n others left r small w e = ltb-true r n (sym (has-full n r) ∙ small r (w r (least-cases left r (sym e)).0))
+
+-- ---- how many are left
+
+pub fewer-hit : (left rest : Items) (r : ℕ) → Some r ≡ least left → rest ≡ without left r → len rest < len left
+fewer-hit left rest r e same = rw same (len-less (without left r) left r (without-within left r) (grind (arith, members, nat_tests)) (least-cases left r (sym e)).0)
+
+pub fewer-miss : (left rest missed next : Items) (r : ℕ) → Some r ≡ least left → rest ≡ without left r → next ≡ meet rest missed → len next < len left
+fewer-miss left rest missed next r e same kept =
+    let less = fewer-hit left rest r e same in
+    let some : len (meet rest missed) ≤ len rest = len-within (meet rest missed) rest (meet-left rest missed) in
+    rw kept (omega arith)
+
+-- ---- all others together
+
+pub outside-within : (n : ℕ) (whole closed outside others left : Items) → whole ≡ full n → outside ≡ minus whole closed → left ≡ minus outside others → IsWithin left (full n)
+outside-within n whole closed outside others left w o e i h =
+    let a = minus-within outside others i (subst (λ s. has s i ≡ true) e h) in
+    let b = minus-within whole closed i (subst (λ s. has s i ≡ true) o a) in
+    subst (λ s. has s i ≡ true) w b
+
+-- what is enough is below n, so that it is known or among the others
+pub others-left : (n : ℕ) (f : List Items) (closed : Items) (q : ℕ) (known : Items) (i : ℕ) → has (enough_for n f closed q) i ≡ true → (has known i ≡ true) ⊎ (has (minus (full n) known) i ≡ true)
+others-left n f closed q known i h =
+    let p = and_parts (ltb i n) (has (closure (full n) f (with closed i)) q) (sym (has-enough n f closed q i) ∙ h) in
+    elim (has known i) as (λ b. has known i ≡ b → (has known i ≡ true) ⊎ (has (minus (full n) known) i ≡ true)) [
+      | true ↦ λ e. inl e
+      | false ↦ λ e. inr (out-from (full n) known i (has-full n i ∙ p.0) e)
+    ] refl
+
+pub none-more : (n : ℕ) (f : List Items) (closed : Items) (q : ℕ) (known : Items) → IsWithin known (enough_for n f closed q)
+    → ((r : ℕ) → has (minus (full n) known) r ≡ true → has (enough_for n f closed q) r ≡ false) → known ≡ enough_for n f closed q
+none-more n f closed q known within none = same_within known (enough_for n f closed q) within (λ i h. elim (others-left n f closed q known i h) [
+  | inl x ↦ x
+  | inr y ↦ absurd (true≢false (sym h ∙ none i y))
+])
+
+-- where all others together leave q in the interior, none of them is enough
+pub none-enough : (n : ℕ) (f : List Items) (closed : Items) (q : ℕ) (others : Items) (r : ℕ) → has (interior f (minus (minus (full n) closed) others)) q ≡ true → has others r ≡ true → has (enough_for n f closed q) r ≡ false
+none-enough n f closed q others r inside here = false_from_ne_true (has (enough_for n f closed q) r) (λ h.
+    let p = and_parts (ltb r n) (has (closure (full n) f (with closed r)) q) (sym (has-enough n f closed q r) ∙ h) in
+    let least_out = (out-parts (full n) (interior f (minus (full n) (with closed r))) q p.1).1 in
+    true≢false (sym (interior_grows f (minus (minus (full n) closed) others) (minus (full n) (with closed r)) (λ j a.
+    let x = out-parts (minus (full n) closed) others j a in
+    let y = out-parts (full n) closed j x.0 in
+    out-from (full n) (with closed r) j y.0 (false_from_ne_true (has (with closed r) j) (λ e. elim (with-cases closed r j e) [
+      | inl z ↦ true≢false (sym z ∙ y.1)
+      | inr z ↦ true≢false (sym here ∙ subst (λ k. has others k ≡ false) z x.1)
+    ]))) q inside) ∙ least_out))
+
+length-numbers : (i m : ℕ) → length (numbers_from i m) ≡ m
+length-numbers i zero = refl
+length-numbers i (suc m) = ap suc (length-numbers (suc i) m)
+
+filter-all : (xs : List ℕ) → filter (λ _. true) xs ≡ xs
+filter-all [] = refl
+filter-all (x ∷ xs) = ap (λ l. x ∷ l) (filter-all xs)
+
+passing-fewer : (p : ℕ → Bool) (xs : List ℕ) → length (filter p xs) ≤ length xs
+passing-fewer p xs = omega (arith, filter-fewer p (λ _. true) (λ _ _. refl) xs, ap length (filter-all xs))
+
+len-few : (s : Items) (n : ℕ) → IsWithin s (full n) → len s ≤ n
+unfolding len
+len-few s n w = omega (arith, ap length (items-within s n w), passing-fewer (has s) (numbers_from 0 n), length-numbers 0 n)
+
+pub others-few : (n : ℕ) (known : Items) → len (minus (full n) known) ≤ n
+others-few n known = len-few (minus (full n) known) n (minus-within (full n) known)
