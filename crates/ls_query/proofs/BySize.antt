@@ -1,5 +1,5 @@
 -- The sets of one size: how many there are, and so how many the blocks have.
-use Rattle.std.proofs.Common.{ℕ, zero, suc, ◌+◌, ◌-◌, ◌<◌, ◌≤◌, ◌≡◌, false, ◌||◌, eqb, List, [], ◌∷◌, ◌++◌, map, filter, length, refl, sym, ap, ap₂, ◌∙◌, arith, length-append, append-nil, ne_eqb, le-ltb}
+use Rattle.std.proofs.Common.{ℕ, zero, suc, ◌+◌, ◌-◌, ◌<◌, ◌≤◌, ◌≡◌, false, ◌||◌, eqb, List, [], ◌∷◌, ◌++◌, map, filter, length, Some, refl, sym, ap, ap₂, ◌∙◌, arith, length-append, append-nil, ne_eqb, le-ltb}
 use Rattle.std.specs.List.{flat_map}
 use Rattle.std.proofs.lemmas.Bool.{false_from_ne_true}
 use Rattle.std.proofs.lemmas.Bool.Decides.{nat_tests}
@@ -7,8 +7,10 @@ use Rattle.std.proofs.lemmas.Grind.{flat_map-append}
 use Rattle.std.proofs.lemmas.List.Elements.{filter-append}
 use Rattle.std.proofs.lemmas.List.{length-map}
 use Rattle.ls_lists.proofs.Filters.{filter-map, filter-agree, filter-nothing}
-use Rattle.ls_set.specs.ItemSet.{Items, has, empty, full, with, single, minus, len, numbers_from, subsets_from}
-use Rattle.ls_set.proofs.Sets.{members, same_set, has-with, has-single, has-full}
+use Rattle.ls_set.specs.ItemSet.{Items, has, empty, full, with, without, single, minus, len, least, numbers_from, subsets_from}
+use Rattle.ls_set.proofs.Sets.{members, same_set, has-with, has-single, has-full, without-within}
+use Rattle.ls_set.proofs.Sizes.{len-less}
+use Rattle.ls_set.proofs.Ascending.{least-cases}
 use Rattle.ls_set.proofs.Order.{IsBetween, Each-weaker, subsets_from-between}
 use Rattle.ls_theory.specs.Queries.{blocks}
 use Rattle.ls_laws.proofs.Counts.{len-parts, len-single, len-empty}
@@ -27,6 +29,9 @@ len-full zero = ap len (same_set (full 0) empty (λ j. grind (arith, members, na
 len-full (suc n) =
     ap len (same_set (full (suc n)) (with (full n) n) (λ j. grind (arith, members, nat_tests)))
     ∙ len-with (full n) n (has-full n n ∙ le-ltb n n (omega arith)) ∙ ap suc (len-full n)
+
+pub len-without_least : (s : Items) (i : ℕ) → least s ≡ Some i → len (without s i) < len s
+len-without_least s i e = len-less (without s i) s i (without-within s i) (grind (arith, members, nat_tests)) (least-cases s i e).0
 
 -- the items from x on, below y
 pub len-range : (x y : ℕ) → x ≤ y → len (minus (full y) (full x)) ≡ y - x

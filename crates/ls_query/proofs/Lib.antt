@@ -4,8 +4,10 @@ pub mod BySize
 pub mod BlockOrder
 pub mod BlockSets
 pub mod Steps
+pub mod LastMove
 pub mod Counted
 pub mod QuerySets
 pub mod Placed
+pub mod After
 pub mod Passing
 pub mod Made

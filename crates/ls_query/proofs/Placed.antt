@@ -1,5 +1,5 @@
 -- The place of a set in the blocks: the sets of smaller sizes, and those of its size before it.
-use Rattle.std.proofs.Common.{ℕ, zero, suc, ◌+◌, ◌-◌, ◌<◌, ◌≤◌, ◌≡◌, ◌≢◌, inl, inr, true, false, not, List, [], ◌∷◌, ◌++◌, map, length, get_or, slice_get, Some, None, refl, sym, ap, ◌∙◌, arith, true≢false, lt-ltb, le-ltb, eq-eqb}
+use Rattle.std.proofs.Common.{ℕ, zero, suc, ◌+◌, ◌-◌, ◌<◌, ◌≤◌, ◌≡◌, ◌≢◌, inl, inr, true, false, not, if◌then◌else◌, List, [], ◌∷◌, ◌++◌, map, length, get_or, slice_get, Some, None, refl, sym, ap, ◌∙◌, arith, true≢false, lt-ltb, le-ltb, eq-eqb}
 use Rattle.std.specs.List.{position, prefix_len}
 use Rattle.std.proofs.lemmas.Bool.{cases_Bool, false_from_ne_true}
 use Rattle.std.proofs.lemmas.Bool.Decides.{nat_tests}
@@ -16,7 +16,6 @@ use Rattle.ls_theory.specs.Queries.{blocks, block_before}
 use Rattle.ls_theory.specs.Blocks.{most_sets}
 use Rattle.ls_laws.proofs.Counts.{len-empty}
 use Rattle.ls_query.specs.Blocks.{choose}
-use Rattle.ls_query.specs.Places.{with_first, place_from}
 use Rattle.ls_query.proofs.Sorted.{in-get}
 use Rattle.ls_query.proofs.Binomials.{choose-grows}
 use Rattle.ls_query.proofs.BySize.{of_size, of_size-more, of_size-none, length-of_size, len-with, blocks-more, length-blocks_shorter}
@@ -71,6 +70,16 @@ pub block_place : (n k : ℕ) (a : Items) → IsIn a (blocks n k) → (i : ℕ) 
 block_place n k a c = let r = in-get (blocks n k) a c in (r.0, position-at n k a r.0 r.1)
 
 -- ---- the place in a size
+
+-- how many sets of a size of m + 1 items have the first item
+abbrev pub with_first : ℕ → ℕ → ℕ
+with_first m zero = 0
+with_first m (suc size) = choose m size
+
+-- how many of the sets of a size of the m items from i on come before the set that has those of them that a has
+pub place_from : Items → ℕ → ℕ → ℕ → ℕ
+place_from a i zero size = 0
+place_from a i (suc m) size = if has a i then place_from a (suc i) m (size - 1) else with_first m size + place_from a (suc i) m size
 
 pub place_from-none : (a : Items) (i size : ℕ) → place_from a i 0 size ≡ 0
 unfolding place_from
@@ -127,23 +136,6 @@ at-place i (suc m) size a s b e same =
   where
     kept : (s : Items) (i j : ℕ) → i < j → has (without s i) j ≡ has s j
     kept s i j l = grind (arith, members, nat_tests)
-
--- one item further
-pub further-has : (a : Items) (item n left place all : ℕ) → item < n → has a item ≡ true → place + place_from a item (n - item) left ≡ all → place + place_from a (item + 1) (n - (item + 1)) (left - 1) ≡ all
-further-has a item n left place all l h e =
-    let z : n - item ≡ suc (n - (item + 1)) = omega arith in
-    let y : item + 1 ≡ suc item = omega arith in
-    let next : place_from a item (n - item) left ≡ place_from a (item + 1) (n - (item + 1)) (left - 1) = ap (λ m. place_from a item m left) z ∙ place_from-has a item (n - (item + 1)) left h ∙ ap (λ i. place_from a i (n - (item + 1)) (left - 1)) (sym y) in
-    ap (λ p. place + p) (sym next) ∙ e
-
-pub further-lacks : (a : Items) (item n left place all : ℕ) → item < n → has a item ≡ false → place + place_from a item (n - item) left ≡ all → place + with_first (n - item - 1) left + place_from a (item + 1) (n - (item + 1)) left ≡ all
-further-lacks a item n left place all l h e =
-    let z : n - item ≡ suc (n - (item + 1)) = omega arith in
-    let x : n - item - 1 ≡ n - (item + 1) = omega arith in
-    let y : item + 1 ≡ suc item = omega arith in
-    let next : place_from a item (n - item) left ≡ with_first (n - item - 1) left + place_from a (item + 1) (n - (item + 1)) left =
-    ap (λ m. place_from a item m left) z ∙ place_from-lacks a item (n - (item + 1)) left h ∙ ap (λ m. with_first m left + place_from a (suc item) (n - (item + 1)) left) (sym x) ∙ ap (λ i. with_first (n - item - 1) left + place_from a i (n - (item + 1)) left) (sym y) in
-    omega (arith, next, e)
 
 -- ---- the place in the blocks
 

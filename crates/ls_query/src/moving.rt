@@ -11,12 +11,15 @@ fn last_move(n: u32, a: ItemSet) -> Option<u32>
     requires { n ≤ PLACES }
     ensures { MatchOption result (HasNoMove n a) (λ i. IsLastMove n a i) }
 {
-    for above in (1..n).rev() {
-        if a.has(above - 1) && !a.has(above) {
-            return Some(above - 1);
+    let mut left = a;
+    let mut last = None;
+    while let Some(i) = left.least() {
+        if i + 1 < n && !a.has(i + 1) {
+            last = Some(i);
         }
+        left = left.without(i);
     }
-    None
+    last
 }
 
 // The set in which that item has moved up by one, and those behind it follow directly.

@@ -1,10 +1,10 @@
 // The place of a set in the blocks.
-ghost use Rattle.std.specs.Prelude.{◌≡◌, ◌≤◌, ◌*◌, ℕ, length};
+ghost use Rattle.std.specs.Prelude.{◌≡◌, ◌≤◌, ℕ, length};
 ghost use Rattle.std.specs.List.{position};
-ghost use Rattle.ls_set.specs.ItemSet.{is_same};
+ghost use Rattle.ls_set.specs.ItemSet.{full, IsWithin, is_same, items, len};
 ghost use Rattle.ls_theory.specs.Queries.{blocks};
 ghost use Rattle.ls_query.specs.Blocks.{choose};
-ghost use Rattle.ls_query.specs.Places.{with_first, place_from};
+ghost use Rattle.ls_query.specs.Places.{after_of};
 
 use crate::counting::{MOST_SETS, count_sets, of_next_size};
 use ls_set::{ItemSet, PLACES};
@@ -23,39 +23,21 @@ fn count_of_size(m: u32, size: u32) -> u32
     sets
 }
 
-// How many sets of a size of `m + 1` items have the first item.
-fn count_with_first(m: u32, size: u32) -> u32
-    requires items { m ≤ PLACES }
-    requires sizes { size ≤ PLACES }
-    requires few { (j : ℕ) → j ≤ size → choose m j ≤ MOST_SETS }
-    ensures value { result ≡ with_first m size }
-    ensures few { result ≤ MOST_SETS }
-{
-    if size == 0 {
-        0
-    } else {
-        count_of_size(m, size - 1)
-    }
-}
-
-// How many of the sets of a size of `n` items come before the set of those of them that `a` has.
-fn place_in_size(n: u32, size: u32, a: ItemSet) -> u32
+// How many of the sets of its size of `n` items come after the set: for each of its items, those
+// that agree with it up to there, and have greater items from there on.
+fn count_after(n: u32, a: ItemSet) -> u32
     requires items { n ≤ PLACES }
-    requires sizes { size ≤ PLACES }
-    requires few { (m j : ℕ) → m ≤ n → j ≤ size → choose m j ≤ MOST_SETS }
-    ensures value { result ≡ place_from a 0 n size }
-    ensures few { result ≤ n * MOST_SETS }
+    requires within { IsWithin a (full n) }
+    requires few { (m j : ℕ) → m ≤ n → j ≤ len a → choose m j ≤ MOST_SETS }
+    ensures { result ≡ after_of n (items a) }
 {
-    let mut place = 0;
-    let mut left = size;
-    for item in 0..n {
-        if a.has(item) {
-            left = left.saturating_sub(1);
-        } else {
-            place += count_with_first(n - item - 1, left);
-        }
+    let mut after = 0;
+    let mut left = a;
+    while let Some(item) = left.least() {
+        after += count_of_size(n - item - 1, left.len());
+        left = left.without(item);
     }
-    place
+    after
 }
 
 // The place of a set among those of 1 to `k` of `n` items, if it is one of them.
@@ -69,6 +51,7 @@ pub fn place_of(n: u32, k: u32, a: ItemSet) -> Option<u32>
     if size == 0 || size > k || !a.is_within(ItemSet::full(n)) {
         return None;
     }
-    let smaller = count_sets(n, size - 1).unwrap();
-    Some(smaller + place_in_size(n, size, a))
+    // The set and those after it are the last of those up to its size.
+    let up_to_size = count_sets(n, size).unwrap();
+    Some(up_to_size - 1 - count_after(n, a))
 }

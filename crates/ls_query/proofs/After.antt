@@ -1,0 +1,85 @@
+-- The sets of a size before a set, the set and those after it are all sets of the size.
+use Rattle.std.proofs.Common.{ℕ, zero, suc, ◌+◌, ◌-◌, ◌<◌, ◌≤◌, ◌≡◌, inl, inr, List, length, filter, Some, None, refl, sym, ap, ◌∙◌, arith, ltb-true}
+use Rattle.std.proofs.lemmas.Bool.{cases_Bool}
+use Rattle.std.specs.List.{position}
+use Rattle.ls_set.specs.ItemSet.{Items, has, full, without, items, len, least, is_same, numbers_from, IsWithin}
+use Rattle.ls_set.proofs.Sizes.{items-within, len-within}
+use Rattle.ls_set.proofs.Sets.{has-full}
+use Rattle.ls_set.proofs.Ascending.{least-cases}
+use Rattle.ls_set.proofs.Firsts.{items-least, items-none}
+use Rattle.ls_theory.specs.Queries.{blocks}
+use Rattle.ls_query.specs.Blocks.{choose}
+use Rattle.ls_query.specs.Places.{after_of}
+use Rattle.ls_query.proofs.Binomials.{choose-none, choose-more}
+use Rattle.ls_query.proofs.BySize.{len-full, length-blocks_more}
+use Rattle.ls_query.proofs.BlockSets.{IsOfBlocks}
+use Rattle.ls_query.proofs.Placed.{with_first, place_from, place_from-none, place_from-has, place_from-lacks, find-place}
+
+-- ---- the count goes on
+
+pub after-least : (n : ℕ) (left : Items) (i : ℕ) → least left ≡ Some i → after_of n (items left) ≡ choose (n - i - 1) (len left) + after_of n (items (without left i))
+unfolding len
+after-least n left i e =
+    let q = items-least left i e in
+    ap (after_of n) q ∙ ap (λ s. choose (n - i - 1) s + after_of n (items (without left i))) (sym (ap length q))
+
+pub after-none : (n : ℕ) (left : Items) → least left ≡ None → after_of n (items left) ≡ 0
+after-none n left e = ap (after_of n) (items-none left e)
+
+-- ---- all sets of a size
+
+first_and_others : (m size : ℕ) → with_first m size + choose m size ≡ choose (suc m) size
+first_and_others m zero = omega (arith, choose-none m, choose-none (suc m))
+first_and_others m (suc size) = omega (arith, choose-more m size)
+
+-- the items of a from i on, below i + m
+abbrev from_on : Items → ℕ → ℕ → List ℕ
+from_on a i m = filter (has a) (numbers_from i m)
+
+before-and-after : (a : Items) (n i m : ℕ) → i + m ≡ n → place_from a i m (length (from_on a i m)) + after_of n (from_on a i m) + 1 ≡ choose m (length (from_on a i m))
+before-and-after a n i zero e = rw (place_from-none a i 0, choose-none 0) refl
+before-and-after a n i (suc m) e =
+    let rest = before-and-after a n (suc i) m (omega arith) in
+    let size = length (from_on a (suc i) m) in
+    elim (cases_Bool (has a i)) [
+      | inl h ↦
+          let z : n - i - 1 ≡ m = omega arith in
+          let y : suc size - 1 ≡ size = omega arith in
+          rw (h, place_from-has a i m (suc size) h, y, z) (omega (arith, rest, choose-more m size))
+      | inr h ↦ rw (h, place_from-lacks a i m size h) (omega (arith, rest, first_and_others m size))
+    ]
+
+-- the sets before one, it and those after it
+pub all-of_size : (n : ℕ) (a : Items) → IsWithin a (full n) → place_from a 0 n (len a) + after_of n (items a) + 1 ≡ choose n (len a)
+unfolding len
+all-of_size n a h = rw (items-within a n h) (before-and-after a n 0 n (omega arith))
+
+pub after-few : (n : ℕ) (a : Items) → IsWithin a (full n) → after_of n (items a) < choose n (len a)
+after-few n a h = omega (arith, all-of_size n a h)
+
+pub len-few : (n : ℕ) (a : Items) → IsWithin a (full n) → len a ≤ n
+len-few n a h = omega (arith, len-within a (full n) h, len-full n)
+
+pub least-few : (n : ℕ) (a left : Items) (i : ℕ) → IsWithin a (full n) → IsWithin left a → least left ≡ Some i → i < n
+least-few n a left i h l e =
+    let here = (least-cases left i e).0 in
+    ltb-true i n (sym (has-full n i) ∙ h i (l i here))
+
+-- what is counted with the next item is less than all
+pub counted-few : (n : ℕ) (a left : Items) (i after : ℕ) → IsWithin a (full n) → least left ≡ Some i → after + after_of n (items left) ≡ after_of n (items a) → after + choose (n - i - 1) (len left) < choose n (len a)
+counted-few n a left i after h e all = omega (arith, all, after-least n left i e, after-few n a h)
+
+-- ---- the place in the blocks
+
+pub after-fewer : (n size : ℕ) (a : Items) → IsWithin a (full n) → len a ≡ size → 0 < size → after_of n (items a) < length (blocks n size)
+after-fewer n zero a h e some = absurd (omega arith)
+after-fewer n (suc size) a h e some =
+    let few : after_of n (items a) < choose n (suc size) = rw (sym e) (after-few n a h) in
+    omega (arith, few, length-blocks_more n size)
+
+pub find-place_after : (n k size : ℕ) (a : Items) → IsOfBlocks n k a → len a ≡ size → position (is_same a) (blocks n k) ≡ Some (length (blocks n size) - 1 - after_of n (items a))
+find-place_after n k zero a h e = let l = h.some in absurd (omega arith)
+find-place_after n k (suc size) a h e =
+    let all : place_from a 0 n (suc size) + after_of n (items a) + 1 ≡ choose n (suc size) = rw (sym e) (all-of_size n a h.within) in
+    let z : suc size - 1 ≡ size = omega arith in
+    find-place n k (suc size) a h e ∙ ap Some (rw z (omega (arith, all, length-blocks_more n size)))
