@@ -1,25 +1,15 @@
 -- What stays true of a table when it is built and changed.
-use Rattle.std.proofs.Common.{ℕ, ◌+◌, ◌<◌, ◌≡◌, inl, inr, Bool, true, false, cond, not, ◌&&◌, eqb, List, [], ◌∷◌, map, filter, length, get_or, slice_get, Some, refl, sym, ap, ap₂, ◌∙◌, subst, arith}
-use Rattle.std.proofs.Math.ListN.{set}
+use Rattle.std.proofs.Common.{ℕ, ◌≡◌, true, false, cond, not, ◌&&◌, eqb, List, [], ◌∷◌, ◌++◌, map, filter, length, refl, ap, ap₂, ◌∙◌, subst, arith}
 use Rattle.std.specs.List.{list_all}
 use Rattle.std.proofs.lemmas.Bool.{and_parts, and_from}
-use Rattle.std.proofs.lemmas.List.Folds.{list_all-map}
-use Rattle.ls_lists.proofs.Every.{All-filter, All-list_all, list_all-All, list_all-set}
-use Rattle.ls_lists.proofs.Overwriting.{images-at, images-next, all-at}
-use Rattle.ls_lists.specs.Lists.{IsIn, images}
-use Rattle.ls_set.specs.ItemSet.{Items, has, full, is_within, IsWithin}
+use Rattle.std.proofs.lemmas.List.Folds.{list_all-append}
+use Rattle.ls_lists.proofs.Every.{All-filter, All-list_all, list_all-All}
+use Rattle.ls_set.specs.ItemSet.{Items, full, is_within}
 use Rattle.ls_set.specs.Query.{is_good}
-use Rattle.ls_set.specs.declared.query.Query.{Query}
 use Rattle.ls_set.proofs.Sets.{is_within-from, minus-within}
 use Rattle.ls_theory.specs.declared.no.No.{No}
 use Rattle.ls_theory.specs.Families.{closure}
-use Rattle.ls_laws.specs.Families.{IsFamily}
-use Rattle.ls_laws.specs.Spans.{left_by}
-use Rattle.ls_laws.proofs.Breaks.{good-from}
-use Rattle.ls_laws.proofs.ClosureChanges.{closure_after_yes, closure_before_yes}
-use Rattle.ls_laws.proofs.Families.{family_sets}
 use Rattle.ls_query.specs.Blocks.{sets_of}
-use Rattle.ls_query.proofs.BlockSets.{blocks-in}
 use Rattle.ls_infer.specs.declared.standing_no.StandingNo.{StandingNo}
 use Rattle.ls_infer.specs.Changes.{is_kept}
 use Rattle.ls_infer.specs.Tables.{TableState, IsTable, standing, table_of}
@@ -57,6 +47,11 @@ pub kept-removed : (n number : ℕ) (ss : List StandingNo) → list_all (is_kept
 kept-removed n number ss h = All-list_all (is_kept n) (filter (λ s. not (eqb s.no.number number)) ss)
     (All-filter (λ s. is_kept n s ≡ true) (λ s. not (eqb s.no.number number)) ss (list_all-All (is_kept n) ss h))
 
+pub kept-added : (n m : ℕ) (f : List Items) (ss : List StandingNo) (x : No) → n ≡ m → list_all (is_kept n) ss ≡ true → is_good n x.query ≡ true → list_all (is_kept n) (ss ++ standing m f x ∷ []) ≡ true
+kept-added n m f ss x same h good =
+    subst (λ k. list_all (is_kept n) (ss ++ standing k f x ∷ []) ≡ true) same
+    (list_all-append (is_kept n) ss (standing n f x ∷ []) ∙ and_from (list_all (is_kept n) ss) (list_all (is_kept n) (standing n f x ∷ [])) h (standing-kept n f (x ∷ []) (and_from (is_good n x.query) true good refl)))
+
 -- a table whose closures and standing Nos are changed
 pub table-changed : (m n : ℕ) (t : TableState) (cs : List Items) (ss : List StandingNo) → IsTable m t → n ≡ m → length cs ≡ length t.closures → list_all (λ c. is_within c (full n)) cs ≡ true
     → list_all (is_kept n) ss ≡ true → IsTable m (record { blocks = t.blocks; closures = cs; standing = ss })
@@ -68,4 +63,3 @@ table-changed m n t cs ss h same alike within kept = record {
   within = subst (λ j. list_all (λ c. is_within c (full j)) cs ≡ true) same within;
   kept = subst (λ j. list_all (is_kept j) ss ≡ true) same kept;
 }
-

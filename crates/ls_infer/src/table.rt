@@ -256,10 +256,11 @@ impl Table {
             && is_open_in self.now.table (record { a = a; q = q })) }
     {
         let closed = closure_at(&self.closures, place);
-        ItemSet::full(self.n)
-            .minus(a)
-            .minus(closed)
-            .minus(forced_items(&self.standing, a))
+        let undecided = ItemSet::full(self.n).minus(a).minus(closed);
+        if undecided.least().is_none() {
+            return undecided;
+        }
+        undecided.minus(forced_items(&self.standing, a))
     }
 
     // The first open query from the place on, where `last` is the set before it.
