@@ -4,21 +4,26 @@ use Rattle.std.proofs.lemmas.Bool.{and_parts, and_from, or_cases, or_left, or_ri
 use Rattle.std.proofs.lemmas.Bool.Decides.{nat_tests}
 use Rattle.ls_lists.proofs.Bools.{both_out}
 use Rattle.ls_lists.specs.Lists.{images}
-use Rattle.ls_set.specs.ItemSet.{Items, has, empty, full, with, without, minus, len, is_among, is_within, IsWithin}
+use Rattle.ls_set.specs.ItemSet.{Items, has, empty, full, with, without, minus, len, least, is_among, is_within, IsWithin}
 use Rattle.ls_set.specs.declared.query.Query.{Query}
 use Rattle.ls_set.proofs.Sets.{members, has-empty, has-full, has-minus, has-with, same_set, same_within, minus-within, without-within, empty-within, is_within-from}
 use Rattle.ls_set.proofs.Sizes.{len-less}
+use Rattle.ls_set.proofs.Ascending.{least-none}
 use Rattle.ls_theory.specs.Families.{interior, closure}
 use Rattle.ls_laws.specs.Families.{IsFamily}
 use Rattle.ls_laws.specs.Spans.{left_by}
 use Rattle.ls_laws.proofs.Interiors.{IsUnionFamily, interior-is, interior-within, interior_grows}
 use Rattle.ls_laws.proofs.Breaks.{IsGood}
+use Rattle.ls_laws.proofs.Counts.{some_item}
 use Rattle.ls_laws.proofs.Closures.{closure_stays}
 use Rattle.ls_laws.proofs.ClosureChanges.{minus_shrinks, closure_again, closure_before_yes}
 use Rattle.ls_laws.proofs.Families.{family_sets}
 use Rattle.ls_interior.specs.Keeping.{interior_keeping}
 use Rattle.ls_infer.specs.declared.yes_change.YesChange.{YesChange}
 use Rattle.ls_infer.specs.Changes.{IsChange, is_stale}
+use Rattle.ls_infer.specs.Fronts.{AreFirst}
+use Rattle.ls_theory.specs.Blocks.{BlockRange}
+use Rattle.ls_query.specs.Blocks.{sets_of}
 
 -- ---- complements, and a further item
 
@@ -143,7 +148,7 @@ module _ {X Y : Type 0} where
   pub first-mapped : (h : X → Y) (xs : List X) (ys : List Y) (k : ℕ) → ys ≡ map h (take k xs) → ys ≡ map h (take (length ys) xs)
   first-mapped h xs ys k e = e ∙ ap (map h) (sym (take-mapped h xs k)) ∙ ap (λ l. map h (take (length l) xs)) (sym e)
 
-  pub take-images : (g h : X → Y) (xs : List X) (i : ℕ) → i ≤ length xs → take i (images g h xs i) ≡ map g (take i xs)
+  take-images : (g h : X → Y) (xs : List X) (i : ℕ) → i ≤ length xs → take i (images g h xs i) ≡ map g (take i xs)
   take-images g h [] zero l = refl
   take-images g h [] (suc i) l = absurd (omega arith)
   take-images g h (x ∷ xs) zero l = refl
@@ -156,6 +161,13 @@ module _ {X Y : Type 0} where
 
   pub images-stay : (g h : X → Y) (xs : List X) (ys : List Y) (i : ℕ) (x : X) → slice_get xs i ≡ Some x → ys ≡ images g h xs i → g x ≡ h x → ys ≡ images g h xs (i + 1)
   images-stay g h xs ys i x e made same = made ∙ images-same g h xs i x e same ∙ ap (images g h xs) (sym (add-one i))
+
+-- the closures so far are those of the first sets
+pub first-images : (n m : ℕ) (f before : List Items) (b : BlockRange) (closures : List Items) (i : ℕ) → n ≡ m → i ≤ length (sets_of b)
+    → closures ≡ images (closure (full n) f) (closure (full n) before) (sets_of b) i → AreFirst m f b (take i closures)
+first-images n m f before b closures i same l made =
+    subst (λ k. take i closures ≡ map (closure (full k) f) (take (length (take i closures)) (sets_of b))) same
+    (first-mapped (closure (full n) f) (sets_of b) (take i closures) i (ap (take i) made ∙ take-images (closure (full n) f) (closure (full n) before) (sets_of b) i l))
 
 -- ---- after a change
 
@@ -171,7 +183,11 @@ pub stale_has : (c : YesChange) (r : Query) (closed : Items) → is_stale c r cl
 stale_has YesChange.Added r closed h = (and_parts (is_within r.a closed) (not (has closed r.q)) h).0
 stale_has YesChange.Removed r closed h = h
 
--- ---- one item fewer
+-- ---- one item fewer, and one item at least
+
+-- a set with a least item has one
+pub has_some : (s : Items) → (least s ≡ None → ⊥) → (i : ℕ) × (has s i ≡ true)
+has_some s h = elim (some_item s) [ inl e ↦ absurd (h (least-none s (λ i. ap (λ t. has t i) e ∙ has-empty i))) | inr p ↦ p ]
 
 taken : (s : Items) (i : ℕ) → has (without s i) i ≡ false
 taken s i = grind (arith, members, nat_tests)

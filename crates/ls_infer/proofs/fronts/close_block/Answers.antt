@@ -4,8 +4,7 @@ use Rattle.ls_set.specs.ItemSet.{Items, has, full, with, without, IsWithin}
 use Rattle.ls_set.proofs.Sets.{has-empty, minus-within, without-within}
 use Rattle.ls_set.proofs.Ascending.{least-none}
 use Rattle.ls_theory.specs.Families.{closure}
-use Rattle.ls_laws.proofs.Counts.{some_item}
-use Rattle.ls_infer.proofs.Closing.{put_back, item_below}
+use Rattle.ls_infer.proofs.Closing.{put_back, item_below, has_some}
 use Rattle.ls_infer.proofs.fronts.close_block.Goals as goal
 
 pub returns-in_default-clause-within : goal.returns-in_default-clause-within
@@ -28,7 +27,7 @@ returns-clause-value g c first before =
     let item = c.in-Some.item in
     let front = c.front_of.result in
     let is_front = c.front_of.ensures.kept f first before in
-    let some = elim (some_item front.set) [ inl e ↦ ? | inr s ↦ s ] in
+    let some = has_some front.set (λ e. true≢false (sym c.if-is_none.ensures ∙ ap is_some (c.least.ensures.value ∙ e))) in
     let whole : front.set ≡ without set item = c.front_of.ensures.set some.0 some.1 ∙ c.without.ensures in
     let closed : front.closed ≡ closure (full n) f front.set = subst (λ m. front.closed ≡ closure (full m) f front.set) (sym c.requires.items) (is_front some.0 some.1) in
     c.close_with.ensures.value front.set (subst (λ s. IsWithin s (full n)) (sym whole) (λ j h. c.requires.within j (without-within set item j h))) closed
