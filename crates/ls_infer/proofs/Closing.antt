@@ -1,5 +1,5 @@
 -- Closures of sets with one more item, and those that a loop over the blocks finds again.
-use Rattle.std.proofs.Common.{ℕ, zero, suc, ◌+◌, ◌<◌, ◌≤◌, ◌≡◌, ◌⊎◌, inl, inr, Bool, true, false, cond, not, ◌&&◌, eqb, List, [], ◌∷◌, ◌++◌, map, take, drop, length, slice_get, Option, Some, None, refl, sym, ap, ap₂, ◌∙◌, subst, arith, add-one, true≢false, eqb-true, eq-eqb, lt-ltb, ltb}
+use Rattle.std.proofs.Common.{ℕ, zero, suc, ◌+◌, ◌<◌, ◌≤◌, ◌≡◌, ◌⊎◌, inl, inr, true, false, cond, not, ◌&&◌, eqb, List, [], ◌∷◌, map, take, length, slice_get, Option, Some, None, refl, sym, ap, ◌∙◌, subst, arith, add-one, true≢false, eqb-true, eq-eqb, lt-ltb, ltb}
 use Rattle.std.proofs.lemmas.Bool.{and_parts, and_from, or_cases, or_left, or_right, not-true, not_from_false, false_from_ne_true, true_from_ne_false}
 use Rattle.std.proofs.lemmas.Bool.Decides.{nat_tests}
 use Rattle.ls_lists.proofs.Bools.{both_out}
@@ -11,7 +11,6 @@ use Rattle.ls_set.proofs.Sizes.{len-less}
 use Rattle.ls_set.proofs.Ascending.{least-none}
 use Rattle.ls_theory.specs.Families.{interior, closure}
 use Rattle.ls_laws.specs.Families.{IsFamily}
-use Rattle.ls_laws.specs.Spans.{left_by}
 use Rattle.ls_laws.proofs.Interiors.{IsUnionFamily, interior-is, interior-within, interior_grows}
 use Rattle.ls_laws.proofs.Breaks.{IsGood}
 use Rattle.ls_laws.proofs.Counts.{some_item}

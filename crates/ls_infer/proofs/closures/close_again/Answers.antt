@@ -1,10 +1,10 @@
-use Rattle.std.proofs.Common.{◌+◌, ◌≡◌, ◌≤◌, Bool, true, false, cond, not, List, map, take, drop, set, length, get_or, slice_get, Some, refl, sym, ap, ◌∙◌, subst, arith}
-use Rattle.std.specs.List.{list_all, count_by}
+use Rattle.std.proofs.Common.{◌+◌, ◌≡◌, ◌≤◌, cond, List, take, length, get_or, slice_get, Some, refl, sym, ap, ◌∙◌, subst, arith}
+use Rattle.std.specs.List.{count_by}
 use Rattle.std.proofs.lemmas.Grind.{drop_more_same}
 use Rattle.std.proofs.lemmas.Option.{slice_get-get_or}
 use Rattle.ls_lists.proofs.Every.{list_all-set}
 use Rattle.ls_lists.proofs.Overwriting.{left-at, left-next, count-next, images-at, images-next, images-end}
-use Rattle.ls_set.specs.ItemSet.{Items, full, is_within, IsWithin}
+use Rattle.ls_set.specs.ItemSet.{Items, full, is_within}
 use Rattle.ls_set.proofs.Sets.{empty-within, is_within-from}
 use Rattle.ls_theory.specs.Families.{closure}
 use Rattle.ls_laws.proofs.Breaks.{good-from}

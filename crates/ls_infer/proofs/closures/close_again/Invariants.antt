@@ -1,4 +1,4 @@
-use Rattle.std.proofs.Common.{ℕ, ◌≡◌, ◌+◌, ◌≤◌, true, List, map, take, drop, find, slice_get}
+use Rattle.std.proofs.Common.{◌≡◌, ◌+◌, ◌≤◌, true, List, map, take, drop, find, slice_get}
 use Rattle.std.specs.List.{list_all, count_by}
 use Rattle.ls_lists.specs.Lists.{images}
 use Rattle.ls_set.specs.ItemSet.{Items, full, is_within, IsWithin}

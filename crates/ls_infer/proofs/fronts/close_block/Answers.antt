@@ -1,8 +1,7 @@
-use Rattle.std.proofs.Common.{◌≡◌, inl, inr, true, Option, None, sym, ap, ◌∙◌, subst, true≢false}
-use Rattle.std.specs.Prelude.{is_some, is_none}
-use Rattle.ls_set.specs.ItemSet.{Items, has, full, with, without, IsWithin}
-use Rattle.ls_set.proofs.Sets.{has-empty, minus-within, without-within}
-use Rattle.ls_set.proofs.Ascending.{least-none}
+use Rattle.std.proofs.Common.{◌≡◌, sym, ap, ◌∙◌, subst, true≢false}
+use Rattle.std.specs.Prelude.{is_some}
+use Rattle.ls_set.specs.ItemSet.{full, with, without, IsWithin}
+use Rattle.ls_set.proofs.Sets.{minus-within, without-within}
 use Rattle.ls_theory.specs.Families.{closure}
 use Rattle.ls_infer.proofs.Closing.{put_back, item_below, has_some}
 use Rattle.ls_infer.proofs.fronts.close_block.Goals as goal

@@ -1,6 +1,6 @@
-use Rattle.std.proofs.Common.{◌≡◌, true, Some, length, slice_get, sym, ap, ◌∙◌, true≢false}
+use Rattle.std.proofs.Common.{◌≡◌, Some, length, slice_get, sym, ap, ◌∙◌, true≢false}
 use Rattle.std.proofs.lemmas.Option.{slice_get-get_or}
-use Rattle.ls_set.specs.ItemSet.{Items, has, full}
+use Rattle.ls_set.specs.ItemSet.{has, full}
 use Rattle.ls_set.proofs.Sets.{has-empty}
 use Rattle.ls_theory.specs.Families.{closure}
 use Rattle.ls_query.specs.Blocks.{sets_of}

@@ -1,4 +1,4 @@
-use Rattle.std.proofs.Common.{◌≡◌, ◌<◌, ℕ, true, MatchOption}
+use Rattle.std.proofs.Common.{◌≡◌, ◌<◌, true, MatchOption}
 use Rattle.std.specs.Option.{IfSome}
 use Rattle.ls_set.specs.ItemSet.{has, len, most_items, IsWithin}
 use Rattle.ls_infer.proofs.fronts.last_item.Given as goal

@@ -1,7 +1,5 @@
-use Rattle.ls_set.proofs.Sets.{empty-within}
-use Rattle.ls_theory.specs.Families.{closure}
-use Rattle.ls_set.specs.ItemSet.{has, full}
-use Rattle.std.proofs.Common.{◌≡◌, true, true≢false, sym, ap, ◌∙◌}
+use Rattle.ls_set.specs.ItemSet.{has}
+use Rattle.std.proofs.Common.{true≢false, sym, ap, ◌∙◌}
 use Rattle.ls_set.proofs.Sets.{has-empty}
 use Rattle.ls_infer.proofs.fronts.Front.new.Goals as goal
 
