@@ -1,6 +1,7 @@
 -- Closures of sets with one more item, and those that a loop over the blocks finds again.
-use Rattle.std.proofs.Common.{ℕ, zero, suc, ◌+◌, ◌<◌, ◌≤◌, ◌≡◌, ◌⊎◌, inl, inr, true, false, cond, not, ◌&&◌, eqb, List, [], ◌∷◌, map, take, length, slice_get, Option, Some, None, refl, sym, ap, ◌∙◌, subst, arith, add-one, true≢false, eqb-true, eq-eqb, lt-ltb, ltb}
-use Rattle.std.proofs.lemmas.Bool.{and_parts, and_from, or_cases, or_left, or_right, not-true, not_from_false, false_from_ne_true, true_from_ne_false}
+use Rattle.std.proofs.Common.{ℕ, zero, suc, ◌+◌, ◌<◌, ◌≤◌, ◌≡◌, ◌⊎◌, inl, inr, true, false, cond, not, ◌&&◌, eqb, List, [], ◌∷◌, map, take, length, slice_get, Option, Some, None, refl, sym, ap, ap₂, ◌∙◌, subst, arith, add-one, true≢false, eqb-true, eq-eqb, lt-ltb, ltb}
+use Rattle.std.specs.List.{list_any}
+use Rattle.std.proofs.lemmas.Bool.{and_parts, or_parts, and_from, or_cases, or_left, or_right, not-true, not_from_false, false_from_ne_true, true_from_ne_false}
 use Rattle.std.proofs.lemmas.Bool.Decides.{nat_tests}
 use Rattle.ls_lists.proofs.Bools.{both_out}
 use Rattle.ls_lists.specs.Lists.{images}
@@ -193,3 +194,11 @@ taken s i = grind (arith, members, nat_tests)
 
 pub len-without : (s : Items) (i : ℕ) → has s i ≡ true → len (without s i) < len s
 len-without s i h = len-less (without s i) s i (without-within s i) (taken s i) h
+
+-- where none is stale, all are the same
+pub all_fresh : (c : YesChange) (n : ℕ) (r : Query) (before after : List Items) (sets : List Items) → IsFamily n after → IsGood n r → IsChange c n r before after
+    → list_any (is_stale c r) (map (closure (full n) before) sets) ≡ false → map (closure (full n) before) sets ≡ map (closure (full n) after) sets
+all_fresh c n r before after [] family good change fresh = refl
+all_fresh c n r before after (set ∷ sets) family good change fresh =
+    let parts = or_parts (is_stale c r (closure (full n) before set)) (list_any (is_stale c r) (map (closure (full n) before) sets)) fresh in
+    ap₂ (λ d ds. d ∷ ds) (sym (fresh_stays c n r before after set family good change parts.0)) (all_fresh c n r before after sets family good change parts.1)

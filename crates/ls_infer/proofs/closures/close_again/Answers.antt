@@ -1,5 +1,5 @@
 use Rattle.std.proofs.Common.{◌+◌, ◌≡◌, ◌≤◌, cond, List, take, length, get_or, slice_get, Some, refl, sym, ap, ◌∙◌, subst, arith}
-use Rattle.std.specs.List.{count_by}
+use Rattle.std.specs.List.{count_by, list_any}
 use Rattle.std.proofs.lemmas.Grind.{drop_more_same}
 use Rattle.std.proofs.lemmas.Option.{slice_get-get_or}
 use Rattle.ls_lists.proofs.Every.{list_all-set}
@@ -12,7 +12,7 @@ use Rattle.ls_query.specs.Blocks.{sets_of}
 use Rattle.ls_infer.specs.Fronts.{IsFront}
 use Rattle.ls_infer.specs.Changes.{is_stale}
 use Rattle.ls_infer.proofs.Places.{first_place, next_place, place-within}
-use Rattle.ls_infer.proofs.Closing.{first-images, images-stay, fresh_stays, stale_has}
+use Rattle.ls_infer.proofs.Closing.{first-images, images-stay, fresh_stays, stale_has, all_fresh}
 use Rattle.ls_infer.proofs.closures.close_again.Goals as goal
 use Rattle.ls_infer.proofs.closures.close_again.Goals.{then-is_stale, else-is_stale}
 
@@ -89,3 +89,10 @@ returns-clause-each g c = λ before change e.
     let f = g.I.Interior.members c.args.f.now in
     let past : length (sets_of c.args.blocks) ≤ c.loop-place.place = omega (arith, c.requires.each, c.loop-place-test.false) in
     c.loop-place.invariant.made before change e ∙ images-end (closure (full n) f) (closure (full n) before) (sets_of c.args.blocks) c.loop-place.place past
+
+pub returns-then-not-any_stale-clause-each : goal.returns-then-not-any_stale-clause-each
+returns-then-not-any_stale-clause-each g c = λ before change e.
+    let n = g.I.Interior.item_count c.args.f.now in
+    let f = g.I.Interior.members c.args.f.now in
+    e ∙ all_fresh c.args.change n c.args.r.now before f (sets_of c.args.blocks) (g.met.I.Interior.is_family c.args.f.now) (good-from n c.args.r.now c.requires.good) change
+    (ap (list_any (is_stale c.args.change c.args.r.now)) (sym e) ∙ sym c.any_stale.ensures ∙ c.if-not-any_stale.true)
