@@ -57,30 +57,30 @@ loop-place-preserved g c =
     let below : i ≤ length (sets_of b) = omega (arith, c.requires.each, c.loop-place-test.true) in
     elim c.if-is_stale.branch [
       | then-is_stale w ↦ record {
-          last = place-within b.item_count b.largest i s at;
-          place = next_place b.item_count b.largest i s at;
-          within = rw w.closures-is (list_all-set (λ c. is_within c (full n)) ys i w.close_block.result v.within (is_within-from w.close_block.result (full n) w.close_block.ensures.within));
-          left = rw w.closures-is (left-next xs ys i w.close_block.result v.left);
-          made = λ before change e. w.closures-is ∙ images-next (closure (full n) f) (closure (full n) before) (sets_of b) ys i s w.close_block.result at (v.made before change e)
-              (w.close_block.ensures.value (first-images n b.item_count f before b ys i c.requires.items below (v.made before change e)) (v.front before change e));
-          front = λ before change e. subst (IsFront b.item_count f) (sym w.front-is)
-              (w.close_block.ensures.front (first-images n b.item_count f before b ys i c.requires.items below (v.made before change e)) (v.front before change e));
-          cost =
-              let one = ap (λ z. count_by (is_within r.a) (take i xs) + cond z 1 0) (stale_has c.args.change r x (sym w.if-is_stale.ensures)) in
-              omega (arith, counted, one, v.cost, w.close_block.ensures.cost, w.steps-is);
-        }
+        last = place-within b.item_count b.largest i s at;
+        place = next_place b.item_count b.largest i s at;
+        within = rw w.closures-is (list_all-set (λ c. is_within c (full n)) ys i w.close_block.result v.within (is_within-from w.close_block.result (full n) w.close_block.ensures.within));
+        left = rw w.closures-is (left-next xs ys i w.close_block.result v.left);
+        made = λ before change e. w.closures-is ∙ images-next (closure (full n) f) (closure (full n) before) (sets_of b) ys i s w.close_block.result at (v.made before change e)
+            (w.close_block.ensures.value (first-images n b.item_count f before b ys i c.requires.items below (v.made before change e)) (v.front before change e));
+        front = λ before change e. subst (IsFront b.item_count f) (sym w.front-is)
+            (w.close_block.ensures.front (first-images n b.item_count f before b ys i c.requires.items below (v.made before change e)) (v.front before change e));
+        cost =
+            let one = ap (λ z. count_by (is_within r.a) (take i xs) + cond z 1 0) (stale_has c.args.change r x (sym w.if-is_stale.ensures)) in
+            omega (arith, counted, one, v.cost, w.close_block.ensures.cost, w.steps-is);
+      }
       | else-is_stale w ↦ record {
-          last = place-within b.item_count b.largest i s at;
-          place = next_place b.item_count b.largest i s at;
-          within = rw w.closures-is v.within;
-          left = rw w.closures-is (drop_more_same ys xs i v.left);
-          made = λ before change e.
-              let closed = c.index-closures-place.is ∙ ap (λ l. get_or l i x) (v.made before change e) ∙ images-at (closure (full n) f) (closure (full n) before) (sets_of b) i s x at in
-              w.closures-is ∙ images-stay (closure (full n) f) (closure (full n) before) (sets_of b) ys i s at (v.made before change e)
-              (fresh_stays c.args.change n r before f s (g.met.I.Interior.is_family c.args.f.now) (good-from n r c.requires.good) change (ap (is_stale c.args.change r) (sym closed) ∙ sym w.if-is_stale.ensures));
-          front = λ before change e. subst (IsFront b.item_count f) (sym w.front-is) (v.front before change e);
-          cost = omega (arith, counted, v.cost, w.steps-is);
-        }
+        last = place-within b.item_count b.largest i s at;
+        place = next_place b.item_count b.largest i s at;
+        within = rw w.closures-is v.within;
+        left = rw w.closures-is (drop_more_same ys xs i v.left);
+        made = λ before change e.
+            let closed = c.index-closures-place.is ∙ ap (λ l. get_or l i x) (v.made before change e) ∙ images-at (closure (full n) f) (closure (full n) before) (sets_of b) i s x at in
+            w.closures-is ∙ images-stay (closure (full n) f) (closure (full n) before) (sets_of b) ys i s at (v.made before change e)
+            (fresh_stays c.args.change n r before f s (g.met.I.Interior.is_family c.args.f.now) (good-from n r c.requires.good) change (ap (is_stale c.args.change r) (sym closed) ∙ sym w.if-is_stale.ensures));
+        front = λ before change e. subst (IsFront b.item_count f) (sym w.front-is) (v.front before change e);
+        cost = omega (arith, counted, v.cost, w.steps-is);
+      }
     ]
 
 pub returns-clause-each : goal.returns-clause-each
