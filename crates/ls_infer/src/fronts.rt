@@ -87,9 +87,9 @@ fn close_with<I: Interior, L: Ledger>(
     all.minus(left.unwrap_or(ItemSet::empty()))
 }
 
-/// The closure of a set of the blocks, in a step at most. `first` has the closures of the first sets of the
-/// blocks. In front of the set is the set without its greatest item; where its closure is among
-/// the first, or is kept from the set before, only what the item brings is looked for.
+/// The closure of a set of the blocks, in a step at most. `first` has the closures of the first sets
+/// of the blocks. In front of the set is the set without its greatest item; where its closure is
+/// among the first, or is kept from the set before, only what the item brings is looked for.
 pub fn close_block<I: Interior, L: Ledger>(
     first: &[ItemSet],
     blocks: Blocks,
