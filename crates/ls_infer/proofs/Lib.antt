@@ -5,5 +5,6 @@ mod Questions
 mod Sharing
 mod Changes
 mod Standing
+mod Closing
 pub mod Least
 pub mod WithinFamily

@@ -1,6 +1,6 @@
 // The lists that make up a table.
 ghost use Rattle.std.specs.Prelude.{◌≡◌, ◌+◌, ◌*◌, ◌<◌, ◌≤◌, true, List, map, length, count_by, IfOk};
-ghost use Rattle.std.specs.List.{list_all};
+ghost use Rattle.std.specs.List.{list_any, list_all};
 ghost use Rattle.ls_set.specs.ItemSet.{Items, full, is_within};
 ghost use Rattle.ls_set.specs.Query.{is_good};
 ghost use Rattle.ls_theory.specs.Families.{closure};
@@ -75,6 +75,14 @@ fn is_stale(change: YesChange, r: &Query, closed: ItemSet) -> bool
     }
 }
 
+// Whether some closure can be another after the change.
+fn any_stale(change: YesChange, r: &Query, closures: &[ItemSet]) -> bool
+    requires { r.now.q < PLACES }
+    ensures { result ≡ list_any (is_stale change r.now) closures.now }
+{
+    closures.iter().any(|c| is_stale(change, r, *c))
+}
+
 /// Makes the closures of the sets of the blocks those after the change of a Yes to `r`, in a step at
 /// most for each that has the items of its A. `f` is the family after the change.
 pub fn close_again<I: Interior, L: Ledger>(
@@ -97,6 +105,9 @@ pub fn close_again<I: Interior, L: Ledger>(
     ensures within { list_all (λ c. is_within c (full (I.item_count f.now))) closures.new ≡ true }
     ensures cost { steps.new ≤ steps.old + count_by (λ c. is_within r.now.a c) closures.old }
 {
+    if !any_stale(change, r, closures) {
+        return;
+    }
     let mut last = ItemSet::empty();
     let mut front = Front::new();
     for place in 0..closures.len() {

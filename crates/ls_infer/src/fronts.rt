@@ -1,6 +1,6 @@
 // Closures of block sets, each from that of the set without one of its items.
-ghost use Rattle.std.specs.Prelude.{◌≡◌, ◌+◌, ◌<◌, ◌≤◌, ℕ, true, List, MatchOption};
-ghost use Rattle.ls_set.specs.ItemSet.{Items, full, has, with, IsWithin};
+ghost use Rattle.std.specs.Prelude.{◌≡◌, ◌+◌, ◌<◌, ◌≤◌, ℕ, true, List, IfSome, MatchOption};
+ghost use Rattle.ls_set.specs.ItemSet.{Items, empty, full, has, with, most_items, IsWithin};
 ghost use Rattle.ls_theory.specs.Families.{closure};
 ghost use Rattle.ls_infer.specs.Fronts.{IsFront, AreFirst};
 
@@ -19,7 +19,8 @@ pub struct Front {
 impl Front {
     /// The empty set.
     pub fn new() -> Front
-        ensures { (n : ℕ) (f : List Items) → IsFront n f result }
+        ensures set { result.set ≡ empty }
+        ensures front { (n : ℕ) (f : List Items) → IsFront n f result }
     {
         Front {
             set: ItemSet::empty(),
@@ -30,7 +31,8 @@ impl Front {
 
 // The greatest item of the set.
 fn last_item(set: ItemSet) -> Option<u32>
-    ensures { MatchOption result ((i : ℕ) → has set i ≡ true → ⊥) (λ i. has set i ≡ true) }
+    ensures item { MatchOption result ((i : ℕ) → has set i ≡ true → ⊥) (λ i. has set i ≡ true) }
+    ensures place { IfSome result (λ i. i < most_items) }
 {
     let mut left = set;
     let mut last = None;
@@ -85,9 +87,9 @@ fn close_with<I: Interior, L: Ledger>(
     all.minus(left.unwrap_or(ItemSet::empty()))
 }
 
-/// The closure of a set of the blocks, in a step at most. `first` has the closures of the first sets of the
-/// blocks. In front of the set is the set without its greatest item; where its closure is among
-/// the first, or is kept from the set before, only what the item brings is looked for.
+/// The closure of a set of the blocks, in a step at most. `first` has the closures of the first sets
+/// of the blocks. In front of the set is the set without its greatest item; where its closure is
+/// among the first, or is kept from the set before, only what the item brings is looked for.
 pub fn close_block<I: Interior, L: Ledger>(
     first: &[ItemSet],
     blocks: Blocks,

@@ -1,0 +1,7 @@
+use Rattle.ls_set.specs.ItemSet.{has}
+use Rattle.std.proofs.Common.{true≢false, sym, ap, ◌∙◌}
+use Rattle.ls_set.proofs.Sets.{has-empty}
+use Rattle.ls_infer.proofs.fronts.Front.new.Goals as goal
+
+pub returns-clause-front : goal.returns-clause-front
+returns-clause-front c n f i h = absurd (true≢false (sym h ∙ ap (λ s. has s i) c.empty.ensures ∙ has-empty i))
