@@ -1,30 +1,24 @@
 -- The interior under rules, round by round.
-use Rattle.std.proofs.Common.{ℕ, ◌<◌, ◌≡◌, inl, inr, true, false, not, List, [], ◌∷◌, filter, sym, ◌∙◌, arith, true≢false}
+use Rattle.std.proofs.Common.{ℕ, ◌<◌, ◌≡◌, inl, inr, true, false, not, List, [], ◌∷◌, filter, cond, Option, Some, None, unwrap_or, refl, sym, ap, ◌∙◌, true≢false}
 use Rattle.std.specs.List.{AllByRecursion}
-use Rattle.std.proofs.lemmas.Bool.{and_parts, and_from, not-true, not_from_false}
-use Rattle.ls_set.specs.ItemSet.{Items, has, minus, is_within, is_among, len, IsWithin}
+use Rattle.std.proofs.lemmas.Bool.{and_parts, and_from, not-true, not_from_false, false_from_ne_true}
+use Rattle.ls_lists.proofs.Bools.{same_truth}
+use Rattle.ls_set.specs.ItemSet.{Items, has, empty, minus, is_within, is_among, len, IsWithin}
 use Rattle.ls_set.specs.declared.query.Query.{Query}
-use Rattle.ls_set.proofs.Sets.{has-minus, is_within-from}
+use Rattle.ls_set.proofs.Sets.{has-minus, same_set, IsWithin-from, is_within-from, empty-within}
 use Rattle.ls_set.proofs.Members.{among-filter}
-use Rattle.ls_set.proofs.Sizes.{len-less, len-within}
+use Rattle.ls_set.proofs.Sizes.{len-less}
 use Rattle.ls_theory.specs.Queries.{breaks, breaks_none}
 use Rattle.ls_theory.specs.Families.{interior}
 use Rattle.ls_laws.specs.Families.{IsFamily}
 use Rattle.ls_laws.proofs.Breaks.{Breaks-from}
 use Rattle.ls_laws.proofs.Counts.{some_missing}
 use Rattle.ls_laws.proofs.Families.{ruled-IsFamily}
-use Rattle.ls_laws.proofs.Interiors.{is_within-interior, interior-within, interior-greatest, IsInterior-interior}
-use Rattle.ls_rules.specs.Waking.{IsAwake, Settling, Settles}
+use Rattle.ls_laws.proofs.Interiors.{is_within-interior, interior-is, interior-within, interior-greatest, IsInterior-interior}
+use Rattle.ls_interior.specs.Keeping.{interior_keeping}
+use Rattle.ls_rules.specs.Waking.{IsAwake, Settling, Settles, NoneKeeps}
 use Rattle.ls_rules.specs.declared.round.Round.{Round}
 use Rattle.ls_rules.proofs.Rounds.{meets_rule, no_item}
-
--- what is settled of what is kept is settled of the whole
-pub Settles-through : (rules : List Query) (from settled : Items) (s : Round) → Settling rules from s → Settles rules s.kept settled → Settles rules from settled
-Settles-through rules from settled s a b = record {
-  within = λ i h. a.within i (b.within i h);
-  unbroken = b.unbroken;
-  greatest = λ t u w. b.greatest t u (a.greatest t u w);
-}
 
 -- where a settled set loses items, these wake every rule that is broken
 pub lost_awake : (rules : List Query) (kept next : Items) → breaks_none rules kept ≡ true → IsWithin next kept → AllByRecursion (IsAwake (record { kept = next; fallen = minus kept next })) rules
@@ -43,38 +37,170 @@ pub record Reaches (f : List Items) (rules : List Query) (s kept : Items) : Type
   pub unbroken : breaks_none rules kept ≡ true
   pub greatest : (t : Items) → is_among f t ≡ true → breaks_none rules t ≡ true → IsWithin t s → IsWithin t kept
 
--- of the interior in the family what is settled reaches far enough, in the first round and in each further one
-pub Reaches-first : (f : List Items) (rules : List Query) (s settled : Items) → Settles rules (interior f s) settled → Reaches f rules s settled
-Reaches-first f rules s settled a = record {
-  within = λ i h. interior-within f s i (a.within i h);
-  unbroken = a.unbroken;
-  greatest = λ t c u w. a.greatest t u (interior-greatest f s t c w);
-}
-
-pub Reaches-more : (f : List Items) (rules : List Query) (s kept settled : Items) → Reaches f rules s kept → Settles rules (interior f kept) settled → Reaches f rules s settled
-Reaches-more f rules s kept settled r a = record {
-  within = λ i h. r.within i (interior-within f kept i (a.within i h));
-  unbroken = a.unbroken;
-  greatest = λ t c u w. a.greatest t u (interior-greatest f kept t c (r.greatest t c u w));
-}
-
--- a settled set that is within its interior in the family is the interior under the rules
-pub Reaches-done : (n : ℕ) (f : List Items) (rules : List Query) (s kept : Items) → IsFamily n f → Reaches f rules s kept → is_within kept (interior f kept) ≡ true → kept ≡ interior (filter (breaks_none rules) f) s
-Reaches-done n f rules s kept family r h =
+-- a settled set that is a member is the interior under the rules
+pub Reaches-done : (n : ℕ) (f : List Items) (rules : List Query) (s kept : Items) → IsFamily n f → Reaches f rules s kept → is_among f kept ≡ true → kept ≡ interior (filter (breaks_none rules) f) s
+Reaches-done n f rules s kept family r member =
     let ruled = ruled-IsFamily rules family in
-    let member = sym (is_within-interior f family.holds_empty family.holds_unions kept) ∙ h in
     IsInterior-interior (filter (breaks_none rules) f) ruled.holds_empty ruled.holds_unions s kept (record {
       member = among-filter (breaks_none rules) f kept ∙ and_from (is_among f kept) (breaks_none rules kept) member r.unbroken;
       within = r.within;
       greatest = λ t c w. let p = and_parts (is_among f t) (breaks_none rules t) (sym (among-filter (breaks_none rules) f t) ∙ c) in r.greatest t p.0 p.1 w;
     })
 
--- a further round keeps less
-pub fewer_kept : (f : List Items) (rules : List Query) (kept settled : Items) → is_within kept (interior f kept) ≡ false → Settles rules (interior f kept) settled → len settled < len kept
-fewer_kept f rules kept settled h a =
+-- a set that is within its interior in the family is a member
+pub member_from : (n : ℕ) (f : List Items) (kept : Items) → IsFamily n f → is_within kept (interior f kept) ≡ true → is_among f kept ≡ true
+member_from n f kept family h = sym (is_within-interior f family.holds_empty family.holds_unions kept) ∙ h
+
+-- the rounds in a member within s, from which no member within s that breaks no rule lost an item
+pub record Going (f : List Items) (rules : List Query) (s keep member : Items) (round : Round) : Type 0 where
+  pub is_member : is_among f member ≡ true
+  pub within : IsWithin member s
+  pub greatest : (t : Items) → is_among f t ≡ true → breaks_none rules t ≡ true → IsWithin t s → IsWithin t member
+  pub settling : Settling rules member round
+  pub keeps : IsWithin keep round.kept
+
+pub Going-first : (f : List Items) (rules : List Query) (keep member : Items) (round : Round) → is_among f member ≡ true → Settling rules member round → IsWithin keep round.kept → Going f rules member keep member round
+Going-first f rules keep member round c a k = record { is_member = c; within = λ i h. h; greatest = λ t _ _ w. w; settling = a; keeps = k }
+
+-- what such a round settles reaches far enough
+pub Going-settled : (f : List Items) (rules : List Query) (s keep member settled : Items) (round : Round) → Going f rules s keep member round → Settles rules member settled → Reaches f rules s settled
+Going-settled f rules s keep member settled round g a = record {
+  within = λ i h. g.within i (a.within i h);
+  unbroken = a.unbroken;
+  greatest = λ t c u w. a.greatest t u (g.greatest t c u w);
+}
+
+-- the round begins with what is lost of a settled set in its interior in the family
+abbrev pub lost : Items → Items → Round
+lost kept next = record { kept = next; fallen = minus kept next }
+
+-- a member that loses items, from which the rules go on
+pub Settling-lost : (rules : List Query) (kept next : Items) → breaks_none rules kept ≡ true → IsWithin next kept → Settling rules next (lost kept next)
+Settling-lost rules kept next u w = record { within = λ i h. h; awake = lost_awake rules kept next u w; greatest = λ t _ x. x }
+
+pub Going-more : (n : ℕ) (f : List Items) (rules : List Query) (s keep kept : Items) → IsFamily n f → Reaches f rules s kept → IsWithin keep (interior f kept)
+    → Going f rules s keep (interior f kept) (lost kept (interior f kept))
+Going-more n f rules s keep kept family r k = record {
+  is_member = (interior-is f family.holds_empty family.holds_unions kept).member;
+  within = λ i h. r.within i (interior-within f kept i h);
+  greatest = λ t c u w. interior-greatest f kept t c (r.greatest t c u w);
+  settling = Settling-lost rules kept (interior f kept) r.unbroken (interior-within f kept);
+  keeps = k;
+}
+
+-- two sets within one another are one
+pub both_within : (s t : Items) → IsWithin s t → IsWithin t s → s ≡ t
+both_within s t a b = same_set s t (λ i. same_truth (has s i) (has t i) (a i) (b i))
+
+-- ---- what is to be kept
+
+-- a set that has all of keep is given
+pub given_whole : (f : List Items) (s keep kept : Items) → kept ≡ interior f s → IsWithin keep kept → Some kept ≡ interior_keeping f s keep
+given_whole f s keep kept e w =
+    let h : is_within keep (interior f s) ≡ true = rw (← e) (is_within-from keep kept w) in
+    rw (h, e) refl
+
+-- none is given where the interior has not all of keep
+pub given_none : (f : List Items) (s keep : Items) → (IsWithin keep (interior f s) → ⊥) → None ≡ interior_keeping f s keep
+given_none f s keep h =
+    let e : is_within keep (interior f s) ≡ false = false_from_ne_true (is_within keep (interior f s)) (λ x. h (IsWithin-from keep (interior f s) x)) in
+    rw e refl
+
+-- the interior under the rules is a member within the set, and breaks no rule
+ruled_interior : (n : ℕ) (f : List Items) (rules : List Query) (s : Items) → IsFamily n f → let inside = interior (filter (breaks_none rules) f) s in (is_among f inside ≡ true) × (breaks_none rules inside ≡ true) × IsWithin inside s
+ruled_interior n f rules s family =
+    let ruled = ruled-IsFamily rules family in
+    let a = interior-is (filter (breaks_none rules) f) ruled.holds_empty ruled.holds_unions s in
+    let inside = interior (filter (breaks_none rules) f) s in
+    let p = and_parts (is_among f inside) (breaks_none rules inside) (sym (among-filter (breaks_none rules) f inside) ∙ a.member) in
+    (p.0, p.1, a.within)
+
+-- where no set that breaks no rule keeps enough, neither does the interior
+pub none_settled : (n : ℕ) (f : List Items) (rules : List Query) (s keep member : Items) (round : Round) → IsFamily n f → Going f rules s keep member round → NoneKeeps rules member keep
+    → None ≡ interior_keeping (filter (breaks_none rules) f) s keep
+none_settled n f rules s keep member round family g none =
+    let inside = interior (filter (breaks_none rules) f) s in
+    let a = ruled_interior n f rules s family in
+    given_none (filter (breaks_none rules) f) s keep (λ k. none inside a.1 (g.greatest inside a.0 a.1 a.2) k)
+
+pub none_inside : (n : ℕ) (f : List Items) (rules : List Query) (s keep kept : Items) → IsFamily n f → Reaches f rules s kept → is_within keep (interior f kept) ≡ false
+    → None ≡ interior_keeping (filter (breaks_none rules) f) s keep
+none_inside n f rules s keep kept family r h =
+    let inside = interior (filter (breaks_none rules) f) s in
+    let a = ruled_interior n f rules s family in
+    given_none (filter (breaks_none rules) f) s keep (λ k.
+    let w = interior-greatest f kept inside a.0 (r.greatest inside a.0 a.1 a.2) in
+    true≢false (sym (is_within-from keep (interior f kept) (λ i x. w i (k i x))) ∙ h))
+
+-- a set that is not within its interior in the family has more items than that
+pub fewer_kept : (f : List Items) (kept : Items) → is_within kept (interior f kept) ≡ false → len (interior f kept) < len kept
+fewer_kept f kept h =
     let next = interior f kept in
-    let part = len-within settled next a.within in
     elim (some_missing next kept) [
       | inl w ↦ absurd (true≢false (sym (is_within-from kept next w) ∙ h))
-      | inr x ↦ let less = len-less next kept x.0 (interior-within f kept) x.2 x.1 in omega arith
+      | inr x ↦ len-less next kept x.0 (interior-within f kept) x.2 x.1
     ]
+
+-- the interior under the rules of the interior in the family is that of the whole
+pub ruled_twice : (n : ℕ) (f : List Items) (rules : List Query) (s : Items) → IsFamily n f → interior (filter (breaks_none rules) f) (interior f s) ≡ interior (filter (breaks_none rules) f) s
+ruled_twice n f rules s family =
+    let a = ruled_interior n f rules (interior f s) family in
+    Reaches-done n f rules s (interior (filter (breaks_none rules) f) (interior f s)) family (record {
+      within = λ i h. interior-within f s i (a.2 i h);
+      unbroken = a.1;
+      greatest = λ t c u w. interior-greatest (filter (breaks_none rules) f) (interior f s) t (among-filter (breaks_none rules) f t ∙ and_from (is_among f t) (breaks_none rules t) c u) (interior-greatest f s t c w);
+    }) a.0
+
+-- ---- what each step gives
+
+-- where the rules take nothing out of a member, it is the interior
+pub nothing_fell : (n : ℕ) (f : List Items) (rules : List Query) (s keep member settled : Items) (round : Round) → IsFamily n f → Going f rules s keep member round
+    → (Settles rules member settled × IsWithin keep settled) → is_within member settled ≡ true → Some settled ≡ interior_keeping (filter (breaks_none rules) f) s keep
+nothing_fell n f rules s keep member settled round family g a h =
+    let same = both_within settled member a.0.within (IsWithin-from member settled h) in
+    given_whole (filter (breaks_none rules) f) s keep settled
+    (Reaches-done n f rules s settled family (Going-settled f rules s keep member settled round g a.0) (rw same g.is_member)) a.1
+
+-- where the inner family takes nothing out of what is settled, that is the interior
+pub nothing_lost : (n : ℕ) (f : List Items) (rules : List Query) (s keep member settled : Items) (round : Round) → IsFamily n f → Going f rules s keep member round
+    → (Settles rules member settled × IsWithin keep settled) → is_within settled (interior f settled) ≡ true → Some settled ≡ interior_keeping (filter (breaks_none rules) f) s keep
+nothing_lost n f rules s keep member settled round family g a h =
+    given_whole (filter (breaks_none rules) f) s keep settled
+    (Reaches-done n f rules s settled family (Going-settled f rules s keep member settled round g a.0) (member_from n f settled family h)) a.1
+
+-- the empty set is kept always
+pub keeping_empty : (f : List Items) (s : Items) → interior_keeping f s empty ≡ Some (interior f s)
+keeping_empty f s = rw (is_within-from empty (interior f s) (empty-within (interior f s))) refl
+
+pub inside_settled : (n : ℕ) (f : List Items) (rules : List Query) (s d : Items) (settled : Option Items) → IsFamily n f → settled ≡ interior_keeping (filter (breaks_none rules) f) (interior f s) empty
+    → unwrap_or settled d ≡ interior (filter (breaks_none rules) f) s
+inside_settled n f rules s d settled family e = ap (λ o. unwrap_or o d) (e ∙ keeping_empty (filter (breaks_none rules) f) (interior f s)) ∙ ruled_twice n f rules s family
+
+-- where the inner family's interior has not all of keep, neither has the one under the rules
+pub none_under : (n : ℕ) (f : List Items) (rules : List Query) (s keep : Items) → IsFamily n f → None ≡ interior_keeping f s keep → None ≡ interior_keeping (filter (breaks_none rules) f) s keep
+none_under n f rules s keep family e =
+    let inside = interior (filter (breaks_none rules) f) s in
+    let a = ruled_interior n f rules s family in
+    given_none (filter (breaks_none rules) f) s keep (λ k.
+    let h : is_within keep (interior f s) ≡ true = is_within-from keep (interior f s) (λ i x. interior-greatest f s inside a.0 a.2 i (k i x)) in
+    let no : None ≡ Some (interior f s) = rw h at e in
+    cc)
+
+given_some : (inside keep next : Items) → Some next ≡ cond (is_within keep inside) (Some inside) None → (next ≡ inside) × IsWithin keep next
+given_some inside keep next e =
+    elim (is_within keep inside) as (λ b. is_within keep inside ≡ b → Some next ≡ cond b (Some inside) None → (next ≡ inside) × IsWithin keep next) [
+      | true ↦ λ h x. let same : next ≡ inside = cc in (same, rw same (IsWithin-from keep inside h))
+      | false ↦ λ _ x. absurd (let no : ⊥ = cc in no)
+    ] refl e
+
+-- of a member without an item the inner family's interior is given, and what the rules make of it
+pub without_settled : (n : ℕ) (f : List Items) (rules : List Query) (member s keep next : Items) (settled : Option Items) → IsFamily n f
+    → (is_among f member ≡ true → Some next ≡ interior_keeping f s keep) → IsWithin next member
+    → (is_among f next ≡ true → Settling rules next (lost member next) → IsWithin keep next → settled ≡ interior_keeping (filter (breaks_none rules) f) next keep)
+    → is_among (filter (breaks_none rules) f) member ≡ true → settled ≡ interior_keeping (filter (breaks_none rules) f) s keep
+without_settled n f rules member s keep next settled family given w settles c =
+    let p = and_parts (is_among f member) (breaks_none rules member) (sym (among-filter (breaks_none rules) f member) ∙ c) in
+    let inner = given_some (interior f s) keep next (given p.0) in
+    let here : is_among f next ≡ true = rw inner.0 (interior-is f family.holds_empty family.holds_unions s).member in
+    settles here (Settling-lost rules member next p.1 w) inner.1
+    ∙ ap (λ inside. cond (is_within keep inside) (Some inside) None) (ap (interior (filter (breaks_none rules) f)) inner.0 ∙ ruled_twice n f rules s family)

@@ -19,7 +19,7 @@ use Rattle.ls_laws.proofs.Counts.{len-single, len-parts, len-zero, some_item}
 use Rattle.std.proofs.lemmas.Option.{slice_get_read}
 use Rattle.ls_rules.specs.Places.{PlaceList, places_at, IsIndexOf}
 use Rattle.ls_rules.proofs.Indexing.{indexed_rules}
-use Rattle.ls_rules.specs.Waking.{look, look_at, rules_at, first_of, IsAwake, Settling, Settles}
+use Rattle.ls_rules.specs.Waking.{look, look_at, rules_at, first_of, IsAwake, Settling, Settles, NoneKeeps}
 use Rattle.ls_rules.specs.declared.round.Round.{Round}
 
 -- ---- sets
@@ -189,6 +189,10 @@ none_broken s (r ∷ rules) e a =
     (not_from_false (breaks s.kept r) (false_from_ne_true (breaks s.kept r) (λ b. let x = a.0 b in true≢false (sym x.2 ∙ ap (λ f. has f x.0) e ∙ has-empty x.0))))
     (none_broken s rules e a.1)
 
+-- where an item of keep falls out, no set that breaks no rule has all of keep
+pub NoneKeeps-lost : (rules : List Query) (from keep : Items) (s : Round) (i j : ℕ) → Settling rules from s → has keep j ≡ true → has (fold look (woken s i) (filter (λ r. has r.a i) rules)).kept j ≡ false → NoneKeeps rules from keep
+NoneKeeps-lost rules from keep s i j a k out t u w x = true≢false (sym ((Settling-more rules from s i a).greatest t u w j (x j k)) ∙ out)
+
 -- when nothing fell out, no rule is broken
 pub Settling-done : (rules : List Query) (from : Items) (s : Round) → least s.fallen ≡ None → Settling rules from s → Settles rules from s.kept
 Settling-done rules from s e a = record { within = a.within; unbroken = none_broken s rules (no_least s.fallen e) a.awake; greatest = a.greatest }
@@ -273,6 +277,23 @@ look_at-step rules places i p r s all l e m q h =
     let found : slice_get rules p ≡ Some r = slice_get_read rules (length rules) p r refl m q in
     let first : fold look s (rules_at rules (p ∷ drop (i + 1) places)) ≡ fold look (look s r) (rules_at rules (drop (i + 1) places)) = rw found refl in
     sym first ∙ ap (λ ps. fold look s (rules_at rules ps)) (sym rest) ∙ h
+
+-- the item of a rule that is broken falls out
+pub look-broken : (s to : Round) (r : Query) → breaks s.kept r ≡ true → to.kept ≡ without s.kept r.q → to.fallen ≡ with s.fallen r.q → to ≡ look s r
+look-broken s to r h e f = rw h (ap₂ (λ (k l : Items). let x : Round = record { kept = k; fallen = l } in x) e f)
+
+pub look-unbroken : (s to : Round) (r : Query) → breaks s.kept r ≡ false → to ≡ s → to ≡ look s r
+look-unbroken s to r h e = rw h e
+
+-- it is gone at the end
+pub gone : (s all : Round) (r : Query) (rs : List Query) → breaks s.kept r ≡ true → fold look (look s r) rs ≡ all → has all.kept r.q ≡ false
+gone s all r rs h e =
+    subst (λ (t : Round). has t.kept r.q ≡ false) e
+    (false_from_ne_true (has (fold look (look s r) rs).kept r.q) (λ x. true≢false (sym ((After-looks (look s r) rs).within r.q x) ∙ look-breaks s.kept s r (λ i y. y) h)))
+
+-- what has not the item keeps all where it falls out
+pub keeps-without : (keep k : Items) (q : ℕ) → has keep q ≡ false → IsWithin keep k → IsWithin keep (without k q)
+keeps-without keep k q h w j x = kept k j q (w j x) (λ e. true≢false (sym x ∙ ap (has keep) e ∙ h))
 
 -- ---- the items of a set
 

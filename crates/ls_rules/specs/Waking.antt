@@ -1,5 +1,5 @@
 -- Rules that are looked at again where an item of theirs fell out.
-use Rattle.std.specs.Prelude.{ℕ, ◌≤◌, ◌≡◌, true, if◌then◌else◌, List, length, map, slice_get, fold}
+use Rattle.std.specs.Prelude.{ℕ, ◌≤◌, ◌≡◌, true, false, if◌then◌else◌, Option, None, Some, List, length, map, slice_get, fold}
 use Rattle.std.specs.Option.{option_map_or}
 use Rattle.std.specs.List.{AllByRecursion, list_all, filter_map}
 use Rattle.ls_set.specs.ItemSet.{Items, has, empty, with, without, least, IsWithin}
@@ -51,3 +51,17 @@ pub record Settles (rules : List Query) (from settled : Items) : Type 0 where
   pub within : IsWithin settled from
   pub unbroken : breaks_none rules settled ≡ true
   pub greatest : (t : Items) → breaks_none rules t ≡ true → IsWithin t from → IsWithin t settled
+
+-- the round after looks, given only where no item of keep fell out; none where one did
+abbrev pub IsKeeping : Items → Round → Round → Option Round → Type 0
+IsKeeping keep from to None = (i : ℕ) × (has keep i ≡ true) × (has to.kept i ≡ false)
+IsKeeping keep from to (Some s) = (s ≡ to) × (IsWithin keep from.kept → IsWithin keep s.kept)
+
+-- no set within the first that has all of keep breaks no rule
+abbrev pub NoneKeeps : List Query → Items → Items → Type 0
+NoneKeeps rules from keep = (t : Items) → breaks_none rules t ≡ true → IsWithin t from → IsWithin keep t → ⊥
+
+-- the greatest set within the first that breaks no rule, where it has all of keep
+abbrev pub SettlesKeeping : List Query → Items → Items → Option Items → Type 0
+SettlesKeeping rules from keep None = NoneKeeps rules from keep
+SettlesKeeping rules from keep (Some k) = Settles rules from k × IsWithin keep k

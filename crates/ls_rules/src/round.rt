@@ -11,19 +11,38 @@ pub struct Round {
 }
 
 impl Round {
+    ghost use Rattle.ls_set.specs.ItemSet.{with, without};
+    ghost use Rattle.ls_theory.specs.Queries.{breaks};
     ghost use Rattle.ls_rules.specs.Waking.{look};
 
-    /// Looks at a rule: where the kept set breaks it, its item falls out.
+    /// Whether the kept set breaks the rule.
     #[tactic(auto, unfolding(ls_set::specs::ItemSet::is_same))]
+    pub fn breaks(&self, rule: &Query) -> bool
+        requires { rule.now.q < PLACES }
+        ensures { result ≡ breaks self.now.kept rule.now }
+    {
+        self.kept.has(rule.q) && self.kept.meet(rule.a) == ItemSet::empty()
+    }
+
+    /// The item falls out.
+    pub fn lose(self, item: u32) -> Round
+        requires { item < PLACES }
+        ensures kept { result.kept ≡ without self.kept item }
+        ensures fallen { result.fallen ≡ with self.fallen item }
+    {
+        Round {
+            kept: self.kept.without(item),
+            fallen: self.fallen.with(item),
+        }
+    }
+
+    /// Looks at a rule: where the kept set breaks it, its item falls out.
     pub fn look(self, rule: &Query) -> Round
         requires { rule.now.q < PLACES }
         ensures { result ≡ look self rule.now }
     {
-        if self.kept.meet(rule.a) == ItemSet::empty() && self.kept.has(rule.q) {
-            Round {
-                kept: self.kept.without(rule.q),
-                fallen: self.fallen.with(rule.q),
-            }
+        if self.breaks(rule) {
+            self.lose(rule.q)
         } else {
             self
         }

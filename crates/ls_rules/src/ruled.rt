@@ -1,7 +1,11 @@
 // Families with rules.
-ghost use Rattle.std.specs.Prelude.{◌≡◌, ◌<◌, ◌++◌, ◌∷◌, [], true, length, remove, OnOk};
+ghost use Rattle.std.specs.Prelude.{◌≡◌, ◌<◌, ◌++◌, ◌∷◌, [], true, length, remove, filter};
+ghost use Rattle.std.specs.Prelude.{OnOk, IfSome};
+ghost use Rattle.ls_set.specs.ItemSet.{full, is_among, IsWithin};
 ghost use Rattle.ls_set.specs.Query.{is_good};
-ghost use Rattle.ls_rules.specs.Waking.{first_of};
+ghost use Rattle.ls_theory.specs.Queries.{breaks_none};
+ghost use Rattle.ls_interior.specs.Keeping.{interior_keeping};
+ghost use Rattle.ls_rules.specs.Waking.{first_of, Settling};
 
 use crate::index::Index;
 use crate::round::Round;
@@ -117,11 +121,42 @@ impl<F: Inside> Ruled<F> {
     {
         &self.inner
     }
+
+    // The interior of a member of the inner family under the rules, where it has all of `keep`. It
+    // begins with a round in which some items of the member have fallen out.
+    fn settle_within(&self, member: ItemSet, round: Round, keep: ItemSet) -> Option<ItemSet>
+        requires { IsWithin round.kept (full (F.item_count self.now.inner)) }
+        ensures value { is_among (F.members self.now.inner) member ≡ true →
+            Settling self.now.rules member round → IsWithin keep round.kept →
+            result ≡ interior_keeping
+            (filter (breaks_none self.now.rules) (F.members self.now.inner)) member keep }
+        ensures part { IfSome result (λ k. IsWithin k round.kept) }
+    {
+        let n = self.inner.items();
+        let mut member = member;
+        let mut round = round;
+        'rounds: loop {
+            let kept = settle(&self.rules, &self.wakes, n, round, keep)?;
+            if member.is_within(kept) {
+                return Some(kept);
+            }
+            let next = self.inner.inside(kept);
+            if kept.is_within(next) {
+                return Some(kept);
+            }
+            if !keep.is_within(next) {
+                return None;
+            }
+            member = next;
+            round = Round {
+                kept: next,
+                fallen: kept.minus(next),
+            };
+        }
+    }
 }
 
 impl<F: Inside> Inside for Ruled<F> {
-    ghost use Rattle.std.specs.Prelude.{filter};
-    ghost use Rattle.ls_theory.specs.Queries.{breaks_none};
     ghost use Rattle.ls_laws.proofs.Families.{ruled-IsFamily};
 
     ghost item_count = { λ r. F.item_count r.inner };
@@ -135,19 +170,20 @@ impl<F: Inside> Inside for Ruled<F> {
     }
 
     fn inside(&self, s: ItemSet) -> ItemSet {
-        let n = self.inner.items();
-        let first = begin(&self.rules, &self.starts, n, self.inner.inside(s));
-        let mut kept = settle(&self.rules, &self.wakes, n, first);
-        loop {
-            let next = self.inner.inside(kept);
-            if kept.is_within(next) {
-                return kept;
-            }
-            let lost = Round {
-                kept: next,
-                fallen: kept.minus(next),
-            };
-            kept = settle(&self.rules, &self.wakes, n, lost);
-        }
+        let member = self.inner.inside(s);
+        let first = begin(&self.rules, &self.starts, self.inner.items(), member);
+        self.settle_within(member, first, ItemSet::empty())
+            .unwrap_or(ItemSet::empty())
+    }
+
+    // A member breaks no rule, so without the item only the rules are broken whose sets A have what
+    // fell out of it.
+    fn inside_without(&self, member: ItemSet, item: u32, keep: ItemSet) -> Option<ItemSet> {
+        let next = self.inner.inside_without(member, item, keep)?;
+        let lost = Round {
+            kept: next,
+            fallen: member.minus(next),
+        };
+        self.settle_within(next, lost, keep)
     }
 }

@@ -1,9 +1,10 @@
 // Going on from the items that fell out to the rules that they wake.
-ghost use Rattle.std.specs.Prelude.{◌≡◌, ◌<◌, ◌≤◌, map, All, length, true};
-ghost use Rattle.std.specs.List.{AllByRecursion, list_all};
+ghost use Rattle.std.specs.Prelude.{◌≡◌, ◌<◌, ◌≤◌, map, All, length, true, IfSome};
+ghost use Rattle.std.specs.List.{list_all};
+ghost use Rattle.ls_set.specs.ItemSet.{Items, IsWithin};
 ghost use Rattle.ls_set.specs.Query.{is_good};
 ghost use Rattle.ls_rules.specs.Places.{IsIndexOf};
-ghost use Rattle.ls_rules.specs.Waking.{look_at, first_of, IsAwake, Settling, Settles};
+ghost use Rattle.ls_rules.specs.Waking.{look_at, first_of, Settling, IsKeeping, SettlesKeeping};
 
 use crate::index::Index;
 use crate::round::Round;
@@ -20,6 +21,25 @@ fn look_at(rules: &[Query], places: &[usize], round: Round) -> Round
         round = round.look(&rules[*place]);
     }
     round
+}
+
+// Looks at the rules at the places, until an item of `keep` falls out.
+fn look_keeping(rules: &[Query], places: &[usize], round: Round, keep: ItemSet) -> Option<Round>
+    requires items { All (λ r. r.q < PLACES) rules.now }
+    requires places { All (λ p. p < length rules.now) places.now }
+    ensures { IsKeeping keep round (look_at rules.now places.now round) result }
+{
+    let mut round = round;
+    for place in places {
+        let rule = &rules[*place];
+        if round.breaks(rule) {
+            if keep.has(rule.q) {
+                return None;
+            }
+            round = round.lose(rule.q);
+        }
+    }
+    Some(round)
 }
 
 /// Looks at each rule whose set A begins with one of the `n` items outside the set. Of the set
@@ -42,18 +62,25 @@ pub fn begin(rules: &[Query], starts: &Index, n: u32, set: ItemSet) -> Round
     round
 }
 
-/// Goes on from the items that fell out, until no rule is broken.
-pub fn settle(rules: &[Query], wakes: &Index, n: u32, round: Round) -> ItemSet
+/// Goes on from the items that fell out, until no rule is broken or an item of `keep` falls out.
+pub fn settle(
+    rules: &[Query],
+    wakes: &Index,
+    n: u32,
+    round: Round,
+    keep: ItemSet,
+) -> Option<ItemSet>
     requires few { n ≤ PLACES }
     requires good { list_all (is_good n) rules.now ≡ true }
     requires wakes { IsIndexOf wakes.now (map (λ r. r.a) rules.now) }
-    requires awake { AllByRecursion (IsAwake round) rules.now }
-    ensures { Settles rules.now round.kept result }
+    ensures value { (first : Items) → Settling rules.now first round → IsWithin keep round.kept →
+        SettlesKeeping rules.now first keep result }
+    ensures part { IfSome result (λ k. IsWithin k round.kept) }
 {
     let mut round = round;
     while let Some(i) = round.fallen.least() {
         round.fallen = round.fallen.without(i);
-        round = look_at(rules, wakes.of(i), round);
+        round = look_keeping(rules, wakes.of(i), round, keep)?;
     }
-    round.kept
+    Some(round.kept)
 }

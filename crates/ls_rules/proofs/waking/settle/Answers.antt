@@ -1,28 +1,54 @@
-use Rattle.std.proofs.Common.{filter, sym, ap, ◌∙◌}
-use Rattle.ls_set.specs.ItemSet.{Items, has}
+use Rattle.std.proofs.Common.{◌≡◌, ℕ, List, map, filter, fold, sym, ap, ◌∙◌}
+use Rattle.ls_set.specs.ItemSet.{Items, has, without}
 use Rattle.ls_set.proofs.Ascending.{least-cases}
-use Rattle.ls_rules.specs.Waking.{look_at}
+use Rattle.ls_set.specs.declared.query.Query.{Query}
+use Rattle.ls_rules.specs.Places.{PlaceList, places_at, IsIndexOf}
+use Rattle.ls_rules.specs.Waking.{look, look_at}
+use Rattle.ls_rules.specs.declared.round.Round.{Round}
 use Rattle.ls_rules.proofs.Indexing.{indexed_small}
-use Rattle.ls_rules.proofs.Rounds.{turned, woken, lighter, Settling-more, Settling-done}
+use Rattle.ls_rules.proofs.Rounds.{turned, woken, lighter, After-looks, NoneKeeps-lost, Settling-more, Settling-done}
 use Rattle.ls_rules.proofs.waking.settle.Goals as goal
 
-pub look_at-round-requires-clause-places : goal.look_at-round-requires-clause-places
-look_at-round-requires-clause-places c = indexed_small c.args.rules.now (λ r. r.a) c.args.wakes.now c.in-Some.i c.of.result.now c.requires.wakes c.of.ensures
+-- the rules at the places are those that have the item in their A
+woken_rules : (rules : List Query) (wakes : List PlaceList) (ps : List ℕ) (s : Round) (i : ℕ) (fallen : Items) → IsIndexOf wakes (map (λ r. r.a) rules) → ps ≡ places_at wakes i → fallen ≡ without s.fallen i
+    → look_at rules ps (record { kept = s.kept; fallen = fallen }) ≡ fold look (woken s i) (filter (λ r. has r.a i) rules)
+woken_rules rules wakes ps s i fallen index e f =
+    turned rules (λ r. r.a) wakes i ps (woken s i) _ index e (ap (λ (l : Items). look_at rules ps (record { kept = s.kept; fallen = l })) f)
+
+pub look_keeping-requires-clause-places : goal.look_keeping-requires-clause-places
+look_keeping-requires-clause-places c = indexed_small c.args.rules.now (λ r. r.a) c.args.wakes.now c.in-Some.i c.of.result.now c.requires.wakes c.of.ensures
+
+pub returns-in_err-round-clause-value : goal.returns-in_err-round-clause-value
+returns-in_err-round-clause-value c =
+    let s = c.loop-i.round in
+    let i = c.in-Some.i in
+    let woken_are = woken_rules c.args.rules.now c.args.wakes.now c.of.result.now s i c.without-round.result c.requires.wakes c.of.ensures c.without-round.ensures in
+    let gone = rw woken_are at c.in_err-round.ensures in
+    λ first a _. rw c.from_residual.ensures (NoneKeeps-lost c.args.rules.now first c.args.keep s i gone.0 (c.loop-i.invariant.settling first a) gone.1 gone.2)
 
 pub loop-i-smaller : goal.loop-i-smaller
 loop-i-smaller c =
     let s = c.loop-i.round in
-    let here = least-cases s.fallen c.in-Some.i (sym c.least.ensures.value ∙ c.in-Some.is) in
-    let looked = c.look_at-round.ensures ∙ ap (λ (f : Items). look_at c.args.rules.now c.of.result.now (record { kept = s.kept; fallen = f })) c.without-round.ensures in
-    rw (turned c.args.rules.now (λ r. r.a) c.args.wakes.now c.in-Some.i c.of.result.now (woken s c.in-Some.i) c.look_at-round.result c.requires.wakes c.of.ensures looked)
-    (lighter s c.in-Some.i (filter (λ r. has r.a c.in-Some.i) c.args.rules.now) here.0)
+    let i = c.in-Some.i in
+    let here = least-cases s.fallen i (sym c.least.ensures.value ∙ c.in-Some.is) in
+    let woken_are = woken_rules c.args.rules.now c.args.wakes.now c.of.result.now s i c.without-round.result c.requires.wakes c.of.ensures c.without-round.ensures in
+    rw (c.in_ok-round.ensures.0 ∙ woken_are) (lighter s i (filter (λ r. has r.a i) c.args.rules.now) here.0)
 
 pub loop-i-preserved : goal.loop-i-preserved
 loop-i-preserved c =
     let s = c.loop-i.round in
-    let looked = c.look_at-round.ensures ∙ ap (λ (f : Items). look_at c.args.rules.now c.of.result.now (record { kept = s.kept; fallen = f })) c.without-round.ensures in
-    rw (turned c.args.rules.now (λ r. r.a) c.args.wakes.now c.in-Some.i c.of.result.now (woken s c.in-Some.i) c.look_at-round.result c.requires.wakes c.of.ensures looked)
-    (Settling-more c.args.rules.now c.args.round.kept s c.in-Some.i c.loop-i.invariant)
+    let i = c.in-Some.i in
+    let rules = c.args.rules.now in
+    let looked = c.in_ok-round.ensures.0 ∙ woken_rules rules c.args.wakes.now c.of.result.now s i c.without-round.result c.requires.wakes c.of.ensures c.without-round.ensures in
+    let after = After-looks (woken s i) (filter (λ r. has r.a i) rules) in
+    record {
+      settling = λ first a. rw looked (Settling-more rules first s i (c.loop-i.invariant.settling first a));
+      keeps = λ h. c.in_ok-round.ensures.1 (c.loop-i.invariant.keeps h);
+      part = rw looked (λ j h. c.loop-i.invariant.part j (after.within j h));
+    }
 
-pub returns : goal.returns
-returns c = Settling-done c.args.rules.now c.args.round.kept c.loop-i.round (sym c.least.ensures.value ∙ c.in_default.is) c.loop-i.invariant
+pub returns-clause-value : goal.returns-clause-value
+returns-clause-value c = λ first a w. (
+  Settling-done c.args.rules.now first c.loop-i.round (sym c.least.ensures.value ∙ c.in_default.is) (c.loop-i.invariant.settling first a),
+  c.loop-i.invariant.keeps w,
+)
