@@ -1,3 +1,4 @@
+pub mod Reaches
 pub mod Successors
 pub mod Left
 pub mod Joined

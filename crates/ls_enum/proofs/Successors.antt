@@ -33,7 +33,7 @@ NoneFrom f word i = (t : Items) → is_among f t ≡ true → (d : ℕ) → i �
 has-reach : (n : ℕ) (word : Items) (i j : ℕ) → has (reach n word i) j ≡ (has word j && ltb j i || ltb j n && not (ltb j (i + 1)))
 has-reach n word i j = simp (has-union, has-keep_before, has-minus, has-full)
 
-reach-cases : (n : ℕ) (word : Items) (i j : ℕ) → has (reach n word i) j ≡ true → ((has word j ≡ true) × (j < i)) ⊎ ((j < n) × (i < j))
+pub reach-cases : (n : ℕ) (word : Items) (i j : ℕ) → has (reach n word i) j ≡ true → ((has word j ≡ true) × (j < i)) ⊎ ((j < n) × (i < j))
 reach-cases n word i j h =
     elim (or_cases (has word j && ltb j i) (ltb j n && not (ltb j (i + 1))) (sym (has-reach n word i j) ∙ h)) [
       | inl a ↦ let p = and_parts (has word j) (ltb j i) a in inl (p.0, ltb-true j i p.1)
@@ -46,16 +46,20 @@ reach-cases n word i j h =
 pub reach-within : (n : ℕ) (word : Items) (i : ℕ) → IsWithin word (full n) → IsWithin (reach n word i) (full n)
 reach-within n word i small = union-within (keep_before word i) _ (full n) (λ j h. small j (keep_before-within word i j h)) (minus-within (full n) (full (i + 1)))
 
+pub to-reach : (n : ℕ) (word : Items) (i j : ℕ) → ((has word j ≡ true) × (j < i)) ⊎ ((j < n) × (i < j)) → has (reach n word i) j ≡ true
+to-reach n word i j (inl a) = has-reach n word i j ∙ or_left (has word j && ltb j i) (ltb j n && not (ltb j (i + 1))) (and_from (has word j) (ltb j i) a.0 (lt-ltb j i a.1))
+to-reach n word i j (inr a) =
+    has-reach n word i j ∙ or_right (has word j && ltb j i) (ltb j n && not (ltb j (i + 1))) (and_from (ltb j n) (not (ltb j (i + 1))) (lt-ltb j n a.0) (ap not (le-ltb j (i + 1) (let l = a.1 in omega arith))))
+
 -- a member that first differs from the word at i is within the reach
 differing-within : (n : ℕ) (word t : Items) (i : ℕ) → IsWithin t (full n) → DiffersFirstAt word t i → IsWithin t (reach n word i)
-differing-within n word t i small d j h =
-    has-reach n word i j ∙ elim (cases_order j i) [
-      | inl e ↦ absurd (true≢false (sym h ∙ ap (has t) e ∙ d.not_in_second))
-      | inr (inl l) ↦ or_left (has word j && ltb j i) (ltb j n && not (ltb j (i + 1))) (and_from (has word j) (ltb j i) (d.same_below j l ∙ h) (lt-ltb j i l))
-      | inr (inr l) ↦ or_right (has word j && ltb j i) (ltb j n && not (ltb j (i + 1))) (and_from (ltb j n) (not (ltb j (i + 1))) (sym (has-full n j) ∙ small j h) (ap not (le-ltb j (i + 1) (omega arith))))
-    ]
+differing-within n word t i small d j h = elim (cases_order j i) [
+  | inl e ↦ absurd (true≢false (sym h ∙ ap (has t) e ∙ d.not_in_second))
+  | inr (inl l) ↦ to-reach n word i j (inl (d.same_below j l ∙ h, l))
+  | inr (inr l) ↦ to-reach n word i j (inr (ltb-true j n (sym (has-full n j) ∙ small j h), l))
+]
 
-inside-is : (n : ℕ) (f : List Items) → IsFamily n f → (s : Items) → IsInterior f s (interior f s)
+pub inside-is : (n : ℕ) (f : List Items) → IsFamily n f → (s : Items) → IsInterior f s (interior f s)
 inside-is n f family s = interior-is f family.holds_empty family.holds_unions s
 
 pub failed : (n : ℕ) (f : List Items) (word : Items) (i : ℕ) → IsFamily n f → is_within (keep_before word i) (interior f (reach n word i)) ≡ false → NoneFrom f word (i + 1) → NoneFrom f word i

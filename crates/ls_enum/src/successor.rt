@@ -1,10 +1,13 @@
 // The next member, by interiors alone.
 ghost use Rattle.std.specs.Prelude.{◌≡◌, ◌+◌, ◌<◌, ◌≤◌, find, slice_get};
 ghost use Rattle.std.specs.Option.{ForSome};
-ghost use Rattle.ls_set.specs.ItemSet.{full, comes_before, IsWithin};
+ghost use Rattle.ls_set.specs.ItemSet.{full, comes_before, keep_before, IsWithin};
 ghost use Rattle.ls_theory.specs.Pages.{comes_after};
+ghost use Rattle.ls_interior.specs.Keeping.{interior_keeping};
 ghost use Rattle.ls_enum.specs.Listings.{first_after, reach};
+ghost use Rattle.ls_enum.specs.Fronts.{AreFronts};
 
+use crate::fronts::Fronts;
 use ls_interior::{Interior, Steps};
 use ls_set::{ItemSet, PLACES};
 use std::sync::ledger::Ledger;
@@ -21,9 +24,6 @@ pub fn first<I: Interior, L: Ledger>(f: &I, steps: &mut Steps<L>) -> ItemSet
 /// The first member that comes after `word`, or `None` where no member does. The word is a set of
 /// the family's items and need not be a member. It takes no memory, and at most one step more than
 /// there are items.
-///
-/// For each item of the word, from the greatest down, the items before it are kept and all items
-/// after it let in. The first interior of such a set that has all that was kept is the answer.
 pub fn next_after<I: Interior, L: Ledger>(
     f: &I,
     word: ItemSet,
@@ -34,16 +34,66 @@ pub fn next_after<I: Interior, L: Ledger>(
     ensures small { ForSome result (λ k. IsWithin k (full (I.item_count f.now))) }
     ensures cost { steps.new ≤ steps.old + (I.item_count f.now + 1) }
 {
-    let n = f.items();
-    for i in (0..n).rev() {
+    let mut fronts = Fronts::none();
+    next_by(f, word, &mut fronts, steps)
+}
+
+// The same by fronts, to which that of the answer is added.
+//
+// For each item of the word, from the greatest down, the items before it are kept and all items
+// after it let in. The first interior of such a set that has all that was kept is the answer.
+fn next_by<I: Interior, L: Ledger>(
+    f: &I,
+    word: ItemSet,
+    fronts: &mut Fronts,
+    steps: &mut Steps<L>,
+) -> Option<ItemSet>
+    requires small { IsWithin word (full (I.item_count f.now)) }
+    requires fronts { AreFronts (I.members f.now) fronts.old.held.items }
+    ensures next { result ≡ first_after word (I.members f.now) }
+    ensures small { ForSome result (λ k. IsWithin k (full (I.item_count f.now))) }
+    ensures fronts { AreFronts (I.members f.now) fronts.new.held.items }
+    ensures cost { steps.new ≤ steps.old + (I.item_count f.now + 1) }
+{
+    for i in (0..f.items()).rev() {
         if word.has(i) {
-            let inside = f.interior(reach(word, i, n), steps);
-            if word.keep_before(i).is_within(inside) {
+            if let Some(inside) = inside_reach(f, word, i, fronts, steps) {
+                fronts.push(i + 1, inside);
                 return Some(inside);
             }
         }
     }
     None
+}
+
+// The interior of the items of the word before `i` and all items after it, where it has all that
+// was kept, in one step. With a front it is that of a member without an item.
+fn inside_reach<I: Interior, L: Ledger>(
+    f: &I,
+    word: ItemSet,
+    i: u32,
+    fronts: &mut Fronts,
+    steps: &mut Steps<L>,
+) -> Option<ItemSet>
+    requires small { IsWithin word (full (I.item_count f.now)) }
+    requires item { i < I.item_count f.now }
+    requires fronts { AreFronts (I.members f.now) fronts.old.held.items }
+    ensures value { result ≡ interior_keeping (I.members f.now)
+        (reach (I.item_count f.now) word i) (keep_before word i) }
+    ensures fronts { AreFronts (I.members f.now) fronts.new.held.items }
+    ensures cost { steps.new ≡ steps.old + 1 }
+{
+    let n = f.items();
+    let keep = word.keep_before(i);
+    if let Some(front) = fronts.at(i, keep) {
+        return f.interior_without(front, i, keep, steps);
+    }
+    let inside = f.interior(reach(word, i, n), steps);
+    if keep.is_within(inside) {
+        Some(inside)
+    } else {
+        None
+    }
 }
 
 // The items of the word before `i`, and all items after it.
@@ -67,8 +117,30 @@ pub fn first_left<I: Interior, L: Ledger>(
     ensures small { ForSome result (λ k. IsWithin k (full (I.item_count f.now))) }
     ensures cost { steps.new ≤ steps.old + (I.item_count f.now + 1) }
 {
+    let mut fronts = Fronts::none();
+    first_left_by(f, cursor, &mut fronts, steps)
+}
+
+// The same by fronts, to which that of the answer is added.
+pub(crate) fn first_left_by<I: Interior, L: Ledger>(
+    f: &I,
+    cursor: Option<ItemSet>,
+    fronts: &mut Fronts,
+    steps: &mut Steps<L>,
+) -> Option<ItemSet>
+    requires small { ForSome cursor (λ w. IsWithin w (full (I.item_count f.now))) }
+    requires fronts { AreFronts (I.members f.now) fronts.old.held.items }
+    ensures first { result ≡ find (comes_after comes_before cursor) (I.members f.now) }
+    ensures small { ForSome result (λ k. IsWithin k (full (I.item_count f.now))) }
+    ensures fronts { AreFronts (I.members f.now) fronts.new.held.items }
+    ensures cost { steps.new ≤ steps.old + (I.item_count f.now + 1) }
+{
     match cursor {
-        None => Some(first(f, steps)),
-        Some(word) => next_after(f, word, steps),
+        None => {
+            let greatest = first(f, steps);
+            fronts.push(0, greatest);
+            Some(greatest)
+        }
+        Some(word) => next_by(f, word, fronts, steps),
     }
 }

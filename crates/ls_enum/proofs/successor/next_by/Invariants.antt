@@ -1,10 +1,12 @@
 use Rattle.std.proofs.Common.{◌≤◌, ◌+◌}
+use Rattle.ls_enum.specs.Fronts.{AreFronts}
 use Rattle.ls_enum.proofs.Successors.{NoneFrom}
-use Rattle.ls_enum.proofs.successor.next_after.Given as goal
+use Rattle.ls_enum.proofs.successor.next_by.Given as goal
 
 -- no member first differs at an item that is passed, and each step passed one
 abbrev pub invariant-loop-i : goal.invariant-loop-i
 invariant-loop-i g l = record {
   none : NoneFrom (g.I.Interior.members l.f) l.word l.i;
+  fronts : AreFronts (g.I.Interior.members l.f) l.fronts.held.items;
   cost : l.steps + l.i ≤ l.fn.steps + g.I.Interior.item_count l.f;
 }

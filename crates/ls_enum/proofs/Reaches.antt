@@ -1,0 +1,121 @@
+-- The interior of a front without an item is the interior in which the next member is looked for.
+use Rattle.std.proofs.Common.{ℕ, ◌+◌, ◌<◌, ◌≤◌, ◌≡◌, inl, inr, arith, true, false, not, eqb, ltb, List, find, Some, None, refl, sym, ap, eq-eqb, ◌∙◌, subst, cond, true≢false, lt-ltb, ltb-true}
+use Rattle.std.proofs.lemmas.Bool.{cases_order, and_parts, and_from, ne_eqb}
+use Rattle.ls_set.specs.ItemSet.{Items, has, full, without, keep_before, is_among, is_within, IsWithin}
+use Rattle.ls_set.proofs.Sets.{has-full, has-keep_before, has-without, same_within, IsWithin-from}
+use Rattle.ls_theory.specs.Families.{interior}
+use Rattle.ls_laws.specs.Families.{IsFamily}
+use Rattle.ls_laws.proofs.Interiors.{interior-greatest}
+use Rattle.ls_interior.specs.Keeping.{interior_keeping}
+use Rattle.ls_enum.specs.Listings.{first_after, reach}
+use Rattle.ls_enum.specs.Fronts.{IsFront}
+use Rattle.ls_enum.proofs.Successors.{NoneFrom, inside-is, reach-cases, to-reach, found, failed, inside-small, first-is}
+
+-- ---- what comes before a place
+
+before-parts : (s : Items) (i j : ℕ) → has (keep_before s i) j ≡ true → (has s j ≡ true) × (j < i)
+before-parts s i j h = let p = and_parts (has s j) (ltb j i) (sym (has-keep_before s i j) ∙ h) in (p.0, ltb-true j i p.1)
+
+before-from : (s : Items) (i j : ℕ) → has s j ≡ true → j < i → has (keep_before s i) j ≡ true
+before-from s i j h l = has-keep_before s i j ∙ and_from (has s j) (ltb j i) h (lt-ltb j i l)
+
+-- where two sets agree before i, what one has there the other has
+agreeing : (s t : Items) (i j : ℕ) → keep_before s i ≡ keep_before t i → j < i → has s j ≡ true → has t j ≡ true
+agreeing s t i j e l h = (before-parts t i j (ap (λ r. has r j) (sym e) ∙ before-from s i j h l)).0
+
+-- an item of a set of items below n
+item-below : (n : ℕ) (s : Items) (j : ℕ) → IsWithin s (full n) → has s j ≡ true → j < n
+item-below n s j small h = ltb-true j n (sym (has-full n j) ∙ small j h)
+
+-- ---- fronts
+
+-- a front is one at each later place
+pub later-front : (f : List Items) (place i : ℕ) (member : Items) → place ≤ i → IsFront f place member → IsFront f i member
+later-front f place i member l front = (front.0, λ t c w. front.1 t c (λ j h. let p = before-parts t place j h in w j (before-from t i j p.0 (let k = p.1 in omega arith))))
+
+-- a front without i is within the reach at i
+front-within : (n : ℕ) (f : List Items) (word member : Items) (i : ℕ) → IsFamily n f → is_among f member ≡ true → keep_before member i ≡ keep_before word i → IsWithin (without member i) (reach n word i)
+front-within n f word member i family c e j h =
+    let p = and_parts (has member j) (not (eqb j i)) (sym (has-without member i j) ∙ h) in
+    elim (cases_order j i) [
+      | inl q ↦ absurd (true≢false (sym p.1 ∙ ap not (eq-eqb j i q)))
+      | inr (inl l) ↦ to-reach n word i j (inl (agreeing member word i j e l p.0, l))
+      | inr (inr l) ↦ to-reach n word i j (inr (item-below n member j (family.small member c) p.0, l))
+    ]
+
+-- the interior of the reach is within the front without i
+inside-front : (n : ℕ) (f : List Items) (word member : Items) (i : ℕ) → IsFamily n f → IsFront f i member → keep_before member i ≡ keep_before word i → IsWithin (interior f (reach n word i)) (without member i)
+inside-front n f word member i family front e =
+    let inside = inside-is n f family (reach n word i) in
+    let part : IsWithin (interior f (reach n word i)) member = front.1 (interior f (reach n word i)) inside.member (λ j h.
+    let p = before-parts (interior f (reach n word i)) i j h in
+    elim (reach-cases n word i j (inside.within j p.0)) [
+      | inl a ↦ agreeing word member i j (sym e) a.1 a.0
+      | inr a ↦ let l = p.1 in let k = a.1 in absurd (omega arith)
+    ]) in
+    λ j h. has-without member i j ∙ and_from (has member j) (not (eqb j i)) (part j h) (ap not (ne_eqb j i (λ q. elim (reach-cases n word i j (inside.within j h)) [ inl a ↦ let l = a.1 in omega arith | inr a ↦ let l = a.1 in omega arith ])))
+
+-- so the interiors of the two are one
+without-reach : (n : ℕ) (f : List Items) (word member : Items) (i : ℕ) → IsFamily n f → IsFront f i member → keep_before member i ≡ keep_before word i → interior f (without member i) ≡ interior f (reach n word i)
+without-reach n f word member i family front e =
+    let inside = inside-is n f family (reach n word i) in
+    let less = inside-is n f family (without member i) in
+    same_within (interior f (without member i)) (interior f (reach n word i))
+    (interior-greatest f (reach n word i) (interior f (without member i)) less.member (λ j h. front-within n f word member i family front.0 e j (less.within j h)))
+    (interior-greatest f (without member i) (interior f (reach n word i)) inside.member (inside-front n f word member i family front e))
+
+-- ---- interiors that are of use only where they keep certain items
+
+pub keeping-some : (f : List Items) (s keep k : Items) → interior_keeping f s keep ≡ Some k → (is_within keep (interior f s) ≡ true) × (interior f s ≡ k)
+keeping-some f s keep k e =
+    elim (is_within keep (interior f s)) as (λ b. is_within keep (interior f s) ≡ b → cond b (Some (interior f s)) None ≡ Some k → (is_within keep (interior f s) ≡ true) × (interior f s ≡ k)) [
+      | true ↦ λ a e. (a, cc)
+      | false ↦ λ _ e. absurd (cc)
+    ] refl e
+
+pub keeping-none : (f : List Items) (s keep : Items) → interior_keeping f s keep ≡ None → is_within keep (interior f s) ≡ false
+keeping-none f s keep e =
+    elim (is_within keep (interior f s)) as (λ b. is_within keep (interior f s) ≡ b → cond b (Some (interior f s)) None ≡ None → is_within keep (interior f s) ≡ false) [
+      | true ↦ λ _ e. absurd (cc)
+      | false ↦ λ a _. a
+    ] refl e
+
+pub keeping-front : (n : ℕ) (f : List Items) (word member : Items) (i : ℕ) → IsFamily n f → IsFront f i member → keep_before member i ≡ keep_before word i → interior_keeping f (without member i) (keep_before word i) ≡ interior_keeping f (reach n word i) (keep_before word i)
+keeping-front n f word member i family front e =
+    ap (λ inside. cond (is_within (keep_before word i) inside) (Some inside) None) (without-reach n f word member i family front e)
+
+-- ---- the next member, by such an interior
+
+pub found-reach : (n : ℕ) (f : List Items) (word k : Items) (i : ℕ) → IsFamily n f → has word i ≡ true → NoneFrom f word (i + 1) → interior_keeping f (reach n word i) (keep_before word i) ≡ Some k → first_after word f ≡ Some k
+found-reach n f word k i family here none e =
+    let kept = keeping-some f (reach n word i) (keep_before word i) k e in
+    found n f word i family here none (IsWithin-from (keep_before word i) (interior f (reach n word i)) kept.0) ∙ ap Some kept.1
+
+pub failed-reach : (n : ℕ) (f : List Items) (word : Items) (i : ℕ) → IsFamily n f → interior_keeping f (reach n word i) (keep_before word i) ≡ None → NoneFrom f word (i + 1) → NoneFrom f word i
+failed-reach n f word i family e none = failed n f word i family (keeping-none f (reach n word i) (keep_before word i) e) none
+
+pub small-reach : (n : ℕ) (f : List Items) (word k : Items) (i : ℕ) → IsWithin word (full n) → interior_keeping f (reach n word i) (keep_before word i) ≡ Some k → IsWithin k (full n)
+small-reach n f word k i small e =
+    subst (λ t. IsWithin t (full n)) (keeping-some f (reach n word i) (keep_before word i) k e).1 (inside-small n f word i small)
+
+-- the interior of the reach at i is a front behind i
+reach-front : (n : ℕ) (f : List Items) (word : Items) (i : ℕ) → IsFamily n f → IsFront f (i + 1) (interior f (reach n word i))
+reach-front n f word i family =
+    let inside = inside-is n f family (reach n word i) in (
+      inside.member,
+      λ t c w. inside.greatest t c (λ j h. elim (cases_order i j) [
+        | inl q ↦ inside.within j (w j (before-from t (i + 1) j h (omega arith)))
+        | inr (inl l) ↦ to-reach n word i j (inr (item-below n t j (family.small t c) h, l))
+        | inr (inr l) ↦ inside.within j (w j (before-from t (i + 1) j h (omega arith)))
+      ]),
+    )
+
+pub front-reach : (n : ℕ) (f : List Items) (word k : Items) (i : ℕ) → IsFamily n f → interior_keeping f (reach n word i) (keep_before word i) ≡ Some k → IsFront f (i + 1) k
+front-reach n f word k i family e = subst (IsFront f (i + 1)) (keeping-some f (reach n word i) (keep_before word i) k e).1 (reach-front n f word i family)
+
+-- the first member of all is a front at the start
+pub first-front : (n : ℕ) (f : List Items) (k : Items) → IsFamily n f → find (λ _. true) f ≡ Some k → IsFront f 0 k
+first-front n f k family e =
+    let inside = inside-is n f family (full n) in
+    let same : interior f (full n) ≡ k = let all = first-is n f family in cc in
+    subst (IsFront f 0) same (inside.member, λ t c w. inside.greatest t c (family.small t c))

@@ -1,0 +1,9 @@
+use Rattle.std.proofs.Common.{◌≤◌, length}
+use Rattle.ls_enum.proofs.fronts.Fronts.drop_above.Given as goal
+
+-- so many fronts are looked at still
+abbrev pub invariant-loop-count : goal.invariant-loop-count
+invariant-loop-count l = l.count ≤ length l.held
+
+abbrev pub decreases-loop-count : goal.decreases-loop-count
+decreases-loop-count l = l.count
