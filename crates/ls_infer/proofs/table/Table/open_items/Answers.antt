@@ -1,6 +1,6 @@
-use Rattle.std.proofs.Common.{ℕ, ◌≡◌, true, false, not, ◌&&◌, Option, Some, None, slice_get, refl, sym, ap, ap₂, ◌∙◌, true≢false}
+use Rattle.std.proofs.Common.{ℕ, ◌≡◌, false, not, ◌&&◌, Option, Some, None, slice_get, refl, sym, ap, ◌∙◌, true≢false}
 use Rattle.std.specs.List.{list_any}
-use Rattle.std.specs.Option.{is_none}
+use Rattle.std.specs.Option.{is_some}
 use Rattle.std.proofs.Math.Bool.{and_assoc}
 use Rattle.ls_lists.proofs.Elements.{get-in}
 use Rattle.ls_set.specs.ItemSet.{Items, has, full, minus}
@@ -27,9 +27,9 @@ open_is t place a closed q e c =
     ∙ and_assoc (is_good n (asked_of a q)) (not (has closed q)) (not rest)
     ∙ sym (ap (λ l. is_good n (asked_of a q) && (not (has l q) && not rest)) closed_is)
 
-nothing : (o : Option ℕ) → is_none o ≡ true → o ≡ None
+nothing : (o : Option ℕ) → is_some o ≡ false → o ≡ None
 nothing None h = refl
-nothing (Some i) h = absurd (true≢false (sym h))
+nothing (Some i) h = absurd (true≢false h)
 
 pub returns-then-is_none : goal.returns-then-is_none
 returns-then-is_none c = λ q.
@@ -39,7 +39,7 @@ returns-then-is_none c = λ q.
     let kept : slice_get t.closures c.args.place ≡ Some closed = sym (ap (λ l. slice_get l c.args.place) (c.deref.ensures.value ∙ ap (λ u. u.table.closures) c.self.view_is)) ∙ c.closure_at-closed.ensures in
     let items : c.self.inside.n ≡ t.blocks.item_count = c.self.invariant.items ∙ ap (λ u. u.table.blocks.item_count) c.self.view_is in
     let undecided : c.minus-undecided.result ≡ left = c.minus-undecided.ensures ∙ ap (λ s. minus s closed) (c.minus.ensures ∙ ap (λ s. minus s c.args.a) (c.full.ensures ∙ ap full items)) in
-    let empty = nothing c.least.result (sym c.is_none.ensures ∙ c.if-is_none.true) in
+    let empty = nothing c.least.result c.if-is_none.ensures in
     let none : has left q ≡ false = ap (λ s. has s q) (sym undecided) ∙ least-none_left c.minus-undecided.result q (sym c.least.ensures.value ∙ empty) in
     ap (λ s. has s q) undecided ∙ none
     ∙ sym (ap (λ b. b && not (list_any (forces (asked_of c.args.a q)) t.standing)) none)
