@@ -2,10 +2,9 @@
 use Rattle.std.proofs.Common.{ℕ, ◌<◌, ◌≡◌, inl, inr, true, false, not, List, [], ◌∷◌, filter, cond, Option, Some, None, unwrap_or, refl, sym, ap, ◌∙◌, true≢false}
 use Rattle.std.specs.List.{AllByRecursion}
 use Rattle.std.proofs.lemmas.Bool.{and_parts, and_from, not-true, not_from_false, false_from_ne_true}
-use Rattle.ls_lists.proofs.Bools.{same_truth}
 use Rattle.ls_set.specs.ItemSet.{Items, has, empty, minus, is_within, is_among, len, IsWithin}
 use Rattle.ls_set.specs.declared.query.Query.{Query}
-use Rattle.ls_set.proofs.Sets.{has-minus, same_set, IsWithin-from, is_within-from, empty-within}
+use Rattle.ls_set.proofs.Sets.{has-minus, same_within, IsWithin-from, is_within-from, empty-within}
 use Rattle.ls_set.proofs.Members.{among-filter}
 use Rattle.ls_set.proofs.Sizes.{len-less}
 use Rattle.ls_theory.specs.Queries.{breaks, breaks_none}
@@ -88,10 +87,6 @@ Going-more n f rules s keep kept family r k = record {
   keeps = k;
 }
 
--- two sets within one another are one
-pub both_within : (s t : Items) → IsWithin s t → IsWithin t s → s ≡ t
-both_within s t a b = same_set s t (λ i. same_truth (has s i) (has t i) (a i) (b i))
-
 -- ---- what is to be kept
 
 -- a set that has all of keep is given
@@ -157,7 +152,7 @@ ruled_twice n f rules s family =
 pub nothing_fell : (n : ℕ) (f : List Items) (rules : List Query) (s keep member settled : Items) (round : Round) → IsFamily n f → Going f rules s keep member round
     → (Settles rules member settled × IsWithin keep settled) → is_within member settled ≡ true → Some settled ≡ interior_keeping (filter (breaks_none rules) f) s keep
 nothing_fell n f rules s keep member settled round family g a h =
-    let same = both_within settled member a.0.within (IsWithin-from member settled h) in
+    let same = same_within settled member a.0.within (IsWithin-from member settled h) in
     given_whole (filter (breaks_none rules) f) s keep settled
     (Reaches-done n f rules s settled family (Going-settled f rules s keep member settled round g a.0) (rw same g.is_member)) a.1
 
