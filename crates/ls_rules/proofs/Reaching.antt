@@ -2,10 +2,9 @@
 use Rattle.std.proofs.Common.{ℕ, ◌<◌, ◌≡◌, inl, inr, true, false, not, List, [], ◌∷◌, filter, cond, Option, Some, None, unwrap_or, refl, sym, ap, ◌∙◌, true≢false}
 use Rattle.std.specs.List.{AllByRecursion}
 use Rattle.std.proofs.lemmas.Bool.{and_parts, and_from, not-true, not_from_false, false_from_ne_true}
-use Rattle.ls_lists.proofs.Bools.{same_truth}
 use Rattle.ls_set.specs.ItemSet.{Items, has, empty, minus, is_within, is_among, len, IsWithin}
 use Rattle.ls_set.specs.declared.query.Query.{Query}
-use Rattle.ls_set.proofs.Sets.{has-minus, same_set, IsWithin-from, is_within-from, empty-within}
+use Rattle.ls_set.proofs.Sets.{has-minus, same_within, IsWithin-from, is_within-from, empty-within}
 use Rattle.ls_set.proofs.Members.{among-filter}
 use Rattle.ls_set.proofs.Sizes.{len-less}
 use Rattle.ls_theory.specs.Queries.{breaks, breaks_none}
@@ -21,7 +20,7 @@ use Rattle.ls_rules.specs.declared.round.Round.{Round}
 use Rattle.ls_rules.proofs.Rounds.{meets_rule, no_item}
 
 -- where a settled set loses items, these wake every rule that is broken
-pub lost_awake : (rules : List Query) (kept next : Items) → breaks_none rules kept ≡ true → IsWithin next kept → AllByRecursion (IsAwake (record { kept = next; fallen = minus kept next })) rules
+lost_awake : (rules : List Query) (kept next : Items) → breaks_none rules kept ≡ true → IsWithin next kept → AllByRecursion (IsAwake (record { kept = next; fallen = minus kept next })) rules
 lost_awake [] kept next h w = tt
 lost_awake (r ∷ rules) kept next h w =
     let p = and_parts (not (breaks kept r)) (breaks_none rules kept) h in (
@@ -38,7 +37,7 @@ pub record Reaches (f : List Items) (rules : List Query) (s kept : Items) : Type
   pub greatest : (t : Items) → is_among f t ≡ true → breaks_none rules t ≡ true → IsWithin t s → IsWithin t kept
 
 -- a settled set that is a member is the interior under the rules
-pub Reaches-done : (n : ℕ) (f : List Items) (rules : List Query) (s kept : Items) → IsFamily n f → Reaches f rules s kept → is_among f kept ≡ true → kept ≡ interior (filter (breaks_none rules) f) s
+Reaches-done : (n : ℕ) (f : List Items) (rules : List Query) (s kept : Items) → IsFamily n f → Reaches f rules s kept → is_among f kept ≡ true → kept ≡ interior (filter (breaks_none rules) f) s
 Reaches-done n f rules s kept family r member =
     let ruled = ruled-IsFamily rules family in
     IsInterior-interior (filter (breaks_none rules) f) ruled.holds_empty ruled.holds_unions s kept (record {
@@ -48,7 +47,7 @@ Reaches-done n f rules s kept family r member =
     })
 
 -- a set that is within its interior in the family is a member
-pub member_from : (n : ℕ) (f : List Items) (kept : Items) → IsFamily n f → is_within kept (interior f kept) ≡ true → is_among f kept ≡ true
+member_from : (n : ℕ) (f : List Items) (kept : Items) → IsFamily n f → is_within kept (interior f kept) ≡ true → is_among f kept ≡ true
 member_from n f kept family h = sym (is_within-interior f family.holds_empty family.holds_unions kept) ∙ h
 
 -- the rounds in a member within s, from which no member within s that breaks no rule lost an item
@@ -58,9 +57,6 @@ pub record Going (f : List Items) (rules : List Query) (s keep member : Items) (
   pub greatest : (t : Items) → is_among f t ≡ true → breaks_none rules t ≡ true → IsWithin t s → IsWithin t member
   pub settling : Settling rules member round
   pub keeps : IsWithin keep round.kept
-
-pub Going-first : (f : List Items) (rules : List Query) (keep member : Items) (round : Round) → is_among f member ≡ true → Settling rules member round → IsWithin keep round.kept → Going f rules member keep member round
-Going-first f rules keep member round c a k = record { is_member = c; within = λ i h. h; greatest = λ t _ _ w. w; settling = a; keeps = k }
 
 -- what such a round settles reaches far enough
 pub Going-settled : (f : List Items) (rules : List Query) (s keep member settled : Items) (round : Round) → Going f rules s keep member round → Settles rules member settled → Reaches f rules s settled
@@ -75,7 +71,7 @@ abbrev pub lost : Items → Items → Round
 lost kept next = record { kept = next; fallen = minus kept next }
 
 -- a member that loses items, from which the rules go on
-pub Settling-lost : (rules : List Query) (kept next : Items) → breaks_none rules kept ≡ true → IsWithin next kept → Settling rules next (lost kept next)
+Settling-lost : (rules : List Query) (kept next : Items) → breaks_none rules kept ≡ true → IsWithin next kept → Settling rules next (lost kept next)
 Settling-lost rules kept next u w = record { within = λ i h. h; awake = lost_awake rules kept next u w; greatest = λ t _ x. x }
 
 pub Going-more : (n : ℕ) (f : List Items) (rules : List Query) (s keep kept : Items) → IsFamily n f → Reaches f rules s kept → IsWithin keep (interior f kept)
@@ -88,20 +84,16 @@ Going-more n f rules s keep kept family r k = record {
   keeps = k;
 }
 
--- two sets within one another are one
-pub both_within : (s t : Items) → IsWithin s t → IsWithin t s → s ≡ t
-both_within s t a b = same_set s t (λ i. same_truth (has s i) (has t i) (a i) (b i))
-
 -- ---- what is to be kept
 
 -- a set that has all of keep is given
-pub given_whole : (f : List Items) (s keep kept : Items) → kept ≡ interior f s → IsWithin keep kept → Some kept ≡ interior_keeping f s keep
+given_whole : (f : List Items) (s keep kept : Items) → kept ≡ interior f s → IsWithin keep kept → Some kept ≡ interior_keeping f s keep
 given_whole f s keep kept e w =
     let h : is_within keep (interior f s) ≡ true = rw (← e) (is_within-from keep kept w) in
     rw (h, e) refl
 
 -- none is given where the interior has not all of keep
-pub given_none : (f : List Items) (s keep : Items) → (IsWithin keep (interior f s) → ⊥) → None ≡ interior_keeping f s keep
+given_none : (f : List Items) (s keep : Items) → (IsWithin keep (interior f s) → ⊥) → None ≡ interior_keeping f s keep
 given_none f s keep h =
     let e : is_within keep (interior f s) ≡ false = false_from_ne_true (is_within keep (interior f s)) (λ x. h (IsWithin-from keep (interior f s) x)) in
     rw e refl
@@ -142,7 +134,7 @@ fewer_kept f kept h =
     ]
 
 -- the interior under the rules of the interior in the family is that of the whole
-pub ruled_twice : (n : ℕ) (f : List Items) (rules : List Query) (s : Items) → IsFamily n f → interior (filter (breaks_none rules) f) (interior f s) ≡ interior (filter (breaks_none rules) f) s
+ruled_twice : (n : ℕ) (f : List Items) (rules : List Query) (s : Items) → IsFamily n f → interior (filter (breaks_none rules) f) (interior f s) ≡ interior (filter (breaks_none rules) f) s
 ruled_twice n f rules s family =
     let a = ruled_interior n f rules (interior f s) family in
     Reaches-done n f rules s (interior (filter (breaks_none rules) f) (interior f s)) family (record {
@@ -157,7 +149,7 @@ ruled_twice n f rules s family =
 pub nothing_fell : (n : ℕ) (f : List Items) (rules : List Query) (s keep member settled : Items) (round : Round) → IsFamily n f → Going f rules s keep member round
     → (Settles rules member settled × IsWithin keep settled) → is_within member settled ≡ true → Some settled ≡ interior_keeping (filter (breaks_none rules) f) s keep
 nothing_fell n f rules s keep member settled round family g a h =
-    let same = both_within settled member a.0.within (IsWithin-from member settled h) in
+    let same = same_within settled member a.0.within (IsWithin-from member settled h) in
     given_whole (filter (breaks_none rules) f) s keep settled
     (Reaches-done n f rules s settled family (Going-settled f rules s keep member settled round g a.0) (rw same g.is_member)) a.1
 
@@ -169,7 +161,7 @@ nothing_lost n f rules s keep member settled round family g a h =
     (Reaches-done n f rules s settled family (Going-settled f rules s keep member settled round g a.0) (member_from n f settled family h)) a.1
 
 -- the empty set is kept always
-pub keeping_empty : (f : List Items) (s : Items) → interior_keeping f s empty ≡ Some (interior f s)
+keeping_empty : (f : List Items) (s : Items) → interior_keeping f s empty ≡ Some (interior f s)
 keeping_empty f s = rw (is_within-from empty (interior f s) (empty-within (interior f s))) refl
 
 pub inside_settled : (n : ℕ) (f : List Items) (rules : List Query) (s d : Items) (settled : Option Items) → IsFamily n f → settled ≡ interior_keeping (filter (breaks_none rules) f) (interior f s) empty
