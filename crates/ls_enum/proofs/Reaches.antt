@@ -1,5 +1,5 @@
 -- The interior of a front without an item is the interior in which the next member is looked for.
-use Rattle.std.proofs.Common.{ℕ, ◌+◌, ◌<◌, ◌≤◌, ◌≡◌, inl, inr, arith, true, false, not, eqb, ltb, List, find, Some, None, refl, sym, ap, eq-eqb, ◌∙◌, subst, cond, true≢false, lt-ltb, ltb-true}
+use Rattle.std.proofs.Common.{ℕ, ◌+◌, ◌<◌, ◌≤◌, ◌≡◌, inl, inr, arith, true, false, not, eqb, ltb, List, find, Option, Some, None, refl, sym, ap, eq-eqb, ◌∙◌, subst, cond, true≢false, lt-ltb, ltb-true}
 use Rattle.std.proofs.lemmas.Bool.{cases_order, and_parts, and_from, ne_eqb}
 use Rattle.ls_set.specs.ItemSet.{Items, has, full, without, keep_before, is_among, is_within, IsWithin}
 use Rattle.ls_set.proofs.Sets.{has-full, has-keep_before, has-without, same_within, IsWithin-from}
@@ -80,23 +80,27 @@ keeping-none f s keep e =
       | false ↦ λ a _. a
     ] refl e
 
-pub keeping-front : (n : ℕ) (f : List Items) (word member : Items) (i : ℕ) → IsFamily n f → IsFront f i member → keep_before member i ≡ keep_before word i → interior_keeping f (without member i) (keep_before word i) ≡ interior_keeping f (reach n word i) (keep_before word i)
-keeping-front n f word member i family front e =
-    ap (λ inside. cond (is_within (keep_before word i) inside) (Some inside) None) (without-reach n f word member i family front e)
+-- what a front without i gives is what the reach at i does
+pub keeping-front : (n : ℕ) (f : List Items) (word member keep : Items) (i : ℕ) (result : Option Items) → IsFamily n f → IsFront f i member → keep_before member i ≡ keep → keep ≡ keep_before word i
+    → (is_among f member ≡ true → result ≡ interior_keeping f (without member i) keep) → result ≡ interior_keeping f (reach n word i) (keep_before word i)
+keeping-front n f word member keep i result family front agrees kept gives =
+    gives front.0
+    ∙ ap (interior_keeping f (without member i)) kept
+    ∙ ap (λ inside. cond (is_within (keep_before word i) inside) (Some inside) None) (without-reach n f word member i family front (agrees ∙ kept))
 
 -- ---- the next member, by such an interior
 
-pub found-reach : (n : ℕ) (f : List Items) (word k : Items) (i : ℕ) → IsFamily n f → has word i ≡ true → NoneFrom f word (i + 1) → interior_keeping f (reach n word i) (keep_before word i) ≡ Some k → first_after word f ≡ Some k
+pub found-reach : (n : ℕ) (f : List Items) (word k : Items) (i : ℕ) → IsFamily n f → true ≡ has word i → NoneFrom f word (i + 1) → Some k ≡ interior_keeping f (reach n word i) (keep_before word i) → Some k ≡ first_after word f
 found-reach n f word k i family here none e =
-    let kept = keeping-some f (reach n word i) (keep_before word i) k e in
-    found n f word i family here none (IsWithin-from (keep_before word i) (interior f (reach n word i)) kept.0) ∙ ap Some kept.1
+    let kept = keeping-some f (reach n word i) (keep_before word i) k (sym e) in
+    ap Some (sym kept.1) ∙ sym (found n f word i family (sym here) none (IsWithin-from (keep_before word i) (interior f (reach n word i)) kept.0))
 
-pub failed-reach : (n : ℕ) (f : List Items) (word : Items) (i : ℕ) → IsFamily n f → interior_keeping f (reach n word i) (keep_before word i) ≡ None → NoneFrom f word (i + 1) → NoneFrom f word i
-failed-reach n f word i family e none = failed n f word i family (keeping-none f (reach n word i) (keep_before word i) e) none
+pub failed-reach : (n : ℕ) (f : List Items) (word : Items) (i : ℕ) (r : Option Items) → IsFamily n f → r ≡ None → r ≡ interior_keeping f (reach n word i) (keep_before word i) → NoneFrom f word (i + 1) → NoneFrom f word i
+failed-reach n f word i r family fails e none = failed n f word i family (keeping-none f (reach n word i) (keep_before word i) (sym e ∙ fails)) none
 
-pub small-reach : (n : ℕ) (f : List Items) (word k : Items) (i : ℕ) → IsWithin word (full n) → interior_keeping f (reach n word i) (keep_before word i) ≡ Some k → IsWithin k (full n)
+pub small-reach : (n : ℕ) (f : List Items) (word k : Items) (i : ℕ) → IsWithin word (full n) → Some k ≡ interior_keeping f (reach n word i) (keep_before word i) → IsWithin k (full n)
 small-reach n f word k i small e =
-    subst (λ t. IsWithin t (full n)) (keeping-some f (reach n word i) (keep_before word i) k e).1 (inside-small n f word i small)
+    subst (λ t. IsWithin t (full n)) (keeping-some f (reach n word i) (keep_before word i) k (sym e)).1 (inside-small n f word i small)
 
 -- the interior of the reach at i is a front behind i
 reach-front : (n : ℕ) (f : List Items) (word : Items) (i : ℕ) → IsFamily n f → IsFront f (i + 1) (interior f (reach n word i))
@@ -110,8 +114,8 @@ reach-front n f word i family =
       ]),
     )
 
-pub front-reach : (n : ℕ) (f : List Items) (word k : Items) (i : ℕ) → IsFamily n f → interior_keeping f (reach n word i) (keep_before word i) ≡ Some k → IsFront f (i + 1) k
-front-reach n f word k i family e = subst (IsFront f (i + 1)) (keeping-some f (reach n word i) (keep_before word i) k e).1 (reach-front n f word i family)
+pub front-reach : (n : ℕ) (f : List Items) (word k : Items) (i : ℕ) → IsFamily n f → Some k ≡ interior_keeping f (reach n word i) (keep_before word i) → IsFront f (i + 1) k
+front-reach n f word k i family e = subst (IsFront f (i + 1)) (keeping-some f (reach n word i) (keep_before word i) k (sym e)).1 (reach-front n f word i family)
 
 -- the first member of all is a front at the start
 pub first-front : (n : ℕ) (f : List Items) (k : Items) → IsFamily n f → find (λ _. true) f ≡ Some k → IsFront f 0 k

@@ -1,6 +1,3 @@
-use Rattle.std.proofs.Common.{ap, ◌∙◌}
-use Rattle.ls_set.specs.ItemSet.{without}
-use Rattle.ls_interior.specs.Keeping.{interior_keeping}
 use Rattle.ls_enum.proofs.Successors.{reach-within}
 use Rattle.ls_enum.proofs.Reaches.{keeping-front}
 use Rattle.ls_enum.proofs.successor.inside_reach.Goals as goal
@@ -10,10 +7,9 @@ pub returns-in-Some-clause-value : goal.returns-in-Some-clause-value
 returns-in-Some-clause-value g c =
     let n = g.I.Interior.item_count c.args.f.now in
     let f = g.I.Interior.members c.args.f.now in
-    let front = c.in-Some.ensures.front f c.requires.fronts in
-    c.interior_without.ensures.value front.0
-    ∙ ap (interior_keeping f (without c.in-Some.front c.args.i)) c.keep_before-keep.ensures
-    ∙ keeping-front n f c.args.word c.in-Some.front c.args.i (g.met.I.Interior.is_family c.args.f.now) front (c.in-Some.ensures.before ∙ c.keep_before-keep.ensures)
+    let family = g.met.I.Interior.is_family c.args.f.now in
+    keeping-front n f c.args.word c.in-Some.front c.keep_before-keep.result c.args.i c.interior_without.result family (c.in-Some.ensures.front f c.requires.fronts)
+    c.in-Some.ensures.before c.keep_before-keep.ensures c.interior_without.ensures.value
 
 pub interior-inside-requires : goal.interior-inside-requires
 interior-inside-requires g c = rw (c.reach.ensures, c.items-n.ensures.count) (reach-within _ _ _ c.requires.small)

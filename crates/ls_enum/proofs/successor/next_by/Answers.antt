@@ -1,4 +1,5 @@
-use Rattle.std.proofs.Common.{sym, ◌∙◌, ◌-◌, arith}
+use Rattle.std.proofs.Common.{◌≡◌, sym, subst, ◌∙◌, ◌-◌, arith}
+use Rattle.ls_set.specs.ItemSet.{full, IsWithin}
 use Rattle.ls_enum.proofs.Successors.{none_after, none_from_end}
 use Rattle.ls_enum.proofs.Reaches.{failed-reach, found-reach, small-reach, front-reach}
 use Rattle.ls_enum.proofs.successor.next_by.Goals as goal
@@ -11,22 +12,23 @@ returns-in-Some-clause-next g c =
     let n = g.I.Interior.item_count c.args.f.now in
     let f = g.I.Interior.members c.args.f.now in
     let i = c.loop-i.i - 1 in
-    sym (found-reach n f c.args.word c.in-Some.inside i (g.met.I.Interior.is_family c.args.f.now) (sym c.has.ensures ∙ c.if-has.true)
-    (λ t m d l. c.loop-i.invariant.none t m d (omega arith)) (sym c.in-Some.ensures.value))
+    found-reach n f c.args.word c.in-Some.inside i (g.met.I.Interior.is_family c.args.f.now) (sym c.if-has.true ∙ c.has.ensures)
+    (λ t m d l. c.loop-i.invariant.none t m d (omega arith)) c.in-Some.ensures.value
 
 pub returns-in-Some-clause-small : goal.returns-in-Some-clause-small
 returns-in-Some-clause-small g c = λ k e.
     let n = g.I.Interior.item_count c.args.f.now in
     let f = g.I.Interior.members c.args.f.now in
     let i = c.loop-i.i - 1 in
-    small-reach n f c.args.word k i c.requires.small (sym c.in-Some.ensures.value ∙ e)
+    let same : c.in-Some.inside ≡ k = cc in
+    subst (λ t. IsWithin t (full n)) same (small-reach n f c.args.word c.in-Some.inside i c.requires.small c.in-Some.ensures.value)
 
 pub returns-in-Some-clause-fronts : goal.returns-in-Some-clause-fronts
 returns-in-Some-clause-fronts g c =
     let n = g.I.Interior.item_count c.args.f.now in
     let f = g.I.Interior.members c.args.f.now in
     let i = c.loop-i.i - 1 in
-    c.push.ensures f c.in-Some.ensures.fronts (front-reach n f c.args.word c.in-Some.inside i (g.met.I.Interior.is_family c.args.f.now) (sym c.in-Some.ensures.value))
+    c.push.ensures f c.in-Some.ensures.fronts (front-reach n f c.args.word c.in-Some.inside i (g.met.I.Interior.is_family c.args.f.now) c.in-Some.ensures.value)
 
 pub loop-i-preserved-in_default : goal.loop-i-preserved-in_default
 loop-i-preserved-in_default g c = record {
@@ -34,7 +36,7 @@ loop-i-preserved-in_default g c = record {
       let n = g.I.Interior.item_count c.args.f.now in
       let f = g.I.Interior.members c.args.f.now in
       let i = c.loop-i.i - 1 in
-      failed-reach n f c.args.word i (g.met.I.Interior.is_family c.args.f.now) (sym c.inside_reach.ensures.value ∙ c.in_default.is) (λ t m d l. c.loop-i.invariant.none t m d (omega arith));
+      failed-reach n f c.args.word i c.inside_reach.result (g.met.I.Interior.is_family c.args.f.now) c.in_default.is c.inside_reach.ensures.value (λ t m d l. c.loop-i.invariant.none t m d (omega arith));
   fronts = c.inside_reach.ensures.fronts;
   cost = omega arith;
 }
