@@ -1,18 +1,17 @@
 -- Closures of sets with one more item, and those that a loop over the blocks finds again.
-use Rattle.std.proofs.Common.{ℕ, zero, suc, ◌+◌, ◌<◌, ◌≤◌, ◌≡◌, ◌⊎◌, inl, inr, true, false, cond, not, ◌&&◌, eqb, List, [], ◌∷◌, map, take, length, slice_get, Option, Some, None, refl, sym, ap, ap₂, ◌∙◌, subst, arith, add-one, true≢false, eqb-true, eq-eqb, lt-ltb, ltb}
+use Rattle.std.proofs.Common.{ℕ, zero, suc, ◌+◌, ◌<◌, ◌≤◌, ◌≡◌, inl, inr, true, false, cond, not, List, [], ◌∷◌, map, take, length, slice_get, Option, Some, None, refl, sym, ap, ap₂, ◌∙◌, subst, arith, add-one, true≢false, lt-ltb, ltb}
 use Rattle.std.specs.List.{list_any}
-use Rattle.std.proofs.lemmas.Bool.{and_parts, or_parts, and_from, or_cases, or_left, or_right, not-true, not_from_false, false_from_ne_true, true_from_ne_false}
+use Rattle.std.proofs.lemmas.Bool.{and_parts, or_parts, false_from_ne_true}
 use Rattle.std.proofs.lemmas.Bool.Decides.{nat_tests}
-use Rattle.ls_lists.proofs.Bools.{both_out}
 use Rattle.ls_lists.specs.Lists.{images}
 use Rattle.ls_set.specs.ItemSet.{Items, has, empty, full, with, without, minus, len, least, is_among, is_within, IsWithin}
 use Rattle.ls_set.specs.declared.query.Query.{Query}
-use Rattle.ls_set.proofs.Sets.{members, has-empty, has-full, has-minus, has-with, same_set, same_within, minus-within, without-within, empty-within, is_within-from}
+use Rattle.ls_set.proofs.Sets.{members, has-empty, has-full, same_set, same_within, minus-within, without-within, empty-within, is_within-from}
 use Rattle.ls_set.proofs.Sizes.{len-less}
 use Rattle.ls_set.proofs.Ascending.{least-none}
 use Rattle.ls_theory.specs.Families.{interior, closure}
 use Rattle.ls_laws.specs.Families.{IsFamily}
-use Rattle.ls_laws.proofs.Interiors.{IsUnionFamily, interior-is, interior-within, interior_grows}
+use Rattle.ls_laws.proofs.Interiors.{IsUnionFamily, interior-within, interior_grows}
 use Rattle.ls_laws.proofs.Breaks.{IsGood}
 use Rattle.ls_laws.proofs.Counts.{some_item}
 use Rattle.ls_laws.proofs.Closures.{closure_stays}
@@ -24,29 +23,9 @@ use Rattle.ls_infer.specs.Changes.{IsChange, is_stale}
 use Rattle.ls_infer.specs.Fronts.{AreFirst}
 use Rattle.ls_theory.specs.Blocks.{BlockRange}
 use Rattle.ls_query.specs.Blocks.{sets_of}
+use Rattle.ls_infer.proofs.Outside.{out-parts, out-from, in-from, minus_twice, with-left, with-here, with-cases, outside-member}
 
--- ---- complements, and a further item
-
-out-parts : (whole s : Items) (i : ℕ) → has (minus whole s) i ≡ true → (has whole i ≡ true) × (has s i ≡ false)
-out-parts whole s i h = let p = and_parts (has whole i) (not (has s i)) (sym (has-minus whole s i) ∙ h) in (p.0, not-true (has s i) p.1)
-
-out-from : (whole s : Items) (i : ℕ) → has whole i ≡ true → has s i ≡ false → has (minus whole s) i ≡ true
-out-from whole s i w h = has-minus whole s i ∙ and_from (has whole i) (not (has s i)) w (not_from_false (has s i) h)
-
-in-from : (whole s : Items) (i : ℕ) → has whole i ≡ true → has (minus whole s) i ≡ false → has s i ≡ true
-in-from whole s i w h = true_from_ne_false (has s i) (λ e. true≢false (sym (out-from whole s i w e) ∙ h))
-
-with-left : (c : Items) (s : ℕ) → IsWithin c (with c s)
-with-left c s i h = has-with c s i ∙ or_left (has c i) (eqb i s) h
-
-with-here : (c : Items) (s : ℕ) → has (with c s) s ≡ true
-with-here c s = has-with c s s ∙ or_right (has c s) (eqb s s) (eq-eqb s s refl)
-
-with-cases : (c : Items) (s i : ℕ) → has (with c s) i ≡ true → (has c i ≡ true) ⊎ (i ≡ s)
-with-cases c s i h = elim (or_cases (has c i) (eqb i s) (sym (has-with c s i) ∙ h)) [ inl a ↦ inl a | inr e ↦ inr (eqb-true i s e) ]
-
-minus_twice : (whole s : Items) → IsWithin s whole → minus whole (minus whole s) ≡ s
-minus_twice whole s w = same_set (minus whole (minus whole s)) s (λ i. has-minus whole (minus whole s) i ∙ ap (λ b. has whole i && not b) (has-minus whole s i) ∙ both_out (has whole i) (has s i) (w i))
+-- ---- an item that is put back
 
 -- an item that is taken out and put back
 pub put_back : (s : Items) (i : ℕ) → has s i ≡ true → with (without s i) i ≡ s
@@ -100,13 +79,6 @@ closure-has whole f s i here = closure-between whole f s (with s i)
 
 closure-within : (whole : Items) (f : List Items) (s : Items) → IsWithin (closure whole f s) whole
 closure-within whole f s = minus-within whole (interior f (minus whole s))
-
--- outside a closure is a member
-outside-member : (n : ℕ) (f : List Items) (s : Items) → IsUnionFamily n f → is_among f (minus (full n) (closure (full n) f s)) ≡ true
-outside-member n f s family =
-    let inside = interior f (minus (full n) s) in
-    subst (λ t. is_among f t ≡ true) (sym (minus_twice (full n) inside (λ i h. minus-within (full n) s i (interior-within f (minus (full n) s) i h))))
-    (interior-is f family.holds_empty family.holds_unions (minus (full n) s)).member
 
 -- an item that is not outside
 pub closed-already : (n : ℕ) (f : List Items) (closed set : Items) (i : ℕ) → i < n → closed ≡ closure (full n) f set → has (minus (full n) closed) i ≡ false → minus (full n) (minus (full n) closed) ≡ closure (full n) f (with set i)

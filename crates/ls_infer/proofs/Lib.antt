@@ -1,5 +1,6 @@
 mod Places
 mod Kept
+mod Outside
 mod Told
 mod Questions
 mod Sharing

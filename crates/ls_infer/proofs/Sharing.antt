@@ -1,6 +1,6 @@
 -- What the interior without an item tells of the closure with it, and what one such closure tells of the items in it.
-use Rattle.std.proofs.Common.{ℕ, zero, suc, ◌<◌, ◌≤◌, ◌≡◌, ◌⊎◌, inl, inr, Bool, true, false, cond, not, ◌&&◌, eqb, ltb, List, [], ◌∷◌, filter, length, Option, Some, None, refl, sym, ap, ap₂, ◌∙◌, subst, arith, true≢false, eqb-true, eq-eqb, lt-ltb, ltb-true}
-use Rattle.std.proofs.lemmas.Bool.{and_parts, and_from, or_cases, or_left, or_right, not-true, not-false, not_from_false, false_from_ne_true, true_from_ne_false}
+use Rattle.std.proofs.Common.{ℕ, zero, suc, ◌<◌, ◌≤◌, ◌≡◌, ◌⊎◌, inl, inr, Bool, true, false, cond, not, ◌&&◌, eqb, ltb, List, [], ◌∷◌, filter, length, Option, Some, None, refl, sym, ap, ap₂, ◌∙◌, subst, arith, true≢false, lt-ltb, ltb-true}
+use Rattle.std.proofs.lemmas.Bool.{and_parts, and_from, or_right, not-true, not-false, not_from_false, false_from_ne_true, true_from_ne_false}
 use Rattle.std.proofs.lemmas.Bool.Decides.{nat_tests}
 use Rattle.std.specs.Option.{is_some}
 use Rattle.ls_lists.proofs.Filters.{filter-fewer}
@@ -15,23 +15,7 @@ use Rattle.ls_laws.proofs.Interiors.{interior-within, interior_grows}
 use Rattle.ls_laws.proofs.ClosureChanges.{minus_shrinks, closure_again}
 use Rattle.ls_infer.specs.Tables.{enough_for}
 use Rattle.ls_infer.proofs.Kept.{has-enough}
-
--- ---- complements, and a further item
-
-out-parts : (whole s : Items) (i : ℕ) → has (minus whole s) i ≡ true → (has whole i ≡ true) × (has s i ≡ false)
-out-parts whole s i h = let p = and_parts (has whole i) (not (has s i)) (sym (has-minus whole s i) ∙ h) in (p.0, not-true (has s i) p.1)
-
-out-from : (whole s : Items) (i : ℕ) → has whole i ≡ true → has s i ≡ false → has (minus whole s) i ≡ true
-out-from whole s i w h = has-minus whole s i ∙ and_from (has whole i) (not (has s i)) w (not_from_false (has s i) h)
-
-with-left : (c : Items) (s : ℕ) → IsWithin c (with c s)
-with-left c s i h = has-with c s i ∙ or_left (has c i) (eqb i s) h
-
-with-here : (c : Items) (s : ℕ) → has (with c s) s ≡ true
-with-here c s = has-with c s s ∙ or_right (has c s) (eqb s s) (eq-eqb s s refl)
-
-with-cases : (c : Items) (s i : ℕ) → has (with c s) i ≡ true → (has c i ≡ true) ⊎ (i ≡ s)
-with-cases c s i h = elim (or_cases (has c i) (eqb i s) (sym (has-with c s i) ∙ h)) [ inl a ↦ inl a | inr e ↦ inr (eqb-true i s e) ]
+use Rattle.ls_infer.proofs.Outside.{out-parts, out-from, with-left, with-here, with-cases}
 
 pub outside-with : (n : ℕ) (closed : Items) (r : ℕ) → minus (full n) (with closed r) ≡ without (minus (full n) closed) r
 outside-with n closed r = same_set (minus (full n) (with closed r)) (without (minus (full n) closed) r) (λ i. grind (arith, members, nat_tests))

@@ -1,22 +1,21 @@
 -- What a Yes that comes or goes changes of what is kept of a standing No.
-use Rattle.std.proofs.Common.{ℕ, ◌+◌, ◌<◌, ◌≡◌, ◌⊎◌, inl, inr, Bool, true, false, not, ◌&&◌, eqb, ◌||◌, ltb, List, length, get_or, slice_get, Some, None, refl, sym, ap, ap₂, ◌∙◌, subst, true≢false, eqb-true, eq-eqb, ltb-true}
+use Rattle.std.proofs.Common.{ℕ, ◌+◌, ◌<◌, ◌≡◌, inl, inr, Bool, true, false, not, ◌&&◌, eqb, ◌||◌, ltb, List, length, get_or, slice_get, Some, None, refl, sym, ap, ap₂, ◌∙◌, subst, true≢false, eq-eqb, ltb-true}
 use Rattle.std.specs.Option.{is_some}
-use Rattle.std.proofs.lemmas.Bool.{and_parts, and_from, or_cases, or_left, or_right}
+use Rattle.std.proofs.lemmas.Bool.{and_parts, and_from, or_left, or_right}
 use Rattle.std.proofs.Math.ListN.{set}
 use Rattle.std.proofs.lemmas.Option.{slice_get-get_or}
 use Rattle.ls_lists.specs.Lists.{images}
-use Rattle.ls_lists.proofs.Bools.{both_out}
 use Rattle.ls_lists.proofs.Overwriting.{images-at, images-next}
-use Rattle.ls_set.specs.ItemSet.{Items, has, full, with, least, meet, minus, is_among, is_within, IsWithin}
+use Rattle.ls_set.specs.ItemSet.{Items, has, full, with, least, meet, is_within, IsWithin}
 use Rattle.ls_set.specs.Query.{is_good}
 use Rattle.ls_set.specs.declared.query.Query.{Query}
-use Rattle.ls_set.proofs.Sets.{has-meet, has-minus, has-with, has-full, same_set, IsWithin-from, is_within-from, minus-within}
+use Rattle.ls_set.proofs.Sets.{has-meet, has-with, has-full, same_set, IsWithin-from, is_within-from, minus-within}
 use Rattle.ls_set.proofs.Ascending.{least-cases}
 use Rattle.ls_theory.specs.declared.no.No.{No}
-use Rattle.ls_theory.specs.Families.{interior, closure}
+use Rattle.ls_theory.specs.Families.{closure}
 use Rattle.ls_laws.specs.Families.{IsFamily}
 use Rattle.ls_laws.specs.Spans.{IsPart, left_by}
-use Rattle.ls_laws.proofs.Interiors.{IsUnionFamily, interior-is, interior-within}
+use Rattle.ls_laws.proofs.Interiors.{IsUnionFamily}
 use Rattle.ls_laws.proofs.Breaks.{IsGood, good-from}
 use Rattle.ls_laws.proofs.Closures.{closure_stays}
 use Rattle.ls_laws.proofs.ClosureChanges.{closure_holds, closure_grows, closure_widens, closure_again, closure_from_old, closure_before_yes, left-IsPart}
@@ -26,14 +25,9 @@ use Rattle.ls_infer.specs.declared.yes_change.YesChange.{YesChange}
 use Rattle.ls_infer.specs.Changes.{IsChange, is_kept}
 use Rattle.ls_infer.specs.Tables.{enough_for, standing}
 use Rattle.ls_infer.proofs.Kept.{has-enough, with-within}
+use Rattle.ls_infer.proofs.Outside.{with-left, with-cases}
 
--- ---- sets with an item, and complements
-
-with-left : (s : Items) (i : ℕ) → IsWithin s (with s i)
-with-left s i j h = has-with s i j ∙ or_left (has s j) (eqb j i) h
-
-with-cases : (s : Items) (i j : ℕ) → has (with s i) j ≡ true → (has s j ≡ true) ⊎ (j ≡ i)
-with-cases s i j h = elim (or_cases (has s j) (eqb j i) (sym (has-with s i j) ∙ h)) [ inl a ↦ inl a | inr e ↦ inr (eqb-true j i e) ]
+-- ---- sets
 
 with-grows : (s t : Items) (i : ℕ) → IsWithin s t → IsWithin (with s i) (with t i)
 with-grows s t i w j h = has-with t i j ∙ elim (with-cases s i j h) [
@@ -46,15 +40,6 @@ meet-within s t i h = (and_parts (has s i) (has t i) (sym (has-meet s t i) ∙ h
 
 pub some-item : (s : Items) → is_some (least s) ≡ true → (i : ℕ) × (has s i ≡ true)
 some-item s h = elim (least s) as (λ o. least s ≡ o → is_some o ≡ true → (i : ℕ) × (has s i ≡ true)) [ None ↦ λ _ n. absurd (true≢false (sym n)) | Some i ↦ λ e _. (i, (least-cases s i e).0) ] refl h
-
--- outside a closure is a member
-pub outside-member : (n : ℕ) (f : List Items) (s : Items) → IsUnionFamily n f → is_among f (minus (full n) (closure (full n) f s)) ≡ true
-outside-member n f s family =
-    let m = interior-is f family.holds_empty family.holds_unions (minus (full n) s) in
-    let inside = interior f (minus (full n) s) in
-    let w : IsWithin inside (full n) = λ i h. minus-within (full n) s i (m.within i h) in
-    subst (λ k. is_among f k ≡ true) (sym (same_set (minus (full n) (minus (full n) inside)) inside
-    (λ i. has-minus (full n) (minus (full n) inside) i ∙ ap (λ b. has (full n) i && not b) (has-minus (full n) inside i) ∙ both_out (has (full n) i) (has inside i) (w i)))) m.member
 
 -- ---- closures that stay
 

@@ -1,4 +1,4 @@
-use Rattle.std.proofs.Common.{◌≡◌, ◌+◌, ◌*◌, ◌≤◌, true, List, map, drop}
+use Rattle.std.proofs.Common.{◌≡◌, ◌+◌, ◌*◌, ◌≤◌, true, List, map}
 use Rattle.std.specs.List.{list_all}
 use Rattle.ls_lists.specs.Lists.{images}
 use Rattle.ls_set.specs.ItemSet.{Items}

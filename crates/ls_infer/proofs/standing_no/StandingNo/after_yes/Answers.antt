@@ -4,7 +4,8 @@ use Rattle.ls_set.specs.ItemSet.{full, least}
 use Rattle.ls_set.proofs.Sets.{minus-within}
 use Rattle.ls_theory.specs.Families.{closure}
 use Rattle.ls_laws.proofs.Families.{family_sets}
-use Rattle.ls_infer.proofs.Standing.{some-item, kept-within, after-closed, after-met, after-again, after-lack, after-known, outside-member, standing-from}
+use Rattle.ls_infer.proofs.Outside.{outside-member}
+use Rattle.ls_infer.proofs.Standing.{some-item, kept-within, after-closed, after-met, after-again, after-lack, after-known, standing-from}
 use Rattle.ls_infer.proofs.standing_no.StandingNo.after_yes.Goals as goal
 use Rattle.ls_infer.proofs.standing_no.StandingNo.after_yes.Goals.{then-has_all, else-has_all}
 

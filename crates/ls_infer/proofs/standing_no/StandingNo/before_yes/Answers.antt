@@ -4,7 +4,8 @@ use Rattle.ls_set.proofs.Sets.{minus-within, empty-within}
 use Rattle.ls_theory.specs.Families.{closure}
 use Rattle.ls_laws.proofs.Settled.{len-small}
 use Rattle.ls_laws.proofs.Families.{family_sets}
-use Rattle.ls_infer.proofs.Standing.{kept-good, kept-within, meet-within, before-closed, before-lack, before-others, outside-member, standing-from}
+use Rattle.ls_infer.proofs.Outside.{outside-member}
+use Rattle.ls_infer.proofs.Standing.{kept-good, kept-within, meet-within, before-closed, before-lack, before-others, standing-from}
 use Rattle.ls_infer.proofs.standing_no.StandingNo.before_yes.Goals as goal
 use Rattle.ls_infer.proofs.standing_no.StandingNo.before_yes.Goals.{then-has_all, else-has_all}
 

@@ -1,6 +1,6 @@
 use Rattle.ls_laws.proofs.Breaks.{good-from}
 use Rattle.ls_laws.proofs.Families.{family_sets}
-use Rattle.ls_infer.proofs.Standing.{outside-member}
+use Rattle.ls_infer.proofs.Outside.{outside-member}
 use Rattle.ls_infer.proofs.standing_no.StandingNo.new.Goals as goal
 
 pub closure-closed-requires : goal.closure-closed-requires
