@@ -1,17 +1,21 @@
 -- Places of sets by their items: after a push and a removal, and the rules at the places of an item.
-use Rattle.std.proofs.Common.{ℕ, zero, suc, ◌+◌, ◌-◌, ◌<◌, ◌≤◌, ◌≡◌, inl, inr, true, false, cond, not, List, [], ◌∷◌, ◌++◌, map, filter, length, drop, get_or, refl, sym, ap, ap₂, ◌∙◌, arith, eq-eqb, ne_eqb, lt-ltb, le-ltb, All, add-zero, set, ◌&&◌, ◌≢◌, true≢false, subst, zero-add}
+use Rattle.std.proofs.Common.{ℕ, zero, suc, ◌+◌, ◌-◌, ◌<◌, ◌≤◌, ◌≡◌, inl, inr, true, false, cond, not, List, [], ◌∷◌, ◌++◌, map, filter, length, drop, Option, None, Some, get_or, refl, sym, ap, ap₂, ◌∙◌, arith, eq-eqb, ne_eqb, lt-ltb, le-ltb, All, add-zero, set, ◌&&◌, ◌≢◌, true≢false, subst, zero-add}
 use Rattle.std.specs.List.{remove, list_all}
+use Rattle.std.specs.Option.{option_map_or}
 use Rattle.std.proofs.lemmas.List.{map-append, length-map, get_or_past, get_or-set_same, get_or-set_other}
 use Rattle.std.proofs.lemmas.List.Elements.{All-cons, All-nil}
 use Rattle.std.proofs.lemmas.List.Folds.{list_all-append}
-use Rattle.std.proofs.lemmas.Bool.{and_from, cases_lt, cases_eq}
-use Rattle.ls_lists.proofs.Every.{list_all-remove}
+use Rattle.std.proofs.lemmas.Bool.{and_from, and_parts, cases_lt, cases_eq}
+use Rattle.std.proofs.lemmas.Bool.Decides.{nat_tests}
+use Rattle.ls_lists.proofs.Every.{list_all-remove, list_all-All, All-to}
 use Rattle.ls_lists.proofs.Places.{map-remove, at_place}
-use Rattle.ls_set.specs.ItemSet.{Items, has, empty, without, IsWithin}
-use Rattle.ls_set.proofs.Sets.{has-empty, has-without, without-within, and-true, and-false}
+use Rattle.ls_set.specs.ItemSet.{Items, most_items, has, empty, with, without, least, IsWithin}
+use Rattle.ls_set.proofs.Sets.{members, has-empty, has-without, without-within, and-true, and-false}
 use Rattle.ls_set.specs.declared.query.Query.{Query}
+use Rattle.ls_laws.proofs.Breaks.{good-from}
 use Rattle.ls_rules.specs.Places.{PlaceList, no_places, places_at, spare_at, lowered, places_from, IsIndexOf, least_spare, spare_within}
 use Rattle.ls_set.specs.Query.{is_good}
+use Rattle.ls_rules.specs.Heads.{head_at, has_head, IsHeaded, Grows}
 use Rattle.ls_rules.specs.Waking.{rules_at, first_of, IsIndexed}
 
 -- ---- one more set
@@ -104,28 +108,76 @@ fewer_places rules key m ls fewer l index h i =
     h i ∙ ap (lowered m) (index i) ∙ ap (λ n. lowered n (places_from 0 (map key rules) i)) (sym (zero-add m))
     ∙ sym (places_from-remove 0 (map key rules) m i (omega (arith, length-map rules key))) ∙ ap (λ ks. places_from 0 ks i) (sym (map-remove key rules m))
 
-pub IsIndexed-push : (n : ℕ) (rules : List Query) (r : Query) (first : Items) (place : ℕ) (wakes starts wakes' starts' : List PlaceList) → IsIndexed n rules wakes starts → is_good n r ≡ true → first ≡ first_of r.a → place ≡ length rules
+-- ---- the items of the rules by the least items of their sets A
+
+pub IsHeaded-grows : (old new : List Items) (rules : List Query) → Grows old new → IsHeaded old rules → IsHeaded new rules
+IsHeaded-grows old new rules g h = All-to (λ r. has_head old r ≡ true) (has_head new) rules (list_all-All (has_head old) rules h) (λ r a. grown r (least r.a) a)
+  where
+    grown : (r : Query) (o : Option ℕ) → option_map_or (λ i. has (head_at old i) r.q) o true ≡ true → option_map_or (λ i. has (head_at new i) r.q) o true ≡ true
+    grown r None a = refl
+    grown r (Some i) a = g i r.q a
+
+pub Grows-put : (heads : List Items) (i q : ℕ) → i < length heads → Grows heads (set heads i (with (head_at heads i) q))
+Grows-put heads i q l j k h = elim (cases_eq j i) [
+  | inl e ↦ rw (e, get_or-set_same heads i (with (head_at heads i) q) empty l) (let here : has (head_at heads i) k ≡ true = rw e at h in grind (arith, members, nat_tests))
+  | inr n ↦ rw (get_or-set_other heads i j (with (head_at heads i) q) empty n) h
+]
+
+pub has_head-put : (heads : List Items) (r : Query) (i : ℕ) → i < length heads → least r.a ≡ Some i → has_head (set heads i (with (head_at heads i) r.q)) r ≡ true
+has_head-put heads r i l e = rw (e, get_or-set_same heads i (with (head_at heads i) r.q) empty l) (grind (arith, members, nat_tests))
+
+-- ---- the rules and all that is kept of them after a change
+
+pub IsIndexed-push : (n : ℕ) (rules : List Query) (r : Query) (first : Items) (place : ℕ) (wakes starts wakes' starts' : List PlaceList) (heads heads' : List Items) → IsIndexed n rules wakes starts heads → is_good n r ≡ true → first ≡ first_of r.a → place ≡ length rules
     → ((i : ℕ) → places_at wakes' i ≡ cond (has r.a i) (places_at wakes i ++ place ∷ []) (places_at wakes i)) → length wakes' ≡ length wakes
     → ((i : ℕ) → places_at starts' i ≡ cond (has first i) (places_at starts i ++ place ∷ []) (places_at starts i)) → length starts' ≡ length starts
-    → IsIndexed n (rules ++ r ∷ []) wakes' starts'
-IsIndexed-push n rules r first place wakes starts wakes' starts' a good f p w wl s sl = record {
+    → has_head heads' r ≡ true → Grows heads heads' → length heads' ≡ length heads
+    → IsIndexed n (rules ++ r ∷ []) wakes' starts' heads'
+IsIndexed-push n rules r first place wakes starts wakes' starts' heads heads' a good f p w wl s sl held grows hl = record {
   good = list_all-append (is_good n) rules (r ∷ []) ∙ and_from (list_all (is_good n) rules) (is_good n r && true) a.good (and-true (is_good n r) ∙ good);
   wakes_are = more_places rules (λ r. r.a) r wakes wakes' a.wakes_are (λ i. w i ∙ ap (λ q. cond (has r.a i) (places_at wakes i ++ q ∷ []) (places_at wakes i)) p);
   starts_are = more_places rules (λ r. first_of r.a) r starts starts' a.starts_are (λ i. s i ∙ ap₂ (λ (k : Items) q. cond (has k i) (places_at starts i ++ q ∷ []) (places_at starts i)) f p);
+  headed = list_all-append (has_head heads') rules (r ∷ []) ∙ and_from (list_all (has_head heads') rules) (has_head heads' r && true) (IsHeaded-grows heads heads' rules grows a.headed) (and-true (has_head heads' r) ∙ held);
   few_wakes = rw wl a.few_wakes;
   few_starts = rw sl a.few_starts;
+  heads_reach = rw (sl, hl) a.heads_reach;
+  few_heads = rw hl a.few_heads;
 }
 
-pub IsIndexed-remove : (n : ℕ) (rules : List Query) (m : ℕ) (wakes starts wakes' starts' : List PlaceList) → IsIndexed n rules wakes starts → m < length rules
+pub IsIndexed-remove : (n : ℕ) (rules : List Query) (m : ℕ) (wakes starts wakes' starts' : List PlaceList) (heads : List Items) → IsIndexed n rules wakes starts heads → m < length rules
     → ((i : ℕ) → places_at wakes' i ≡ lowered m (places_at wakes i)) → length wakes' ≡ length wakes → ((i : ℕ) → places_at starts' i ≡ lowered m (places_at starts i)) → length starts' ≡ length starts
-    → IsIndexed n (remove rules m) wakes' starts'
-IsIndexed-remove n rules m wakes starts wakes' starts' a l w wl s sl = record {
+    → IsIndexed n (remove rules m) wakes' starts' heads
+IsIndexed-remove n rules m wakes starts wakes' starts' heads a l w wl s sl = record {
   good = list_all-remove (is_good n) rules m a.good;
   wakes_are = fewer_places rules (λ r. r.a) m wakes wakes' l a.wakes_are w;
   starts_are = fewer_places rules (λ r. first_of r.a) m starts starts' l a.starts_are s;
+  headed = list_all-remove (has_head heads) rules m a.headed;
   few_wakes = rw wl a.few_wakes;
   few_starts = rw sl a.few_starts;
+  heads_reach = rw sl a.heads_reach;
+  few_heads = a.few_heads;
 }
+
+pub IsIndexed-reserve : (n : ℕ) (rules : List Query) (wakes starts wakes' starts' : List PlaceList) (heads heads' : List Items) → IsIndexed n rules wakes starts heads
+    → ((i : ℕ) → places_at wakes' i ≡ places_at wakes i) → length wakes' ≤ n → ((i : ℕ) → places_at starts' i ≡ places_at starts i) → length starts' ≤ n
+    → Grows heads heads' → length starts' ≤ length heads' → length heads' ≤ most_items
+    → IsIndexed n rules wakes' starts' heads'
+IsIndexed-reserve n rules wakes starts wakes' starts' heads heads' a w wl s sl grows reach few = record {
+  good = a.good;
+  wakes_are = λ i. w i ∙ a.wakes_are i;
+  starts_are = λ i. s i ∙ a.starts_are i;
+  headed = IsHeaded-grows heads heads' rules grows a.headed;
+  few_wakes = wl;
+  few_starts = sl;
+  heads_reach = reach;
+  few_heads = few;
+}
+
+pub small_items : (n : ℕ) (rules : List Query) → n ≤ most_items → list_all (is_good n) rules ≡ true → All (λ r. r.q < most_items) rules
+small_items n [] few h = All-nil (λ (r : Query). r.q < most_items)
+small_items n (r ∷ rules) few h =
+    let p = and_parts (is_good n r) (list_all (is_good n) rules) h in
+    All-cons (λ (r : Query). r.q < most_items) r rules (omega (arith, (good-from n r p.0).item, few)) (small_items n rules few p.1)
 
 -- ---- room
 

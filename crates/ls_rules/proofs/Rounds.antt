@@ -1,14 +1,14 @@
 -- Looking at rules: what stays, what falls out, and that at the end no rule is broken.
-use Rattle.std.proofs.Common.{ℕ, ◌+◌, ◌*◌, ◌<◌, ◌≤◌, ◌≡◌, inl, inr, Bool, true, false, cond, not, Option, List, [], ◌∷◌, map, filter, fold, None, Some, refl, sym, ap, ◌∙◌, subst, arith, true≢false, length, get_or, drop, drop-cons, add-one, ap₂, slice_get}
+use Rattle.std.proofs.Common.{ℕ, ◌+◌, ◌*◌, ◌<◌, ◌≤◌, ◌≡◌, inl, inr, Bool, true, false, cond, not, Option, List, [], ◌∷◌, map, filter, fold, None, Some, refl, sym, ap, ◌∙◌, subst, arith, true≢false, length, get_or, drop, drop-cons, add-one, ap₂, slice_get, ◌&&◌}
 use Rattle.std.specs.Option.{option_map_or}
 use Rattle.std.specs.List.{AllByRecursion, list_all}
 use Rattle.std.proofs.lemmas.Bool.{cases_Bool, cases_eq, and_parts, and_from, not-true, not_from_false, false_from_ne_true}
-use Rattle.ls_lists.proofs.Every.{list_all-All, All-passing, All-given, All-filter, All-list_all}
+use Rattle.ls_lists.proofs.Every.{list_all-All, All-passing, All-given, All-filter, All-list_all, All-kept, each}
 use Rattle.ls_set.specs.ItemSet.{Items, has, empty, full, meet, minus, single, with, without, is_same, len, least, IsWithin}
 use Rattle.ls_set.specs.Query.{is_good}
 use Rattle.ls_set.specs.declared.query.Query.{Query}
 use Rattle.std.proofs.lemmas.Bool.Decides.{nat_tests}
-use Rattle.ls_set.proofs.Sets.{members, has-empty, has-meet, has-minus, without-within, same_set, Decides-is_same}
+use Rattle.ls_set.proofs.Sets.{members, has-empty, has-meet, has-minus, without-within, same_set, Decides-is_same, and-false}
 use Rattle.ls_set.proofs.Sizes.{len-less}
 use Rattle.ls_set.proofs.Firsts.{items-none}
 use Rattle.ls_set.proofs.Ascending.{least-cases}
@@ -19,6 +19,7 @@ use Rattle.ls_laws.proofs.Counts.{len-single, len-parts, len-zero, some_item}
 use Rattle.std.proofs.lemmas.Option.{slice_get_read}
 use Rattle.ls_rules.specs.Places.{PlaceList, places_at, IsIndexOf}
 use Rattle.ls_rules.proofs.Indexing.{indexed_rules}
+use Rattle.ls_rules.specs.Heads.{head_at, has_head, IsHeaded}
 use Rattle.ls_rules.specs.Waking.{look, look_at, rules_at, first_of, IsAwake, Settling, Settles, NoneKeeps}
 use Rattle.ls_rules.specs.declared.round.Round.{Round}
 
@@ -313,3 +314,31 @@ first-within a i h = first_in a i (least a) refl h
 pub turned : (rules : List Query) (key : Query → Items) (ls : List PlaceList) (i : ℕ) (ps : List ℕ) (s to : Round) → IsIndexOf ls (map key rules) → ps ≡ places_at ls i → to ≡ look_at rules ps s
     → to ≡ fold look s (filter (λ r. has (key r) i) rules)
 turned rules key ls i ps s to index e h = h ∙ ap (fold look s) (indexed_rules rules key ls i ps index e)
+
+-- ---- an item whose rules are passed over
+
+first_is : (a : Items) (i : ℕ) (o : Option ℕ) → has (option_map_or (λ i. with empty i) o empty) i ≡ true → o ≡ Some i
+first_is a i None h = absurd (true≢false (sym h ∙ has-empty i))
+first_is a i (Some j) h = let e : i ≡ j = grind (arith, members, nat_tests) in ap (λ x. Some x) (sym e)
+
+-- where the set of the item has no item that is kept, the item of a rule that begins with it is not kept
+head_gone : (heads : List Items) (r : Query) (i : ℕ) (k : Items) → meet (head_at heads i) k ≡ empty → has_head heads r ≡ true → has (first_of r.a) i ≡ true → has k r.q ≡ false
+head_gone heads r i k e h f =
+    let here = subst (λ (o : Option ℕ). option_map_or (λ i. has (head_at heads i) r.q) o true ≡ true) (first_is r.a i (least r.a) f) h in
+    false_from_ne_true (has k r.q) (λ x.
+    true≢false (sym (has-meet (head_at heads i) k r.q ∙ and_from (has (head_at heads i) r.q) (has k r.q) here x) ∙ ap (λ s. has s r.q) e ∙ has-empty r.q))
+
+looks-none : (s : Round) (rs : List Query) → AllByRecursion (λ r. has s.kept r.q ≡ false) rs → fold look s rs ≡ s
+looks-none s [] h = refl
+looks-none s (r ∷ rs) h =
+    let same : s ≡ look s r = look-unbroken s s r (ap (λ b. is_same (meet s.kept r.a) empty && b) h.0 ∙ and-false (is_same (meet s.kept r.a) empty)) refl in
+    ap (λ t. fold look t rs) (sym same) ∙ looks-none s rs h.1
+
+-- the round is as if they had been looked at
+pub passed : (rules : List Query) (starts : List PlaceList) (heads : List Items) (i : ℕ) (s : Round) → IsIndexOf starts (map (λ r. first_of r.a) rules) → IsHeaded heads rules
+    → is_same (meet (head_at heads i) s.kept) empty ≡ true → s ≡ look_at rules (places_at starts i) s
+passed rules starts heads i s index headed e =
+    let none = (Decides-is_same (meet (head_at heads i) s.kept) empty).0 e in
+    let p = λ (r : Query). has (first_of r.a) i in
+    let gone = each {P = λ r. has_head heads r ≡ true} {Q = λ r. p r ≡ true → has s.kept r.q ≡ false} (λ r h f. head_gone heads r i s.kept none h f) rules (list_all-All (has_head heads) rules headed) in
+    sym (turned rules (λ r. first_of r.a) starts i (places_at starts i) s (look_at rules (places_at starts i) s) index refl refl ∙ looks-none s (filter p rules) (All-kept (λ r. has s.kept r.q ≡ false) p rules gone))

@@ -1,3 +1,4 @@
 pub mod Ruled
 pub mod Places
+pub mod Heads
 pub mod Waking

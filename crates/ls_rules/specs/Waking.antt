@@ -2,10 +2,11 @@
 use Rattle.std.specs.Prelude.{ℕ, ◌≤◌, ◌≡◌, true, false, if◌then◌else◌, Option, None, Some, List, length, map, slice_get, fold}
 use Rattle.std.specs.Option.{option_map_or}
 use Rattle.std.specs.List.{AllByRecursion, list_all, filter_map}
-use Rattle.ls_set.specs.ItemSet.{Items, has, empty, with, without, least, IsWithin}
+use Rattle.ls_set.specs.ItemSet.{Items, most_items, has, empty, with, without, least, IsWithin}
 use Rattle.ls_set.specs.declared.query.Query.{Query}
 use Rattle.ls_set.specs.Query.{is_good}
 use Rattle.ls_theory.specs.Queries.{breaks, breaks_none}
+use Rattle.ls_rules.specs.Heads.{IsHeaded}
 use Rattle.ls_rules.specs.Places.{PlaceList, IsIndexOf}
 use Rattle.ls_rules.specs.declared.round.Round.{Round}
 
@@ -38,13 +39,16 @@ pub record Settling (rules : List Query) (from : Items) (s : Round) : Type 0 whe
   pub awake : AllByRecursion (IsAwake s) rules
   pub greatest : (t : Items) → breaks_none rules t ≡ true → IsWithin t from → IsWithin t s.kept
 
--- the rules can be asked about n items, and the places of their sets A, and of the least items of these, are kept
-pub record IsIndexed (n : ℕ) (rules : List Query) (wakes starts : List PlaceList) : Type 0 where
+-- the rules can be asked about n items; the places of their sets A, and of the least items of these, are kept, and for these their items
+pub record IsIndexed (n : ℕ) (rules : List Query) (wakes starts : List PlaceList) (heads : List Items) : Type 0 where
   pub good : list_all (is_good n) rules ≡ true
   pub wakes_are : IsIndexOf wakes (map (λ r. r.a) rules)
   pub starts_are : IsIndexOf starts (map (λ r. first_of r.a) rules)
+  pub headed : IsHeaded heads rules
   pub few_wakes : length wakes ≤ n
   pub few_starts : length starts ≤ n
+  pub heads_reach : length starts ≤ length heads
+  pub few_heads : length heads ≤ most_items
 
 -- the greatest set within the first that breaks no rule
 pub record Settles (rules : List Query) (from settled : Items) : Type 0 where

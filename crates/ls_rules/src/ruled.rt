@@ -7,6 +7,7 @@ ghost use Rattle.ls_theory.specs.Queries.{breaks_none};
 ghost use Rattle.ls_interior.specs.Keeping.{interior_keeping};
 ghost use Rattle.ls_rules.specs.Waking.{first_of, Settling};
 
+use crate::heads::Heads;
 use crate::index::Index;
 use crate::round::Round;
 use crate::waking::{begin, settle};
@@ -25,6 +26,8 @@ pub struct Ruled<F: Inside> {
     // the places of the rules by the items of their sets A, and by the least of these alone
     wakes: Index,
     starts: Index,
+    // the items of the rules by these least items
+    heads: Heads,
     alloc: Global,
 }
 
@@ -44,7 +47,7 @@ impl<F: Inside> Model for Ruled<F> {
           (spare_within (F.item_count r.inner) r.wakes (vec_capacity r.rules - vec_len r.rules));
     } };
 
-    ghost invariant = { λ r. IsIndexed (F.item_count r.inner) r.rules.items r.wakes r.starts };
+    ghost invariant = { λ r. IsIndexed (F.item_count r.inner) r.rules.items r.wakes r.starts r.heads };
 }
 
 // The set of the least item alone; the empty set, of the empty set.
@@ -68,6 +71,7 @@ impl<F: Inside> Ruled<F> {
             rules: Vec::new(alloc),
             wakes: Index::new(alloc),
             starts: Index::new(alloc),
+            heads: Heads::new(alloc),
             alloc,
         }
     }
@@ -80,6 +84,7 @@ impl<F: Inside> Ruled<F> {
     {
         let n = self.inner.items();
         self.wakes.reserve(self.alloc, n)?;
+        self.heads.reserve(n)?;
         self.starts.reserve(self.alloc, n)?;
         self.rules.reserve(1)
     }
@@ -94,6 +99,7 @@ impl<F: Inside> Ruled<F> {
         let place = self.rules.len();
         self.wakes.push(r.a, place);
         self.starts.push(first_of(r.a), place);
+        self.heads.push(&r);
         self.rules.push(r).unwrap()
     }
 
@@ -171,7 +177,13 @@ impl<F: Inside> Inside for Ruled<F> {
 
     fn inside(&self, s: ItemSet) -> ItemSet {
         let member = self.inner.inside(s);
-        let first = begin(&self.rules, &self.starts, self.inner.items(), member);
+        let first = begin(
+            &self.rules,
+            &self.starts,
+            &self.heads,
+            self.inner.items(),
+            member,
+        );
         self.settle_within(member, first, ItemSet::empty())
             .unwrap_or(ItemSet::empty())
     }

@@ -3,9 +3,11 @@ ghost use Rattle.std.specs.Prelude.{◌≡◌, ◌<◌, ◌≤◌, map, All, len
 ghost use Rattle.std.specs.List.{list_all};
 ghost use Rattle.ls_set.specs.ItemSet.{Items, IsWithin};
 ghost use Rattle.ls_set.specs.Query.{is_good};
-ghost use Rattle.ls_rules.specs.Places.{IsIndexOf};
+ghost use Rattle.ls_rules.specs.Heads.{IsHeaded};
+ghost use Rattle.ls_rules.specs.Places.{IsIndexOf, places_at};
 ghost use Rattle.ls_rules.specs.Waking.{look_at, first_of, Settling, IsKeeping, SettlesKeeping};
 
+use crate::heads::Heads;
 use crate::index::Index;
 use crate::round::Round;
 use ls_set::{ItemSet, PLACES, Query};
@@ -42,12 +44,28 @@ fn look_keeping(rules: &[Query], places: &[usize], round: Round, keep: ItemSet) 
     Some(round)
 }
 
+// Looks at the rules whose sets A begin with the item. Where no item of theirs is kept, none of them
+// is broken, and they need no look.
+fn look_from(rules: &[Query], starts: &Index, heads: &Heads, i: u32, round: Round) -> Round
+    requires items { All (λ r. r.q < PLACES) rules.now }
+    requires starts { IsIndexOf starts.now (map (λ r. first_of r.a) rules.now) }
+    requires heads { IsHeaded heads.now rules.now }
+    ensures { result ≡ look_at rules.now (places_at starts.now i) round }
+{
+    if heads.meets(i, round.kept) {
+        look_at(rules, starts.of(i), round)
+    } else {
+        round
+    }
+}
+
 /// Looks at each rule whose set A begins with one of the `n` items outside the set. Of the set
 /// there is kept what no rule takes out, and what fell out wakes each rule that is still broken.
-pub fn begin(rules: &[Query], starts: &Index, n: u32, set: ItemSet) -> Round
+pub fn begin(rules: &[Query], starts: &Index, heads: &Heads, n: u32, set: ItemSet) -> Round
     requires few { n ≤ PLACES }
     requires good { list_all (is_good n) rules.now ≡ true }
     requires starts { IsIndexOf starts.now (map (λ r. first_of r.a) rules.now) }
+    requires heads { IsHeaded heads.now rules.now }
     ensures { Settling rules.now set result }
 {
     let mut left = ItemSet::full(n).minus(set);
@@ -57,7 +75,7 @@ pub fn begin(rules: &[Query], starts: &Index, n: u32, set: ItemSet) -> Round
     };
     while let Some(i) = left.least() {
         left = left.without(i);
-        round = look_at(rules, starts.of(i), round);
+        round = look_from(rules, starts, heads, i, round);
     }
     round
 }

@@ -1,6 +1,7 @@
-use Rattle.std.proofs.Common.{sym, ◌∙◌}
+use Rattle.std.proofs.Common.{sym, refl, ◌∙◌}
+use Rattle.ls_rules.specs.Places.{places_at}
 use Rattle.ls_rules.specs.Waking.{first_of}
-use Rattle.ls_rules.proofs.Indexing.{indexed_small}
+use Rattle.ls_rules.proofs.Indexing.{small_items}
 use Rattle.ls_rules.proofs.Rounds.{turned, len-without_least, Started-first, Started-more, Started-done}
 use Rattle.ls_rules.proofs.waking.begin.Goals as goal
 
@@ -8,15 +9,15 @@ pub loop-i-init : goal.loop-i-init
 loop-i-init c =
     rw (c.minus-left.ensures, c.full.ensures, c.empty.ensures) (Started-first c.args.rules.now c.args.n c.args.set)
 
-pub look_at-round-requires-clause-places : goal.look_at-round-requires-clause-places
-look_at-round-requires-clause-places c = indexed_small c.args.rules.now (λ r. first_of r.a) c.args.starts.now c.in-Some.i c.of.result.now c.requires.starts c.of.ensures
+pub look_from-round-requires-clause-items : goal.look_from-round-requires-clause-items
+look_from-round-requires-clause-items c = small_items c.args.n c.args.rules.now c.requires.few c.requires.good
 
 pub loop-i-smaller : goal.loop-i-smaller
 loop-i-smaller c = rw c.without-left.ensures (len-without_least c.loop-i.left c.in-Some.i (sym c.least.ensures.value ∙ c.in-Some.is))
 
 pub loop-i-preserved : goal.loop-i-preserved
 loop-i-preserved c =
-    let looked = turned c.args.rules.now (λ r. first_of r.a) c.args.starts.now c.in-Some.i c.of.result.now c.loop-i.round c.look_at-round.result c.requires.starts c.of.ensures c.look_at-round.ensures in
+    let looked = turned c.args.rules.now (λ r. first_of r.a) c.args.starts.now c.in-Some.i (places_at c.args.starts.now c.in-Some.i) c.loop-i.round c.look_from-round.result c.requires.starts refl c.look_from-round.ensures in
     rw (c.without-left.ensures, looked) (Started-more c.args.rules.now c.args.n c.args.set c.loop-i.left c.loop-i.round c.in-Some.i c.loop-i.invariant)
 
 pub returns : goal.returns
