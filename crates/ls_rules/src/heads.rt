@@ -90,6 +90,7 @@ impl Heads {
             None => ItemSet::empty(),
         }
     }
+
     /// Whether the set of the item has an item that is kept.
     #[tactic(auto, unfolding(ls_set::specs::ItemSet::is_same))]
     pub fn meets(&self, i: u32, kept: ItemSet) -> bool
