@@ -1,4 +1,5 @@
 pub mod Reaches
+pub mod Seeking
 pub mod Successors
 pub mod Left
 pub mod Joined

@@ -7,20 +7,20 @@ use Rattle.ls_theory.specs.Families.{interior}
 use Rattle.ls_laws.specs.Families.{IsFamily}
 use Rattle.ls_laws.proofs.Interiors.{interior-greatest}
 use Rattle.ls_interior.specs.Keeping.{interior_keeping}
-use Rattle.ls_enum.specs.Listings.{first_after, reach}
+use Rattle.ls_enum.specs.Listings.{first_after, reach, NoneFrom}
 use Rattle.ls_enum.specs.Fronts.{IsFront}
-use Rattle.ls_enum.proofs.Successors.{NoneFrom, inside-is, reach-cases, to-reach, found, failed, inside-small, first-is}
+use Rattle.ls_enum.proofs.Successors.{inside-is, reach-cases, to-reach, found, failed, inside-small, first-is}
 
 -- ---- what comes before a place
 
-before-parts : (s : Items) (i j : ℕ) → has (keep_before s i) j ≡ true → (has s j ≡ true) × (j < i)
+pub before-parts : (s : Items) (i j : ℕ) → has (keep_before s i) j ≡ true → (has s j ≡ true) × (j < i)
 before-parts s i j h = let p = and_parts (has s j) (ltb j i) (sym (has-keep_before s i j) ∙ h) in (p.0, ltb-true j i p.1)
 
-before-from : (s : Items) (i j : ℕ) → has s j ≡ true → j < i → has (keep_before s i) j ≡ true
+pub before-from : (s : Items) (i j : ℕ) → has s j ≡ true → j < i → has (keep_before s i) j ≡ true
 before-from s i j h l = has-keep_before s i j ∙ and_from (has s j) (ltb j i) h (lt-ltb j i l)
 
 -- where two sets agree before i, what one has there the other has
-agreeing : (s t : Items) (i j : ℕ) → keep_before s i ≡ keep_before t i → j < i → has s j ≡ true → has t j ≡ true
+pub agreeing : (s t : Items) (i j : ℕ) → keep_before s i ≡ keep_before t i → j < i → has s j ≡ true → has t j ≡ true
 agreeing s t i j e l h = (before-parts t i j (ap (λ r. has r j) (sym e) ∙ before-from s i j h l)).0
 
 -- an item of a set of items below n

@@ -9,7 +9,7 @@ use Rattle.ls_theory.specs.Families.{interior}
 use Rattle.ls_laws.specs.Families.{IsFamily}
 use Rattle.ls_laws.proofs.Lists.{find-none}
 use Rattle.ls_laws.proofs.Interiors.{IsInterior, interior-is, interior-within}
-use Rattle.ls_enum.specs.Listings.{first_after, reach}
+use Rattle.ls_enum.specs.Listings.{first_after, reach, NoneFrom}
 
 -- ---- the first that passes, in a list in order
 
@@ -25,10 +25,6 @@ find_in_order p (x ∷ xs) t o c h first =
     ]
 
 -- ---- the successor rule
-
--- no member first differs from the word at an item from i on, which the word has
-abbrev pub NoneFrom : List Items → Items → ℕ → Type 0
-NoneFrom f word i = (t : Items) → is_among f t ≡ true → (d : ℕ) → i ≤ d → DiffersFirstAt word t d → ⊥
 
 has-reach : (n : ℕ) (word : Items) (i j : ℕ) → has (reach n word i) j ≡ (has word j && ltb j i || ltb j n && not (ltb j (i + 1)))
 has-reach n word i j = simp (has-union, has-keep_before, has-minus, has-full)

@@ -1,11 +1,13 @@
 -- Listings of a family: what comes after a set, and pages joined one after another.
 --     first_after word f      the first member that comes after word, which may be any set
 --     reach n word i      where an interior is formed in search of it
+--     NoneFrom f word i      no member first differs from word at an item from i on, which word has
+--     count_before word i      how many items below i it has
 --     left_after cursor f      the members after the cursor, or all of them where there is none
 --     joined_pages f cursor sizes      pages of these sizes, each after the last set of those before it
-use Rattle.std.specs.Prelude.{ℕ, ◌+◌, List, [], ◌∷◌, ◌++◌, filter, find, Option}
+use Rattle.std.specs.Prelude.{ℕ, zero, suc, ◌+◌, ◌≤◌, ◌≡◌, true, if◌then◌else◌, List, [], ◌∷◌, ◌++◌, filter, find, Option}
 use Rattle.std.specs.List.{last_or}
-use Rattle.ls_set.specs.ItemSet.{Items, full, union, minus, keep_before, comes_before}
+use Rattle.ls_set.specs.ItemSet.{Items, has, full, union, minus, keep_before, comes_before, is_among, DiffersFirstAt}
 use Rattle.ls_theory.specs.Pages.{comes_after, page}
 
 abbrev pub first_after : Items → List Items → Option Items
@@ -14,6 +16,13 @@ first_after word f = find (comes_before word) f
 -- the items of the word before i, and all items after i
 abbrev pub reach : ℕ → Items → ℕ → Items
 reach n word i = union (keep_before word i) (minus (full n) (full (i + 1)))
+
+abbrev pub NoneFrom : List Items → Items → ℕ → Type 0
+NoneFrom f word i = (t : Items) → is_among f t ≡ true → (d : ℕ) → i ≤ d → DiffersFirstAt word t d → ⊥
+
+abbrev pub count_before : Items → ℕ → ℕ
+count_before word zero = zero
+count_before word (suc i) = count_before word i + (if has word i then 1 else 0)
 
 abbrev pub left_after : Option Items → List Items → List Items
 left_after cursor f = filter (comes_after comes_before cursor) f

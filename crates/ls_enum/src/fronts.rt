@@ -1,5 +1,5 @@
 // Members from which the next ones are found by taking out one item.
-ghost use Rattle.std.specs.Prelude.{◌≡◌, ◌≤◌, List, [], IfSome};
+ghost use Rattle.std.specs.Prelude.{◌≡◌, ◌<◌, ◌≤◌, List, [], IfSome};
 ghost use Rattle.ls_set.specs.ItemSet.{Items, keep_before};
 ghost use Rattle.ls_enum.specs.Fronts.{IsFront, AreFronts};
 
@@ -54,6 +54,18 @@ impl Fronts {
             self.held.remove(0);
         }
         self.held.push(Front { place, member });
+    }
+
+    // Adds a front at an item of a word, where the word lacks the item before: else the front that
+    // was added there serves here too.
+    pub(crate) fn push_at(&mut self, i: u32, word: ItemSet, member: ItemSet)
+        requires { i < PLACES }
+        ensures { (f : List Items) → AreFronts f self.old.held.items → IsFront f i member →
+            AreFronts f self.new.held.items }
+    {
+        if i == 0 || !word.has(i - 1) {
+            self.push(i, member);
+        }
     }
 
     // The fronts at places above `i` go.

@@ -1,6 +1,7 @@
 //! The members of a family in order, found one after another by interiors alone.
 #![tactic(auto)]
 
+mod forward;
 mod fronts;
 mod list_fault;
 mod listing;

@@ -7,6 +7,7 @@ ghost use Rattle.ls_interior.specs.Keeping.{interior_keeping};
 ghost use Rattle.ls_enum.specs.Listings.{first_after, reach};
 ghost use Rattle.ls_enum.specs.Fronts.{AreFronts};
 
+use crate::forward::fill;
 use crate::fronts::Fronts;
 use ls_interior::{Interior, Steps};
 use ls_set::{ItemSet, PLACES};
@@ -41,7 +42,8 @@ pub fn next_after<I: Interior, L: Ledger>(
 // The same by fronts, to which that of the answer is added.
 //
 // For each item of the word, from the greatest down, the items before it are kept and all items
-// after it let in. The first interior of such a set that has all that was kept is the answer.
+// after it let in. The first interior of such a set that has all that was kept is the answer. Where
+// there are no fronts yet they are made first, which tells from which item on none would have it.
 fn next_by<I: Interior, L: Ledger>(
     f: &I,
     word: ItemSet,
@@ -55,7 +57,8 @@ fn next_by<I: Interior, L: Ledger>(
     ensures fronts { AreFronts (I.members f.now) fronts.new.held.items }
     ensures cost { steps.new ≤ steps.old + (I.item_count f.now + 1) }
 {
-    for i in (0..f.items()).rev() {
+    let end = fill(f, word, fronts, steps);
+    for i in (0..end).rev() {
         if word.has(i) {
             if let Some(inside) = inside_reach(f, word, i, fronts, steps) {
                 fronts.push(i + 1, inside);

@@ -1,11 +1,12 @@
 use Rattle.std.proofs.Common.{◌≡◌, sym, subst, ◌∙◌, ◌-◌, arith}
 use Rattle.ls_set.specs.ItemSet.{full, IsWithin}
-use Rattle.ls_enum.proofs.Successors.{none_after, none_from_end}
+use Rattle.ls_enum.proofs.Successors.{none_after}
 use Rattle.ls_enum.proofs.Reaches.{failed-reach, found-reach, small-reach, front-reach}
+use Rattle.ls_enum.proofs.Seeking.{count-passed}
 use Rattle.ls_enum.proofs.successor.next_by.Goals as goal
 
 pub loop-i-init : goal.loop-i-init
-loop-i-init g c = record { none = none_from_end _ _ _ _ c.requires.small c.items-i.ensures.count; fronts = c.requires.fronts; cost = omega arith }
+loop-i-init g c = record { none = c.fill-end.ensures.none; fronts = c.fill-end.ensures.fronts; cost = c.fill-end.ensures.cost }
 
 pub returns-in-Some-clause-next : goal.returns-in-Some-clause-next
 returns-in-Some-clause-next g c =
@@ -23,6 +24,9 @@ returns-in-Some-clause-small g c = λ k e.
     let same : c.in-Some.inside ≡ k = cc in
     subst (λ t. IsWithin t (full n)) same (small-reach n f c.args.word c.in-Some.inside i c.requires.small c.in-Some.ensures.value)
 
+pub returns-in-Some-clause-cost : goal.returns-in-Some-clause-cost
+returns-in-Some-clause-cost g c = let passed = count-passed c.args.word c.loop-i.i (omega arith) (sym c.has.ensures ∙ c.if-has.true) in omega arith
+
 pub returns-in-Some-clause-fronts : goal.returns-in-Some-clause-fronts
 returns-in-Some-clause-fronts g c =
     let n = g.I.Interior.item_count c.args.f.now in
@@ -38,7 +42,7 @@ loop-i-preserved-in_default g c = record {
       let i = c.loop-i.i - 1 in
       failed-reach n f c.args.word i c.inside_reach.result (g.met.I.Interior.is_family c.args.f.now) c.in_default.is c.inside_reach.ensures.value (λ t m d l. c.loop-i.invariant.none t m d (omega arith));
   fronts = c.inside_reach.ensures.fronts;
-  cost = omega arith;
+  cost = let passed = count-passed c.args.word c.loop-i.i (omega arith) (sym c.has.ensures ∙ c.if-has.true) in omega arith;
 }
 
 pub returns-clause-next : goal.returns-clause-next

@@ -1,6 +1,6 @@
 use Rattle.std.proofs.Common.{◌≤◌, ◌+◌}
 use Rattle.ls_enum.specs.Fronts.{AreFronts}
-use Rattle.ls_enum.proofs.Successors.{NoneFrom}
+use Rattle.ls_enum.specs.Listings.{NoneFrom, count_before}
 use Rattle.ls_enum.proofs.successor.next_by.Given as goal
 
 -- no member first differs at an item that is passed, and each step passed one
@@ -8,5 +8,5 @@ abbrev pub invariant-loop-i : goal.invariant-loop-i
 invariant-loop-i g l = record {
   none : NoneFrom (g.I.Interior.members l.f) l.word l.i;
   fronts : AreFronts (g.I.Interior.members l.f) l.fronts.held.items;
-  cost : l.steps + l.i ≤ l.fn.steps + g.I.Interior.item_count l.f;
+  cost : l.steps + count_before l.word l.i ≤ l.fn.steps + (g.I.Interior.item_count l.f + 1);
 }
