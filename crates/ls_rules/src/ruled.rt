@@ -26,7 +26,7 @@ pub struct Ruled<F: Inside> {
     // the places of the rules by the items of their sets A, and by the least of these alone
     wakes: Index,
     starts: Index,
-    // the items of the rules by these least items
+    // the items q of the rules, and maybe more, by these least items
     heads: Heads,
     alloc: Global,
 }
@@ -47,7 +47,8 @@ impl<F: Inside> Model for Ruled<F> {
           (spare_within (F.item_count r.inner) r.wakes (vec_capacity r.rules - vec_len r.rules));
     } };
 
-    ghost invariant = { λ r. IsIndexed (F.item_count r.inner) r.rules.items r.wakes r.starts r.heads };
+    ghost invariant = { λ r.
+        IsIndexed (F.item_count r.inner) r.rules.items r.wakes r.starts r.heads };
 }
 
 // The set of the least item alone; the empty set, of the empty set.

@@ -44,8 +44,8 @@ fn look_keeping(rules: &[Query], places: &[usize], round: Round, keep: ItemSet) 
     Some(round)
 }
 
-// Looks at the rules whose sets A begin with the item. Where no item of theirs is kept, none of them
-// is broken, and they need no look.
+// Looks at the rules whose sets A begin with the item. Where no item q of theirs is kept, none of
+// them is broken, and they need no look.
 fn look_from(rules: &[Query], starts: &Index, heads: &Heads, i: u32, round: Round) -> Round
     requires items { All (λ r. r.q < PLACES) rules.now }
     requires starts { IsIndexOf starts.now (map (λ r. first_of r.a) rules.now) }
