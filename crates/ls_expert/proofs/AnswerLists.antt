@@ -14,7 +14,7 @@ use Rattle.ls_lists.proofs.Sorted.{rising-from}
 use Rattle.ls_set.specs.declared.query.Query.{Query}
 use Rattle.ls_theory.specs.declared.answer.Answer.{Answer}
 use Rattle.ls_theory.specs.declared.no.No.{No}
-use Rattle.ls_theory.specs.Interviews.{Interview, accepted, retracted, yes_queries, nos}
+use Rattle.ls_theory.specs.Interviews.{Interview, accepted, retracted, yes_queries, no_queries, nos}
 use Rattle.ls_theory.specs.Answering.{answer_with}
 use Rattle.ls_laws.specs.Forced.{IsNumbered}
 use Rattle.ls_expert.specs.Held.{rules_before}
@@ -195,6 +195,12 @@ module _ (i : Interview) (r : Query) where
 
   pub nos-yes : nos (accepted i r true).answers ≡ nos i.answers
   nos-yes = told-passed (λ a. not a.yes) (λ a. record { number = a.number; query = a.query }) i.answers (answer_of true) refl
+
+  pub no_queries-no : no_queries (accepted i r false).answers ≡ no_queries i.answers ++ r ∷ []
+  no_queries-no = told-last (λ a. not a.yes) (λ a. a.query) i.answers (answer_of false) refl
+
+  pub no_queries-yes : no_queries (accepted i r true).answers ≡ no_queries i.answers
+  no_queries-yes = told-passed (λ a. not a.yes) (λ a. a.query) i.answers (answer_of true) refl
 
 -- ---- an interview that takes one back
 

@@ -1,6 +1,7 @@
 pub mod AnswerLists
 pub mod Ruling
 mod Holding
+mod Asking
 mod Taking
 mod Retracting
 mod Saving

@@ -1,5 +1,5 @@
 -- What an inquiry keeps true of its parts.
-use Rattle.std.specs.Prelude.{◌≡◌, ℕ, ◌+◌, ◌<◌, ◌≤◌, true, ◌&&◌, nat_lt, List, map, length, count_by}
+use Rattle.std.specs.Prelude.{◌≡◌, ℕ, ◌+◌, ◌<◌, ◌≤◌, true, ◌&&◌, nat_lt, List, map, length, count_by, Option, None}
 use Rattle.std.specs.List.{list_all, IsDistinct}
 use Rattle.ls_set.specs.ItemSet.{most_items}
 use Rattle.ls_set.specs.declared.query.Query.{Query}
@@ -8,6 +8,7 @@ use Rattle.ls_theory.specs.declared.answer.Answer.{Answer}
 use Rattle.ls_theory.specs.Starts as theory
 use Rattle.ls_theory.specs.Interviews.{Interview, yes_queries, nos}
 use Rattle.ls_theory.specs.Compatible.{compatible_sets}
+use Rattle.ls_theory.specs.Forced.{next_question}
 use Rattle.ls_theory.specs.Blocks.{BlockRange}
 use Rattle.ls_theory.specs.Answering.{most_answers, most_number, is_same_query}
 use Rattle.ls_laws.specs.Forced.{IsSound, IsNumbered}
@@ -52,3 +53,8 @@ pub record IsHeld (i : Interview) (rules : List Query) (table : TableState) : Ty
   pub ruled : rules ≡ yes_queries i.answers
   pub tabled : table ≡ closures_of i
   pub standing : IsStanding i
+
+-- With that the first open query is kept.
+pub record IsInquiry (i : Interview) (rules : List Query) (table : TableState) (first : Option Query) : Type 0 where
+  pub held : IsHeld i rules table
+  pub asked : first ≡ next_question i None

@@ -43,7 +43,8 @@ pub const MOST_NUMBER: u64 = 999_999_999;
 
 /// What an expert was asked and answered: the items, the start, the greatest size of the sets that
 /// are asked, the standing answers in order of number, and the number of the next. Some space fits
-/// the answers. (The QUERY routine.)
+/// the answers. (The QUERY routine.) It keeps the first open query, and so knows without a search
+/// what to ask, and whether all is settled.
 #[derive(Drop)]
 pub struct Inquiry {
     alloc: Global,
@@ -53,19 +54,21 @@ pub struct Inquiry {
     next: u64,
     block: u32,
     table: Table,
+    // the first open query of the blocks
+    first: Option<Query>,
 }
 
 impl Model for Inquiry {
     ghost use Rattle.ls_theory.specs.Interviews.{Interview};
-    ghost use Rattle.ls_expert.specs.Held.{interview_of, IsHeld};
+    ghost use Rattle.ls_expert.specs.Held.{interview_of, IsInquiry};
 
     ghost Value = { Interview };
 
     ghost view = { λ s. interview_of s.family.inner s.block s.answers.items s.next };
 
-    ghost invariant = { λ s. IsHeld
+    ghost invariant = { λ s. IsInquiry
         (interview_of s.family.inner s.block s.answers.items s.next)
-        s.family.rules s.table.table };
+        s.family.rules s.table.table s.first };
 }
 
 // The table of a family with rules, for the answers that are No.
@@ -106,6 +109,7 @@ impl Inquiry {
         let answers = Vec::new(alloc);
         let blocks = Blocks::new(n, 1).unwrap();
         let table = build(alloc, blocks, &family, &answers, steps)?;
+        let first = table.next_unsettled(None);
         Ok(Inquiry {
             alloc,
             family,
@@ -113,6 +117,7 @@ impl Inquiry {
             next: 1,
             block: 1,
             table,
+            first,
         })
     }
 
@@ -129,6 +134,7 @@ impl Inquiry {
             Ok(table) => table,
             Err(e) => return Err(BlockFault::Memory(e)),
         };
+        self.first = table.next_unsettled(None);
         self.table = table;
         self.block = k;
         Ok(())
@@ -153,6 +159,7 @@ impl Inquiry {
         let family = Ruled::new(self.alloc, OnItems::new(self.family.items(), start));
         let blocks = self.table.blocks();
         let table = build(self.alloc, blocks, &family, &self.answers, steps)?;
+        self.first = table.next_unsettled(None);
         self.family = family;
         self.table = table;
         Ok(())
@@ -222,7 +229,10 @@ impl Inquiry {
         ensures value { result ≡ next_question self.now (option_map (λ r. r.now) after.entry) }
         ensures good { IfSome result (λ r. is_good self.now.count r ≡ true) }
     {
-        self.table.next_unsettled(after)
+        match after {
+            Some(_) => self.table.next_unsettled(after),
+            None => self.first,
+        }
     }
 
     /// Whether no query of the blocks is open. Where the largest sets are asked, exactly one space
@@ -232,7 +242,7 @@ impl Inquiry {
         ensures one { result ≡ true → self.now.block ≡ max 1 (self.now.count - 1) →
             spaces_of self.now ≡ compatible_sets self.now ∷ [] }
     {
-        self.table.next_unsettled(None).is_none()
+        self.first.is_none()
     }
 
     /// The standing answers, in order of number.

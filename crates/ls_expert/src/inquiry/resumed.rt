@@ -51,6 +51,7 @@ impl Inquiry {
             return Err(StandingFault::BadAnswers);
         }
         let table = build(alloc, blocks, &family, answers, steps)?;
+        let first = table.next_unsettled(None);
         Ok(Inquiry {
             alloc,
             family,
@@ -58,6 +59,7 @@ impl Inquiry {
             next,
             block: k,
             table,
+            first,
         })
     }
 }

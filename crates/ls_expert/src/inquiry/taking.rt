@@ -1,16 +1,37 @@
 // Answers that an inquiry takes and takes back.
-ghost use Rattle.std.specs.Prelude.{◌≡◌, ◌+◌, ◌≤◌, true, false, Some, None, IfOk, IfErr, OnOk, OnErr};
-ghost use Rattle.ls_theory.specs.Interviews.{accepted, retracted};
+ghost use Rattle.std.specs.Prelude.{◌≡◌, ◌+◌, ◌≤◌, Bool, true, false, Some, None, IfSome, IfOk, IfErr, OnOk, OnErr};
+ghost use Rattle.ls_set.specs.Query.{is_good};
+ghost use Rattle.ls_set.specs.declared.query.Query.{Query as Asked};
+ghost use Rattle.ls_theory.specs.Interviews.{Interview, accepted, retracted};
+ghost use Rattle.ls_theory.specs.Forced.{next_question};
 ghost use Rattle.ls_theory.specs.Answering.{refusal, standing_number, answer_with, is_full};
+ghost use Rattle.ls_laws.specs.Forced.{IsSound};
+ghost use Rattle.ls_expert.specs.Held.{closures_of};
 ghost use Rattle.ls_expert.specs.Steps.{steps_back, most_steps};
 
 use crate::answers::{opposed, put_last, rules_before, take_out};
 use crate::inquiry::{Inquiry, MOST_ANSWERS, MOST_NUMBER};
+use ls_infer::Table;
 use ls_interior::{Counted, Steps};
 use ls_set::Query;
 use ls_theory::{Answer, AnswerFault, No};
 use std::alloc::AllocError;
 use std::sync::ledger::Ledger;
+
+// The first open query once an answer is taken, from the first before. What is open then was open
+// before, so it is that query or comes after it.
+fn first_left(table: &Table, first: Option<Query>) -> Option<Query>
+    requires { IfSome first (λ s. is_good table.now.table.blocks.item_count s ≡ true) }
+    ensures { (i : Interview) (r : Asked) (is_yes : Bool) → IsSound (accepted i r is_yes) →
+        first ≡ next_question i None → table.now.table ≡ closures_of (accepted i r is_yes) →
+        result ≡ next_question (accepted i r is_yes) None }
+{
+    let query = first?;
+    if table.is_open(&query) {
+        return Some(query);
+    }
+    table.next_unsettled(Some(&query))
+}
 
 impl Inquiry {
     // Whether the answer is taken, or why it isn't. It takes at most one interior.
@@ -95,6 +116,7 @@ impl Inquiry {
         self.family.push_reserved(*query);
         self.table
             .yes_added(&Counted::new(&self.family), query, steps);
+        self.first = first_left(&self.table, self.first);
         Ok(put_last(&mut self.answers, &mut self.next, query, true))
     }
 
@@ -114,6 +136,7 @@ impl Inquiry {
             query: *query,
         };
         self.table.no_added(&Counted::new(&self.family), no, steps);
+        self.first = first_left(&self.table, self.first);
         Ok(put_last(&mut self.answers, &mut self.next, query, false))
     }
 
@@ -141,6 +164,7 @@ impl Inquiry {
         self.family.remove(rule);
         self.table
             .yes_removed(&Counted::new(&self.family), &answer.query, steps);
+        self.first = self.table.next_unsettled(None);
         take_out(&mut self.answers, answer.number);
     }
 
@@ -150,7 +174,9 @@ impl Inquiry {
         requires no { answer.now.yes ≡ false }
         ensures ok { self.new ≡ retracted self.old answer.now.number }
     {
-        self.table.no_removed(answer.number);
-        take_out(&mut self.answers, answer.number);
+        let number = answer.number;
+        self.table.no_removed(number);
+        self.first = self.table.next_unsettled(None);
+        take_out(&mut self.answers, number);
     }
 }

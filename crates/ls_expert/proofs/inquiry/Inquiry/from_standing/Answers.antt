@@ -11,6 +11,7 @@ use Rattle.ls_rules.specs.Ruled.{RuledState}
 use Rattle.ls_expert.specs.Starts.{StartOn, start_of}
 use Rattle.ls_expert.specs.Held.{blocks_of, interview_on, IsHeld}
 use Rattle.ls_expert.proofs.AnswerLists.{all-told}
+use Rattle.ls_expert.proofs.Asking.{asking}
 use Rattle.ls_expert.proofs.Holding.{range-of, tabled-by}
 use Rattle.ls_expert.proofs.Saving.{made-as, ran_out, fit-decides}
 use Rattle.ls_expert.proofs.inquiry.Inquiry.from_standing.Given as given
@@ -98,7 +99,8 @@ invariant_of-result-2 g c =
           (range g at) (ap (λ (u : StartOn). u.start) (inner g at)) (ruled g at) refl;
       standing = c.can_stand.ensures.enough i.start c.args.k c.if-not-can_stand.false ((decides g at).0 c.if-not-each_no_broken.false);
     } in
-    rw (ap (λ (f : RuledState StartOn). f.inner) c.family.view_is ∙ inner g at, ap (λ (f : RuledState StartOn). f.rules) c.family.view_is ∙ ruled g at, c.in_ok-from_slice.ensures.items) held
+    rw (ap (λ (f : RuledState StartOn). f.inner) c.family.view_is ∙ inner g at, ap (λ (f : RuledState StartOn). f.rules) c.family.view_is ∙ ruled g at, c.in_ok-from_slice.ensures.items)
+    (asking i (yes_queries i.answers) c.in_ok-table.table.table c.next_unsettled-first.result held c.next_unsettled-first.ensures.next)
 
 pub returns-clause-made : goal.returns-clause-made
 returns-clause-made g c =

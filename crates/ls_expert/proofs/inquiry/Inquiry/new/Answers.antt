@@ -6,6 +6,7 @@ use Rattle.ls_theory.specs.declared.block_fault.BlockFault.{BlockFault}
 use Rattle.ls_expert.specs.Starts.{StartOn, start_of}
 use Rattle.ls_expert.specs.Held.{interview_of}
 use Rattle.ls_expert.proofs.Holding.{made-one, tabled-by, begun-as, held-begun}
+use Rattle.ls_expert.proofs.Asking.{asking}
 use Rattle.ls_expert.proofs.inquiry.Inquiry.new.Goals as goal
 
 pub unwrap-blocks-requires : goal.unwrap-blocks-requires
@@ -27,7 +28,9 @@ invariant_of-result g c =
     let items = sym (ap (λ (s : StartOn). s.item_count) c.new-family.ensures.inner ∙ c.new.ensures.items) in
     let blocks = one c.args.n c.new-2.result c.unwrap-blocks.result c.requires.some c.requires.few c.new-2.ensures.value c.unwrap-blocks.ensures in
     let same = begun-as c.args.n s.item_count (start_of c.args.start) s.start c.new-answers.result.items items (sym (ap (λ (s : StartOn). s.start) c.new-family.ensures.inner ∙ c.new.ensures.start)) c.new-answers.ensures.items in
-    held-begun c.args.n (start_of c.args.start) i rules c.in_ok-table.table.table c.requires.some c.requires.few c.requires.start.is_start same c.new-family.ensures.rules
+    asking i rules c.in_ok-table.table.table c.next_unsettled-first.result
+    (held-begun c.args.n (start_of c.args.start) i rules c.in_ok-table.table.table c.requires.some c.requires.few c.requires.start.is_start same c.new-family.ensures.rules
     (tabled-by i c.unwrap-blocks.result s.start rules c.deref.result.now c.in_ok-table.table.table c.in_ok-table.ensures
     (sym blocks ∙ ap (λ (m : ℕ). let x : BlockRange = record { item_count = m; largest = 1 } in x) items)
-    refl (c.new-family.ensures.rules ∙ sym (ap yes_queries c.new-answers.ensures.items)) c.deref.ensures.value)
+    refl (c.new-family.ensures.rules ∙ sym (ap yes_queries c.new-answers.ensures.items)) c.deref.ensures.value))
+    c.next_unsettled-first.ensures.next

@@ -6,6 +6,7 @@ use Rattle.ls_infer.specs.Tables.{TableState}
 use Rattle.ls_expert.specs.Starts.{StartOn, start_of}
 use Rattle.ls_expert.specs.Held.{interview_of}
 use Rattle.ls_expert.proofs.Holding.{tabled-by, held-start}
+use Rattle.ls_expert.proofs.Asking.{asking}
 use Rattle.ls_expert.proofs.inquiry.Inquiry.set_start.Goals as goal
 
 pub invariant_of-self : goal.invariant_of-self
@@ -19,6 +20,7 @@ invariant_of-self g c =
     let is_start : IsStart s.item_count t = subst (λ (j : Interview). IsStart j.count t) (sym c.self.view_is) c.requires.is_start in
     let tabled =
     tabled-by (record i { start = t }) c.blocks-blocks.result c.new-family.result.inner.start rules c.deref.result.now c.in_ok-table.table.table c.in_ok-table.ensures
-    (c.blocks-blocks.ensures ∙ ap (λ (x : TableState). x.blocks) c.self.invariant.tabled) (ap (λ (x : StartOn). x.start) inner)
+    (c.blocks-blocks.ensures ∙ ap (λ (x : TableState). x.blocks) c.self.invariant.held.tabled) (ap (λ (x : StartOn). x.start) inner)
     (c.new-family.ensures.rules ∙ sym (ap yes_queries none)) c.deref.ensures.value in
-    rw inner (held-start i t c.self.inside.family.rules rules c.self.inside.table.table c.in_ok-table.table.table c.self.invariant none is_start c.new-family.ensures.rules tabled)
+    let held = held-start i t c.self.inside.family.rules rules c.self.inside.table.table c.in_ok-table.table.table c.self.invariant.held none is_start c.new-family.ensures.rules tabled in
+    rw inner (asking (record i { start = t }) rules c.in_ok-table.table.table c.next_unsettled-self-inside.result held c.next_unsettled-self-inside.ensures.next)

@@ -1,7 +1,8 @@
 use Rattle.std.proofs.Common.{ap, ◌∙◌}
-use Rattle.ls_theory.specs.Interviews.{Interview}
+use Rattle.ls_theory.specs.Interviews.{Interview, retracted}
 use Rattle.ls_theory.specs.Answering.{answer_with}
 use Rattle.ls_expert.specs.Held.{interview_of}
+use Rattle.ls_expert.proofs.Asking.{asking}
 use Rattle.ls_expert.proofs.Retracting.{held-without_no}
 use Rattle.ls_expert.proofs.inquiry.Inquiry.take_back_no.Goals as goal
 
@@ -10,5 +11,7 @@ invariant_of-self c =
     let i = interview_of c.self.inside.family.inner c.self.inside.block c.self.inside.answers.items c.self.inside.next in
     let a = c.args.answer.now in
     rw c.take_out.ensures
-    (held-without_no i a c.self.inside.family.rules c.self.inside.table.table c.no_removed.new.self.table c.self.invariant
+    (asking (retracted i a.number) c.self.inside.family.rules c.no_removed.new.self.table c.next_unsettled-self-inside.result
+    (held-without_no i a c.self.inside.family.rules c.self.inside.table.table c.no_removed.new.self.table c.self.invariant.held
     (ap (λ (j : Interview). answer_with j a.number) c.self.view_is ∙ c.requires.stands) c.requires.no c.no_removed.ensures.kept)
+    c.next_unsettled-self-inside.ensures.next)

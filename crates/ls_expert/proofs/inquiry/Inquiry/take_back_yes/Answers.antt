@@ -1,6 +1,6 @@
 use Rattle.std.proofs.Common.{remove, List, arith, ap, ◌∙◌}
 use Rattle.ls_set.specs.Query.{is_good}
-use Rattle.ls_theory.specs.Interviews.{Interview}
+use Rattle.ls_theory.specs.Interviews.{Interview, retracted}
 use Rattle.ls_theory.specs.declared.answer.Answer.{Answer}
 use Rattle.ls_theory.specs.Compatible.{compat}
 use Rattle.ls_theory.specs.Answering.{answer_with}
@@ -8,6 +8,7 @@ use Rattle.ls_infer.specs.Tables.{TableState}
 use Rattle.ls_expert.specs.Starts.{StartOn}
 use Rattle.ls_expert.specs.Held.{interview_of, rules_before}
 use Rattle.ls_expert.proofs.Ruling.{ruled-compat}
+use Rattle.ls_expert.proofs.Asking.{asking}
 use Rattle.ls_expert.proofs.Retracting.{held-without_yes, rule-within, good-of, steps-over}
 use Rattle.ls_expert.proofs.inquiry.Inquiry.take_back_yes.Goals as goal
 
@@ -15,7 +16,7 @@ pub returns-clause-cost : goal.returns-clause-cost
 returns-clause-cost g c =
     let i = interview_of c.self.inside.family.inner c.self.inside.block c.self.inside.answers.items c.self.inside.next in
     let a = c.args.answer.now in
-    let most = steps-over i c.self.inside.table.table a.query.a c.self.invariant.tabled in
+    let most = steps-over i c.self.inside.table.table a.query.a c.self.invariant.held.tabled in
     rw (← c.self.view_is, c.requires.yes) (omega (arith, c.yes_removed.ensures.cost, most))
 
 pub remove-requires : goal.remove-requires
@@ -23,15 +24,15 @@ remove-requires g c =
     let i = interview_of c.self.inside.family.inner c.self.inside.block c.self.inside.answers.items c.self.inside.next in
     let a = c.args.answer.now in
     let rule = c.rules_before-rule.ensures ∙ ap (λ (l : List Answer). rules_before l a.number) c.deref.ensures.value in
-    rw rule (rule-within i a c.self.inside.family.rules c.self.inside.table.table c.self.inside.table.table c.self.invariant
+    rw rule (rule-within i a c.self.inside.family.rules c.self.inside.table.table c.self.inside.table.table c.self.invariant.held
     (ap (λ (j : Interview). answer_with j a.number) c.self.view_is ∙ c.requires.stands) c.requires.yes)
 
 pub yes_removed-requires-clause-good : goal.yes_removed-requires-clause-good
 yes_removed-requires-clause-good g c =
     let i = interview_of c.self.inside.family.inner c.self.inside.block c.self.inside.answers.items c.self.inside.next in
     let a = c.args.answer.now in
-    ap (λ (t : TableState). is_good t.blocks.item_count a.query) c.self.invariant.tabled
-    ∙ good-of i a c.self.inside.family.rules c.self.inside.table.table c.self.inside.table.table c.self.invariant
+    ap (λ (t : TableState). is_good t.blocks.item_count a.query) c.self.invariant.held.tabled
+    ∙ good-of i a c.self.inside.family.rules c.self.inside.table.table c.self.inside.table.table c.self.invariant.held
     (ap (λ (j : Interview). answer_with j a.number) c.self.view_is ∙ c.requires.stands) c.requires.yes
 
 pub invariant_of-self : goal.invariant_of-self
@@ -44,7 +45,8 @@ invariant_of-self g c =
     let family =
     ruled-compat c.remove.new.self.inner.item_count c.remove.new.self.inner.start others
     ∙ ap (λ (u : StartOn). compat u.item_count u.start others) c.remove.ensures.inner in
-    let held = held-without_yes i a c.self.inside.family.rules c.self.inside.table.table c.yes_removed.new.self.table c.self.invariant
+    let held = held-without_yes i a c.self.inside.family.rules c.self.inside.table.table c.yes_removed.new.self.table c.self.invariant.held
     (ap (λ (j : Interview). answer_with j a.number) c.self.view_is ∙ c.requires.stands) others _ c.requires.yes
     (c.remove.ensures.rules ∙ ap (remove c.self.inside.family.rules) rule) (rw c.new.ensures family) c.yes_removed.ensures.kept in
-    rw (c.take_out.ensures, c.remove.ensures.inner) held
+    rw (c.take_out.ensures, c.remove.ensures.inner)
+    (asking (retracted i a.number) others c.yes_removed.new.self.table c.next_unsettled-self-inside.result held c.next_unsettled-self-inside.ensures.next)
