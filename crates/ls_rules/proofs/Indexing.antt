@@ -1,19 +1,19 @@
 -- Places of sets by their items: after a push and a removal, and the rules at the places of an item.
-use Rattle.std.proofs.Common.{ℕ, zero, suc, ◌+◌, ◌-◌, ◌<◌, ◌≤◌, ◌≡◌, inl, inr, true, false, cond, not, List, [], ◌∷◌, ◌++◌, map, filter, length, drop, Option, None, Some, get_or, refl, sym, ap, ap₂, ◌∙◌, arith, eq-eqb, ne_eqb, lt-ltb, le-ltb, All, add-zero, set, ◌&&◌, ◌≢◌, true≢false, subst, zero-add}
-use Rattle.std.specs.List.{remove, list_all}
+use Rattle.std.proofs.Common.{ℕ, zero, suc, ◌+◌, ◌-◌, ◌<◌, ◌≤◌, ◌≡◌, inl, inr, Bool, true, false, cond, not, List, [], ◌∷◌, ◌++◌, map, filter, length, drop, Option, None, Some, get_or, refl, sym, ap, ap₂, ◌∙◌, arith, eq-eqb, ne_eqb, lt-ltb, le-ltb, All, add-zero, set, ◌&&◌, ◌≢◌, true≢false, subst, zero-add}
+use Rattle.std.specs.List.{AllByRecursion, remove, list_all}
 use Rattle.std.specs.Option.{option_map_or}
 use Rattle.std.proofs.lemmas.List.{map-append, length-map, get_or_past, get_or-set_same, get_or-set_other}
 use Rattle.std.proofs.lemmas.List.Elements.{All-cons, All-nil}
 use Rattle.std.proofs.lemmas.List.Folds.{list_all-append}
-use Rattle.std.proofs.lemmas.Bool.{and_from, and_parts, cases_lt, cases_eq}
+use Rattle.std.proofs.lemmas.Bool.{and_from, and_parts, cases_Bool, cases_lt, cases_eq}
 use Rattle.std.proofs.lemmas.Bool.Decides.{nat_tests}
 use Rattle.ls_lists.proofs.Every.{list_all-remove, list_all-All, All-to}
 use Rattle.ls_lists.proofs.Places.{map-remove, at_place}
-use Rattle.ls_set.specs.ItemSet.{Items, most_items, has, empty, with, without, least, IsWithin}
+use Rattle.ls_set.specs.ItemSet.{Items, most_items, has, empty, union, with, without, least, IsWithin}
 use Rattle.ls_set.proofs.Sets.{members, has-empty, has-without, without-within, and-true, and-false}
 use Rattle.ls_set.specs.declared.query.Query.{Query}
 use Rattle.ls_laws.proofs.Breaks.{good-from}
-use Rattle.ls_rules.specs.Places.{PlaceList, no_places, places_at, spare_at, lowered, places_from, IsIndexOf, least_spare, spare_within}
+use Rattle.ls_rules.specs.Places.{PlaceList, no_places, places_at, Covers, spare_at, lowered, places_from, IsIndexOf, least_spare, spare_within}
 use Rattle.ls_set.specs.Query.{is_good}
 use Rattle.ls_rules.specs.Heads.{head_at, has_head, IsHeaded, Grows}
 use Rattle.ls_rules.specs.Waking.{rules_at, first_of, IsIndexed}
@@ -92,6 +92,29 @@ indexed_small rules key ls i ps index e =
 
 pub indexed_rules : (rules : List Query) (key : Query → Items) (ls : List PlaceList) (i : ℕ) (ps : List ℕ) → IsIndexOf ls (map key rules) → ps ≡ places_at ls i → rules_at rules ps ≡ filter (λ r. has (key r) i) rules
 indexed_rules rules key ls i ps index e = ap (rules_at rules) (e ∙ index i) ∙ rules_at-item rules key i
+
+-- ---- the items that have a place
+
+none_first : (b : Bool) (p : ℕ) (ps : List ℕ) → cond b (p ∷ ps) ps ≡ [] → (b ≡ false) × (ps ≡ [])
+none_first true p ps e = absurd (let no : ⊥ = cc in no)
+none_first false p ps e = (refl, e)
+
+covered_from : (items : Items) (key : Query → Items) (p : ℕ) (rules : List Query) → ((i : ℕ) → has items i ≡ false → places_from p (map key rules) i ≡ []) → AllByRecursion (λ r. IsWithin (key r) items) rules
+covered_from items key p [] h = tt
+covered_from items key p (r ∷ rules) h =
+    let none = λ (i : ℕ) (a : has items i ≡ false). none_first (has (key r) i) p (places_from (suc p) (map key rules) i) (h i a) in (
+      λ i x. elim (cases_Bool (has items i)) [ inl a ↦ a | inr a ↦ absurd (true≢false (sym x ∙ (none i a).0)) ],
+      covered_from items key (suc p) rules (λ i a. (none i a).1),
+    )
+
+-- a set that has each item with a place has each item of the sets
+pub covered : (items : Items) (rules : List Query) (key : Query → Items) (ls : List PlaceList) → IsIndexOf ls (map key rules) → Covers items ls → AllByRecursion (λ r. IsWithin (key r) items) rules
+covered items rules key ls index h = covered_from items key 0 rules (λ i a. sym (index i) ∙ h i a)
+
+pub Covers-push : (items set : Items) (old new : List PlaceList) (place : ℕ) → Covers items old → ((i : ℕ) → places_at new i ≡ cond (has set i) (places_at old i ++ place ∷ []) (places_at old i)) → Covers (union items set) new
+Covers-push items set old new place h put i a =
+    let p : (has items i ≡ false) × (has set i ≡ false) = grind (arith, members, nat_tests) in
+    put i ∙ ap (λ b. cond b (places_at old i ++ place ∷ []) (places_at old i)) p.1 ∙ h i p.0
 
 -- ---- the rules and their places after a change
 

@@ -1,10 +1,11 @@
 -- The interior under rules, round by round.
-use Rattle.std.proofs.Common.{ℕ, ◌<◌, ◌≡◌, inl, inr, true, false, not, List, [], ◌∷◌, filter, cond, Option, Some, None, unwrap_or, refl, sym, ap, ◌∙◌, true≢false}
+use Rattle.std.proofs.Common.{ℕ, ◌<◌, ◌≡◌, inl, inr, true, false, not, List, [], ◌∷◌, filter, cond, Option, Some, None, unwrap_or, refl, sym, ap, ◌∙◌, true≢false, arith}
 use Rattle.std.specs.List.{AllByRecursion}
 use Rattle.std.proofs.lemmas.Bool.{and_parts, and_from, not-true, not_from_false, false_from_ne_true}
-use Rattle.ls_set.specs.ItemSet.{Items, has, empty, minus, is_within, is_among, len, IsWithin}
+use Rattle.ls_set.specs.ItemSet.{Items, has, empty, meet, minus, is_within, is_among, len, IsWithin}
 use Rattle.ls_set.specs.declared.query.Query.{Query}
-use Rattle.ls_set.proofs.Sets.{has-minus, same_within, IsWithin-from, is_within-from, empty-within}
+use Rattle.std.proofs.lemmas.Bool.Decides.{nat_tests}
+use Rattle.ls_set.proofs.Sets.{members, same_within, IsWithin-from, is_within-from, empty-within}
 use Rattle.ls_set.proofs.Members.{among-filter}
 use Rattle.ls_set.proofs.Sizes.{len-less}
 use Rattle.ls_theory.specs.Queries.{breaks, breaks_none}
@@ -17,17 +18,24 @@ use Rattle.ls_laws.proofs.Interiors.{is_within-interior, interior-is, interior-w
 use Rattle.ls_interior.specs.Keeping.{interior_keeping}
 use Rattle.ls_rules.specs.Waking.{IsAwake, Settling, Settles, NoneKeeps}
 use Rattle.ls_rules.specs.declared.round.Round.{Round}
-use Rattle.ls_rules.proofs.Rounds.{meets_rule, no_item}
+use Rattle.ls_rules.proofs.Rounds.{meets_rule, no_item, none_broken}
+
+-- the round begins with what is lost of a settled set in its interior in the family, as far as it wakes a rule
+abbrev pub lost : Items → Items → Items → Round
+lost items kept next = record { kept = next; fallen = meet (minus kept next) items }
 
 -- where a settled set loses items, these wake every rule that is broken
-lost_awake : (rules : List Query) (kept next : Items) → breaks_none rules kept ≡ true → IsWithin next kept → AllByRecursion (IsAwake (record { kept = next; fallen = minus kept next })) rules
-lost_awake [] kept next h w = tt
-lost_awake (r ∷ rules) kept next h w =
+lost_awake : (rules : List Query) (items kept next : Items) → AllByRecursion (λ r. IsWithin r.a items) rules → breaks_none rules kept ≡ true → IsWithin next kept → AllByRecursion (IsAwake (lost items kept next)) rules
+lost_awake [] items kept next a h w = tt
+lost_awake (r ∷ rules) items kept next a h w =
     let p = and_parts (not (breaks kept r)) (breaks_none rules kept) h in (
       λ b.
           let x = meets_rule kept r (w r.q (Breaks-from next r b).has_q) (not-true (breaks kept r) p.0) in
-          (x.0, x.2, has-minus kept next x.0 ∙ and_from (has kept x.0) (not (has next x.0)) x.1 (not_from_false (has next x.0) (no_item next r x.0 b x.2))),
-      lost_awake rules kept next p.1 w,
+          let inside = x.1 in
+          let out = no_item next r x.0 b x.2 in
+          let wakes = a.0 x.0 x.2 in
+          (x.0, x.2, grind (arith, members, nat_tests)),
+      lost_awake rules items kept next a.1 p.1 w,
     )
 
 -- what holds of a settled set within s that no member within s reaches past
@@ -66,21 +74,17 @@ Going-settled f rules s keep member settled round g a = record {
   greatest = λ t c u w. a.greatest t u (g.greatest t c u w);
 }
 
--- the round begins with what is lost of a settled set in its interior in the family
-abbrev pub lost : Items → Items → Round
-lost kept next = record { kept = next; fallen = minus kept next }
-
 -- a member that loses items, from which the rules go on
-Settling-lost : (rules : List Query) (kept next : Items) → breaks_none rules kept ≡ true → IsWithin next kept → Settling rules next (lost kept next)
-Settling-lost rules kept next u w = record { within = λ i h. h; awake = lost_awake rules kept next u w; greatest = λ t _ x. x }
+pub Settling-lost : (rules : List Query) (items kept next : Items) → AllByRecursion (λ r. IsWithin r.a items) rules → breaks_none rules kept ≡ true → IsWithin next kept → Settling rules next (lost items kept next)
+Settling-lost rules items kept next a u w = record { within = λ i h. h; awake = lost_awake rules items kept next a u w; greatest = λ t _ x. x }
 
-pub Going-more : (n : ℕ) (f : List Items) (rules : List Query) (s keep kept : Items) → IsFamily n f → Reaches f rules s kept → IsWithin keep (interior f kept)
-    → Going f rules s keep (interior f kept) (lost kept (interior f kept))
-Going-more n f rules s keep kept family r k = record {
+pub Going-more : (n : ℕ) (f : List Items) (rules : List Query) (items s keep kept : Items) → IsFamily n f → AllByRecursion (λ r. IsWithin r.a items) rules → Reaches f rules s kept → IsWithin keep (interior f kept)
+    → Going f rules s keep (interior f kept) (lost items kept (interior f kept))
+Going-more n f rules items s keep kept family a r k = record {
   is_member = (interior-is f family.holds_empty family.holds_unions kept).member;
   within = λ i h. r.within i (interior-within f kept i h);
   greatest = λ t c u w. interior-greatest f kept t c (r.greatest t c u w);
-  settling = Settling-lost rules kept (interior f kept) r.unbroken (interior-within f kept);
+  settling = Settling-lost rules items kept (interior f kept) a r.unbroken (interior-within f kept);
   keeps = k;
 }
 
@@ -168,6 +172,17 @@ pub inside_settled : (n : ℕ) (f : List Items) (rules : List Query) (s d : Item
     → unwrap_or settled d ≡ interior (filter (breaks_none rules) f) s
 inside_settled n f rules s d settled family e = ap (λ o. unwrap_or o d) (e ∙ keeping_empty (filter (breaks_none rules) f) (interior f s)) ∙ ruled_twice n f rules s family
 
+-- where the first round takes nothing out of the inner interior, that is the interior under the rules
+pub inside_whole : (n : ℕ) (f : List Items) (rules : List Query) (s : Items) (first : Round) → IsFamily n f → Settling rules (interior f s) first → (first.fallen ≡ empty → first.kept ≡ interior f s)
+    → first.fallen ≡ empty → interior f s ≡ interior (filter (breaks_none rules) f) s
+inside_whole n f rules s first family a whole e =
+    let unbroken = none_broken first rules e a.awake in
+    Reaches-done n f rules s (interior f s) family (record {
+      within = interior-within f s;
+      unbroken = rw (← whole e) unbroken;
+      greatest = λ t c _ w. interior-greatest f s t c w;
+    }) (interior-is f family.holds_empty family.holds_unions s).member
+
 -- where the inner family's interior has not all of keep, neither has the one under the rules
 pub none_under : (n : ℕ) (f : List Items) (rules : List Query) (s keep : Items) → IsFamily n f → None ≡ interior_keeping f s keep → None ≡ interior_keeping (filter (breaks_none rules) f) s keep
 none_under n f rules s keep family e =
@@ -186,13 +201,32 @@ given_some inside keep next e =
     ] refl e
 
 -- of a member without an item the inner family's interior is given, and what the rules make of it
-pub without_settled : (n : ℕ) (f : List Items) (rules : List Query) (member s keep next : Items) (settled : Option Items) → IsFamily n f
+pub without_settled : (n : ℕ) (f : List Items) (rules : List Query) (items member s keep next : Items) (settled : Option Items) → IsFamily n f → AllByRecursion (λ r. IsWithin r.a items) rules
     → (is_among f member ≡ true → Some next ≡ interior_keeping f s keep) → IsWithin next member
-    → (is_among f next ≡ true → Settling rules next (lost member next) → IsWithin keep next → settled ≡ interior_keeping (filter (breaks_none rules) f) next keep)
+    → (is_among f next ≡ true → Settling rules next (lost items member next) → IsWithin keep next → settled ≡ interior_keeping (filter (breaks_none rules) f) next keep)
     → is_among (filter (breaks_none rules) f) member ≡ true → settled ≡ interior_keeping (filter (breaks_none rules) f) s keep
-without_settled n f rules member s keep next settled family given w settles c =
+without_settled n f rules items member s keep next settled family a given w settles c =
     let p = and_parts (is_among f member) (breaks_none rules member) (sym (among-filter (breaks_none rules) f member) ∙ c) in
     let inner = given_some (interior f s) keep next (given p.0) in
     let here : is_among f next ≡ true = rw inner.0 (interior-is f family.holds_empty family.holds_unions s).member in
-    settles here (Settling-lost rules member next p.1 w) inner.1
+    settles here (Settling-lost rules items member next a p.1 w) inner.1
     ∙ ap (λ inside. cond (is_within keep inside) (Some inside) None) (ap (interior (filter (breaks_none rules) f)) inner.0 ∙ ruled_twice n f rules s family)
+
+-- ---- where nothing that fell out wakes a rule
+
+-- a member of which nothing was taken out breaks no rule, and is the interior
+pub nothing_woken : (n : ℕ) (f : List Items) (rules : List Query) (keep member fallen : Items) → IsFamily n f → fallen ≡ empty → is_among f member ≡ true
+    → Settling rules member (record { kept = member; fallen = fallen }) → IsWithin keep member → Some member ≡ interior_keeping (filter (breaks_none rules) f) member keep
+nothing_woken n f rules keep member fallen family e here a w =
+    given_whole (filter (breaks_none rules) f) member keep member
+    (Reaches-done n f rules member member family (record { within = λ i h. h; unbroken = none_broken (record { kept = member; fallen = fallen }) rules e a.awake; greatest = λ t _ _ x. x }) here) w
+
+-- ---- where there is no rule
+
+no_rules : (f : List Items) → filter (breaks_none []) f ≡ f
+no_rules [] = refl
+no_rules (k ∷ f) = ap (λ l. k ∷ l) (no_rules f)
+
+-- the members of the family are those under the rules
+pub without_rules : (rules : List Query) (f : List Items) → rules ≡ [] → filter (breaks_none rules) f ≡ f
+without_rules rules f e = ap (λ rs. filter (breaks_none rs) f) e ∙ no_rules f

@@ -8,7 +8,7 @@ use Rattle.ls_set.specs.ItemSet.{Items, has, empty, full, meet, minus, single, w
 use Rattle.ls_set.specs.Query.{is_good}
 use Rattle.ls_set.specs.declared.query.Query.{Query}
 use Rattle.std.proofs.lemmas.Bool.Decides.{nat_tests}
-use Rattle.ls_set.proofs.Sets.{members, has-empty, has-meet, has-minus, without-within, same_set, Decides-is_same, and-false}
+use Rattle.ls_set.proofs.Sets.{members, has-empty, has-meet, has-minus, without-within, same_set, same_within, Decides-is_same, and-false}
 use Rattle.ls_set.proofs.Sizes.{len-less}
 use Rattle.ls_set.proofs.Firsts.{items-none}
 use Rattle.ls_set.proofs.Ascending.{least-cases}
@@ -17,6 +17,7 @@ use Rattle.ls_theory.specs.Queries.{breaks, breaks_none}
 use Rattle.ls_laws.proofs.Breaks.{IsGood, Breaks-from, breaks-from, good-from}
 use Rattle.ls_laws.proofs.Counts.{len-single, len-parts, len-zero, some_item}
 use Rattle.std.proofs.lemmas.Option.{slice_get_read}
+use Rattle.std.proofs.lemmas.List.{get_or_past}
 use Rattle.ls_rules.specs.Places.{PlaceList, places_at, IsIndexOf}
 use Rattle.ls_rules.proofs.Indexing.{indexed_rules}
 use Rattle.ls_rules.specs.Heads.{head_at, has_head, IsHeaded}
@@ -183,7 +184,7 @@ lighter s i rs h =
     let b = len-without s.fallen i h in
     omega arith
 
-none_broken : (s : Round) (rules : List Query) → s.fallen ≡ empty → AllByRecursion (IsAwake s) rules → breaks_none rules s.kept ≡ true
+pub none_broken : (s : Round) (rules : List Query) → s.fallen ≡ empty → AllByRecursion (IsAwake s) rules → breaks_none rules s.kept ≡ true
 none_broken s [] e a = refl
 none_broken s (r ∷ rules) e a =
     and_from (not (breaks s.kept r)) (breaks_none rules s.kept)
@@ -205,29 +206,29 @@ abbrev pub begun : Items → Round
 begun k = record { kept = k; fallen = empty }
 
 -- each rule whose set A begins outside k, and not with an item that is left, was looked at
-pub record Started (rules : List Query) (n : ℕ) (k left : Items) (s : Round) : Type 0 where
+pub record Started (rules : List Query) (k left : Items) (s : Round) : Type 0 where
   pub after : After (begun k) s
-  pub looked : AllByRecursion (λ r. (i : ℕ) → has (first_of r.a) i ≡ true → has (minus (full n) k) i ≡ true → has left i ≡ false → breaks k r ≡ true → has s.kept r.q ≡ false) rules
+  pub looked : AllByRecursion (λ r. (i : ℕ) → has (first_of r.a) i ≡ true → has k i ≡ false → has left i ≡ false → breaks k r ≡ true → has s.kept r.q ≡ false) rules
   pub greatest : (t : Items) → breaks_none rules t ≡ true → IsWithin t k → IsWithin t s.kept
 
-pub Started-first : (rules : List Query) (n : ℕ) (k : Items) → Started rules n k (minus (full n) k) (begun k)
-Started-first rules n k = record {
+pub Started-first : (rules : List Query) (firsts k : Items) → AllByRecursion (λ r. IsWithin (first_of r.a) firsts) rules → Started rules k (minus firsts k) (begun k)
+Started-first rules firsts k h = record {
   after = After-same (begun k);
-  looked = All-given (λ r. (i : ℕ) → has (first_of r.a) i ≡ true → has (minus (full n) k) i ≡ true → has (minus (full n) k) i ≡ false → breaks k r ≡ true → has k r.q ≡ false)
-      (λ r i _ a b. absurd (true≢false (sym a ∙ b))) rules;
+  looked = each {P = λ r. IsWithin (first_of r.a) firsts} {Q = λ r. (i : ℕ) → has (first_of r.a) i ≡ true → has k i ≡ false → has (minus firsts k) i ≡ false → breaks k r ≡ true → has k r.q ≡ false}
+      (λ r w i f o g b. let there : has firsts i ≡ true = w i f in absurd (let no : ⊥ = grind (arith, members, nat_tests) in no)) rules h;
   greatest = λ t _ w. w;
 }
 
-pub Started-more : (rules : List Query) (n : ℕ) (k left : Items) (s : Round) (i : ℕ) → Started rules n k left s → Started rules n k (without left i) (fold look s (filter (λ r. has (first_of r.a) i) rules))
-Started-more rules n k left s i a =
+pub Started-more : (rules : List Query) (k left : Items) (s : Round) (i : ℕ) → Started rules k left s → Started rules k (without left i) (fold look s (filter (λ r. has (first_of r.a) i) rules))
+Started-more rules k left s i a =
     let p = λ (r : Query). has (first_of r.a) i in
     let to = fold look s (filter p rules) in
     let after = After-looks s (filter p rules) in
     record {
       after = After-more (begun k) s to a.after after;
-      looked = Each-both (λ r. (j : ℕ) → has (first_of r.a) j ≡ true → has (minus (full n) k) j ≡ true → has left j ≡ false → breaks k r ≡ true → has s.kept r.q ≡ false)
+      looked = Each-both (λ r. (j : ℕ) → has (first_of r.a) j ≡ true → has k j ≡ false → has left j ≡ false → breaks k r ≡ true → has s.kept r.q ≡ false)
           (λ r. p r ≡ true → breaks k r ≡ true → has to.kept r.q ≡ false)
-          (λ r. (j : ℕ) → has (first_of r.a) j ≡ true → has (minus (full n) k) j ≡ true → has (without left i) j ≡ false → breaks k r ≡ true → has to.kept r.q ≡ false)
+          (λ r. (j : ℕ) → has (first_of r.a) j ≡ true → has k j ≡ false → has (without left i) j ≡ false → breaks k r ≡ true → has to.kept r.q ≡ false)
           (λ r old looked j f o g b. elim (cases_eq j i) [
             | inl e ↦ looked (subst (λ x. has (first_of r.a) x ≡ true) e f) b
             | inr n ↦ false_from_ne_true (has to.kept r.q) (λ x. true≢false (sym (after.within r.q x) ∙ old j f o (false_from_ne_true (has left j) (λ y. true≢false (sym (kept left j i y n) ∙ g))) b))
@@ -244,29 +245,35 @@ first_item : (a : Items) → is_same a empty ≡ false → (i : ℕ) × (has (fi
 first_item a h = first_at a (least a) refl h
 
 woken_first : (n : ℕ) (k : Items) (s : Round) (r : Query) → IsGood n r → After (begun k) s
-    → ((i : ℕ) → has (first_of r.a) i ≡ true → has (minus (full n) k) i ≡ true → breaks k r ≡ true → has s.kept r.q ≡ false) → IsAwake s r
+    → ((i : ℕ) → has (first_of r.a) i ≡ true → has k i ≡ false → breaks k r ≡ true → has s.kept r.q ≡ false) → IsAwake s r
 woken_first n k s r good after looked h = elim (cases_Bool (breaks k r)) [
   | inl b ↦
       let x = first_item r.a good.nonempty in
-      let out = has-minus (full n) k x.0 ∙ and_from (has (full n) x.0) (not (has k x.0)) (good.small x.0 x.2) (not_from_false (has k x.0) (no_item k r x.0 b x.2)) in
-      absurd (true≢false (sym (Breaks-from s.kept r h).has_q ∙ looked x.0 x.1 out b))
+      absurd (true≢false (sym (Breaks-from s.kept r h).has_q ∙ looked x.0 x.1 (no_item k r x.0 b x.2) b))
   | inr u ↦
       let x = meets_rule k r (after.within r.q (Breaks-from s.kept r h).has_q) u in
       (x.0, x.2, after.fell x.0 x.1 (no_item s.kept r x.0 h x.2))
 ]
 
 -- after it the items that fell out wake every rule that is broken
-pub Started-done : (rules : List Query) (n : ℕ) (k left : Items) (s : Round) → list_all (is_good n) rules ≡ true → least left ≡ None → Started rules n k left s → Settling rules k s
+pub Started-done : (rules : List Query) (n : ℕ) (k left : Items) (s : Round) → list_all (is_good n) rules ≡ true → least left ≡ None → Started rules k left s → Settling rules k s
 Started-done rules n k left s good e a =
     let none = no_least left e in
     record {
       within = a.after.within;
       awake = Each-both (λ r. is_good n r ≡ true)
-          (λ r. (i : ℕ) → has (first_of r.a) i ≡ true → has (minus (full n) k) i ≡ true → has left i ≡ false → breaks k r ≡ true → has s.kept r.q ≡ false) (IsAwake s)
+          (λ r. (i : ℕ) → has (first_of r.a) i ≡ true → has k i ≡ false → has left i ≡ false → breaks k r ≡ true → has s.kept r.q ≡ false) (IsAwake s)
           (λ r g looked. woken_first n k s r (good-from n r g) a.after (λ i f o b. looked i f o (ap (λ l. has l i) none ∙ has-empty i) b))
           rules (list_all-All (is_good n) rules good) a.looked;
       greatest = a.greatest;
     }
+
+-- where nothing fell out, the whole set is kept
+pub whole : (k : Items) (s : Round) → After (begun k) s → s.fallen ≡ empty → s.kept ≡ k
+whole k s a e = same_within s.kept k a.within (λ i h. elim (cases_Bool (has s.kept i)) [
+  | inl x ↦ x
+  | inr x ↦ absurd (true≢false (sym (a.fell i h x) ∙ ap (λ f. has f i) e ∙ has-empty i))
+])
 
 -- ---- the loop over places
 
@@ -333,6 +340,13 @@ looks-none s [] h = refl
 looks-none s (r ∷ rs) h =
     let same : s ≡ look s r = look-unbroken s s r (ap (λ b. is_same (meet s.kept r.a) empty && b) h.0 ∙ and-false (is_same (meet s.kept r.a) empty)) refl in
     ap (λ t. fold look t rs) (sym same) ∙ looks-none s rs h.1
+
+-- past the end no item meets a set
+pub none_met : (heads : List Items) (i : ℕ) (k : Items) → length heads ≤ i → false ≡ not (is_same (meet (head_at heads i) k) empty)
+none_met heads i k h =
+    let past : head_at heads i ≡ empty = get_or_past heads i empty h in
+    let none : meet (head_at heads i) k ≡ empty = same_set (meet (head_at heads i) k) empty (λ j. rw past (has-meet empty k j ∙ ap (λ b. b && has k j) (has-empty j) ∙ sym (has-empty j))) in
+    ap not (sym ((Decides-is_same (meet (head_at heads i) k) empty).1 none))
 
 -- the round is as if they had been looked at
 pub passed : (rules : List Query) (starts : List PlaceList) (heads : List Items) (i : ℕ) (s : Round) → IsIndexOf starts (map (λ r. first_of r.a) rules) → IsHeaded heads rules

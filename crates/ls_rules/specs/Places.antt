@@ -1,5 +1,5 @@
 -- For each item, the places of the sets of a list that have it.
-use Rattle.std.specs.Prelude.{ℕ, suc, ◌-◌, ◌≡◌, ◌==◌, nat_lt, not, if◌then◌else◌, min, List, [], ◌∷◌, map, filter, length, slice_index_or}
+use Rattle.std.specs.Prelude.{ℕ, suc, ◌-◌, ◌≡◌, ◌==◌, nat_lt, false, not, if◌then◌else◌, min, List, [], ◌∷◌, map, filter, length, slice_index_or}
 use Rattle.ls_set.specs.ItemSet.{Items, has}
 
 -- places, and how many more fit without memory
@@ -33,6 +33,10 @@ places_from p (k ∷ ks) i = if has k i then p ∷ places_from (suc p) ks i else
 -- each item has the places of those of the sets that have it
 abbrev pub IsIndexOf : List PlaceList → List Items → Type 0
 IsIndexOf ls ks = (i : ℕ) → places_at ls i ≡ places_from 0 ks i
+
+-- the set has each item that has a place; it may have more
+abbrev pub Covers : Items → List PlaceList → Type 0
+Covers items ls = (i : ℕ) → has items i ≡ false → places_at ls i ≡ []
 
 -- at most m, and at most the least room that some list has
 abbrev pub least_spare : List PlaceList → ℕ → ℕ

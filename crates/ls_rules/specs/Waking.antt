@@ -1,5 +1,5 @@
 -- Rules that are looked at again where an item of theirs fell out.
-use Rattle.std.specs.Prelude.{ℕ, ◌≤◌, ◌≡◌, true, false, if◌then◌else◌, Option, None, Some, List, length, map, slice_get, fold}
+use Rattle.std.specs.Prelude.{ℕ, ◌≤◌, ◌≡◌, Bool, true, false, if◌then◌else◌, Option, None, Some, List, length, map, slice_get, fold}
 use Rattle.std.specs.Option.{option_map_or}
 use Rattle.std.specs.List.{AllByRecursion, list_all, filter_map}
 use Rattle.ls_set.specs.ItemSet.{Items, most_items, has, empty, with, without, least, IsWithin}
@@ -56,10 +56,10 @@ pub record Settles (rules : List Query) (from settled : Items) : Type 0 where
   pub unbroken : breaks_none rules settled ≡ true
   pub greatest : (t : Items) → breaks_none rules t ≡ true → IsWithin t from → IsWithin t settled
 
--- the round after looks, given only where no item of keep fell out; none where one did
-abbrev pub IsKeeping : Items → Round → Round → Option Round → Type 0
-IsKeeping keep from to None = (i : ℕ) × (has keep i ≡ true) × (has to.kept i ≡ false)
-IsKeeping keep from to (Some s) = (s ≡ to) × (IsWithin keep from.kept → IsWithin keep s.kept)
+-- s is the round after looks where no item of keep fell out; false where one did
+abbrev pub IsKeeping : Items → Round → Round → Round → Bool → Type 0
+IsKeeping keep from to s false = (i : ℕ) × (has keep i ≡ true) × (has to.kept i ≡ false)
+IsKeeping keep from to s true = (s ≡ to) × (IsWithin keep from.kept → IsWithin keep s.kept)
 
 -- no set within the first that has all of keep breaks no rule
 abbrev pub NoneKeeps : List Query → Items → Items → Type 0

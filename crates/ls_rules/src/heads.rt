@@ -81,21 +81,14 @@ impl Heads {
         }
     }
 
-    // The set of the item.
-    fn of(&self, i: u32) -> ItemSet
-        ensures { result ≡ head_at self.now i }
-    {
-        match self.sets.get(i as usize) {
-            Some(set) => *set,
-            None => ItemSet::empty(),
-        }
-    }
-
     /// Whether the set of the item has an item that is kept.
     #[tactic(auto, unfolding(ls_set::specs::ItemSet::is_same))]
     pub fn meets(&self, i: u32, kept: ItemSet) -> bool
         ensures { result ≡ not (is_same (meet (head_at self.now i) kept) empty) }
     {
-        self.of(i).meet(kept) != ItemSet::empty()
+        match self.sets.get(i as usize) {
+            Some(set) => set.meet(kept) != ItemSet::empty(),
+            None => false,
+        }
     }
 }

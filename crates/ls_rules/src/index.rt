@@ -1,7 +1,7 @@
 // For each item, the places of the sets of a list that have it.
 ghost use Rattle.std.specs.Prelude.{◌≡◌, ℕ, ◌<◌, ◌≤◌, ◌++◌, ◌∷◌, [], true, if◌then◌else◌, length, OnOk};
 ghost use Rattle.ls_set.specs.ItemSet.{has};
-ghost use Rattle.ls_rules.specs.Places.{lowered, places_at, spare_at, spare_within};
+ghost use Rattle.ls_rules.specs.Places.{lowered, places_at, Covers, spare_at, spare_within};
 
 use crate::places::Places;
 use ls_set::ItemSet;
@@ -12,15 +12,19 @@ use std::marker::Model;
 #[derive(Debug, Drop)]
 pub struct Index {
     lists: Vec<Places>,
+    // the items that have a place, and maybe more
+    items: ItemSet,
 }
 
 impl Model for Index {
     ghost use Rattle.std.specs.Prelude.{List};
-    ghost use Rattle.ls_rules.specs.Places.{PlaceList};
+    ghost use Rattle.ls_rules.specs.Places.{PlaceList, Covers};
 
     ghost Value = { List PlaceList };
 
     ghost view = { λ a. a.lists.items };
+
+    ghost invariant = { λ a. Covers a.items a.lists.items };
 }
 
 // Makes room for one place in each list.
@@ -80,6 +84,7 @@ impl Index {
     {
         Index {
             lists: Vec::new(alloc),
+            items: ItemSet::empty(),
         }
     }
 
@@ -103,6 +108,7 @@ impl Index {
         ensures len { length self.new ≡ length self.old }
     {
         push_each(&mut self.lists, set, place);
+        self.items = self.items.union(set);
     }
 
     /// Takes out one place, and lowers those above it by one.
@@ -111,6 +117,13 @@ impl Index {
         ensures len { length self.new ≡ length self.old }
     {
         remove_each(&mut self.lists, place);
+    }
+
+    /// The items that have a place, and maybe more.
+    pub fn items(&self) -> ItemSet
+        ensures { Covers result self.now }
+    {
+        self.items
     }
 
     /// The places of the item, in ascending order.

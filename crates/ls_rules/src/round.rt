@@ -26,26 +26,22 @@ impl Round {
     }
 
     /// The item falls out.
-    pub fn lose(self, item: u32) -> Round
+    pub fn lose(&mut self, item: u32)
         requires { item < PLACES }
-        ensures kept { result.kept ≡ without self.kept item }
-        ensures fallen { result.fallen ≡ with self.fallen item }
+        ensures kept { self.new.kept ≡ without self.old.kept item }
+        ensures fallen { self.new.fallen ≡ with self.old.fallen item }
     {
-        Round {
-            kept: self.kept.without(item),
-            fallen: self.fallen.with(item),
-        }
+        self.kept = self.kept.without(item);
+        self.fallen = self.fallen.with(item);
     }
 
     /// Looks at a rule: where the kept set breaks it, its item falls out.
-    pub fn look(self, rule: &Query) -> Round
+    pub fn look(&mut self, rule: &Query)
         requires { rule.now.q < PLACES }
-        ensures { result ≡ look self rule.now }
+        ensures { self.new ≡ look self.old rule.now }
     {
         if self.breaks(rule) {
-            self.lose(rule.q)
-        } else {
-            self
+            self.lose(rule.q);
         }
     }
 }

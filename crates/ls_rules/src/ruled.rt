@@ -1,9 +1,10 @@
 // Families with rules.
 ghost use Rattle.std.specs.Prelude.{◌≡◌, ◌<◌, ◌++◌, ◌∷◌, [], true, length, remove, filter};
 ghost use Rattle.std.specs.Prelude.{OnOk, IfSome};
-ghost use Rattle.ls_set.specs.ItemSet.{full, is_among, IsWithin};
+ghost use Rattle.ls_set.specs.ItemSet.{full, without, is_among, IsWithin};
 ghost use Rattle.ls_set.specs.Query.{is_good};
 ghost use Rattle.ls_theory.specs.Queries.{breaks_none};
+ghost use Rattle.ls_theory.specs.Families.{interior};
 ghost use Rattle.ls_interior.specs.Keeping.{interior_keeping};
 ghost use Rattle.ls_rules.specs.Waking.{first_of, Settling};
 
@@ -12,7 +13,7 @@ use crate::index::Index;
 use crate::round::Round;
 use crate::waking::{begin, settle};
 use ls_interior::Inside;
-use ls_set::{ItemSet, Query};
+use ls_set::{ItemSet, PLACES, Query};
 use std::alloc::{AllocError, Global};
 use std::marker::Model;
 
@@ -157,9 +158,49 @@ impl<F: Inside> Ruled<F> {
             member = next;
             round = Round {
                 kept: next,
-                fallen: kept.minus(next),
+                fallen: kept.minus(next).meet(self.wakes.items()),
             };
         }
+    }
+
+    // The interior of a set under the rules. It is not made part of its caller, so that where there
+    // is no rule an interior costs no more than the inner one.
+    #[inline(never)]
+    fn inside_ruled(&self, s: ItemSet) -> ItemSet
+        requires { IsWithin s (full (F.item_count self.now.inner)) }
+        ensures { result ≡
+            interior (filter (breaks_none self.now.rules) (F.members self.now.inner)) s }
+    {
+        let n = self.inner.items();
+        let member = self.inner.inside(s);
+        let first = begin(&self.rules, &self.starts, &self.heads, n, member);
+        if first.fallen == ItemSet::empty() {
+            return member;
+        }
+        self.settle_within(member, first, ItemSet::empty())
+            .unwrap_or(ItemSet::empty())
+    }
+
+    // That of a member without an item, where it has all of `keep`. A member breaks no rule, so
+    // without the item only the rules are broken whose sets A have what fell out of it. It is no
+    // part of its caller either.
+    #[inline(never)]
+    fn inside_ruled_without(&self, member: ItemSet, item: u32, keep: ItemSet) -> Option<ItemSet>
+        requires within { IsWithin member (full (F.item_count self.now.inner)) }
+        requires item { item < PLACES }
+        ensures value { is_among
+            (filter (breaks_none self.now.rules) (F.members self.now.inner)) member ≡ true →
+            result ≡ interior_keeping
+            (filter (breaks_none self.now.rules) (F.members self.now.inner))
+            (without member item) keep }
+        ensures part { IfSome result (λ k. IsWithin k member) }
+    {
+        let next = self.inner.inside_without(member, item, keep)?;
+        let fallen = member.minus(next).meet(self.wakes.items());
+        if fallen == ItemSet::empty() {
+            return Some(next);
+        }
+        self.settle_within(next, Round { kept: next, fallen }, keep)
     }
 }
 
@@ -177,26 +218,18 @@ impl<F: Inside> Inside for Ruled<F> {
     }
 
     fn inside(&self, s: ItemSet) -> ItemSet {
-        let member = self.inner.inside(s);
-        let first = begin(
-            &self.rules,
-            &self.starts,
-            &self.heads,
-            self.inner.items(),
-            member,
-        );
-        self.settle_within(member, first, ItemSet::empty())
-            .unwrap_or(ItemSet::empty())
+        if self.rules.is_empty() {
+            self.inner.inside(s)
+        } else {
+            self.inside_ruled(s)
+        }
     }
 
-    // A member breaks no rule, so without the item only the rules are broken whose sets A have what
-    // fell out of it.
     fn inside_without(&self, member: ItemSet, item: u32, keep: ItemSet) -> Option<ItemSet> {
-        let next = self.inner.inside_without(member, item, keep)?;
-        let lost = Round {
-            kept: next,
-            fallen: member.minus(next),
-        };
-        self.settle_within(next, lost, keep)
+        if self.rules.is_empty() {
+            self.inner.inside_without(member, item, keep)
+        } else {
+            self.inside_ruled_without(member, item, keep)
+        }
     }
 }

@@ -1,7 +1,7 @@
 // Going on from the items that fell out to the rules that they wake.
 ghost use Rattle.std.specs.Prelude.{◌≡◌, ◌<◌, ◌≤◌, map, All, length, true, IfSome};
 ghost use Rattle.std.specs.List.{list_all};
-ghost use Rattle.ls_set.specs.ItemSet.{Items, IsWithin};
+ghost use Rattle.ls_set.specs.ItemSet.{Items, empty, IsWithin};
 ghost use Rattle.ls_set.specs.Query.{is_good};
 ghost use Rattle.ls_rules.specs.Heads.{IsHeaded};
 ghost use Rattle.ls_rules.specs.Places.{IsIndexOf, places_at};
@@ -13,69 +13,66 @@ use crate::round::Round;
 use ls_set::{ItemSet, PLACES, Query};
 
 // Looks at the rules at the places.
-fn look_at(rules: &[Query], places: &[usize], round: Round) -> Round
+fn look_at(rules: &[Query], places: &[usize], round: &mut Round)
     requires items { All (λ r. r.q < PLACES) rules.now }
     requires places { All (λ p. p < length rules.now) places.now }
-    ensures { result ≡ look_at rules.now places.now round }
+    ensures { round.new ≡ look_at rules.now places.now round.old }
 {
-    let mut round = round;
     for place in places {
-        round = round.look(&rules[*place]);
+        round.look(&rules[*place]);
     }
-    round
 }
 
-// Looks at the rules at the places, until an item of `keep` falls out.
-fn look_keeping(rules: &[Query], places: &[usize], round: Round, keep: ItemSet) -> Option<Round>
+// Looks at the rules at the places, until an item of `keep` falls out. The result is whether none
+// does.
+fn look_keeping(rules: &[Query], places: &[usize], keep: ItemSet, round: &mut Round) -> bool
     requires items { All (λ r. r.q < PLACES) rules.now }
     requires places { All (λ p. p < length rules.now) places.now }
-    ensures { IsKeeping keep round (look_at rules.now places.now round) result }
+    ensures { IsKeeping keep round.old (look_at rules.now places.now round.old) round.new result }
 {
-    let mut round = round;
     for place in places {
         let rule = &rules[*place];
         if round.breaks(rule) {
             if keep.has(rule.q) {
-                return None;
+                return false;
             }
-            round = round.lose(rule.q);
+            round.lose(rule.q);
         }
     }
-    Some(round)
+    true
 }
 
 // Looks at the rules whose sets A begin with the item. Where no item q of theirs is kept, none of
 // them is broken, and they need no look.
-fn look_from(rules: &[Query], starts: &Index, heads: &Heads, i: u32, round: Round) -> Round
+fn look_from(rules: &[Query], starts: &Index, heads: &Heads, i: u32, round: &mut Round)
     requires items { All (λ r. r.q < PLACES) rules.now }
     requires starts { IsIndexOf starts.now (map (λ r. first_of r.a) rules.now) }
     requires heads { IsHeaded heads.now rules.now }
-    ensures { result ≡ look_at rules.now (places_at starts.now i) round }
+    ensures { round.new ≡ look_at rules.now (places_at starts.now i) round.old }
 {
     if heads.meets(i, round.kept) {
-        look_at(rules, starts.of(i), round)
-    } else {
-        round
+        look_at(rules, starts.of(i), round);
     }
 }
 
-/// Looks at each rule whose set A begins with one of the `n` items outside the set. Of the set
+/// Looks at each rule whose set A begins with an item outside the set, of `n` items. Of the set
 /// there is kept what no rule takes out, and what fell out wakes each rule that is still broken.
 pub fn begin(rules: &[Query], starts: &Index, heads: &Heads, n: u32, set: ItemSet) -> Round
     requires few { n ≤ PLACES }
     requires good { list_all (is_good n) rules.now ≡ true }
     requires starts { IsIndexOf starts.now (map (λ r. first_of r.a) rules.now) }
     requires heads { IsHeaded heads.now rules.now }
-    ensures { Settling rules.now set result }
+    ensures settling { Settling rules.now set result }
+    ensures whole { result.fallen ≡ empty → result.kept ≡ set }
 {
-    let mut left = ItemSet::full(n).minus(set);
+    let mut left = starts.items().minus(set);
     let mut round = Round {
         kept: set,
         fallen: ItemSet::empty(),
     };
     while let Some(i) = left.least() {
         left = left.without(i);
-        round = look_from(rules, starts, heads, i, round);
+        look_from(rules, starts, heads, i, &mut round);
     }
     round
 }
@@ -98,7 +95,9 @@ pub fn settle(
     let mut round = round;
     while let Some(i) = round.fallen.least() {
         round.fallen = round.fallen.without(i);
-        round = look_keeping(rules, wakes.of(i), round, keep)?;
+        if !look_keeping(rules, wakes.of(i), keep, &mut round) {
+            return None;
+        }
     }
     Some(round.kept)
 }

@@ -1,25 +1,30 @@
 use Rattle.std.proofs.Common.{sym, refl, ◌∙◌}
 use Rattle.ls_rules.specs.Places.{places_at}
 use Rattle.ls_rules.specs.Waking.{first_of}
-use Rattle.ls_rules.proofs.Indexing.{small_items}
-use Rattle.ls_rules.proofs.Rounds.{turned, len-without_least, Started-first, Started-more, Started-done}
+use Rattle.ls_rules.proofs.Indexing.{covered, small_items}
+use Rattle.ls_rules.proofs.Rounds.{turned, len-without_least, Started-first, Started-more, Started-done, whole}
 use Rattle.ls_rules.proofs.waking.begin.Goals as goal
 
 pub loop-i-init : goal.loop-i-init
 loop-i-init c =
-    rw (c.minus-left.ensures, c.full.ensures, c.empty.ensures) (Started-first c.args.rules.now c.args.n c.args.set)
+    let rules = c.args.rules.now in
+    rw (c.minus-left.ensures, c.empty.ensures)
+    (Started-first rules c.items.result c.args.set (covered c.items.result rules (λ r. first_of r.a) c.args.starts.now c.requires.starts c.items.ensures))
 
-pub look_from-round-requires-clause-items : goal.look_from-round-requires-clause-items
-look_from-round-requires-clause-items c = small_items c.args.n c.args.rules.now c.requires.few c.requires.good
+pub look_from-requires-clause-items : goal.look_from-requires-clause-items
+look_from-requires-clause-items c = small_items c.args.n c.args.rules.now c.requires.few c.requires.good
 
 pub loop-i-smaller : goal.loop-i-smaller
 loop-i-smaller c = rw c.without-left.ensures (len-without_least c.loop-i.left c.in-Some.i (sym c.least.ensures.value ∙ c.in-Some.is))
 
 pub loop-i-preserved : goal.loop-i-preserved
 loop-i-preserved c =
-    let looked = turned c.args.rules.now (λ r. first_of r.a) c.args.starts.now c.in-Some.i (places_at c.args.starts.now c.in-Some.i) c.loop-i.round c.look_from-round.result c.requires.starts refl c.look_from-round.ensures in
-    rw (c.without-left.ensures, looked) (Started-more c.args.rules.now c.args.n c.args.set c.loop-i.left c.loop-i.round c.in-Some.i c.loop-i.invariant)
+    let looked = turned c.args.rules.now (λ r. first_of r.a) c.args.starts.now c.in-Some.i (places_at c.args.starts.now c.in-Some.i) c.loop-i.round c.look_from.new.round c.requires.starts refl c.look_from.ensures in
+    rw (c.without-left.ensures, looked) (Started-more c.args.rules.now c.args.set c.loop-i.left c.loop-i.round c.in-Some.i c.loop-i.invariant)
 
-pub returns : goal.returns
-returns c =
+pub returns-clause-settling : goal.returns-clause-settling
+returns-clause-settling c =
     Started-done c.args.rules.now c.args.n c.args.set c.loop-i.left c.loop-i.round c.requires.good (sym c.least.ensures.value ∙ c.in_default.is) c.loop-i.invariant
+
+pub returns-clause-whole : goal.returns-clause-whole
+returns-clause-whole c = whole c.args.set c.loop-i.round c.loop-i.invariant.after

@@ -6,6 +6,6 @@ pub loop-place-preserved : goal.loop-place-preserved
 loop-place-preserved c =
     let i = c.loop-place.place-index in
     let places = c.args.places.now in
-    rw c.look-round.ensures
+    rw c.look.ensures
     (look_at-step c.args.rules.now places i (get_or places i 0) c.index-rules-place.result c.loop-place.round _ c.loop-place-test.true refl
     (c.requires.places i 0 c.loop-place-test.true) c.index-rules-place.is c.loop-place.invariant)

@@ -10,5 +10,5 @@ look_at-requires-clause-places c = indexed_small c.args.rules.now (λ r. first_o
 
 pub returns-else-meets : goal.returns-else-meets
 returns-else-meets c =
-    passed c.args.rules.now c.args.starts.now c.args.heads.now c.args.i c.args.round c.requires.starts c.requires.heads
+    passed c.args.rules.now c.args.starts.now c.args.heads.now c.args.i c.args.round.now c.requires.starts c.requires.heads
     (not-false _ (sym c.meets.ensures ∙ c.if-meets.false))

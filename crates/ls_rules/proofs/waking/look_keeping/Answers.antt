@@ -24,10 +24,10 @@ loop-place-preserved c =
     (c.requires.places i 0 c.loop-place-test.true) c.index-rules-place.is c.loop-place.invariant.rest in
     elim c.if-breaks.branch [
       | then-breaks+else-has w ↦
-          let looked = w.round-is ∙ look-broken s w.lose-round.result r (sym c.breaks.ensures ∙ w.if-breaks.true) w.lose-round.ensures.kept w.lose-round.ensures.fallen in
+          let looked = w.round-is ∙ look-broken s w.lose.new.self r (sym c.breaks.ensures ∙ w.if-breaks.true) w.lose.ensures.kept w.lose.ensures.fallen in
           record {
             rest = rw looked rest;
-            keeps = λ h. rw (w.round-is, w.lose-round.ensures.kept) (keeps-without c.args.keep s.kept r.q (sym w.has.ensures ∙ w.if-has.false) (c.loop-place.invariant.keeps h));
+            keeps = λ h. rw (w.round-is, w.lose.ensures.kept) (keeps-without c.args.keep s.kept r.q (sym w.has.ensures ∙ w.if-has.false) (c.loop-place.invariant.keeps h));
           }
       | else-breaks w ↦ record {
         rest = rw (look-unbroken s c.if-breaks.round r (sym c.breaks.ensures ∙ w.if-breaks.false) w.round-is) rest;

@@ -18,13 +18,13 @@ woken_rules rules wakes ps s i fallen index e f =
 pub look_keeping-requires-clause-places : goal.look_keeping-requires-clause-places
 look_keeping-requires-clause-places c = indexed_small c.args.rules.now (λ r. r.a) c.args.wakes.now c.in-Some.i c.of.result.now c.requires.wakes c.of.ensures
 
-pub returns-in_err-round-clause-value : goal.returns-in_err-round-clause-value
-returns-in_err-round-clause-value c =
+pub returns-then-not-look_keeping-clause-value : goal.returns-then-not-look_keeping-clause-value
+returns-then-not-look_keeping-clause-value c =
     let s = c.loop-i.round in
     let i = c.in-Some.i in
     let woken_are = woken_rules c.args.rules.now c.args.wakes.now c.of.result.now s i c.without-round.result c.requires.wakes c.of.ensures c.without-round.ensures in
-    let gone = rw woken_are at c.in_err-round.ensures in
-    λ first a _. rw c.from_residual.ensures (NoneKeeps-lost c.args.rules.now first c.args.keep s i gone.0 (c.loop-i.invariant.settling first a) gone.1 gone.2)
+    let gone = rw (woken_are, c.if-not-look_keeping.true) at c.look_keeping.ensures in
+    λ first a _. (NoneKeeps-lost c.args.rules.now first c.args.keep s i gone.0 (c.loop-i.invariant.settling first a) gone.1 gone.2)
 
 pub loop-i-smaller : goal.loop-i-smaller
 loop-i-smaller c =
@@ -32,18 +32,20 @@ loop-i-smaller c =
     let i = c.in-Some.i in
     let here = least-cases s.fallen i (sym c.least.ensures.value ∙ c.in-Some.is) in
     let woken_are = woken_rules c.args.rules.now c.args.wakes.now c.of.result.now s i c.without-round.result c.requires.wakes c.of.ensures c.without-round.ensures in
-    rw (c.in_ok-round.ensures.0 ∙ woken_are) (lighter s i (filter (λ r. has r.a i) c.args.rules.now) here.0)
+    let kept = rw c.if-not-look_keeping.false at c.look_keeping.ensures in
+    rw (kept.0 ∙ woken_are) (lighter s i (filter (λ r. has r.a i) c.args.rules.now) here.0)
 
 pub loop-i-preserved : goal.loop-i-preserved
 loop-i-preserved c =
     let s = c.loop-i.round in
     let i = c.in-Some.i in
     let rules = c.args.rules.now in
-    let looked = c.in_ok-round.ensures.0 ∙ woken_rules rules c.args.wakes.now c.of.result.now s i c.without-round.result c.requires.wakes c.of.ensures c.without-round.ensures in
+    let kept = rw c.if-not-look_keeping.false at c.look_keeping.ensures in
+    let looked = kept.0 ∙ woken_rules rules c.args.wakes.now c.of.result.now s i c.without-round.result c.requires.wakes c.of.ensures c.without-round.ensures in
     let after = After-looks (woken s i) (filter (λ r. has r.a i) rules) in
     record {
       settling = λ first a. rw looked (Settling-more rules first s i (c.loop-i.invariant.settling first a));
-      keeps = λ h. c.in_ok-round.ensures.1 (c.loop-i.invariant.keeps h);
+      keeps = λ h. kept.1 (c.loop-i.invariant.keeps h);
       part = rw looked (λ j h. c.loop-i.invariant.part j (after.within j h));
     }
 

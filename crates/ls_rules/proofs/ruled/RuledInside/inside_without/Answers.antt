@@ -1,27 +1,10 @@
-use Rattle.std.proofs.Common.{sym, ◌∙◌}
-use Rattle.ls_set.specs.ItemSet.{is_among, without}
-use Rattle.ls_set.proofs.Members.{among-filter}
-use Rattle.std.proofs.lemmas.Bool.{and_parts}
-use Rattle.ls_theory.specs.Queries.{breaks_none}
-use Rattle.ls_rules.proofs.Reaching.{none_under, without_settled}
+use Rattle.std.proofs.Common.{◌≡◌, true, sym, ◌∙◌, eqb-true, length, arith}
+use Rattle.std.proofs.lemmas.List.{nil_from_length}
+use Rattle.ls_rules.proofs.Reaching.{without_rules}
 use Rattle.ls_rules.proofs.ruled.RuledInside.inside_without.Goals as goal
 
-pub returns-in_err-next-clause-value : goal.returns-in_err-next-clause-value
-returns-in_err-next-clause-value g c =
-    let n = g.F.Inside.item_count c.self.inside.inner in
+pub returns-then-is_empty-clause-value : goal.returns-then-is_empty-clause-value
+returns-then-is_empty-clause-value g c =
     let f = g.F.Inside.members c.self.inside.inner in
-    let rules = c.self.inside.rules.items in
-    let family = g.met.F.Inside.is_family c.self.inside.inner in
-    rw (← c.self.view_is, c.from_residual.ensures) (λ h.
-    let p = and_parts (is_among f c.args.member) (breaks_none rules c.args.member) (sym (among-filter (breaks_none rules) f c.args.member) ∙ h) in
-    none_under n f rules (without c.args.member c.args.item) c.args.keep family (c.in_err-next.ensures.value p.0))
-
-pub returns-clause-value : goal.returns-clause-value
-returns-clause-value g c =
-    let n = g.F.Inside.item_count c.self.inside.inner in
-    let f = g.F.Inside.members c.self.inside.inner in
-    let rules = c.self.inside.rules.items in
-    let family = g.met.F.Inside.is_family c.self.inside.inner in
-    let settles = rw (← c.self.view_is, c.minus.ensures) at c.settle_within.ensures.value in
-    rw (← c.self.view_is) (without_settled n f rules c.args.member (without c.args.member c.args.item) c.args.keep c.in_ok-next.next c.settle_within.result family
-    c.in_ok-next.ensures.value c.in_ok-next.ensures.part settles)
+    let none = nil_from_length c.self.inside.rules.items (let none : length c.self.inside.rules.items ≡ 0 = omega (arith, eqb-true _ 0 (sym c.is_empty.ensures ∙ c.if-is_empty.true)) in none) in
+    rw (← c.self.view_is, without_rules c.self.inside.rules.items f none) c.inside_without.ensures.value
