@@ -1,8 +1,8 @@
 -- The interior under rules, round by round.
 use Rattle.std.proofs.Common.{ℕ, ◌<◌, ◌≡◌, inl, inr, true, false, not, List, [], ◌∷◌, filter, cond, Option, Some, None, unwrap_or, refl, sym, ap, ◌∙◌, true≢false, arith}
 use Rattle.std.specs.List.{AllByRecursion}
-use Rattle.std.proofs.lemmas.Bool.{and_parts, and_from, not-true, not_from_false, false_from_ne_true}
-use Rattle.ls_set.specs.ItemSet.{Items, has, empty, meet, minus, is_within, is_among, len, IsWithin}
+use Rattle.std.proofs.lemmas.Bool.{and_parts, and_from, not-true, false_from_ne_true}
+use Rattle.ls_set.specs.ItemSet.{Items, empty, meet, minus, is_within, is_among, len, IsWithin}
 use Rattle.ls_set.specs.declared.query.Query.{Query}
 use Rattle.std.proofs.lemmas.Bool.Decides.{nat_tests}
 use Rattle.ls_set.proofs.Sets.{members, same_within, IsWithin-from, is_within-from, empty-within}

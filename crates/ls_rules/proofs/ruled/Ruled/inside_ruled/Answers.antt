@@ -1,4 +1,4 @@
-use Rattle.std.proofs.Common.{◌≡◌, true, sym, ◌∙◌}
+use Rattle.std.proofs.Common.{sym, ◌∙◌}
 use Rattle.ls_set.specs.ItemSet.{is_same}
 use Rattle.ls_set.proofs.Sets.{empty-within, Decides-is_same}
 use Rattle.ls_laws.proofs.Interiors.{interior-within, interior-is}
