@@ -32,14 +32,13 @@ pub fn closures_of<I: Interior, L: Ledger>(
     ensures few { length (sets_of blocks) ≤ MOST_SETS }
 {
     let mut closures = Vec::new(alloc);
-    let mut last = ItemSet::empty();
+    let mut walk = blocks.walk_from(ItemSet::empty());
     let mut front = Front::new();
     for _place in 0..blocks.count() {
-        let Some(set) = blocks.next_set(Some(last)) else {
+        if !walk.advance() {
             return Ok(closures);
-        };
-        closures.push(close_block(&closures, blocks, f, set, &mut front, steps))?;
-        last = set;
+        }
+        closures.push(close_block(&closures, blocks, &walk, f, &mut front, steps))?;
     }
     Ok(closures)
 }
@@ -65,13 +64,13 @@ pub fn standing_of<I: Interior, L: Ledger>(
 }
 
 // Whether a closure from before the change can be another after it.
-fn is_stale(change: YesChange, r: &Query, closed: ItemSet) -> bool
+fn is_stale(change: YesChange, r: &Query, closed: &ItemSet) -> bool
     requires { r.now.q < PLACES }
-    ensures { result ≡ is_stale change r.now closed }
+    ensures { result ≡ is_stale change r.now closed.now }
 {
     match change {
-        YesChange::Added => r.a.is_within(closed) && !closed.has(r.q),
-        YesChange::Removed => r.a.is_within(closed),
+        YesChange::Added => !closed.has(r.q) && r.a.is_within(*closed),
+        YesChange::Removed => r.a.is_within(*closed),
     }
 }
 
@@ -80,7 +79,7 @@ fn any_stale(change: YesChange, r: &Query, closures: &[ItemSet]) -> bool
     requires { r.now.q < PLACES }
     ensures { result ≡ list_any (is_stale change r.now) closures.now }
 {
-    closures.iter().any(|c| is_stale(change, r, *c))
+    closures.iter().any(|c| is_stale(change, r, c))
 }
 
 /// Makes the closures of the sets of the blocks those after the change of a Yes to `r`, in a step at
@@ -108,13 +107,13 @@ pub fn close_again<I: Interior, L: Ledger>(
     if !any_stale(change, r, closures) {
         return;
     }
-    let mut last = ItemSet::empty();
+    let mut walk = blocks.walk_from(ItemSet::empty());
     let mut front = Front::new();
     for place in 0..closures.len() {
-        last = blocks.next_set(Some(last)).unwrap();
-        if is_stale(change, r, closures[place]) {
+        walk.advance();
+        if is_stale(change, r, &closures[place]) {
             let first = &closures[..place];
-            closures[place] = close_block(first, blocks, f, last, &mut front, steps);
+            closures[place] = close_block(first, blocks, &walk, f, &mut front, steps);
         }
     }
 }
