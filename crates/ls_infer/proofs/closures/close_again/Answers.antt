@@ -1,37 +1,43 @@
-use Rattle.std.proofs.Common.{◌+◌, ◌≡◌, ◌<◌, ◌≤◌, cond, List, take, length, get_or, slice_get, Some, refl, sym, ap, ◌∙◌, subst, arith}
+use Rattle.std.proofs.Common.{◌+◌, ◌≡◌, ◌<◌, ◌≤◌, cond, false, List, take, length, get_or, slice_get, Some, refl, sym, ap, ◌∙◌, subst, arith}
 use Rattle.std.specs.List.{count_by, list_any}
 use Rattle.std.proofs.lemmas.Grind.{drop_more_same}
+use Rattle.std.specs.Option.{is_some}
+use Rattle.std.proofs.lemmas.List.Quantifiers.{position-Some}
+use Rattle.ls_lists.proofs.Places.{position-lt, is_some-position}
 use Rattle.ls_lists.proofs.Every.{list_all-set}
 use Rattle.ls_lists.proofs.Overwriting.{left-at, left-next, count-next, images-at, images-next, images-end}
-use Rattle.ls_set.specs.ItemSet.{Items, full, is_within}
-use Rattle.ls_set.proofs.Sets.{empty-within, is_within-from}
+use Rattle.ls_set.specs.ItemSet.{Items, empty, full, is_within}
+use Rattle.ls_set.proofs.Sets.{is_within-from}
 use Rattle.ls_theory.specs.Families.{closure}
 use Rattle.ls_laws.proofs.Breaks.{good-from}
-use Rattle.ls_laws.proofs.Counts.{len-empty}
 use Rattle.ls_query.specs.Blocks.{sets_of}
 use Rattle.ls_infer.specs.Fronts.{IsFront}
 use Rattle.ls_infer.specs.Changes.{is_stale}
-use Rattle.ls_infer.proofs.Places.{first_place, next_place, came-within}
-use Rattle.ls_infer.proofs.Closing.{first-images, images-stay, fresh_stays, stale_has, all_fresh}
+use Rattle.ls_infer.proofs.Places.{next_place, came-within}
+use Rattle.ls_infer.proofs.Closing.{first-images, fresh-first, images-stay, fresh_stays, stale_has, all_fresh}
 use Rattle.ls_infer.proofs.closures.close_again.Goals as goal
 use Rattle.ls_infer.proofs.closures.close_again.Goals.{then-is_stale, else-is_stale}
 
-pub walk_from-walk-requires-clause-within : goal.walk_from-walk-requires-clause-within
-walk_from-walk-requires-clause-within g c = rw c.empty.ensures (empty-within (full c.args.blocks.item_count))
-
-pub walk_from-walk-requires-clause-size : goal.walk_from-walk-requires-clause-size
-walk_from-walk-requires-clause-size g c = rw (c.empty.ensures, len-empty) (omega arith)
+pub walk_before-walk-requires : goal.walk_before-walk-requires
+walk_before-walk-requires g c = omega (arith, c.requires.each, position-lt (is_stale c.args.change c.args.r.now) c.args.closures.now c.in-Some.start (sym c.first_stale.ensures ∙ c.in-Some.is))
 
 pub loop-place-init : goal.loop-place-init
-loop-place-init g c = record {
-  of_blocks = c.walk_from-walk.ensures.blocks;
-  place = rw (c.walk_from-walk.ensures.set, c.empty.ensures) (first_place c.args.blocks.item_count c.args.blocks.largest);
-  within = c.requires.within;
-  left = refl;
-  made = λ before change e. e;
-  front = λ before change e. c.new-front.ensures.front c.args.blocks.item_count (g.I.Interior.members c.args.f.now);
-  cost = omega arith;
-}
+loop-place-init g c =
+    let n = g.I.Interior.item_count c.args.f.now in
+    let f = g.I.Interior.members c.args.f.now in
+    let r = c.args.r.now in
+    let start = c.in-Some.start in
+    let first = position-Some (is_stale c.args.change r) c.args.closures.now start empty (sym c.first_stale.ensures ∙ c.in-Some.is) in
+    let below : start ≤ length (sets_of c.args.blocks) = omega (arith, c.requires.each, first.0) in
+    record {
+      of_blocks = c.walk_before-walk.ensures.blocks;
+      place = c.walk_before-walk.ensures.next;
+      within = c.requires.within;
+      left = refl;
+      made = λ before change e. fresh-first c.args.change n r before f (sets_of c.args.blocks) c.args.closures.now start (g.met.I.Interior.is_family c.args.f.now) (good-from n r c.requires.good) change below first.2 e;
+      front = λ before change e. c.new-front.ensures.front c.args.blocks.item_count f;
+      cost = omega arith;
+    }
 
 pub loop-place-preserved : goal.loop-place-preserved
 loop-place-preserved g c =
@@ -86,9 +92,11 @@ returns-clause-each g c = λ before change e.
     let past : length (sets_of c.args.blocks) ≤ c.loop-place.place = omega (arith, c.requires.each, c.loop-place-test.false) in
     c.loop-place.invariant.made before change e ∙ images-end (closure (full n) f) (closure (full n) before) (sets_of c.args.blocks) c.loop-place.place past
 
-pub returns-then-not-any_stale-clause-each : goal.returns-then-not-any_stale-clause-each
-returns-then-not-any_stale-clause-each g c = λ before change e.
+pub returns-in_default-clause-each : goal.returns-in_default-clause-each
+returns-in_default-clause-each g c = λ before change e.
     let n = g.I.Interior.item_count c.args.f.now in
     let f = g.I.Interior.members c.args.f.now in
+    let stale = is_stale c.args.change c.args.r.now in
+    let none : list_any stale c.args.closures.now ≡ false = sym (is_some-position stale c.args.closures.now) ∙ ap is_some (sym c.first_stale.ensures ∙ c.in_default.is) in
     e ∙ all_fresh c.args.change n c.args.r.now before f (sets_of c.args.blocks) (g.met.I.Interior.is_family c.args.f.now) (good-from n c.args.r.now c.requires.good) change
-    (ap (list_any (is_stale c.args.change c.args.r.now)) (sym e) ∙ sym c.any_stale.ensures ∙ c.if-not-any_stale.true)
+    (ap (list_any stale) (sym e) ∙ none)
