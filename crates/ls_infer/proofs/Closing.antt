@@ -1,13 +1,14 @@
 -- Closures of sets with one more item, and those that a loop over the blocks finds again.
-use Rattle.std.proofs.Common.{ℕ, zero, suc, ◌+◌, ◌<◌, ◌≤◌, ◌≡◌, inl, inr, true, false, cond, not, List, [], ◌∷◌, map, take, length, slice_get, Option, Some, None, refl, sym, ap, ap₂, ◌∙◌, subst, arith, add-one, true≢false, lt-ltb, ltb}
+use Rattle.std.proofs.Common.{ℕ, zero, suc, ◌+◌, ◌<◌, ◌≤◌, ◌≡◌, inl, inr, true, false, cond, not, List, [], ◌∷◌, map, take, length, get_or, slice_get, Option, Some, None, refl, sym, ap, ap₂, ◌∙◌, subst, arith, add-one, true≢false, lt-ltb}
 use Rattle.std.specs.List.{list_any}
 use Rattle.std.proofs.lemmas.Bool.{and_parts, or_parts, false_from_ne_true}
 use Rattle.std.proofs.lemmas.Bool.Decides.{nat_tests}
+use Rattle.std.proofs.lemmas.Option.{slice_get-get_or}
 use Rattle.ls_lists.specs.Lists.{images}
-use Rattle.ls_set.specs.ItemSet.{Items, has, empty, full, with, without, minus, len, least, is_among, is_within, IsWithin}
+use Rattle.ls_lists.proofs.Overwriting.{images-at}
+use Rattle.ls_set.specs.ItemSet.{Items, has, empty, full, with, without, minus, least, is_among, is_within, IsWithin}
 use Rattle.ls_set.specs.declared.query.Query.{Query}
-use Rattle.ls_set.proofs.Sets.{members, has-empty, has-full, same_set, same_within, minus-within, without-within, empty-within, is_within-from}
-use Rattle.ls_set.proofs.Sizes.{len-less}
+use Rattle.ls_set.proofs.Sets.{members, has-empty, has-full, same_set, same_within, minus-within, empty-within, is_within-from}
 use Rattle.ls_set.proofs.Ascending.{least-none}
 use Rattle.ls_theory.specs.Families.{interior, closure}
 use Rattle.ls_laws.specs.Families.{IsFamily}
@@ -25,17 +26,8 @@ use Rattle.ls_theory.specs.Blocks.{BlockRange}
 use Rattle.ls_query.specs.Blocks.{sets_of}
 use Rattle.ls_infer.proofs.Outside.{out-parts, out-from, in-from, minus_twice, with-left, with-here, with-cases, outside-member}
 
--- ---- an item that is put back
-
--- an item that is taken out and put back
-pub put_back : (s : Items) (i : ℕ) → has s i ≡ true → with (without s i) i ≡ s
-put_back s i h = same_set (with (without s i) i) s (λ j. let x = h in grind (arith, members, nat_tests))
-
 minus-with : (whole s : Items) (i : ℕ) → without (minus whole s) i ≡ minus whole (with s i)
 minus-with whole s i = same_set (without (minus whole s) i) (minus whole (with s i)) (λ j. grind (arith, members, nat_tests))
-
-pub item_below : (n i : ℕ) (s : Items) → IsWithin s (full n) → has s i ≡ true → i < n
-item_below n i s w h = let e : ltb i n ≡ true = sym (has-full n i) ∙ w i h in grind (arith, nat_tests)
 
 -- ---- closures of sets that have the same items of `whole`
 
@@ -150,22 +142,30 @@ fresh_stays YesChange.Added n r before after set family good change fresh = ap (
 fresh_stays YesChange.Removed n r before after set family good change fresh =
     sym (ap (λ f. closure (full n) f set) change ∙ closure_before_yes n after r set (family_sets n after family) good (ap (λ f. is_within r.a (closure (full n) f set)) (sym change) ∙ fresh))
 
+-- where the first closures are not stale, they are those after the change
+pub fresh-first : (c : YesChange) (n : ℕ) (r : Query) (before after sets closures : List Items) (i : ℕ) → IsFamily n after → IsGood n r → IsChange c n r before after → i ≤ length sets
+    → ((k : ℕ) → k < i → is_stale c r (get_or closures k empty) ≡ false) → closures ≡ map (closure (full n) before) sets → closures ≡ images (closure (full n) after) (closure (full n) before) sets i
+fresh-first c n r before after sets closures zero family good change l fresh e = e
+fresh-first c n r before after sets closures (suc i) family good change l fresh e =
+    let g = closure (full n) after in
+    let h = closure (full n) before in
+    let set = get_or sets i empty in
+    let at : slice_get sets i ≡ Some set = slice_get-get_or sets i empty (omega arith) in
+    let made = fresh-first c n r before after sets closures i family good change (omega arith) (λ k m. fresh k (omega arith)) e in
+    let closed : get_or closures i empty ≡ h set = ap (λ l. get_or l i empty) made ∙ images-at g h sets i set empty at in
+    images-stay g h sets closures i set at made (fresh_stays c n r before after set family good change (ap (is_stale c r) (sym closed) ∙ fresh i (omega arith)))
+    ∙ ap (images g h sets) (add-one i)
+
 -- a stale closure has the items of A
 pub stale_has : (c : YesChange) (r : Query) (closed : Items) → is_stale c r closed ≡ true → is_within r.a closed ≡ true
 stale_has YesChange.Added r closed h = (and_parts (is_within r.a closed) (not (has closed r.q)) h).0
 stale_has YesChange.Removed r closed h = h
 
--- ---- one item fewer, and one item at least
+-- ---- one item at least
 
 -- a set with a least item has one
 pub has_some : (s : Items) → (least s ≡ None → ⊥) → (i : ℕ) × (has s i ≡ true)
 has_some s h = elim (some_item s) [ inl e ↦ absurd (h (least-none s (λ i. ap (λ t. has t i) e ∙ has-empty i))) | inr p ↦ p ]
-
-taken : (s : Items) (i : ℕ) → has (without s i) i ≡ false
-taken s i = grind (arith, members, nat_tests)
-
-pub len-without : (s : Items) (i : ℕ) → has s i ≡ true → len (without s i) < len s
-len-without s i h = len-less (without s i) s i (without-within s i) (taken s i) h
 
 -- where none is stale, all are the same
 pub all_fresh : (c : YesChange) (n : ℕ) (r : Query) (before after : List Items) (sets : List Items) → IsFamily n after → IsGood n r → IsChange c n r before after

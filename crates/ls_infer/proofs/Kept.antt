@@ -1,11 +1,13 @@
 -- What is kept of standing answers.
-use Rattle.std.proofs.Common.{ℕ, ◌+◌, ◌<◌, ◌≡◌, inl, inr, Bool, true, false, ◌&&◌, ◌||◌, eqb, ltb, List, drop, length, get_or, refl, sym, ap, ◌∙◌, arith, le-leb, lt-ltb, eqb-true, zero-add}
+use Rattle.std.proofs.Common.{ℕ, ◌+◌, ◌<◌, ◌≡◌, inl, inr, Bool, true, false, not, ◌&&◌, ◌||◌, eqb, ltb, List, Option, Some, None, drop, length, get_or, refl, sym, ap, ◌∙◌, arith, le-leb, lt-ltb, eqb-true, zero-add, true≢false}
 use Rattle.std.specs.List.{list_any}
+use Rattle.std.specs.Option.{is_some}
 use Rattle.std.proofs.lemmas.Bool.{or_cases}
 use Rattle.std.proofs.lemmas.Bool.Decides.{nat_tests}
 use Rattle.ls_lists.proofs.Places.{drop-next}
-use Rattle.ls_set.specs.ItemSet.{Items, has, full, with, is_within, IsWithin}
-use Rattle.ls_set.proofs.Sets.{has-with, has-full}
+use Rattle.ls_set.specs.ItemSet.{Items, has, full, with, minus, least, is_within, IsWithin}
+use Rattle.ls_set.proofs.Listed.{least-none_left}
+use Rattle.ls_set.proofs.Sets.{has-with, has-minus, has-full}
 use Rattle.ls_set.proofs.Cursors.{has-set_of-filter}
 use Rattle.ls_theory.specs.Families.{closure}
 use Rattle.ls_infer.specs.declared.standing_no.StandingNo.{StandingNo}
@@ -29,11 +31,32 @@ taken k i q h = grind (arith, nat_tests)
 pub left : (k i : ℕ) (q : Bool) → (i ≡ k → q ≡ false) → (ltb i k && q) ≡ (ltb i (k + 1) && q)
 left k i q h = grind (arith, nat_tests)
 
--- ---- the items that are forced
+-- ---- the items that no answer forces
 
--- what the next answer adds, where it is told whether A is within its closure
-pub forced-next : (ss : List StandingNo) (i : ℕ) (s : StandingNo) (a : Items) (q : ℕ) (f w : Bool) → i < length ss → s ≡ get_or ss i s → is_within a s.closed ≡ w
-    → (f || list_any (forces (record { a = a; q = q })) (drop i ss)) ≡ (f || ((w && has s.enough q) || list_any (forces (record { a = a; q = q })) (drop (i + 1) ss)))
-forced-next ss i s a q f w l e h =
-    ap (λ xs. f || list_any (forces (record { a = a; q = q })) xs) (drop-next ss i s l e)
-    ∙ ap (λ b. f || ((b && has s.enough q) || list_any (forces (record { a = a; q = q })) (drop (i + 1) ss))) h
+pub none_left : (s : Items) (q : ℕ) (first : Option ℕ) → first ≡ least s → is_some first ≡ false → has s q ≡ false
+none_left s q None e h = least-none_left s q (sym e)
+none_left s q (Some i) e h = absurd (true≢false h)
+
+-- items without those of two kinds
+not_either : (b e r : Bool) → ((b && not e) && not r) ≡ (b && not (e || r))
+not_either true true r = refl
+not_either true false r = refl
+not_either false e r = refl
+
+-- the next answer, where A is within its closure
+pub unforced-next : (ss : List StandingNo) (i : ℕ) (s : StandingNo) (a left : Items) (q : ℕ) → i < length ss → s ≡ get_or ss i s → is_within a s.closed ≡ true
+    → (has (minus left s.enough) q && not (list_any (forces (record { a = a; q = q })) (drop (i + 1) ss))) ≡ (has left q && not (list_any (forces (record { a = a; q = q })) (drop i ss)))
+unforced-next ss i s a left q l e h =
+    let rest = list_any (forces (record { a = a; q = q })) (drop (i + 1) ss) in
+    ap (λ b. b && not rest) (has-minus left s.enough q)
+    ∙ not_either (has left q) (has s.enough q) rest
+    ∙ ap (λ b. has left q && not ((b && has s.enough q) || rest)) (sym h)
+    ∙ ap (λ xs. has left q && not (list_any (forces (record { a = a; q = q })) xs)) (sym (drop-next ss i s l e))
+
+-- and where it is not
+pub unforced-same : (ss : List StandingNo) (i : ℕ) (s : StandingNo) (a left : Items) (q : ℕ) → i < length ss → s ≡ get_or ss i s → is_within a s.closed ≡ false
+    → (has left q && not (list_any (forces (record { a = a; q = q })) (drop (i + 1) ss))) ≡ (has left q && not (list_any (forces (record { a = a; q = q })) (drop i ss)))
+unforced-same ss i s a left q l e h =
+    let rest = list_any (forces (record { a = a; q = q })) (drop (i + 1) ss) in
+    ap (λ b. has left q && not ((b && has s.enough q) || rest)) (sym h)
+    ∙ ap (λ xs. has left q && not (list_any (forces (record { a = a; q = q })) xs)) (sym (drop-next ss i s l e))

@@ -1,8 +1,9 @@
 // The lists that make up a table.
-ghost use Rattle.std.specs.Prelude.{◌≡◌, ◌+◌, ◌*◌, ◌<◌, ◌≤◌, true, List, map, length, count_by, IfOk};
-ghost use Rattle.std.specs.List.{list_any, list_all};
+ghost use Rattle.std.specs.Prelude.{◌≡◌, ◌+◌, ◌*◌, ◌<◌, ◌≤◌, true, List, map, length, count_by, find, slice_get, IfOk};
+ghost use Rattle.std.specs.List.{list_all, position};
 ghost use Rattle.ls_set.specs.ItemSet.{Items, full, is_within};
 ghost use Rattle.ls_set.specs.Query.{is_good};
+ghost use Rattle.ls_theory.specs.Queries.{block_before};
 ghost use Rattle.ls_theory.specs.Families.{closure};
 ghost use Rattle.ls_query.specs.Blocks.{sets_of};
 ghost use Rattle.ls_infer.specs.Changes.{IsChange, is_stale};
@@ -12,7 +13,7 @@ use crate::fronts::{Front, close_block};
 use crate::standing_no::StandingNo;
 use crate::yes_change::YesChange;
 use ls_interior::{Interior, Steps};
-use ls_query::{Blocks, MOST_SETS};
+use ls_query::{Blocks, MOST_SETS, Walk};
 use ls_set::{ItemSet, PLACES, Query};
 use ls_theory::No;
 use std::alloc::{AllocError, Global};
@@ -32,14 +33,13 @@ pub fn closures_of<I: Interior, L: Ledger>(
     ensures few { length (sets_of blocks) ≤ MOST_SETS }
 {
     let mut closures = Vec::new(alloc);
-    let mut last = ItemSet::empty();
+    let mut walk = blocks.walk_from(ItemSet::empty());
     let mut front = Front::new();
     for _place in 0..blocks.count() {
-        let Some(set) = blocks.next_set(Some(last)) else {
+        if !walk.advance() {
             return Ok(closures);
-        };
-        closures.push(close_block(&closures, blocks, f, set, &mut front, steps))?;
-        last = set;
+        }
+        closures.push(close_block(&closures, blocks, &walk, f, &mut front, steps))?;
     }
     Ok(closures)
 }
@@ -65,22 +65,36 @@ pub fn standing_of<I: Interior, L: Ledger>(
 }
 
 // Whether a closure from before the change can be another after it.
-fn is_stale(change: YesChange, r: &Query, closed: ItemSet) -> bool
+fn is_stale(change: YesChange, r: &Query, closed: &ItemSet) -> bool
     requires { r.now.q < PLACES }
-    ensures { result ≡ is_stale change r.now closed }
+    ensures { result ≡ is_stale change r.now closed.now }
 {
     match change {
-        YesChange::Added => r.a.is_within(closed) && !closed.has(r.q),
-        YesChange::Removed => r.a.is_within(closed),
+        YesChange::Added => !closed.has(r.q) && r.a.is_within(*closed),
+        YesChange::Removed => r.a.is_within(*closed),
     }
 }
 
-// Whether some closure can be another after the change.
-fn any_stale(change: YesChange, r: &Query, closures: &[ItemSet]) -> bool
+// The place of the first closure that can be another after the change.
+fn first_stale(change: YesChange, r: &Query, closures: &[ItemSet]) -> Option<usize>
     requires { r.now.q < PLACES }
-    ensures { result ≡ list_any (is_stale change r.now) closures.now }
+    ensures { result ≡ position (is_stale change r.now) closures.now }
 {
-    closures.iter().any(|c| is_stale(change, r, *c))
+    closures.iter().position(|c| is_stale(change, r, c))
+}
+
+// The walk that comes next to the set at the place.
+fn walk_before(blocks: Blocks, place: usize) -> Walk
+    requires { place ≤ length (sets_of blocks) }
+    ensures blocks { result.blocks ≡ blocks }
+    ensures next { find (block_before result.set) (sets_of blocks)
+        ≡ slice_get (sets_of blocks) place }
+{
+    let mut walk = blocks.walk_from(ItemSet::empty());
+    for _passed in 0..place {
+        walk.advance();
+    }
+    walk
 }
 
 /// Makes the closures of the sets of the blocks those after the change of a Yes to `r`, in a step at
@@ -105,16 +119,16 @@ pub fn close_again<I: Interior, L: Ledger>(
     ensures within { list_all (λ c. is_within c (full (I.item_count f.now))) closures.new ≡ true }
     ensures cost { steps.new ≤ steps.old + count_by (λ c. is_within r.now.a c) closures.old }
 {
-    if !any_stale(change, r, closures) {
+    let Some(start) = first_stale(change, r, closures) else {
         return;
-    }
-    let mut last = ItemSet::empty();
+    };
+    let mut walk = walk_before(blocks, start);
     let mut front = Front::new();
-    for place in 0..closures.len() {
-        last = blocks.next_set(Some(last)).unwrap();
-        if is_stale(change, r, closures[place]) {
+    for place in start..closures.len() {
+        walk.advance();
+        if is_stale(change, r, &closures[place]) {
             let first = &closures[..place];
-            closures[place] = close_block(first, blocks, f, last, &mut front, steps);
+            closures[place] = close_block(first, blocks, &walk, f, &mut front, steps);
         }
     }
 }

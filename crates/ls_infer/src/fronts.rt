@@ -1,11 +1,11 @@
 // Closures of block sets, each from that of the set without one of its items.
-ghost use Rattle.std.specs.Prelude.{◌≡◌, ◌+◌, ◌<◌, ◌≤◌, ℕ, true, List, IfSome, MatchOption};
-ghost use Rattle.ls_set.specs.ItemSet.{Items, empty, full, has, with, most_items, IsWithin};
+ghost use Rattle.std.specs.Prelude.{◌≡◌, ◌+◌, ◌<◌, ◌≤◌, ℕ, true, List};
+ghost use Rattle.ls_set.specs.ItemSet.{Items, empty, full, has, with, IsWithin};
 ghost use Rattle.ls_theory.specs.Families.{closure};
 ghost use Rattle.ls_infer.specs.Fronts.{IsFront, AreFirst};
 
 use ls_interior::{Interior, Steps, closure};
-use ls_query::Blocks;
+use ls_query::{Blocks, Walk};
 use ls_set::ItemSet;
 use std::sync::ledger::Ledger;
 
@@ -27,20 +27,6 @@ impl Front {
             closed: ItemSet::empty(),
         }
     }
-}
-
-// The greatest item of the set.
-fn last_item(set: ItemSet) -> Option<u32>
-    ensures item { MatchOption result ((i : ℕ) → has set i ≡ true → ⊥) (λ i. has set i ≡ true) }
-    ensures place { IfSome result (λ i. i < most_items) }
-{
-    let mut left = set;
-    let mut last = None;
-    while let Some(i) = left.least() {
-        left = left.without(i);
-        last = Some(i);
-    }
-    last
 }
 
 // The front of a set that is the front so far, or else has its closure among the first ones.
@@ -87,34 +73,35 @@ fn close_with<I: Interior, L: Ledger>(
     all.minus(left.unwrap_or(ItemSet::empty()))
 }
 
-/// The closure of a set of the blocks, in a step at most. `first` has the closures of the first sets
-/// of the blocks. In front of the set is the set without its greatest item; where its closure is
-/// among the first, or is kept from the set before, only what the item brings is looked for.
+/// The closure of the set that the walk has come to, in a step at most. `first` has the closures of
+/// the first sets of the blocks. In front of the set is the set without its greatest item; where its
+/// closure is among the first, or is kept from the set before, only what the item brings is looked
+/// for.
 pub fn close_block<I: Interior, L: Ledger>(
     first: &[ItemSet],
     blocks: Blocks,
+    walk: &Walk,
     f: &I,
-    set: ItemSet,
     front: &mut Front,
     steps: &mut Steps<L>,
 ) -> ItemSet
+    requires walk { walk.now.blocks ≡ blocks }
     requires items { I.item_count f.now ≡ blocks.item_count }
-    requires within { IsWithin set (full (I.item_count f.now)) }
     ensures value { AreFirst blocks.item_count (I.members f.now) blocks first.now →
         IsFront blocks.item_count (I.members f.now) front.old →
-        result ≡ closure (full (I.item_count f.now)) (I.members f.now) set }
+        result ≡ closure (full (I.item_count f.now)) (I.members f.now) walk.now.set }
     ensures front { AreFirst blocks.item_count (I.members f.now) blocks first.now →
         IsFront blocks.item_count (I.members f.now) front.old →
         IsFront blocks.item_count (I.members f.now) front.new }
     ensures within { IsWithin result (full (I.item_count f.now)) }
     ensures cost { steps.new ≤ steps.old + 1 }
 {
-    let Some(item) = last_item(set) else {
-        return closure(f, set, steps);
+    let Some(item) = walk.greatest() else {
+        return closure(f, walk.set(), steps);
     };
-    *front = front_of(first, blocks, set.without(item), *front);
+    *front = front_of(first, blocks, walk.others(), *front);
     if front.set.least().is_none() {
-        return closure(f, set, steps);
+        return closure(f, walk.set(), steps);
     }
     close_with(f, front.closed, item, steps)
 }

@@ -1,5 +1,5 @@
 // What is kept of a standing answer that is No.
-ghost use Rattle.std.specs.Prelude.{◌≡◌, ◌+◌, ◌*◌, ◌<◌, ◌≤◌, ◌==◌, ℕ, List, true, not, min, map, length, filter, option_map};
+ghost use Rattle.std.specs.Prelude.{◌≡◌, ◌+◌, ◌*◌, ◌<◌, ◌≤◌, ◌==◌, ◌&&◌, ℕ, List, true, not, min, map, length, filter, option_map};
 ghost use Rattle.std.specs.List.{list_all, list_any};
 ghost use Rattle.std.specs.Option.{option_map_or};
 ghost use Rattle.ls_set.specs.ItemSet.{Items, full, has, minus, is_among, IsWithin};
@@ -198,17 +198,21 @@ pub fn forcing(standing: &[StandingNo], r: &Query) -> Option<u64>
     least
 }
 
-/// The items `q` for which some answer forces the query (`a`, q) No.
-pub fn forced_items(standing: &[StandingNo], a: ItemSet) -> ItemSet
-    ensures { (q : ℕ) → has result q ≡ list_any (forces (record { a = a; q = q })) standing.now }
+/// The items `q` of `undecided` for which no answer forces the query (`a`, q) No.
+pub fn unforced(standing: &[StandingNo], a: ItemSet, undecided: ItemSet) -> ItemSet
+    ensures { (q : ℕ) → has result q ≡ (has undecided q
+        && not (list_any (forces (record { a = a; q = q })) standing.now)) }
 {
-    let mut forced = ItemSet::empty();
+    let mut left = undecided;
     for s in standing {
         if a.is_within(s.closed) {
-            forced = forced.union(s.enough);
+            left = left.minus(s.enough);
+            if left.least().is_none() {
+                return left;
+            }
         }
     }
-    forced
+    left
 }
 
 /// Makes what is kept of each answer that after a Yes to `r` came or was taken back, in a step at

@@ -18,10 +18,10 @@ ghost use Rattle.ls_laws.specs.Forced.{IsSound, IsNumbered};
 ghost use Rattle.ls_query.specs.Blocks.{sets_of, queries_of};
 
 use crate::closures::{close_again, closures_of, standing_of};
-use crate::standing_no::{StandingNo, change_each, forced_items, forcing, take_out};
+use crate::standing_no::{StandingNo, change_each, forcing, take_out, unforced};
 use crate::yes_change::YesChange;
 use ls_interior::{Interior, Steps, closure};
-use ls_query::Blocks;
+use ls_query::{Blocks, Walk};
 use ls_set::{ItemSet, PLACES, Query};
 use ls_theory::{Known, No};
 use std::alloc::{AllocError, Global};
@@ -250,19 +250,21 @@ impl Table {
         }
     }
 
-    // The items q for which the query (a, q) is open, where `a` is the block set at a place.
-    fn open_items(&self, place: u32, a: ItemSet) -> ItemSet
-        requires { slice_get (sets_of self.now.table.blocks) place ≡ Some a }
+    // The items q for which the query (A, q) is open, where the walk has come to the block set A, at
+    // the place.
+    fn open_items(&self, place: u32, walk: &Walk) -> ItemSet
+        requires { slice_get (sets_of self.now.table.blocks) place ≡ Some walk.now.set }
         ensures { (q : ℕ) → has result q
-            ≡ (is_good self.now.table.blocks.item_count (record { a = a; q = q })
-            && is_open_in self.now.table (record { a = a; q = q })) }
+            ≡ (is_good self.now.table.blocks.item_count (record { a = walk.now.set; q = q })
+            && is_open_in self.now.table (record { a = walk.now.set; q = q })) }
     {
         let closed = closure_at(&self.closures, place);
-        let undecided = ItemSet::full(self.n).minus(a).minus(closed);
+        let undecided = ItemSet::full(self.n).minus(closed);
         if undecided.least().is_none() {
             return undecided;
         }
-        undecided.minus(forced_items(&self.standing, a))
+        let a = walk.set();
+        unforced(&self.standing, a, undecided.minus(a))
     }
 
     /// Whether the good query, which is of the blocks, is open. It takes no memory and no step.
@@ -274,26 +276,27 @@ impl Table {
             result ≡ is_open (spaces_of i) r.now }
     {
         match self.blocks.place_of(r.a) {
-            Some(place) => self.open_items(place, r.a).has(r.q),
+            Some(place) => {
+                let walk = self.blocks.walk_from(r.a);
+                self.open_items(place, &walk).has(r.q)
+            }
             None => false,
         }
     }
 
-    // The first open query from the place on, where `last` is the set before it.
-    fn open_from(&self, start: u32, last: ItemSet) -> Option<Query>
-        requires within { IsWithin last (full self.now.table.blocks.item_count) }
-        requires place { find (block_before last) (sets_of self.now.table.blocks)
+    // The first open query from the place on, where the walk has come to the set before it.
+    fn open_from(&self, start: u32, mut walk: Walk) -> Option<Query>
+        requires walk { walk.blocks ≡ self.now.table.blocks }
+        requires place { find (block_before walk.set) (sets_of self.now.table.blocks)
             ≡ slice_get (sets_of self.now.table.blocks) start }
-        ensures { result ≡ find (λ s. block_before last s.a && is_open_in self.now.table s)
+        ensures { result ≡ find (λ s. block_before walk.set s.a && is_open_in self.now.table s)
             (queries_of self.now.table.blocks) }
     {
-        let mut last = last;
         for place in start..self.blocks.count() {
-            let set = self.blocks.next_set(Some(last))?;
-            if let Some(q) = self.open_items(place, set).least() {
-                return Some(Query { a: set, q });
+            walk.advance();
+            if let Some(q) = self.open_items(place, &walk).least() {
+                return Some(Query { a: walk.set(), q });
             }
-            last = set;
         }
         None
     }
@@ -306,12 +309,13 @@ impl Table {
             (filter (comes_after query_before last) (queries_of self.now.table.blocks)) }
     {
         let Some(r) = after else {
-            return self.open_from(0, ItemSet::empty());
+            return self.open_from(0, self.blocks.walk_from(ItemSet::empty()));
         };
         let place = self.blocks.place_of(r.a)?;
-        match self.open_items(place, r.a).next_member(r.q) {
+        let walk = self.blocks.walk_from(r.a);
+        match self.open_items(place, &walk).next_member(r.q) {
             Some(q) => Some(Query { a: r.a, q }),
-            None => self.open_from(place + 1, r.a),
+            None => self.open_from(place + 1, walk),
         }
     }
 

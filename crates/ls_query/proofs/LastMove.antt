@@ -35,14 +35,14 @@ Looked-first n a = record {
 -- ---- one item further
 
 -- an item that is out is that item, or was out
-out_cases : (left : Items) (i j : ℕ) → has (without left i) j ≡ false → (j ≡ i) ⊎ (has left j ≡ false)
+pub out_cases : (left : Items) (i j : ℕ) → has (without left i) j ≡ false → (j ≡ i) ⊎ (has left j ≡ false)
 out_cases left i j h = elim (cases_eq j i) [
   | inl e ↦ inl e
   | inr n ↦ inr (grind (arith, members, nat_tests))
 ]
 
 -- an item that is left was left, and is above that item
-above_least : (left : Items) (i k : ℕ) → least left ≡ Some i → has (without left i) k ≡ true → (has left k ≡ true) × (i < k)
+pub above_least : (left : Items) (i k : ℕ) → least left ≡ Some i → has (without left i) k ≡ true → (has left k ≡ true) × (i < k)
 above_least left i k e h =
     let first = least-cases left i e in
     let here : has left k ≡ true = grind (arith, members, nat_tests) in

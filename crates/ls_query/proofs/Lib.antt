@@ -5,6 +5,7 @@ pub mod BlockOrder
 pub mod BlockSets
 pub mod Steps
 pub mod LastMove
+pub mod Walks
 pub mod Counted
 pub mod QuerySets
 pub mod Placed

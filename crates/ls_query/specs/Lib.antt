@@ -1,3 +1,4 @@
 pub mod Blocks
 pub mod Moves
 pub mod Places
+pub mod Walks

@@ -16,3 +16,8 @@ HasNoMove n a = (j : ℕ) → j + 1 < n → has a j ≡ true → has a (j + 1) �
 -- the items of a from i on, packed from i + 1 on
 abbrev pub moved : Items → ℕ → Items
 moved a i = union (minus (full (i + 1 + (len a - len (keep_before a i)))) (full (i + 1))) (keep_before a i)
+
+-- i is the greatest item of a
+pub record IsGreatest (a : Items) (i : ℕ) : Type 0 where
+  pub here : has a i ≡ true
+  pub above : (j : ℕ) → i < j → has a j ≡ false

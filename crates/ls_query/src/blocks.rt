@@ -2,7 +2,7 @@
 ghost use Rattle.std.specs.Prelude.{◌≡◌, ◌<◌, ◌≤◌, ℕ, true, Err, length, find};
 ghost use Rattle.std.specs.Option.{ForSome, option_map};
 ghost use Rattle.std.specs.List.{position};
-ghost use Rattle.ls_set.specs.ItemSet.{full, IsWithin, is_same};
+ghost use Rattle.ls_set.specs.ItemSet.{full, len, IsWithin, is_same};
 ghost use Rattle.ls_set.specs.Query.{is_good};
 ghost use Rattle.ls_theory.specs.Queries.{block_before, query_before};
 ghost use Rattle.ls_theory.specs.Pages.{comes_after};
@@ -11,6 +11,7 @@ use crate::asking::{query_after, query_after_set};
 use crate::counting::{MOST_SETS, count_sets};
 use crate::moving::set_after;
 use crate::placing;
+use crate::walk::{Walk, walk_at};
 use ls_set::{ItemSet, PLACES, Query};
 use ls_theory::BlockFault;
 use std::alloc::AllocError;
@@ -62,6 +63,13 @@ impl Blocks {
         }
     }
 
+    // How many items there are.
+    pub(crate) fn items(&self) -> u32
+        ensures { result ≡ self.now.item_count }
+    {
+        self.n
+    }
+
     /// How many sets there are.
     pub fn count(&self) -> u32
         ensures value { result ≡ length (sets_of self.now) }
@@ -81,6 +89,17 @@ impl Blocks {
             // The empty set comes before all of them.
             None => set_after(self.n, self.k, ItemSet::empty()),
         }
+    }
+
+    /// A walk that has come to the set. It may be the empty set, before all of them.
+    pub fn walk_from(&self, set: ItemSet) -> Walk
+        requires within { IsWithin set (full self.now.item_count) }
+        requires size { len set ≤ self.now.largest }
+        ensures blocks { result.blocks ≡ self.now }
+        ensures set { result.set ≡ set }
+    {
+        let Blocks { n, k } = *self;
+        walk_at(Blocks { n, k }, set)
     }
 
     /// The place of a set among the sets of the blocks, counted from 0, or `None` where it is not

@@ -8,8 +8,10 @@ mod counting;
 mod moving;
 mod placing;
 mod turns;
+mod walk;
 
 pub use blocks::Blocks;
 pub use counting::MOST_SETS;
 pub use ls_theory::BlockFault;
 pub use turns::each_comes_in_turn;
+pub use walk::Walk;

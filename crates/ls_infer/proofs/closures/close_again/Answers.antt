@@ -1,43 +1,43 @@
-use Rattle.std.proofs.Common.{◌+◌, ◌≡◌, ◌≤◌, cond, List, take, length, get_or, slice_get, Some, refl, sym, ap, ◌∙◌, subst, arith}
+use Rattle.std.proofs.Common.{◌+◌, ◌≡◌, ◌<◌, ◌≤◌, cond, false, List, take, length, get_or, slice_get, Some, refl, sym, ap, ◌∙◌, subst, arith}
 use Rattle.std.specs.List.{count_by, list_any}
 use Rattle.std.proofs.lemmas.Grind.{drop_more_same}
-use Rattle.std.proofs.lemmas.Option.{slice_get-get_or}
+use Rattle.std.specs.Option.{is_some}
+use Rattle.std.proofs.lemmas.List.Quantifiers.{position-Some}
+use Rattle.ls_lists.proofs.Places.{position-lt, is_some-position}
 use Rattle.ls_lists.proofs.Every.{list_all-set}
 use Rattle.ls_lists.proofs.Overwriting.{left-at, left-next, count-next, images-at, images-next, images-end}
-use Rattle.ls_set.specs.ItemSet.{Items, full, is_within}
-use Rattle.ls_set.proofs.Sets.{empty-within, is_within-from}
+use Rattle.ls_set.specs.ItemSet.{Items, empty, full, is_within}
+use Rattle.ls_set.proofs.Sets.{is_within-from}
 use Rattle.ls_theory.specs.Families.{closure}
 use Rattle.ls_laws.proofs.Breaks.{good-from}
 use Rattle.ls_query.specs.Blocks.{sets_of}
 use Rattle.ls_infer.specs.Fronts.{IsFront}
 use Rattle.ls_infer.specs.Changes.{is_stale}
-use Rattle.ls_infer.proofs.Places.{first_place, next_place, place-within}
-use Rattle.ls_infer.proofs.Closing.{first-images, images-stay, fresh_stays, stale_has, all_fresh}
+use Rattle.ls_infer.proofs.Places.{next_place, came-within}
+use Rattle.ls_infer.proofs.Closing.{first-images, fresh-first, images-stay, fresh_stays, stale_has, all_fresh}
 use Rattle.ls_infer.proofs.closures.close_again.Goals as goal
 use Rattle.ls_infer.proofs.closures.close_again.Goals.{then-is_stale, else-is_stale}
 
+pub walk_before-walk-requires : goal.walk_before-walk-requires
+walk_before-walk-requires g c = omega (arith, c.requires.each, position-lt (is_stale c.args.change c.args.r.now) c.args.closures.now c.in-Some.start (sym c.first_stale.ensures ∙ c.in-Some.is))
+
 pub loop-place-init : goal.loop-place-init
-loop-place-init g c = record {
-  last = rw c.empty-last.ensures (empty-within (full c.args.blocks.item_count));
-  place = rw c.empty-last.ensures (first_place c.args.blocks.item_count c.args.blocks.largest);
-  within = c.requires.within;
-  left = refl;
-  made = λ before change e. e;
-  front = λ before change e. c.new-front.ensures.front c.args.blocks.item_count (g.I.Interior.members c.args.f.now);
-  cost = omega arith;
-}
-
-pub unwrap-last-requires : goal.unwrap-last-requires
-unwrap-last-requires g c =
-    let sets = sets_of c.args.blocks in
-    let i = c.loop-place.place in
-    rw (c.next_set.ensures, c.loop-place.invariant.place, slice_get-get_or sets i c.loop-place.last (omega (arith, c.requires.each, c.loop-place-test.true))) refl
-
-pub close_block-requires-clause-within : goal.close_block-requires-clause-within
-close_block-requires-clause-within g c =
-    let b = c.args.blocks in
-    let at : slice_get (sets_of b) c.loop-place.place ≡ Some c.unwrap-last.result = sym c.loop-place.invariant.place ∙ sym c.next_set.ensures ∙ c.unwrap-last.ensures in
-    rw c.requires.items (place-within b.item_count b.largest c.loop-place.place c.unwrap-last.result at)
+loop-place-init g c =
+    let n = g.I.Interior.item_count c.args.f.now in
+    let f = g.I.Interior.members c.args.f.now in
+    let r = c.args.r.now in
+    let start = c.in-Some.start in
+    let first = position-Some (is_stale c.args.change r) c.args.closures.now start empty (sym c.first_stale.ensures ∙ c.in-Some.is) in
+    let below : start ≤ length (sets_of c.args.blocks) = omega (arith, c.requires.each, first.0) in
+    record {
+      of_blocks = c.walk_before-walk.ensures.blocks;
+      place = c.walk_before-walk.ensures.next;
+      within = c.requires.within;
+      left = refl;
+      made = λ before change e. fresh-first c.args.change n r before f (sets_of c.args.blocks) c.args.closures.now start (g.met.I.Interior.is_family c.args.f.now) (good-from n r c.requires.good) change below first.2 e;
+      front = λ before change e. c.new-front.ensures.front c.args.blocks.item_count f;
+      cost = omega arith;
+    }
 
 pub loop-place-preserved : goal.loop-place-preserved
 loop-place-preserved g c =
@@ -49,15 +49,17 @@ loop-place-preserved g c =
     let ys : List Items = c.loop-place.closures in
     let i = c.loop-place.place in
     let x : Items = c.index-closures-place.result in
-    let s = c.unwrap-last.result in
+    let s = c.advance.new.self.set in
     let v = c.loop-place.invariant in
-    let at : slice_get (sets_of b) i ≡ Some s = sym v.place ∙ sym c.next_set.ensures ∙ c.unwrap-last.ensures in
+    let inside : i < length (sets_of b) = omega (arith, c.requires.each, c.loop-place-test.true) in
+    let at : slice_get (sets_of b) i ≡ Some s = came-within b c.loop-place.walk.blocks i c.loop-place.walk.set s c.advance.result v.of_blocks v.place c.advance.ensures.next inside in
     let old = left-at xs ys i x v.left c.index-closures-place.is in
     let counted = count-next (is_within r.a) xs i x c.loop-place-test.true old in
+    let told = ap (is_stale c.args.change r) c.index-closures-place.is in
     let below : i ≤ length (sets_of b) = omega (arith, c.requires.each, c.loop-place-test.true) in
     elim c.if-is_stale.branch [
       | then-is_stale w ↦ record {
-        last = place-within b.item_count b.largest i s at;
+        of_blocks = c.advance.ensures.blocks ∙ v.of_blocks;
         place = next_place b.item_count b.largest i s at;
         within = rw w.closures-is (list_all-set (λ c. is_within c (full n)) ys i w.close_block.result v.within (is_within-from w.close_block.result (full n) w.close_block.ensures.within));
         left = rw w.closures-is (left-next xs ys i w.close_block.result v.left);
@@ -66,18 +68,18 @@ loop-place-preserved g c =
         front = λ before change e. subst (IsFront b.item_count f) (sym w.front-is)
             (w.close_block.ensures.front (first-images n b.item_count f before b ys i c.requires.items below (v.made before change e)) (v.front before change e));
         cost =
-            let one = ap (λ z. count_by (is_within r.a) (take i xs) + cond z 1 0) (stale_has c.args.change r x (sym w.if-is_stale.ensures)) in
+            let one = ap (λ z. count_by (is_within r.a) (take i xs) + cond z 1 0) (stale_has c.args.change r x (told ∙ sym w.if-is_stale.ensures)) in
             omega (arith, counted, one, v.cost, w.close_block.ensures.cost, w.steps-is);
       }
       | else-is_stale w ↦ record {
-        last = place-within b.item_count b.largest i s at;
+        of_blocks = c.advance.ensures.blocks ∙ v.of_blocks;
         place = next_place b.item_count b.largest i s at;
         within = rw w.closures-is v.within;
         left = rw w.closures-is (drop_more_same ys xs i v.left);
         made = λ before change e.
             let closed = c.index-closures-place.is ∙ ap (λ l. get_or l i x) (v.made before change e) ∙ images-at (closure (full n) f) (closure (full n) before) (sets_of b) i s x at in
             w.closures-is ∙ images-stay (closure (full n) f) (closure (full n) before) (sets_of b) ys i s at (v.made before change e)
-            (fresh_stays c.args.change n r before f s (g.met.I.Interior.is_family c.args.f.now) (good-from n r c.requires.good) change (ap (is_stale c.args.change r) (sym closed) ∙ sym w.if-is_stale.ensures));
+            (fresh_stays c.args.change n r before f s (g.met.I.Interior.is_family c.args.f.now) (good-from n r c.requires.good) change (ap (is_stale c.args.change r) (sym closed) ∙ told ∙ sym w.if-is_stale.ensures));
         front = λ before change e. subst (IsFront b.item_count f) (sym w.front-is) (v.front before change e);
         cost = omega (arith, counted, v.cost, w.steps-is);
       }
@@ -90,9 +92,11 @@ returns-clause-each g c = λ before change e.
     let past : length (sets_of c.args.blocks) ≤ c.loop-place.place = omega (arith, c.requires.each, c.loop-place-test.false) in
     c.loop-place.invariant.made before change e ∙ images-end (closure (full n) f) (closure (full n) before) (sets_of c.args.blocks) c.loop-place.place past
 
-pub returns-then-not-any_stale-clause-each : goal.returns-then-not-any_stale-clause-each
-returns-then-not-any_stale-clause-each g c = λ before change e.
+pub returns-in_default-clause-each : goal.returns-in_default-clause-each
+returns-in_default-clause-each g c = λ before change e.
     let n = g.I.Interior.item_count c.args.f.now in
     let f = g.I.Interior.members c.args.f.now in
+    let stale = is_stale c.args.change c.args.r.now in
+    let none : list_any stale c.args.closures.now ≡ false = sym (is_some-position stale c.args.closures.now) ∙ ap is_some (sym c.first_stale.ensures ∙ c.in_default.is) in
     e ∙ all_fresh c.args.change n c.args.r.now before f (sets_of c.args.blocks) (g.met.I.Interior.is_family c.args.f.now) (good-from n c.args.r.now c.requires.good) change
-    (ap (list_any (is_stale c.args.change c.args.r.now)) (sym e) ∙ sym c.any_stale.ensures ∙ c.if-not-any_stale.true)
+    (ap (list_any stale) (sym e) ∙ none)

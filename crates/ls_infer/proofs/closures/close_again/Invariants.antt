@@ -1,7 +1,7 @@
 use Rattle.std.proofs.Common.{◌≡◌, ◌+◌, ◌≤◌, true, List, map, take, drop, find, slice_get}
 use Rattle.std.specs.List.{list_all, count_by}
 use Rattle.ls_lists.specs.Lists.{images}
-use Rattle.ls_set.specs.ItemSet.{Items, full, is_within, IsWithin}
+use Rattle.ls_set.specs.ItemSet.{Items, full, is_within}
 use Rattle.ls_theory.specs.Queries.{block_before}
 use Rattle.ls_theory.specs.Families.{closure}
 use Rattle.ls_query.specs.Blocks.{sets_of}
@@ -9,11 +9,11 @@ use Rattle.ls_infer.specs.Changes.{IsChange}
 use Rattle.ls_infer.specs.Fronts.{IsFront}
 use Rattle.ls_infer.proofs.closures.close_again.Given as goal
 
--- the set at the place is the first after the last; those so far are the closures after the change, those that are left are as they were; and the front is kept
+-- the set at the place is the first after that of the walk; those so far are the closures after the change, those that are left are as they were; and the front is kept
 abbrev pub invariant-loop-place : goal.invariant-loop-place
 invariant-loop-place g l = record {
-  last : IsWithin l.last (full l.blocks.item_count);
-  place : find (block_before l.last) (sets_of l.blocks) ≡ slice_get (sets_of l.blocks) l.place;
+  of_blocks : l.walk.blocks ≡ l.blocks;
+  place : find (block_before l.walk.set) (sets_of l.blocks) ≡ slice_get (sets_of l.blocks) l.place;
   within : list_all (λ c. is_within c (full (g.I.Interior.item_count l.f))) l.closures ≡ true;
   left : drop l.place l.closures ≡ drop l.place l.initial.closures;
   made : (before : List Items) → IsChange l.change (g.I.Interior.item_count l.f) l.r before (g.I.Interior.members l.f)

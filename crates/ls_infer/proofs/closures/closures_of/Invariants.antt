@@ -1,17 +1,17 @@
 use Rattle.std.proofs.Common.{◌≡◌, ◌+◌, ◌≤◌, map, take, find, slice_get}
-use Rattle.ls_set.specs.ItemSet.{full, IsWithin}
+use Rattle.ls_set.specs.ItemSet.{full}
 use Rattle.ls_theory.specs.Queries.{block_before}
 use Rattle.ls_theory.specs.Families.{closure}
 use Rattle.ls_query.specs.Blocks.{sets_of}
 use Rattle.ls_infer.specs.Fronts.{IsFront}
 use Rattle.ls_infer.proofs.closures.closures_of.Given as goal
 
--- the closures of the sets so far; the set at the place is the first after the last; the front is kept; and each was one step at most
+-- the closures of the sets so far; the set at the place is the first after that of the walk; the front is kept; and each was one step at most
 abbrev pub invariant-loop-place : goal.invariant-loop-place
 invariant-loop-place g l = record {
   list : l.closures.items ≡ map (closure (full (g.I.Interior.item_count l.f)) (g.I.Interior.members l.f)) (take l._place (sets_of l.blocks));
-  within : IsWithin l.last (full l.blocks.item_count);
-  place : find (block_before l.last) (sets_of l.blocks) ≡ slice_get (sets_of l.blocks) l._place;
+  of_blocks : l.walk.blocks ≡ l.blocks;
+  place : find (block_before l.walk.set) (sets_of l.blocks) ≡ slice_get (sets_of l.blocks) l._place;
   front : IsFront l.blocks.item_count (g.I.Interior.members l.f) l.front;
   cost : l.steps ≤ l.fn.steps + l._place;
 }

@@ -1,28 +1,32 @@
-use Rattle.std.proofs.Common.{◌≡◌, ◌&&◌, find, slice_get, Some, None, sym, ap, ◌∙◌}
+use Rattle.std.proofs.Common.{◌≡◌, ◌&&◌, find, slice_get, Some, None, sym, ap, ◌∙◌, subst, arith}
 use Rattle.std.specs.List.{position}
 use Rattle.ls_lists.proofs.Elements.{get-in}
 use Rattle.ls_set.specs.ItemSet.{full, is_same}
 use Rattle.ls_set.proofs.Sets.{empty-within}
 use Rattle.ls_theory.specs.Queries.{block_before}
 use Rattle.ls_laws.proofs.Breaks.{good-from}
+use Rattle.ls_laws.proofs.Counts.{len-empty}
 use Rattle.ls_query.specs.Blocks.{sets_of, queries_of}
 use Rattle.ls_query.proofs.Placed.{position-get}
-use Rattle.ls_query.proofs.Passing.{passing-all, next-passing, passing-later, passing-outside}
+use Rattle.ls_query.proofs.Passing.{ArePassing, passing-all, next-passing, passing-later, passing-outside}
 use Rattle.ls_infer.specs.Tables.{is_open_in}
-use Rattle.ls_infer.proofs.Places.{first_place, next_place}
+use Rattle.ls_infer.proofs.Places.{first_place, next_place, place-within, place-few}
 use Rattle.ls_infer.proofs.table.Table.first_open.Goals as goal
 
-pub open_from-requires-clause-within : goal.open_from-requires-clause-within
-open_from-requires-clause-within c = rw c.empty.ensures (empty-within (full c.args.self.now.table.blocks.item_count))
+pub walk_from-requires-clause-within : goal.walk_from-requires-clause-within
+walk_from-requires-clause-within c = rw c.empty.ensures (empty-within (full c.self.inside.blocks.item_count))
+
+pub walk_from-requires-clause-size : goal.walk_from-requires-clause-size
+walk_from-requires-clause-size c = rw (c.empty.ensures, len-empty) (omega arith)
 
 pub open_from-requires-clause-place : goal.open_from-requires-clause-place
-open_from-requires-clause-place c = rw c.empty.ensures (first_place c.args.self.now.table.blocks.item_count c.args.self.now.table.blocks.largest)
+open_from-requires-clause-place c = rw (c.walk_from.ensures.set, c.empty.ensures) (first_place c.args.self.now.table.blocks.item_count c.args.self.now.table.blocks.largest)
 
 pub returns-in_default : goal.returns-in_default
 returns-in_default c =
     let t = c.args.self.now.table in
     rw c.in_default.is
-    (c.open_from.ensures ∙ ap (λ e. find (λ s. block_before e s.a && is_open_in t s) (queries_of t.blocks)) c.empty.ensures
+    (c.open_from.ensures ∙ ap (λ e. find (λ s. block_before e s.a && is_open_in t s) (queries_of t.blocks)) (c.walk_from.ensures.set ∙ c.empty.ensures)
     ∙ passing-all t.blocks.item_count t.blocks.largest (is_open_in t))
 
 pub returns-in_err-place : goal.returns-in_err-place
@@ -33,21 +37,32 @@ returns-in_err-place c =
     rw (c.in-Some.is, c.from_residual.ensures)
     (sym (passing-outside t.blocks.item_count t.blocks.largest (is_open_in t) r (good-from t.blocks.item_count r (c.requires c.in-Some.r c.in-Some.is)) out))
 
+pub walk_from-walk-requires-clause-within : goal.walk_from-walk-requires-clause-within
+walk_from-walk-requires-clause-within c =
+    let b = c.self.inside.blocks in
+    let a = c.in-Some.r.now.a in
+    place-within b.item_count b.largest c.in_ok-place.place a (position-get b.item_count b.largest a c.in_ok-place.place (sym c.place_of.ensures ∙ c.in_ok-place.was))
+
+pub walk_from-walk-requires-clause-size : goal.walk_from-walk-requires-clause-size
+walk_from-walk-requires-clause-size c =
+    let b = c.self.inside.blocks in
+    let a = c.in-Some.r.now.a in
+    place-few b.item_count b.largest c.in_ok-place.place a (position-get b.item_count b.largest a c.in_ok-place.place (sym c.place_of.ensures ∙ c.in_ok-place.was))
+
 pub open_items-requires : goal.open_items-requires
 open_items-requires c =
     let t = c.args.self.now.table in
     let a = c.in-Some.r.now.a in
     position-get t.blocks.item_count t.blocks.largest a c.in_ok-place.place (ap (λ u. position (is_same a) (sets_of u.table.blocks)) (sym c.self.view_is) ∙ sym c.place_of.ensures ∙ c.in_ok-place.was)
-
-pub open_from-requires-in-None-clause-within : goal.open_from-requires-in-None-clause-within
-open_from-requires-in-None-clause-within c = (good-from c.args.self.now.table.blocks.item_count c.in-Some.r.now (c.requires c.in-Some.r c.in-Some.is)).small
+    ∙ ap Some (sym c.walk_from-walk.ensures.set)
 
 pub open_from-requires-in-None-clause-place : goal.open_from-requires-in-None-clause-place
 open_from-requires-in-None-clause-place c =
     let t = c.args.self.now.table in
     let a = c.in-Some.r.now.a in
-    next_place t.blocks.item_count t.blocks.largest c.in_ok-place.place a
-    (position-get t.blocks.item_count t.blocks.largest a c.in_ok-place.place (ap (λ u. position (is_same a) (sets_of u.table.blocks)) (sym c.self.view_is) ∙ sym c.place_of.ensures ∙ c.in_ok-place.was))
+    rw c.walk_from-walk.ensures.set
+    (next_place t.blocks.item_count t.blocks.largest c.in_ok-place.place a
+    (position-get t.blocks.item_count t.blocks.largest a c.in_ok-place.place (ap (λ u. position (is_same a) (sets_of u.table.blocks)) (sym c.self.view_is) ∙ sym c.place_of.ensures ∙ c.in_ok-place.was)))
 
 pub returns-in-Some-next_member : goal.returns-in-Some-next_member
 returns-in-Some-next_member c =
@@ -55,11 +70,15 @@ returns-in-Some-next_member c =
     let r = c.in-Some.r.now in
     let here : slice_get (sets_of t.blocks) c.in_ok-place.place ≡ Some r.a =
     position-get t.blocks.item_count t.blocks.largest r.a c.in_ok-place.place (ap (λ u. position (is_same r.a) (sets_of u.table.blocks)) (sym c.self.view_is) ∙ sym c.place_of.ensures ∙ c.in_ok-place.was) in
+    let opens = subst (λ s. ArePassing t.blocks.item_count (is_open_in t) s c.open_items.result) c.walk_from-walk.ensures.set c.open_items.ensures in
     rw c.in-Some.is
-    (sym (next-passing t.blocks.item_count t.blocks.largest (is_open_in t) r c.open_items.result c.in-Some-next_member.q (get-in (sets_of t.blocks) c.in_ok-place.place r.a here) c.open_items.ensures (sym c.next_member.ensures.value ∙ c.in-Some-next_member.is)))
+    (sym (next-passing t.blocks.item_count t.blocks.largest (is_open_in t) r c.open_items.result c.in-Some-next_member.q (get-in (sets_of t.blocks) c.in_ok-place.place r.a here) opens (sym c.next_member.ensures.value ∙ c.in-Some-next_member.is)))
 
 pub returns-in-None : goal.returns-in-None
 returns-in-None c =
     let t = c.args.self.now.table in
+    let r = c.in-Some.r.now in
+    let opens = subst (λ s. ArePassing t.blocks.item_count (is_open_in t) s c.open_items.result) c.walk_from-walk.ensures.set c.open_items.ensures in
     rw c.in-Some.is
-    (c.open_from-in-None.ensures ∙ passing-later t.blocks.item_count t.blocks.largest (is_open_in t) c.in-Some.r.now c.open_items.result c.open_items.ensures (sym c.next_member.ensures.value ∙ c.in-None.is))
+    (c.open_from-in-None.ensures ∙ ap (λ e. find (λ s. block_before e s.a && is_open_in t s) (queries_of t.blocks)) c.walk_from-walk.ensures.set
+    ∙ passing-later t.blocks.item_count t.blocks.largest (is_open_in t) r c.open_items.result opens (sym c.next_member.ensures.value ∙ c.in-None.is))

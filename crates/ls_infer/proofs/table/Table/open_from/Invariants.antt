@@ -1,14 +1,13 @@
 use Rattle.std.proofs.Common.{◌≡◌, ◌&&◌, find, slice_get}
-use Rattle.ls_set.specs.ItemSet.{full, IsWithin}
 use Rattle.ls_theory.specs.Queries.{block_before}
 use Rattle.ls_query.specs.Blocks.{sets_of, queries_of}
 use Rattle.ls_infer.specs.Tables.{is_open_in}
 use Rattle.ls_infer.proofs.table.Table.open_from.Given as goal
 
--- the set at the place is the first after the last, and no open query was passed
+-- the set at the place is the first after that of the walk, and no open query was passed
 abbrev pub invariant-loop-place : goal.invariant-loop-place
 invariant-loop-place l = record {
-  within : IsWithin l.last (full l.self.table.blocks.item_count);
-  place : find (block_before l.last) (sets_of l.self.table.blocks) ≡ slice_get (sets_of l.self.table.blocks) l.place;
-  passed : find (λ s. block_before l.fn.last s.a && is_open_in l.self.table s) (queries_of l.self.table.blocks) ≡ find (λ s. block_before l.last s.a && is_open_in l.self.table s) (queries_of l.self.table.blocks);
+  of_blocks : l.walk.blocks ≡ l.self.table.blocks;
+  place : find (block_before l.walk.set) (sets_of l.self.table.blocks) ≡ slice_get (sets_of l.self.table.blocks) l.place;
+  passed : find (λ s. block_before l.fn.walk.set s.a && is_open_in l.self.table s) (queries_of l.self.table.blocks) ≡ find (λ s. block_before l.walk.set s.a && is_open_in l.self.table s) (queries_of l.self.table.blocks);
 }

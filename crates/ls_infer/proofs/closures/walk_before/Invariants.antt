@@ -1,0 +1,11 @@
+use Rattle.std.proofs.Common.{◌≡◌, find, slice_get}
+use Rattle.ls_theory.specs.Queries.{block_before}
+use Rattle.ls_query.specs.Blocks.{sets_of}
+use Rattle.ls_infer.proofs.closures.walk_before.Given as goal
+
+-- the set at the place is the first after that of the walk
+abbrev pub invariant-loop-passed : goal.invariant-loop-passed
+invariant-loop-passed l = record {
+  of_blocks : l.walk.blocks ≡ l.fn.blocks;
+  place : find (block_before l.walk.set) (sets_of l.fn.blocks) ≡ slice_get (sets_of l.fn.blocks) l._passed;
+}

@@ -1,0 +1,9 @@
+use Rattle.std.proofs.Common.{◌≡◌, ◌&&◌, ℕ, not, drop}
+use Rattle.std.specs.List.{list_any}
+use Rattle.ls_set.specs.ItemSet.{has}
+use Rattle.ls_infer.specs.Tables.{forces}
+use Rattle.ls_infer.proofs.standing_no.unforced.Given as goal
+
+-- of the items that are left, those that the answers that are left do not force
+abbrev pub invariant-loop-s : goal.invariant-loop-s
+invariant-loop-s l = (q : ℕ) → (has l.left q && not (list_any (forces (record { a = l.a; q = q })) (drop l.s-index l.standing))) ≡ (has l.fn.undecided q && not (list_any (forces (record { a = l.a; q = q })) l.standing))
