@@ -9,10 +9,13 @@ use Rattle.ls_set.specs.Query.{is_good}
 use Rattle.ls_set.proofs.Sets.{is_within-from, minus-within}
 use Rattle.ls_theory.specs.declared.no.No.{No}
 use Rattle.ls_theory.specs.Families.{closure}
+use Rattle.ls_laws.proofs.Breaks.{good-from}
 use Rattle.ls_query.specs.Blocks.{sets_of}
 use Rattle.ls_infer.specs.declared.standing_no.StandingNo.{StandingNo}
 use Rattle.ls_infer.specs.Changes.{is_kept}
 use Rattle.ls_infer.specs.Tables.{TableState, IsTable, standing, table_of}
+use Rattle.ls_infer.proofs.States.{enough-within}
+use Rattle.ls_infer.proofs.Standing.{kept-from}
 
 -- the table of a family, by its parts
 pub table_is : (t : TableState) (f : List Items) (nos : List No) → t.closures ≡ map (closure (full t.blocks.item_count) f) (sets_of t.blocks) → t.standing ≡ map (standing t.blocks.item_count f) nos → t ≡ table_of t.blocks f nos
@@ -26,12 +29,21 @@ closures-within n f (a ∷ sets) =
     (is_within-from (closure (full n) f a) (full n) (minus-within (full n) _)) (closures-within n f sets)
 
 -- what is kept of Nos of good queries
+standing-is_kept : (n : ℕ) (f : List Items) (a : No) → is_good n a.query ≡ true → is_kept n (standing n f a) ≡ true
+standing-is_kept n f a h =
+    let good = good-from n a.query h in
+    let closed = closure (full n) f a.query.a in
+    kept-from n (standing n f a) (record {
+      good = good;
+      closed = minus-within (full n) _;
+      enough = enough-within n f closed a.query.q;
+    })
+
 pub standing-kept : (n : ℕ) (f : List Items) (nos : List No) → list_all (λ a. is_good n a.query) nos ≡ true → list_all (is_kept n) (map (standing n f) nos) ≡ true
 standing-kept n f [] h = refl
 standing-kept n f (a ∷ nos) h =
     let p = and_parts (is_good n a.query) (list_all (λ a. is_good n a.query) nos) h in
-    and_from (is_kept n (standing n f a)) (list_all (is_kept n) (map (standing n f) nos))
-    (and_from (is_good n a.query) (is_within (closure (full n) f a.query.a) (full n)) p.0 (is_within-from (closure (full n) f a.query.a) (full n) (minus-within (full n) _)))
+    and_from (is_kept n (standing n f a)) (list_all (is_kept n) (map (standing n f) nos)) (standing-is_kept n f a p.0)
     (standing-kept n f nos p.1)
 
 -- the Nos without those of a number

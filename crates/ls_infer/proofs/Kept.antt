@@ -24,12 +24,15 @@ with-within n s r w l i h = elim (or_cases (has s i) (eqb i r) (sym (has-with s 
   | inr e ↦ has-full n i ∙ lt-ltb i n (let same : i ≡ r = eqb-true i r e in omega arith)
 ]
 
--- the next number, where it passes, and where it does not
-pub taken : (k i : ℕ) (q : Bool) → (i ≡ k → q ≡ true) → (ltb i k && q || eqb i k) ≡ (ltb i (k + 1) && q)
-taken k i q h = grind (arith, nat_tests)
+-- the next number, where it passes, where it does not, and where it is the one that is there from the start
+pub taken : (k i q : ℕ) (p : Bool) → (i ≡ k → p ≡ true) → (ltb i k && p || eqb i q || eqb i k) ≡ (ltb i (k + 1) && p || eqb i q)
+taken k i q p h = grind (arith, nat_tests)
 
-pub left : (k i : ℕ) (q : Bool) → (i ≡ k → q ≡ false) → (ltb i k && q) ≡ (ltb i (k + 1) && q)
-left k i q h = grind (arith, nat_tests)
+pub left : (k i q : ℕ) (p : Bool) → (i ≡ k → p ≡ false) → (ltb i k && p || eqb i q) ≡ (ltb i (k + 1) && p || eqb i q)
+left k i q p h = grind (arith, nat_tests)
+
+pub left-out : (k i q : ℕ) (p : Bool) → k ≡ q → (ltb i k && p || eqb i q) ≡ (ltb i (k + 1) && p || eqb i q)
+left-out k i q p e = grind (arith, nat_tests)
 
 -- ---- the items that no answer forces
 

@@ -4,6 +4,7 @@ mod Outside
 mod Told
 mod Questions
 mod Sharing
+mod States
 mod Changes
 mod Standing
 mod Closing

@@ -5,7 +5,7 @@ use Rattle.std.proofs.lemmas.Bool.Decides.{nat_tests}
 use Rattle.std.specs.Option.{is_some}
 use Rattle.ls_lists.proofs.Filters.{filter-fewer}
 use Rattle.ls_set.specs.ItemSet.{Items, has, empty, full, with, without, meet, minus, len, least, numbers_from, is_within, IsWithin}
-use Rattle.ls_set.proofs.Sets.{members, has-empty, has-meet, has-minus, has-with, has-without, has-full, same_set, same_within, minus-within, without-within, IsWithin-from, is_within-from}
+use Rattle.ls_set.proofs.Sets.{members, has-empty, has-meet, has-minus, has-with, has-without, has-full, same_set, same_within, without-within, IsWithin-from, is_within-from}
 use Rattle.ls_set.proofs.Ascending.{least-cases}
 use Rattle.ls_set.proofs.Sizes.{items-within, len-within, len-less}
 use Rattle.ls_set.proofs.Listed.{least-none_left}
@@ -163,42 +163,7 @@ fewer-miss left rest missed next r e same kept =
     let some : len (meet rest missed) ≤ len rest = len-within (meet rest missed) rest (meet-left rest missed) in
     rw kept (omega arith)
 
--- ---- all others together
-
-pub outside-within : (n : ℕ) (whole closed outside others left : Items) → whole ≡ full n → outside ≡ minus whole closed → left ≡ minus outside others → IsWithin left (full n)
-outside-within n whole closed outside others left w o e i h =
-    let a = minus-within outside others i (subst (λ s. has s i ≡ true) e h) in
-    let b = minus-within whole closed i (subst (λ s. has s i ≡ true) o a) in
-    subst (λ s. has s i ≡ true) w b
-
--- what is enough is below n, so that it is known or among the others
-pub others-left : (n : ℕ) (f : List Items) (closed : Items) (q : ℕ) (known : Items) (i : ℕ) → has (enough_for n f closed q) i ≡ true → (has known i ≡ true) ⊎ (has (minus (full n) known) i ≡ true)
-others-left n f closed q known i h =
-    let p = and_parts (ltb i n) (has (closure (full n) f (with closed i)) q) (sym (has-enough n f closed q i) ∙ h) in
-    elim (has known i) as (λ b. has known i ≡ b → (has known i ≡ true) ⊎ (has (minus (full n) known) i ≡ true)) [
-      | true ↦ λ e. inl e
-      | false ↦ λ e. inr (out-from (full n) known i (has-full n i ∙ p.0) e)
-    ] refl
-
-pub none-more : (n : ℕ) (f : List Items) (closed : Items) (q : ℕ) (known : Items) → IsWithin known (enough_for n f closed q)
-    → ((r : ℕ) → has (minus (full n) known) r ≡ true → has (enough_for n f closed q) r ≡ false) → known ≡ enough_for n f closed q
-none-more n f closed q known within none = same_within known (enough_for n f closed q) within (λ i h. elim (others-left n f closed q known i h) [
-  | inl x ↦ x
-  | inr y ↦ absurd (true≢false (sym h ∙ none i y))
-])
-
--- where all others together leave q in the interior, none of them is enough
-pub none-enough : (n : ℕ) (f : List Items) (closed : Items) (q : ℕ) (others : Items) (r : ℕ) → has (interior f (minus (minus (full n) closed) others)) q ≡ true → has others r ≡ true → has (enough_for n f closed q) r ≡ false
-none-enough n f closed q others r inside here = false_from_ne_true (has (enough_for n f closed q) r) (λ h.
-    let p = and_parts (ltb r n) (has (closure (full n) f (with closed r)) q) (sym (has-enough n f closed q r) ∙ h) in
-    let least_out = (out-parts (full n) (interior f (minus (full n) (with closed r))) q p.1).1 in
-    true≢false (sym (interior_grows f (minus (minus (full n) closed) others) (minus (full n) (with closed r)) (λ j a.
-    let x = out-parts (minus (full n) closed) others j a in
-    let y = out-parts (full n) closed j x.0 in
-    out-from (full n) (with closed r) j y.0 (false_from_ne_true (has (with closed r) j) (λ e. elim (with-cases closed r j e) [
-      | inl z ↦ true≢false (sym z ∙ y.1)
-      | inr z ↦ true≢false (sym here ∙ subst (λ k. has others k ≡ false) z x.1)
-    ]))) q inside) ∙ least_out))
+-- ---- how many items there are at most
 
 length-numbers : (i m : ℕ) → length (numbers_from i m) ≡ m
 length-numbers i zero = refl
@@ -211,9 +176,6 @@ filter-all (x ∷ xs) = ap (λ l. x ∷ l) (filter-all xs)
 passing-fewer : (p : ℕ → Bool) (xs : List ℕ) → length (filter p xs) ≤ length xs
 passing-fewer p xs = omega (arith, filter-fewer p (λ _. true) (λ _ _. refl) xs, ap length (filter-all xs))
 
-len-few : (s : Items) (n : ℕ) → IsWithin s (full n) → len s ≤ n
+pub len-few : (s : Items) (n : ℕ) → IsWithin s (full n) → len s ≤ n
 unfolding len
 len-few s n w = omega (arith, ap length (items-within s n w), passing-fewer (has s) (numbers_from 0 n), length-numbers 0 n)
-
-pub others-few : (n : ℕ) (known : Items) → len (minus (full n) known) ≤ n
-others-few n known = len-few (minus (full n) known) n (minus-within (full n) known)

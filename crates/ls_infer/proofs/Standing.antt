@@ -1,22 +1,23 @@
 -- What a Yes that comes or goes changes of what is kept of a standing No.
-use Rattle.std.proofs.Common.{ℕ, ◌+◌, ◌<◌, ◌≡◌, inl, inr, Bool, true, false, not, ◌&&◌, eqb, ◌||◌, ltb, List, length, get_or, slice_get, Some, None, refl, sym, ap, ap₂, ◌∙◌, subst, true≢false, eq-eqb, ltb-true}
+use Rattle.std.proofs.Common.{ℕ, ◌+◌, ◌<◌, ◌≡◌, inl, inr, Bool, true, false, not, ◌&&◌, ltb, List, length, get_or, slice_get, Some, None, refl, sym, ap, ap₂, ◌∙◌, subst, true≢false, ltb-true}
 use Rattle.std.specs.Option.{is_some}
-use Rattle.std.proofs.lemmas.Bool.{and_parts, and_from, or_left, or_right}
+use Rattle.std.proofs.lemmas.Bool.{and_parts, and_from, false_from_ne_true}
 use Rattle.std.proofs.Math.ListN.{set}
 use Rattle.std.proofs.lemmas.Option.{slice_get-get_or}
 use Rattle.ls_lists.specs.Lists.{images}
 use Rattle.ls_lists.proofs.Overwriting.{images-at, images-next}
-use Rattle.ls_set.specs.ItemSet.{Items, has, full, with, least, meet, is_within, IsWithin}
+use Rattle.ls_set.specs.ItemSet.{Items, has, full, with, least, meet, is_within, is_among, IsWithin}
 use Rattle.ls_set.specs.Query.{is_good}
 use Rattle.ls_set.specs.declared.query.Query.{Query}
-use Rattle.ls_set.proofs.Sets.{has-meet, has-with, has-full, same_set, IsWithin-from, is_within-from, minus-within}
+use Rattle.ls_set.proofs.Sets.{has-meet, same_set, same_within, IsWithin-from, is_within-from, minus-within}
 use Rattle.ls_set.proofs.Ascending.{least-cases}
 use Rattle.ls_theory.specs.declared.no.No.{No}
 use Rattle.ls_theory.specs.Families.{closure}
+use Rattle.ls_theory.specs.Queries.{breaks}
 use Rattle.ls_laws.specs.Families.{IsFamily}
 use Rattle.ls_laws.specs.Spans.{IsPart, left_by}
 use Rattle.ls_laws.proofs.Interiors.{IsUnionFamily}
-use Rattle.ls_laws.proofs.Breaks.{IsGood, good-from}
+use Rattle.ls_laws.proofs.Breaks.{IsGood, good-from, good-to, Breaks-from, among-left}
 use Rattle.ls_laws.proofs.Closures.{closure_stays}
 use Rattle.ls_laws.proofs.ClosureChanges.{closure_holds, closure_grows, closure_widens, closure_again, closure_from_old, closure_before_yes, left-IsPart}
 use Rattle.ls_laws.proofs.Families.{family_sets}
@@ -25,18 +26,10 @@ use Rattle.ls_infer.specs.declared.yes_change.YesChange.{YesChange}
 use Rattle.ls_infer.specs.Changes.{IsChange, is_kept}
 use Rattle.ls_infer.specs.Tables.{enough_for, standing}
 use Rattle.ls_infer.proofs.Kept.{has-enough, with-within}
-use Rattle.ls_infer.proofs.Outside.{with-left, with-cases}
+use Rattle.ls_infer.proofs.Outside.{with-left, with-cases, outside-member}
+use Rattle.ls_infer.proofs.States.{enough-grows, enough-unbroken, enough-stays, unbroken-among}
 
 -- ---- sets
-
-with-grows : (s t : Items) (i : ℕ) → IsWithin s t → IsWithin (with s i) (with t i)
-with-grows s t i w j h = has-with t i j ∙ elim (with-cases s i j h) [
-  | inl a ↦ or_left (has t j) (eqb j i) (w j a)
-  | inr e ↦ subst (λ k. (has t j || eqb j k) ≡ true) e (or_right (has t j) (eqb j j) (eq-eqb j j refl))
-]
-
-pub meet-within : (s t : Items) → IsWithin (meet s t) t
-meet-within s t i h = (and_parts (has s i) (has t i) (sym (has-meet s t i) ∙ h)).1
 
 pub some-item : (s : Items) → is_some (least s) ≡ true → (i : ℕ) × (has s i ≡ true)
 some-item s h = elim (least s) as (λ o. least s ≡ o → is_some o ≡ true → (i : ℕ) × (has s i ≡ true)) [ None ↦ λ _ n. absurd (true≢false (sym n)) | Some i ↦ λ e _. (i, (least-cases s i e).0) ] refl h
@@ -99,50 +92,95 @@ enough-met n f r b p j family good a e =
 
 -- ---- what is kept
 
-pub kept-good : (n : ℕ) (s : StandingNo) → is_kept n s ≡ true → IsGood n s.no.query
-kept-good n s h = good-from n s.no.query (and_parts (is_good n s.no.query) (is_within s.closed (full n)) h).0
+pub record IsKept (n : ℕ) (s : StandingNo) : Type 0 where
+  pub good : IsGood n s.no.query
+  pub closed : IsWithin s.closed (full n)
+  pub enough : IsWithin s.enough (full n)
 
-pub kept-from : (n : ℕ) (s t : StandingNo) → is_kept n s ≡ true → t.no ≡ s.no → IsWithin t.closed (full n) → is_kept n t ≡ true
-kept-from n s t h same w =
-    and_from (is_good n t.no.query) (is_within t.closed (full n))
-    (ap (λ (a : No). is_good n a.query) same ∙ (and_parts (is_good n s.no.query) (is_within s.closed (full n)) h).0) (is_within-from t.closed (full n) w)
+pub kept-parts : (n : ℕ) (s : StandingNo) → is_kept n s ≡ true → IsKept n s
+kept-parts n s h =
+    let b = and_parts (is_good n s.no.query && is_within s.closed (full n)) (is_within s.enough (full n)) h in
+    let a = and_parts (is_good n s.no.query) (is_within s.closed (full n)) b.0 in
+    record {
+      good = good-from n s.no.query a.0;
+      closed = IsWithin-from s.closed (full n) a.1;
+      enough = IsWithin-from s.enough (full n) b.1;
+    }
 
-pub kept-within : (n : ℕ) (s : StandingNo) → is_kept n s ≡ true → IsWithin s.closed (full n)
-kept-within n s h = IsWithin-from s.closed (full n) (and_parts (is_good n s.no.query) (is_within s.closed (full n)) h).1
+pub kept-from : (n : ℕ) (s : StandingNo) → IsKept n s → is_kept n s ≡ true
+kept-from n s k =
+    and_from (is_good n s.no.query && is_within s.closed (full n)) (is_within s.enough (full n))
+    (and_from (is_good n s.no.query) (is_within s.closed (full n)) (good-to n s.no.query k.good) (is_within-from s.closed (full n) k.closed))
+    (is_within-from s.enough (full n) k.enough)
 
-standing-same : (n : ℕ) (f g : List Items) (a : No) → closure (full n) g a.query.a ≡ closure (full n) f a.query.a → enough_for n g (closure (full n) f a.query.a) a.query.q ≡ enough_for n f (closure (full n) f a.query.a) a.query.q
-    → standing n f a ≡ standing n g a
-standing-same n f g a c e = ap₂ (λ x y. record { no = a; closed = x; enough = y }) (sym c) (sym e ∙ ap (λ x. enough_for n g x a.query.q) (sym c))
+-- with another closure, and other items that are enough
+pub kept-again : (n : ℕ) (s : StandingNo) (closed enough : Items) (is_state : Bool) → is_kept n s ≡ true → IsWithin closed (full n) → IsWithin enough (full n)
+    → is_kept n (record { no = s.no; closed = closed; enough = enough; is_state = is_state }) ≡ true
+kept-again n s closed enough is_state kept within small = kept-from n (record { no = s.no; closed = closed; enough = enough; is_state = is_state }) (record { good = (kept-parts n s kept).good; closed = within; enough = small })
+
+-- it is what the family makes of it
+pub record IsStanding (n : ℕ) (f : List Items) (s : StandingNo) : Type 0 where
+  pub closed : s.closed ≡ closure (full n) f s.no.query.a
+  pub enough : s.enough ≡ enough_for n f (closure (full n) f s.no.query.a) s.no.query.q
+  pub is_state : s.is_state ≡ is_among f s.enough
+
+stands : (n : ℕ) (f : List Items) (s : StandingNo) → s ≡ standing n f s.no → IsStanding n f s
+stands n f s e = record {
+  closed = ap (λ (t : StandingNo). t.closed) e;
+  enough = ap (λ (t : StandingNo). t.enough) e;
+  is_state = ap (λ (t : StandingNo). t.is_state) e ∙ ap (is_among f) (sym (ap (λ (t : StandingNo). t.enough) e));
+}
 
 -- made again from its parts
-pub standing-from : (n : ℕ) (f : List Items) (s : StandingNo) (closed enough : Items) → closed ≡ closure (full n) f s.no.query.a → enough ≡ enough_for n f closed s.no.query.q → record { no = s.no; closed = closed; enough = enough } ≡ standing n f s.no
-standing-from n f s closed enough c e = ap₂ (λ x y. record { no = s.no; closed = x; enough = y }) c (e ∙ ap (λ x. enough_for n f x s.no.query.q) c)
+pub standing-from : (n : ℕ) (f : List Items) (a : No) (closed enough : Items) (is_state : Bool) → closed ≡ closure (full n) f a.query.a → enough ≡ enough_for n f closed a.query.q → is_state ≡ is_among f enough
+    → record { no = a; closed = closed; enough = enough; is_state = is_state } ≡ standing n f a
+standing-from n f a closed enough is_state c e m =
+    ap₂ (λ x y. record { no = a; closed = closed; enough = x; is_state = y }) e (m ∙ ap (is_among f) e)
+    ∙ ap (λ x. record { no = a; closed = x; enough = enough_for n f x a.query.q; is_state = is_among f (enough_for n f x a.query.q) }) c
+
+stands-again : (n : ℕ) (f : List Items) (s : StandingNo) → IsStanding n f s → s ≡ standing n f s.no
+stands-again n f s k = standing-from n f s.no s.closed s.enough s.is_state k.closed (k.enough ∙ ap (λ x. enough_for n f x s.no.query.q) (sym k.closed)) k.is_state
 
 -- ---- a Yes that comes
 
-pub after-closed : (n : ℕ) (before after : List Items) (r : Query) (s : StandingNo) → IsChange YesChange.Added n r before after → is_good n r ≡ true → s ≡ standing n before s.no → has s.closed r.q ≡ true → s ≡ standing n after s.no
-after-closed n before after r s change good e h =
+pub after-closed : (n : ℕ) (before after : List Items) (r : Query) (s : StandingNo) → IsChange YesChange.Added n r before after → is_good n r ≡ true → is_kept n s ≡ true → s ≡ standing n before s.no → has s.closed r.q ≡ true
+    → s ≡ standing n after s.no
+after-closed n before after r s change good kept e h =
     let b = s.no.query.a in
+    let q = s.no.query.q in
+    let good_r = good-from n r good in
     let family = family_sets n before change.0 in
-    let here : has (closure (full n) before b) r.q ≡ true = ap (λ (t : StandingNo). has t.closed r.q) (sym e) ∙ h in
-    e ∙ standing-same n before (left_by r before) s.no (has-stays n before r b family (good-from n r good) here) (enough-closed n before r b s.no.query.q family (good-from n r good) here)
-    ∙ ap (λ g. standing n g s.no) (sym change.1)
+    let old = stands n before s e in
+    let here : has (closure (full n) before b) r.q ≡ true = ap (λ c. has c r.q) (sym old.closed) ∙ h in
+    let same = has-stays n before r b family good_r here in
+    subst (λ g. s ≡ standing n g s.no) (sym change.1) (stands-again n (left_by r before) s (record {
+      closed = old.closed ∙ sym same;
+      enough = old.enough ∙ sym (enough-closed n before r b q family good_r here) ∙ ap (λ c. enough_for n (left_by r before) c q) (sym same);
+      is_state = old.is_state ∙ sym (unbroken-among before r s.enough (ap (λ t. breaks t r) old.enough
+          ∙ enough-unbroken n before (closure (full n) before b) q r (outside-member n before b family) (kept-parts n s kept).good.item good_r here));
+    }))
 
 pub after-met : (n : ℕ) (before after : List Items) (r : Query) (s : StandingNo) (i : ℕ) → IsChange YesChange.Added n r before after → is_good n r ≡ true → s ≡ standing n before s.no
     → is_within r.a s.closed ≡ false → has (meet r.a s.enough) i ≡ true → s ≡ standing n after s.no
 after-met n before after r s i change good e lacks h =
     let b = s.no.query.a in
+    let q = s.no.query.q in
+    let good_r = good-from n r good in
     let family = family_sets n before change.0 in
+    let old = stands n before s e in
     let p = and_parts (has r.a i) (has s.enough i) (sym (has-meet r.a s.enough i) ∙ h) in
-    let out : is_within r.a (closure (full n) before b) ≡ false = ap (λ (t : StandingNo). is_within r.a t.closed) (sym e) ∙ lacks in
-    e ∙ standing-same n before (left_by r before) s.no (lack-stays n before r b family (good-from n r good) out)
-    (enough-met n before r b s.no.query.q i family (good-from n r good) p.0 (ap (λ (t : StandingNo). has t.enough i) (sym e) ∙ p.1))
-    ∙ ap (λ g. standing n g s.no) (sym change.1)
+    let out : is_within r.a (closure (full n) before b) ≡ false = ap (is_within r.a) (sym old.closed) ∙ lacks in
+    let same = lack-stays n before r b family good_r out in
+    subst (λ g. s ≡ standing n g s.no) (sym change.1) (stands-again n (left_by r before) s (record {
+      closed = old.closed ∙ sym same;
+      enough = old.enough ∙ sym (enough-met n before r b q i family good_r p.0 (ap (λ t. has t i) (sym old.enough) ∙ p.1)) ∙ ap (λ c. enough_for n (left_by r before) c q) (sym same);
+      is_state = old.is_state ∙ sym (unbroken-among before r s.enough (false_from_ne_true (breaks s.enough r) (λ x. true≢false (sym p.0 ∙ (Breaks-from s.enough r x).apart i p.1))));
+    }))
 
 pub after-again : (n : ℕ) (before after : List Items) (r : Query) (s : StandingNo) (closed : Items) → IsChange YesChange.Added n r before after → is_kept n s ≡ true → s ≡ standing n before s.no
     → closed ≡ closure (full n) after s.closed → closed ≡ closure (full n) after s.no.query.a
 after-again n before after r s closed change kept e made =
-    made ∙ ap (λ (t : StandingNo). closure (full n) after t.closed) e ∙ closure_from_old (full n) before after s.no.query.a (subst (λ g. IsPart g before) (sym change.1) (left-IsPart before r)) (kept-good n s kept).small
+    made ∙ ap (λ (t : StandingNo). closure (full n) after t.closed) e ∙ closure_from_old (full n) before after s.no.query.a (subst (λ g. IsPart g before) (sym change.1) (left-IsPart before r)) (kept-parts n s kept).good.small
 
 pub after-lack : (n : ℕ) (before after : List Items) (r : Query) (s : StandingNo) → IsChange YesChange.Added n r before after → is_good n r ≡ true → s ≡ standing n before s.no
     → is_within r.a s.closed ≡ false → s.closed ≡ closure (full n) after s.no.query.a
@@ -154,48 +192,64 @@ after-lack n before after r s change good e lacks =
 pub after-known : (n : ℕ) (before after : List Items) (r : Query) (s : StandingNo) (closed : Items) → IsChange YesChange.Added n r before after → s ≡ standing n before s.no → closed ≡ closure (full n) after s.no.query.a
     → IsWithin s.enough (enough_for n after closed s.no.query.q)
 after-known n before after r s closed change e made i h =
-    let b = s.no.query.a in
-    let q = s.no.query.q in
-    let c = closure (full n) before b in
-    let part : IsPart after before = subst (λ g. IsPart g before) (sym change.1) (left-IsPart before r) in
-    let p = and_parts (ltb i n) (has (closure (full n) before (with c i)) q) (sym (has-enough n before c q i) ∙ ap (λ (t : StandingNo). has t.enough i) (sym e) ∙ h) in
-    has-enough n after closed q i ∙ and_from (ltb i n) (has (closure (full n) after (with closed i)) q) p.0
-    (closure_grows (full n) after (with c i) (with closed i) (with-grows c closed i (λ j x. subst (λ d. has d j ≡ true) (sym made) (closure_widens (full n) before after b part j x))) q
-    (closure_widens (full n) before after (with c i) part q p.1))
+    subst (λ c. has (enough_for n after c s.no.query.q) i ≡ true) (sym made)
+    (enough-grows n before after s.no.query.a s.no.query.q (subst (λ g. IsPart g before) (sym change.1) (left-IsPart before r)) i (ap (λ (t : StandingNo). has t.enough i) (sym e) ∙ h))
+
+-- and where it was a state that does not break the query, it is still one, and all that is enough
+pub after-state : (n : ℕ) (before after : List Items) (r : Query) (s : StandingNo) (closed : Items) → IsChange YesChange.Added n r before after → is_kept n s ≡ true → s ≡ standing n before s.no → closed ≡ closure (full n) after s.no.query.a
+    → s.is_state ≡ true → breaks s.enough r ≡ false → record { no = s.no; closed = closed; enough = s.enough; is_state = s.is_state } ≡ standing n after s.no
+after-state n before after r s closed change kept e made state unbroken =
+    let old = stands n before s e in
+    let member : is_among after s.enough ≡ true = ap (λ g. is_among g s.enough) change.1 ∙ unbroken-among before r s.enough unbroken ∙ sym old.is_state ∙ state in
+    standing-from n after s.no closed s.enough s.is_state made
+    (enough-stays n before after s.no.query.a closed s.enough s.no.query.q (family_sets n before change.0) (subst (λ g. IsPart g before) (sym change.1) (left-IsPart before r)) (kept-parts n s kept).good.item made old.enough member)
+    (state ∙ sym member)
+
+-- and else it is none
+pub after-no_state : (n : ℕ) (before after : List Items) (r : Query) (s : StandingNo) → IsChange YesChange.Added n r before after → s ≡ standing n before s.no → (s.is_state && not (breaks s.enough r)) ≡ false → is_among after s.enough ≡ false
+after-no_state n before after r s change e h = ap (λ g. is_among g s.enough) change.1 ∙ among-left before r s.enough ∙ ap (λ b. b && not (breaks s.enough r)) (sym (stands n before s e).is_state) ∙ h
 
 -- ---- a Yes that is taken back
 
-pub before-closed : (n : ℕ) (before after : List Items) (r : Query) (s : StandingNo) → IsChange YesChange.Removed n r before after → IsFamily n after → is_good n r ≡ true → s ≡ standing n before s.no
+pub before-closed : (n : ℕ) (before after : List Items) (r : Query) (s : StandingNo) → IsChange YesChange.Removed n r before after → IsFamily n after → is_good n r ≡ true → is_kept n s ≡ true → s ≡ standing n before s.no
     → is_within r.a s.closed ≡ false → has s.closed r.q ≡ true → s ≡ standing n after s.no
-before-closed n before after r s change family good e lacks h =
+before-closed n before after r s change family good kept e lacks h =
     let b = s.no.query.a in
+    let q = s.no.query.q in
+    let good_r = good-from n r good in
     let sets = family_sets n after family in
-    let out : is_within r.a (closure (full n) (left_by r after) b) ≡ false = ap (λ g. is_within r.a (closure (full n) g b)) (sym change) ∙ ap (λ (t : StandingNo). is_within r.a t.closed) (sym e) ∙ lacks in
-    let same = closure_before_yes n after r b sets (good-from n r good) out in
-    let here : has (closure (full n) after b) r.q ≡ true = ap (λ c. has c r.q) (sym same) ∙ ap (λ g. has (closure (full n) g b) r.q) (sym change) ∙ ap (λ (t : StandingNo). has t.closed r.q) (sym e) ∙ h in
-    e ∙ ap (λ g. standing n g s.no) change ∙ sym (standing-same n after (left_by r after) s.no same (enough-closed n after r b s.no.query.q sets (good-from n r good) here))
+    let old = stands n (left_by r after) s (subst (λ g. s ≡ standing n g s.no) change e) in
+    let same = closure_before_yes n after r b sets good_r (ap (is_within r.a) (sym old.closed) ∙ lacks) in
+    let here : has (closure (full n) after b) r.q ≡ true = ap (λ c. has c r.q) (sym (old.closed ∙ same)) ∙ h in
+    let enough : s.enough ≡ enough_for n after (closure (full n) after b) q = old.enough ∙ ap (λ c. enough_for n (left_by r after) c q) same ∙ enough-closed n after r b q sets good_r here in
+    stands-again n after s (record {
+      closed = old.closed ∙ same;
+      enough = enough;
+      is_state = old.is_state ∙ unbroken-among after r s.enough (ap (λ t. breaks t r) enough
+          ∙ enough-unbroken n after (closure (full n) after b) q r (outside-member n after b sets) (kept-parts n s kept).good.item good_r here);
+    })
 
 pub before-lack : (n : ℕ) (before after : List Items) (r : Query) (s : StandingNo) → IsChange YesChange.Removed n r before after → IsFamily n after → is_good n r ≡ true → s ≡ standing n before s.no
     → is_within r.a s.closed ≡ false → s.closed ≡ closure (full n) after s.no.query.a
 before-lack n before after r s change family good e lacks =
-    let b = s.no.query.a in
-    ap (λ (t : StandingNo). t.closed) e ∙ ap (λ g. closure (full n) g b) change
-    ∙ closure_before_yes n after r b (family_sets n after family) (good-from n r good) (ap (λ g. is_within r.a (closure (full n) g b)) (sym change) ∙ ap (λ (t : StandingNo). is_within r.a t.closed) (sym e) ∙ lacks)
+    let old = stands n (left_by r after) s (subst (λ g. s ≡ standing n g s.no) change e) in
+    old.closed ∙ closure_before_yes n after r s.no.query.a (family_sets n after family) (good-from n r good) (ap (is_within r.a) (sym old.closed) ∙ lacks)
 
 -- nothing more is enough
-pub before-others : (n : ℕ) (before after : List Items) (r : Query) (s : StandingNo) (closed : Items) (i : ℕ) → IsChange YesChange.Removed n r before after → s ≡ standing n before s.no → closed ≡ closure (full n) after s.no.query.a
-    → has (enough_for n after closed s.no.query.q) i ≡ true → has (meet s.enough (full n)) i ≡ true
-before-others n before after r s closed i change e made h =
-    let b = s.no.query.a in
-    let q = s.no.query.q in
-    let c = closure (full n) before b in
-    let part : IsPart before after = subst (λ g. IsPart g after) (sym change) (left-IsPart after r) in
-    let p = and_parts (ltb i n) (has (closure (full n) after (with closed i)) q) (sym (has-enough n after closed q i) ∙ h) in
-    let more : has (closure (full n) before (with c i)) q ≡ true =
-    closure_grows (full n) before (with closed i) (with c i) (with-grows closed c i (λ j x. closure_widens (full n) after before b part j (subst (λ d. has d j ≡ true) made x))) q
-    (closure_widens (full n) after before (with closed i) part q p.1) in
-    has-meet s.enough (full n) i
-    ∙ and_from (has s.enough i) (has (full n) i) (ap (λ (t : StandingNo). has t.enough i) e ∙ has-enough n before c q i ∙ and_from (ltb i n) (has (closure (full n) before (with c i)) q) p.0 more) (has-full n i ∙ p.0)
+pub before-among : (n : ℕ) (before after : List Items) (r : Query) (s : StandingNo) (closed : Items) → IsChange YesChange.Removed n r before after → s ≡ standing n before s.no → closed ≡ closure (full n) after s.no.query.a
+    → IsWithin (enough_for n after closed s.no.query.q) s.enough
+before-among n before after r s closed change e made i h =
+    ap (λ (t : StandingNo). has t.enough i) e
+    ∙ enough-grows n after before s.no.query.a s.no.query.q (subst (λ g. IsPart g after) (sym change) (left-IsPart after r)) i (ap (λ c. has (enough_for n after c s.no.query.q) i) (sym made) ∙ h)
+
+-- where nothing less is, a state is still one
+pub before-state : (n : ℕ) (before after : List Items) (r : Query) (s : StandingNo) (closed enough : Items) → IsChange YesChange.Removed n r before after → s ≡ standing n before s.no → closed ≡ closure (full n) after s.no.query.a
+    → enough ≡ enough_for n after closed s.no.query.q → IsWithin s.enough enough → s.is_state ≡ true → record { no = s.no; closed = closed; enough = s.enough; is_state = s.is_state } ≡ standing n after s.no
+before-state n before after r s closed enough change e made all within state =
+    let old = stands n before s e in
+    let same : s.enough ≡ enough_for n after closed s.no.query.q = same_within s.enough (enough_for n after closed s.no.query.q) (λ i h. ap (λ t. has t i) (sym all) ∙ within i h) (before-among n before after r s closed change e made) in
+    standing-from n after s.no closed s.enough s.is_state made same
+    (state ∙ sym (left-IsPart after r s.enough (ap (λ g. is_among g s.enough) (sym change) ∙ sym old.is_state ∙ state)))
 
 -- ---- one No after another
 

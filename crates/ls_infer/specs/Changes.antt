@@ -20,6 +20,6 @@ abbrev pub is_stale : YesChange → Query → Items → Bool
 is_stale YesChange.Added r closed = is_within r.a closed && not (has closed r.q)
 is_stale YesChange.Removed r closed = is_within r.a closed
 
--- what is kept of a No to a good query, whose closure is of items below n
+-- what is kept of a No to a good query, whose closure is of items below n, as are those that are enough
 abbrev pub is_kept : ℕ → StandingNo → Bool
-is_kept n s = is_good n s.no.query && is_within s.closed (full n)
+is_kept n s = is_good n s.no.query && is_within s.closed (full n) && is_within s.enough (full n)

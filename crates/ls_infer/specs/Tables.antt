@@ -6,7 +6,7 @@
 use Rattle.std.specs.Prelude.{ℕ, Bool, true, not, ◌&&◌, if◌then◌else◌, ◌≤◌, ◌≡◌, List, map, length, filter, slice_get, unwrap_or}
 use Rattle.std.specs.List.{list_all, list_any, position}
 use Rattle.std.specs.Option.{option_map_or}
-use Rattle.ls_set.specs.ItemSet.{Items, has, empty, full, with, is_same, is_within, set_of, numbers_from, most_items}
+use Rattle.ls_set.specs.ItemSet.{Items, has, empty, full, with, is_same, is_within, is_among, set_of, numbers_from, most_items}
 use Rattle.ls_set.specs.declared.query.Query.{Query}
 use Rattle.ls_theory.specs.declared.no.No.{No}
 use Rattle.ls_theory.specs.declared.known.Known.{Known}
@@ -22,11 +22,12 @@ use Rattle.ls_infer.specs.Changes.{is_kept}
 abbrev pub enough_for : ℕ → List Items → Items → ℕ → Items
 enough_for n f closed q = set_of (filter (λ r. has (closure (full n) f (with closed r)) q) (numbers_from 0 n))
 
--- what is kept of a standing No (B, p): the answer, the closure of B, and the items that are enough with it for p
+-- what is kept of a standing No (B, p): the answer, the closure of B, the items that are enough with it for p, and whether those are a state
 abbrev pub standing : ℕ → List Items → No → StandingNo
 standing n f a =
     let closed = closure (full n) f a.query.a in
-    record { no = a; closed = closed; enough = enough_for n f closed a.query.q }
+    let enough = enough_for n f closed a.query.q in
+    record { no = a; closed = closed; enough = enough; is_state = is_among f enough }
 
 -- the blocks, the closure of each of their sets in order, and the standing answers that are No in order
 pub record TableState : Type 0 where

@@ -44,8 +44,8 @@ pub fn closures_of<I: Interior, L: Ledger>(
     Ok(closures)
 }
 
-/// What is kept of each of the answers, in their order, in a step for each item and one more for
-/// each answer.
+/// What is kept of each of the answers, in their order, in a step at most for each item and one
+/// more for each answer.
 pub fn standing_of<I: Interior, L: Ledger>(
     alloc: Global,
     f: &I,
@@ -59,7 +59,7 @@ pub fn standing_of<I: Interior, L: Ledger>(
 {
     let mut kept = Vec::new(alloc);
     for answer in answers {
-        kept.push(StandingNo::new(f, answer, steps))?;
+        kept.push(StandingNo::shared(f, answer, steps))?;
     }
     Ok(kept)
 }

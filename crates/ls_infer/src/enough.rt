@@ -1,5 +1,5 @@
 // The items that are enough with a closed set for an item.
-ghost use Rattle.std.specs.Prelude.{◌≡◌, ◌+◌, ◌<◌, ◌≤◌, ◌⊎◌, ℕ, true, false};
+ghost use Rattle.std.specs.Prelude.{◌≡◌, ◌+◌, ◌<◌, ◌≤◌, ◌⊎◌, ℕ, true};
 ghost use Rattle.ls_set.specs.ItemSet.{full, has, with, minus, len, is_among, IsWithin};
 ghost use Rattle.ls_theory.specs.Families.{closure};
 ghost use Rattle.ls_infer.specs.Tables.{enough_for};
@@ -9,7 +9,7 @@ use ls_set::{ItemSet, PLACES};
 use std::sync::ledger::Ledger;
 
 /// The items `r` such that `q` is in the closure of the closed set with `r`, in a step for each
-/// item.
+/// item but `q`, which is one of them.
 pub fn enough_for<I: Interior, L: Ledger>(
     f: &I,
     closed: ItemSet,
@@ -19,13 +19,13 @@ pub fn enough_for<I: Interior, L: Ledger>(
     requires member { is_among (I.members f.now) (minus (full (I.item_count f.now)) closed) ≡ true }
     requires item { q < I.item_count f.now }
     ensures value { result ≡ enough_for (I.item_count f.now) (I.members f.now) closed q }
-    ensures cost { steps.new ≡ steps.old + I.item_count f.now }
+    ensures cost { steps.new + 1 ≡ steps.old + I.item_count f.now }
 {
     let outside = ItemSet::full(f.items()).minus(closed);
-    let keep = ItemSet::empty().with(q);
-    let mut enough = ItemSet::empty();
+    let itself = ItemSet::empty().with(q);
+    let mut enough = itself;
     for r in 0..f.items() {
-        if f.interior_without(outside, r, keep, steps).is_none() {
+        if r != q && f.interior_without(outside, r, itself, steps).is_none() {
             enough = enough.with(r);
         }
     }
@@ -44,12 +44,14 @@ pub fn enough_among<I: Interior, L: Ledger>(
     steps: &mut Steps<L>,
 ) -> ItemSet
     requires item { q < I.item_count f.now }
+    requires known { IsWithin known (full (I.item_count f.now)) }
     requires others { IsWithin others (full (I.item_count f.now)) }
     ensures value { is_among (I.members f.now) (minus (full (I.item_count f.now)) closed) ≡ true →
         IsWithin known (enough_for (I.item_count f.now) (I.members f.now) closed q) →
         ((r : ℕ) → has (enough_for (I.item_count f.now) (I.members f.now) closed q) r ≡ true →
         (has known r ≡ true) ⊎ (has others r ≡ true)) →
         result ≡ enough_for (I.item_count f.now) (I.members f.now) closed q }
+    ensures within { IsWithin result (full (I.item_count f.now)) }
     ensures cost { steps.new ≤ steps.old + len others }
 {
     let outside = ItemSet::full(f.items()).minus(closed);
@@ -66,19 +68,40 @@ pub fn enough_among<I: Interior, L: Ledger>(
     enough
 }
 
-/// Whether all items of `others` together are not enough, so that none of them is; in a step.
-pub fn are_none_enough<I: Interior, L: Ledger>(
+/// The items that are enough, where those that are known to be, and only items of `among` are; in a
+/// step at most for each item but `q`, which always is.
+pub fn enough_between<I: Interior, L: Ledger>(
     f: &I,
     closed: ItemSet,
     q: u32,
-    others: ItemSet,
+    known: ItemSet,
+    among: ItemSet,
     steps: &mut Steps<L>,
-) -> bool
+) -> ItemSet
     requires item { q < I.item_count f.now }
-    ensures value { result ≡ true → (r : ℕ) → has others r ≡ true →
-        has (enough_for (I.item_count f.now) (I.members f.now) closed q) r ≡ false }
-    ensures cost { steps.new ≤ steps.old + 1 }
+    requires known { IsWithin known (full (I.item_count f.now)) }
+    requires among { IsWithin among (full (I.item_count f.now)) }
+    ensures value { is_among (I.members f.now) (minus (full (I.item_count f.now)) closed) ≡ true →
+        IsWithin known (enough_for (I.item_count f.now) (I.members f.now) closed q) →
+        IsWithin (enough_for (I.item_count f.now) (I.members f.now) closed q) among →
+        result ≡ enough_for (I.item_count f.now) (I.members f.now) closed q }
+    ensures within { IsWithin result (full (I.item_count f.now)) }
+    ensures cost { steps.new + 1 ≤ steps.old + I.item_count f.now }
 {
     let all = ItemSet::full(f.items());
-    f.interior(all.minus(closed).minus(others), steps).has(q)
+    if closed.has(q) {
+        return all;
+    }
+    let known = known.with(q);
+    let others = among.minus(known).minus(closed);
+    enough_among(f, closed, q, known, others, steps)
+}
+
+/// Whether the set is a state, in one step. All its items are below `f.items()`.
+pub fn is_state<I: Interior, L: Ledger>(f: &I, s: ItemSet, steps: &mut Steps<L>) -> bool
+    requires { IsWithin s (full (I.item_count f.now)) }
+    ensures value { result ≡ is_among (I.members f.now) s }
+    ensures cost { steps.new ≡ steps.old + 1 }
+{
+    s.is_within(f.interior(s, steps))
 }

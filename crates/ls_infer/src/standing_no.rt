@@ -1,16 +1,18 @@
 // What is kept of a standing answer that is No.
-ghost use Rattle.std.specs.Prelude.{◌≡◌, ◌+◌, ◌*◌, ◌<◌, ◌≤◌, ◌==◌, ◌&&◌, ℕ, List, true, not, min, map, length, filter, option_map};
+ghost use Rattle.std.specs.Prelude.{◌≡◌, ◌+◌, ◌*◌, ◌<◌, ◌≤◌, ◌==◌, ◌&&◌, ℕ, List, true, false, not, min, map, length, filter, option_map};
 ghost use Rattle.std.specs.List.{list_all, list_any};
 ghost use Rattle.std.specs.Option.{option_map_or};
-ghost use Rattle.ls_set.specs.ItemSet.{Items, full, has, minus, is_among, IsWithin};
+ghost use Rattle.ls_set.specs.ItemSet.{Items, full, has, is_among, IsWithin};
 ghost use Rattle.ls_set.specs.Query.{is_good};
 ghost use Rattle.ls_theory.specs.Words.{first_least};
+ghost use Rattle.ls_theory.specs.Families.{closure};
+ghost use Rattle.ls_theory.specs.Queries.{breaks};
 ghost use Rattle.ls_theory.specs.declared.no.No.{No};
 ghost use Rattle.ls_infer.specs.Changes.{IsChange, is_kept};
 ghost use Rattle.ls_infer.specs.Tables.{enough_for, standing, forces};
 ghost use Rattle.ls_infer.specs.declared.yes_change.YesChange.TheVariants as YesChange;
 
-use crate::enough::{are_none_enough, enough_among, enough_for};
+use crate::enough::{enough_between, enough_for, is_state};
 use crate::yes_change::YesChange;
 use ls_interior::{Interior, Steps, closure};
 use ls_set::{ItemSet, PLACES, Query};
@@ -26,33 +28,41 @@ pub struct StandingNo {
     pub closed: ItemSet,
     /// The items r such that p is in the closure of that with r.
     pub enough: ItemSet,
+    /// Whether the items of `enough` are a state, so that the others are a closed set.
+    pub is_state: bool,
 }
 
-// The items that are enough after a Yes that comes, where those that were are known. Mostly none of
-// the others is, which one interior shows.
-fn enough_after<I: Interior, L: Ledger>(
-    f: &I,
-    closed: ItemSet,
-    q: u32,
-    known: ItemSet,
-    steps: &mut Steps<L>,
-) -> ItemSet
-    requires item { q < I.item_count f.now }
-    ensures value { is_among (I.members f.now) (minus (full (I.item_count f.now)) closed) ≡ true →
-        IsWithin known (enough_for (I.item_count f.now) (I.members f.now) closed q) →
-        result ≡ enough_for (I.item_count f.now) (I.members f.now) closed q }
-    ensures cost { steps.new ≤ steps.old + I.item_count f.now }
+// Whether the set has no item of the query's A, and has its q.
+#[tactic(auto, unfolding(ls_set::specs::ItemSet::is_same))]
+fn breaks(set: ItemSet, r: &Query) -> bool
+    requires { r.now.q < PLACES }
+    ensures { result ≡ breaks set r.now }
 {
-    let all = ItemSet::full(f.items());
-    let others = all.minus(known);
-    let reached = closed.has(q);
-    if !reached && others.len() < f.items() && are_none_enough(f, closed, q, others, steps) {
-        return known;
-    }
-    enough_among(f, closed, q, known, others, steps)
+    set.meet(r.a) == ItemSet::empty() && set.has(r.q)
 }
 
 impl StandingNo {
+    // What is kept of the answer with its closure and what is enough, in one step.
+    fn of<I: Interior, L: Ledger>(
+        f: &I,
+        no: No,
+        closed: ItemSet,
+        enough: ItemSet,
+        steps: &mut Steps<L>,
+    ) -> StandingNo
+        requires { IsWithin enough (full (I.item_count f.now)) }
+        ensures value { let is_state = is_among (I.members f.now) enough in
+            result ≡ record { no = no; closed = closed; enough = enough; is_state = is_state } }
+        ensures cost { steps.new ≡ steps.old + 1 }
+    {
+        StandingNo {
+            no,
+            closed,
+            enough,
+            is_state: is_state(f, enough, steps),
+        }
+    }
+
     /// What is kept of the answer, in a step for each item and one more.
     pub fn new<I: Interior, L: Ledger>(f: &I, answer: &No, steps: &mut Steps<L>) -> StandingNo
         requires { is_good (I.item_count f.now) answer.now.query ≡ true }
@@ -60,14 +70,55 @@ impl StandingNo {
         ensures cost { steps.new ≡ steps.old + (I.item_count f.now + 1) }
     {
         let closed = closure(f, answer.query.a, steps);
-        StandingNo {
-            no: *answer,
-            closed,
-            enough: enough_for(f, closed, answer.query.q, steps),
-        }
+        let enough = enough_for(f, closed, answer.query.q, steps);
+        StandingNo::of(f, *answer, closed, enough, steps)
     }
 
-    // What is kept of it under a Yes to the good query `r` that comes. What was enough stays so.
+    /// What is kept of the answer, in a step at most for each item and one more, and mostly in a
+    /// few: what is not enough is shared.
+    pub fn shared<I: Interior, L: Ledger>(f: &I, answer: &No, steps: &mut Steps<L>) -> StandingNo
+        requires { is_good (I.item_count f.now) answer.now.query ≡ true }
+        ensures value { result ≡ standing (I.item_count f.now) (I.members f.now) answer.now }
+        ensures cost { steps.new ≤ steps.old + (I.item_count f.now + 1) }
+    {
+        let closed = closure(f, answer.query.a, steps);
+        let q = answer.query.q;
+        let all = ItemSet::full(f.items());
+        let enough = enough_between(f, closed, q, ItemSet::empty(), all, steps);
+        StandingNo::of(f, *answer, closed, enough, steps)
+    }
+
+    // What is kept of it with its closure, where what was enough stays so, but is no state.
+    fn with_closed<I: Interior, L: Ledger>(
+        &self,
+        f: &I,
+        closed: ItemSet,
+        steps: &mut Steps<L>,
+    ) -> StandingNo
+        requires kept { is_kept (I.item_count f.now) self.now ≡ true }
+        requires within { IsWithin closed (full (I.item_count f.now)) }
+        ensures value { let n = I.item_count f.now in
+            closed ≡ closure (full n) (I.members f.now) self.now.no.query.a →
+            IsWithin self.now.enough (enough_for n (I.members f.now) closed self.now.no.query.q) →
+            is_among (I.members f.now) self.now.enough ≡ false →
+            result ≡ standing n (I.members f.now) self.now.no }
+        ensures kept { is_kept (I.item_count f.now) result ≡ true }
+        ensures cost { steps.new ≤ steps.old + I.item_count f.now }
+    {
+        let all = ItemSet::full(f.items());
+        let enough = enough_between(f, closed, self.no.query.q, self.enough, all, steps);
+        if enough.is_within(self.enough) {
+            return StandingNo {
+                closed,
+                is_state: false,
+                ..*self
+            };
+        }
+        StandingNo::of(f, self.no, closed, enough, steps)
+    }
+
+    // What is kept of it under a Yes to the good query `r` that comes. What was enough stays so,
+    // and where it was a state that does not break `r`, nothing more is.
     fn after_yes<I: Interior, L: Ledger>(
         &self,
         f: &I,
@@ -81,8 +132,7 @@ impl StandingNo {
             IsChange YesChange.Added n r.now before (I.members f.now) →
             self.now ≡ standing n before self.now.no →
             result ≡ standing n (I.members f.now) self.now.no }
-        ensures no { result.no ≡ self.now.no }
-        ensures within { IsWithin result.closed (full (I.item_count f.now)) }
+        ensures kept { is_kept (I.item_count f.now) result ≡ true }
         ensures cost { steps.new ≤ steps.old + (I.item_count f.now + 1) }
     {
         if self.closed.has(r.q) {
@@ -97,11 +147,10 @@ impl StandingNo {
         } else {
             self.closed
         };
-        StandingNo {
-            no: self.no,
-            closed,
-            enough: enough_after(f, closed, self.no.query.q, self.enough, steps),
+        if self.is_state && !breaks(self.enough, r) {
+            return StandingNo { closed, ..*self };
         }
+        self.with_closed(f, closed, steps)
     }
 
     // What is kept of it where a Yes to the good query `r` is taken back. Nothing more is enough.
@@ -118,8 +167,7 @@ impl StandingNo {
             IsChange YesChange.Removed n r.now before (I.members f.now) →
             self.now ≡ standing n before self.now.no →
             result ≡ standing n (I.members f.now) self.now.no }
-        ensures no { result.no ≡ self.now.no }
-        ensures within { IsWithin result.closed (full (I.item_count f.now)) }
+        ensures kept { is_kept (I.item_count f.now) result ≡ true }
         ensures cost { steps.new ≤ steps.old + (I.item_count f.now + 1) }
     {
         let has_all = r.a.is_within(self.closed);
@@ -131,13 +179,12 @@ impl StandingNo {
         } else {
             self.closed
         };
-        let others = self.enough.meet(ItemSet::full(f.items()));
         let q = self.no.query.q;
-        StandingNo {
-            no: self.no,
-            closed,
-            enough: enough_among(f, closed, q, ItemSet::empty(), others, steps),
+        let enough = enough_between(f, closed, q, ItemSet::empty(), self.enough, steps);
+        if self.is_state && self.enough.is_within(enough) {
+            return StandingNo { closed, ..*self };
         }
+        StandingNo::of(f, self.no, closed, enough, steps)
     }
 
     // What is kept of it after a Yes to the good query `r` came or was taken back.

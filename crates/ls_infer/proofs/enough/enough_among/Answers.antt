@@ -2,6 +2,7 @@ use Rattle.std.proofs.Common.{◌<◌, ◌≡◌, true, refl, sym, subst, arith}
 use Rattle.ls_set.specs.ItemSet.{full, has, with, meet, empty, minus, is_among}
 use Rattle.ls_set.proofs.Sets.{minus-within}
 use Rattle.ls_infer.specs.Tables.{enough_for}
+use Rattle.ls_infer.proofs.Kept.{with-within}
 use Rattle.ls_infer.proofs.Sharing.{IsFound, hit, miss, found-hit, found-miss, found-all, fewer-hit, fewer-miss, left-hit, left-miss, left-below}
 use Rattle.ls_infer.proofs.enough.enough_among.Goals as goal
 
@@ -34,6 +35,7 @@ loop-r-preserved-in-Some-interior_without g c =
           let next = found-miss n f c.args.closed q r found left missed p.0 p.1 (c.loop-r.invariant.found member known all) in
           subst (λ s. IsFound (enough_for n f c.args.closed q) found s) (sym c.meet-left.ensures)
           (subst (λ s. IsFound (enough_for n f c.args.closed q) found (meet s missed)) (sym c.without-left.ensures) next);
+      small = c.loop-r.invariant.small;
       within = left-miss c.args.others left c.without-left.result missed c.meet-left.result r c.loop-r.invariant.within c.without-left.ensures c.meet-left.ensures;
       cost = omega (arith, fewer, c.interior_without.ensures.cost, c.loop-r.invariant.cost);
     }
@@ -59,6 +61,7 @@ loop-r-preserved g c =
           let next = found-hit n f c.args.closed q r found left below (hit n f c.args.closed c.minus-outside.result c.with-keep.result q r c.requires.item outside keep told) (c.loop-r.invariant.found member known all) in
           subst (λ s. IsFound (enough_for n f c.args.closed q) s c.without-left.result) (sym c.with-enough.ensures)
           (subst (λ s. IsFound (enough_for n f c.args.closed q) (with found r) s) (sym c.without-left.ensures) next);
+      small = rw c.with-enough.ensures (with-within n found r c.loop-r.invariant.small below);
       within = left-hit c.args.others left c.without-left.result r c.loop-r.invariant.within c.without-left.ensures;
       cost = omega (arith, fewer, c.interior_without.ensures.cost, c.loop-r.invariant.cost);
     }
@@ -68,3 +71,6 @@ returns-clause-value g c = λ member known all.
     let n = g.I.Interior.item_count c.args.f.now in
     let f = g.I.Interior.members c.args.f.now in
     found-all (enough_for n f c.args.closed c.args.q) c.loop-r.enough c.loop-r.left (c.loop-r.invariant.found member known all) (sym c.in_default.ensures.value)
+
+pub returns-clause-within : goal.returns-clause-within
+returns-clause-within g c = c.loop-r.invariant.small

@@ -11,6 +11,7 @@ invariant-loop-r g l = record {
       IsWithin l.fn.known (enough_for (g.I.Interior.item_count l.f) (g.I.Interior.members l.f) l.fn.closed l.q) →
       ((r : ℕ) → has (enough_for (g.I.Interior.item_count l.f) (g.I.Interior.members l.f) l.fn.closed l.q) r ≡ true → (has l.fn.known r ≡ true) ⊎ (has l.fn.others r ≡ true)) →
       IsFound (enough_for (g.I.Interior.item_count l.f) (g.I.Interior.members l.f) l.fn.closed l.q) l.enough l.left;
+  small : IsWithin l.enough (full (g.I.Interior.item_count l.f));
   within : IsWithin l.left l.fn.others;
   cost : l.steps + len l.left ≤ l.fn.steps + len l.fn.others;
 }

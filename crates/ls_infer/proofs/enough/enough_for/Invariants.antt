@@ -1,11 +1,12 @@
-use Rattle.std.proofs.Common.{◌≡◌, ◌+◌, ℕ, ◌&&◌, nat_lt}
+use Rattle.std.proofs.Common.{◌≡◌, ◌+◌, ◌<◌, ◌≤◌, ℕ, ◌&&◌, ◌||◌, nat_eq, nat_lt}
 use Rattle.ls_set.specs.ItemSet.{has, full, with}
 use Rattle.ls_theory.specs.Families.{closure}
 use Rattle.ls_infer.proofs.enough.enough_for.Given as goal
 
--- the items so far are those that are enough, and each was one step
+-- the items so far are those that are enough, and q, and each but q was one step
 abbrev pub invariant-loop-r : goal.invariant-loop-r
 invariant-loop-r g l = record {
-  enough : (i : ℕ) → has l.enough i ≡ (nat_lt i l.r && has (closure (full (g.I.Interior.item_count l.f)) (g.I.Interior.members l.f) (with l.fn.closed i)) l.q);
-  cost : l.steps ≡ l.fn.steps + l.r;
+  enough : (i : ℕ) → has l.enough i ≡ (nat_lt i l.r && has (closure (full (g.I.Interior.item_count l.f)) (g.I.Interior.members l.f) (with l.fn.closed i)) l.q || nat_eq i l.q);
+  before : l.r ≤ l.q → l.steps ≡ l.fn.steps + l.r;
+  past : l.q < l.r → l.steps + 1 ≡ l.fn.steps + l.r;
 }

@@ -1,27 +1,59 @@
-use Rattle.std.proofs.Common.{◌≤◌, ◌≡◌, inr, sym, ap, ◌∙◌, arith}
-use Rattle.ls_set.specs.ItemSet.{full, meet, len}
-use Rattle.ls_set.proofs.Sets.{minus-within, empty-within}
+use Rattle.std.proofs.Common.{◌≡◌, sym, refl, ◌∙◌}
+use Rattle.ls_set.specs.ItemSet.{full, is_among, IsWithin}
+use Rattle.ls_set.proofs.Sets.{minus-within, empty-within, IsWithin-from}
 use Rattle.ls_theory.specs.Families.{closure}
-use Rattle.ls_laws.proofs.Settled.{len-small}
 use Rattle.ls_laws.proofs.Families.{family_sets}
 use Rattle.ls_infer.proofs.Outside.{outside-member}
-use Rattle.ls_infer.proofs.Standing.{kept-good, kept-within, meet-within, before-closed, before-lack, before-others, standing-from}
+use Rattle.ls_infer.proofs.Standing.{kept-parts, kept-again, before-closed, before-lack, before-among, before-state, standing-from}
 use Rattle.ls_infer.proofs.standing_no.StandingNo.before_yes.Goals as goal
 use Rattle.ls_infer.proofs.standing_no.StandingNo.before_yes.Goals.{then-has_all, else-has_all}
 
 pub returns-then-has-clause-value : goal.returns-then-has-clause-value
 returns-then-has-clause-value g c = λ before change e.
-    before-closed _ before _ c.args.r.now c.args.self.now change (g.met.I.Interior.is_family c.args.f.now) c.requires.good e
+    before-closed _ before _ c.args.r.now c.args.self.now change (g.met.I.Interior.is_family c.args.f.now) c.requires.good c.requires.kept e
     (sym c.is_within-has_all.ensures ∙ c.if-not-has_all.true) (sym c.has.ensures ∙ c.if-has.true)
 
-pub returns-then-has-clause-within : goal.returns-then-has-clause-within
-returns-then-has-clause-within g c = kept-within _ c.args.self.now c.requires.kept
-
 pub closure-closed-requires : goal.closure-closed-requires
-closure-closed-requires g c = (kept-good _ c.args.self.now c.requires.kept).small
+closure-closed-requires g c = (kept-parts _ c.args.self.now c.requires.kept).good.small
 
-pub enough_among-requires-clause-others : goal.enough_among-requires-clause-others
-enough_among-requires-clause-others g c = rw (c.meet-others.ensures, c.full.ensures, c.items.ensures.count) (meet-within _ _)
+pub enough_between-enough-requires-clause-item : goal.enough_between-enough-requires-clause-item
+enough_between-enough-requires-clause-item g c = (kept-parts _ c.args.self.now c.requires.kept).good.item
+
+pub enough_between-enough-requires-clause-known : goal.enough_between-enough-requires-clause-known
+enough_between-enough-requires-clause-known g c = rw c.empty.ensures (empty-within _)
+
+pub enough_between-enough-requires-clause-among : goal.enough_between-enough-requires-clause-among
+enough_between-enough-requires-clause-among g c = (kept-parts _ c.args.self.now c.requires.kept).enough
+
+pub returns-then-is_within-clause-value : goal.returns-then-is_within-clause-value
+returns-then-is_within-clause-value g c = λ before change e.
+    let n = g.I.Interior.item_count c.args.f.now in
+    let after = g.I.Interior.members c.args.f.now in
+    let family = g.met.I.Interior.is_family c.args.f.now in
+    let r = c.args.r.now in
+    let s = c.args.self.now in
+    let closed = c.if-has_all.closed in
+    let made : closed ≡ closure (full n) after s.no.query.a = elim c.if-has_all.branch [
+      | then-has_all w ↦ w.closed-is ∙ w.closure-closed.ensures.value
+      | else-has_all w ↦ w.closed-is ∙ before-lack n before after r s change family c.requires.good e (sym c.is_within-has_all.ensures ∙ w.if-has_all.false)
+    ] in
+    let all = c.enough_between-enough.ensures.value (rw made (outside-member n after s.no.query.a (family_sets n after family))) (rw c.empty.ensures (empty-within _)) (before-among n before after r s closed change e made) in
+    before-state n before after r s closed c.enough_between-enough.result change e made all (IsWithin-from s.enough c.enough_between-enough.result (sym c.is_within.ensures ∙ c.if-is_within.true)) c.if-self.true
+
+pub returns-then-is_within-clause-kept : goal.returns-then-is_within-clause-kept
+returns-then-is_within-clause-kept g c =
+    let n = g.I.Interior.item_count c.args.f.now in
+    let f = g.I.Interior.members c.args.f.now in
+    let s = c.args.self.now in
+    let k = kept-parts n s c.requires.kept in
+    let within : IsWithin c.if-has_all.closed (full n) = elim c.if-has_all.branch [
+      | then-has_all w ↦ rw (w.closed-is, w.closure-closed.ensures.value) (minus-within _ _)
+      | else-has_all w ↦ rw w.closed-is k.closed
+    ] in
+    kept-again n s c.if-has_all.closed s.enough s.is_state c.requires.kept within k.enough
+
+pub of-requires : goal.of-requires
+of-requires g c = c.enough_between-enough.ensures.within
 
 pub returns-clause-value : goal.returns-clause-value
 returns-clause-value g c = λ before change e.
@@ -35,23 +67,17 @@ returns-clause-value g c = λ before change e.
       | then-has_all w ↦ w.closed-is ∙ w.closure-closed.ensures.value
       | else-has_all w ↦ w.closed-is ∙ before-lack n before after r s change family c.requires.good e (sym c.is_within-has_all.ensures ∙ w.if-has_all.false)
     ] in
-    let others : c.meet-others.result ≡ meet s.enough (full n) = c.meet-others.ensures ∙ ap (meet s.enough) (c.full.ensures ∙ ap full c.items.ensures.count) in
-    standing-from n after s closed c.enough_among.result made
-    (c.enough_among.ensures.value (rw made (outside-member n after s.no.query.a (family_sets n after family)))
-    (rw c.empty.ensures (empty-within _))
-    (λ i h. inr (rw others (before-others n before after r s closed i change e made h))))
+    c.of.ensures.value ∙ standing-from n after s.no closed c.enough_between-enough.result _ made
+    (c.enough_between-enough.ensures.value (rw made (outside-member n after s.no.query.a (family_sets n after family))) (rw c.empty.ensures (empty-within _)) (before-among n before after r s closed change e made)) refl
 
-pub returns-clause-within : goal.returns-clause-within
-returns-clause-within g c = elim c.if-has_all.branch [
-  | then-has_all w ↦ rw (w.closed-is, w.closure-closed.ensures.value) (minus-within _ _)
-  | else-has_all w ↦ rw w.closed-is (kept-within _ c.args.self.now c.requires.kept)
-]
-
-pub returns-clause-cost : goal.returns-clause-cost
-returns-clause-cost g c =
+pub returns-clause-kept : goal.returns-clause-kept
+returns-clause-kept g c =
     let n = g.I.Interior.item_count c.args.f.now in
-    let small : len c.meet-others.result ≤ n = len-small c.meet-others.result n (rw (c.meet-others.ensures, c.full.ensures, c.items.ensures.count) (meet-within _ _)) in
-    elim c.if-has_all.branch [
-      | then-has_all w ↦ omega (arith, small, w.steps-is, w.closure-closed.ensures.cost, c.enough_among.ensures.cost)
-      | else-has_all w ↦ omega (arith, small, w.steps-is, c.enough_among.ensures.cost)
-    ]
+    let f = g.I.Interior.members c.args.f.now in
+    let s = c.args.self.now in
+    let k = kept-parts n s c.requires.kept in
+    let within : IsWithin c.if-has_all.closed (full n) = elim c.if-has_all.branch [
+      | then-has_all w ↦ rw (w.closed-is, w.closure-closed.ensures.value) (minus-within _ _)
+      | else-has_all w ↦ rw w.closed-is k.closed
+    ] in
+    rw c.of.ensures.value (kept-again n s c.if-has_all.closed c.enough_between-enough.result (is_among f c.enough_between-enough.result) c.requires.kept within c.enough_between-enough.ensures.within)

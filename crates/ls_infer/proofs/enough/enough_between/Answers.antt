@@ -1,0 +1,31 @@
+use Rattle.std.proofs.Common.{◌≡◌, ◌≤◌, ◌+◌, sym, ap, ◌∙◌, arith}
+use Rattle.ls_set.specs.ItemSet.{full, with, minus, len}
+use Rattle.ls_infer.proofs.Kept.{with-within}
+use Rattle.ls_infer.proofs.Outside.{with-here}
+use Rattle.ls_infer.proofs.States.{enough-all, with-itself, among-others, others-within, others-few}
+use Rattle.ls_infer.proofs.enough.enough_between.Goals as goal
+
+pub returns-then-has-clause-value : goal.returns-then-has-clause-value
+returns-then-has-clause-value g c = λ member known among.
+    let n = g.I.Interior.item_count c.args.f.now in
+    c.full-all.ensures ∙ ap full c.items.ensures.count ∙ sym (enough-all n (g.I.Interior.members c.args.f.now) c.args.closed c.args.q c.requires.item (sym c.has.ensures ∙ c.if-has.true))
+
+pub enough_among-requires-clause-known : goal.enough_among-requires-clause-known
+enough_among-requires-clause-known g c = rw c.with-known.ensures (with-within _ c.args.known c.args.q c.requires.known c.requires.item)
+
+pub enough_among-requires-clause-others : goal.enough_among-requires-clause-others
+enough_among-requires-clause-others g c = rw (c.minus-others.ensures, c.minus.ensures) (others-within _ c.args.among c.with-known.result c.args.closed c.requires.among)
+
+pub returns-clause-value : goal.returns-clause-value
+returns-clause-value g c = λ member known among.
+    let n = g.I.Interior.item_count c.args.f.now in
+    let f = g.I.Interior.members c.args.f.now in
+    let others : c.minus-others.result ≡ minus (minus c.args.among c.with-known.result) c.args.closed = rw c.minus.ensures at c.minus-others.ensures in
+    c.enough_among.ensures.value member (rw c.with-known.ensures (with-itself n f c.args.closed c.args.q c.args.known c.requires.item known))
+    (λ r h. rw others (among-others n f c.args.closed c.args.q c.with-known.result c.args.among r member (sym c.has.ensures ∙ c.if-has.false) among h))
+
+pub returns-clause-cost : goal.returns-clause-cost
+returns-clause-cost g c =
+    let n = g.I.Interior.item_count c.args.f.now in
+    let few : len c.minus-others.result + 1 ≤ n = rw (c.minus-others.ensures, c.minus.ensures, c.with-known.ensures) (others-few n c.args.among (with c.args.known c.args.q) c.args.closed c.args.q c.requires.among c.requires.item (with-here c.args.known c.args.q)) in
+    omega (arith, few, c.enough_among.ensures.cost)
