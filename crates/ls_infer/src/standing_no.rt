@@ -74,8 +74,8 @@ impl StandingNo {
         StandingNo::of(f, *answer, closed, enough, steps)
     }
 
-    /// What is kept of the answer, in a step at most for each item and one more, and mostly in a
-    /// few: what is not enough is shared.
+    /// What is kept of the answer, in a step at most for each item and one more. What is not enough
+    /// is shared, so that it mostly takes fewer steps than `new`, which takes all of them.
     pub fn shared<I: Interior, L: Ledger>(f: &I, answer: &No, steps: &mut Steps<L>) -> StandingNo
         requires { is_good (I.item_count f.now) answer.now.query ≡ true }
         ensures value { result ≡ standing (I.item_count f.now) (I.members f.now) answer.now }
