@@ -1,5 +1,5 @@
 -- The command is that of the first form that has the line.
-use Rattle.std.proofs.Common.{ℕ, zero, suc, ◌≡◌, refl, sym, ap, ◌∙◌, Bool, true, false, cond, List, [], ◌∷◌, None, Some, option_map, is_some}
+use Rattle.std.proofs.Common.{ℕ, zero, suc, ◌≡◌, refl, sym, ap, ◌∙◌, Bool, true, false, cond, List, [], ◌∷◌, length, None, Some, option_map, is_some, arith}
 use Rattle.std.specs.List.{filter_map, cons_option, find, slice_get}
 use Rattle.std.proofs.lemmas.Option.{same_Some, none-some}
 use Rattle.ls_lines.specs.Lines.{Text}
@@ -7,6 +7,7 @@ use Rattle.ls_lines.specs.Forms.{parts, command, forms}
 use Rattle.ls_lines.specs.Commands.{cut, command_of}
 use Rattle.ls_lines.specs.declared.form.Form.{Form}
 use Rattle.ls_lines.specs.declared.command.Command.{Command}
+use Rattle.ls_lines.specs.declared.command.Command.TheVariants as commands
 
 -- whether the form has the words as a line
 abbrev pub has_line : List Text → Form → Bool
@@ -52,3 +53,9 @@ only_found (g ∷ fs) ws (suc i) f at h only =
       | true ↦ λ e. ap Some (only g e)
       | false ↦ λ e. only_found fs ws i f at h only
     ] refl
+
+-- no words are the command that does nothing
+pub no_words : (ws : List Text) → length ws ≡ 0 → Some commands.Nothing ≡ command_of ws
+unfolding command_of forms parts command cut
+no_words [] e = refl
+no_words (w ∷ ws) e = absurd (omega arith)

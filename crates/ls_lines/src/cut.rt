@@ -37,7 +37,7 @@ impl<'a> Cut<'a> {
         ensures words { IfOk result (λ c. cut form.now words.now ≡ Some c) }
         ensures ascii { IfOk result (λ c. All (λ ws. All IsAscii ws) c) }
     {
-        let mut parts = Vec::new(alloc);
+        let mut parts = Vec::with_capacity(alloc, form.len())?;
         let mut start = 0;
         for part in form {
             let end = start + front(*part, &words[start..]).unwrap();

@@ -32,6 +32,18 @@ pub fn read_command(alloc: Global, line: &[u8]) -> Result<Command, LineFault>
 fn command_of(alloc: Global, words: &[Token]) -> Result<Option<Command>, AllocError>
     ensures { IfOk result (λ read. read ≡ command_of words.now) }
 {
+    if words.is_empty() {
+        return Ok(Some(Command::Nothing));
+    }
+    command_by_form(alloc, words)
+}
+
+// The command that the words are, if they are a line of some form. It is not made part of its
+// caller, so that a line of no words needs no large frame.
+#[inline(never)]
+fn command_by_form(alloc: Global, words: &[Token]) -> Result<Option<Command>, AllocError>
+    ensures { IfOk result (λ read. read ≡ command_of words.now) }
+{
     let Some(form) = form_with_line(words) else {
         return Ok(None);
     };

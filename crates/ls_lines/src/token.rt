@@ -77,12 +77,15 @@ fn stands_alone(b: u8) -> bool
     b == b':' || b == b'|'
 }
 
+// Room for the words of most lines.
+const MOSTLY: usize = 8;
+
 // The runs of bytes between those that part words, in one pass.
 fn runs(alloc: Global, line: &[u8]) -> Result<Vec<Token<'_>>, AllocError>
     ensures runs { IfOk result (λ v. v.items ≡ runs line.now) }
     ensures few { IfOk result (λ v. vec_len v ≤ length line.now) }
 {
-    let mut tokens = Vec::new(alloc);
+    let mut tokens = Vec::with_capacity(alloc, MOSTLY)?;
     let mut start = 0;
     for (i, b) in line.iter().enumerate() {
         if parts_words(*b) {

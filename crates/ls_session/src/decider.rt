@@ -139,13 +139,15 @@ impl Decider {
             return Ok(Response::Refused(Refusal::LongLine { bytes }));
         }
         match read_command(self.alloc, line) {
+            Ok(Command::Nothing) => Ok(Response::Silence),
             Ok(command) => self.decide(rt, &command, shelf, steps),
             Err(LineFault::Shape { place }) => Ok(Response::Refused(Refusal::NoCommand { place })),
             Err(LineFault::Memory(e)) => Err(e),
         }
     }
 
-    // Decides what a command does.
+    // Decides what a command does. It is not made part of its caller, since its frame is large.
+    #[inline(never)]
     fn decide<R: Threads + Sync, H: Shelf, L: Ledger>(
         &mut self,
         rt: &R,
@@ -328,6 +330,25 @@ impl Decider {
 
     /// Says the lines of a response.
     pub fn put<K: Sink, L: Ledger>(
+        &self,
+        response: &Response,
+        room: &mut Room,
+        out: &mut K,
+        steps: &mut Steps<L>,
+    )
+        requires { IsSayable self.now.course response.now }
+        ensures { Says (K.written out.old) (K.faults out.old) room.old
+            (K.written out.new) (K.faults out.new) room.new
+            (bytes_of (lines_of (standing_session self.now.course) response.now)) }
+    {
+        if !matches!(response, Response::Silence) {
+            self.put_lines(response, room, out, steps);
+        }
+    }
+
+    // Says the lines of a response. It is not made part of its caller, since its frame is large.
+    #[inline(never)]
+    fn put_lines<K: Sink, L: Ledger>(
         &self,
         response: &Response,
         room: &mut Room,

@@ -6,8 +6,8 @@ use Rattle.ls_lines.proofs.token.runs.Goals.{then-parts_words+in_ok-push_run, el
 pub loop-i-init : goal.loop-i-init
 loop-i-init c = record {
   in_order = omega arith;
-  few = rw c.new-tokens.ensures.items (omega arith);
-  runs_on = rw c.new-tokens.ensures.items (runs-byte_by_byte c.args.line.now);
+  few = rw c.in_ok-tokens.ensures.items (omega arith);
+  runs_on = rw c.in_ok-tokens.ensures.items (runs-byte_by_byte c.args.line.now);
 }
 
 pub loop-i-preserved : goal.loop-i-preserved
