@@ -13,7 +13,7 @@ use crate::fronts::{Front, close_block};
 use crate::standing_no::StandingNo;
 use crate::yes_change::YesChange;
 use ls_interior::{Interior, Steps};
-use ls_query::{Blocks, MOST_SETS, Walk};
+use ls_query::{BlockWalk, Blocks, MOST_SETS};
 use ls_set::{ItemSet, PLACES, Query};
 use ls_theory::No;
 use std::alloc::{AllocError, Global};
@@ -84,7 +84,7 @@ fn first_stale(change: YesChange, r: &Query, closures: &[ItemSet]) -> Option<usi
 }
 
 // The walk that comes next to the set at the place.
-fn walk_before(blocks: Blocks, place: usize) -> Walk
+fn walk_before(blocks: Blocks, place: usize) -> BlockWalk
     requires { place ≤ length (sets_of blocks) }
     ensures blocks { result.blocks ≡ blocks }
     ensures next { find (block_before result.set) (sets_of blocks)

@@ -5,7 +5,7 @@ ghost use Rattle.ls_theory.specs.Families.{closure};
 ghost use Rattle.ls_infer.specs.Fronts.{IsFront, AreFirst};
 
 use ls_interior::{Interior, Steps, closure};
-use ls_query::{Blocks, Walk};
+use ls_query::{BlockWalk, Blocks};
 use ls_set::ItemSet;
 use std::sync::ledger::Ledger;
 
@@ -80,7 +80,7 @@ fn close_with<I: Interior, L: Ledger>(
 pub fn close_block<I: Interior, L: Ledger>(
     first: &[ItemSet],
     blocks: Blocks,
-    walk: &Walk,
+    walk: &BlockWalk,
     f: &I,
     front: &mut Front,
     steps: &mut Steps<L>,

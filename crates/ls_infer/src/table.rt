@@ -21,7 +21,7 @@ use crate::closures::{close_again, closures_of, standing_of};
 use crate::standing_no::{StandingNo, change_each, forcing, take_out, unforced};
 use crate::yes_change::YesChange;
 use ls_interior::{Interior, Steps, closure};
-use ls_query::{Blocks, Walk};
+use ls_query::{BlockWalk, Blocks};
 use ls_set::{ItemSet, PLACES, Query};
 use ls_theory::{Known, No};
 use std::alloc::{AllocError, Global};
@@ -252,7 +252,7 @@ impl Table {
 
     // The items q for which the query (A, q) is open, where the walk has come to the block set A, at
     // the place.
-    fn open_items(&self, place: u32, walk: &Walk) -> ItemSet
+    fn open_items(&self, place: u32, walk: &BlockWalk) -> ItemSet
         requires { slice_get (sets_of self.now.table.blocks) place ≡ Some walk.now.set }
         ensures { (q : ℕ) → has result q
             ≡ (is_good self.now.table.blocks.item_count (record { a = walk.now.set; q = q })
@@ -285,7 +285,7 @@ impl Table {
     }
 
     // The first open query from the place on, where the walk has come to the set before it.
-    fn open_from(&self, start: u32, mut walk: Walk) -> Option<Query>
+    fn open_from(&self, start: u32, mut walk: BlockWalk) -> Option<Query>
         requires walk { walk.blocks ≡ self.now.table.blocks }
         requires place { find (block_before walk.set) (sets_of self.now.table.blocks)
             ≡ slice_get (sets_of self.now.table.blocks) start }

@@ -11,7 +11,7 @@ use crate::asking::{query_after, query_after_set};
 use crate::counting::{MOST_SETS, count_sets};
 use crate::moving::set_after;
 use crate::placing;
-use crate::walk::{Walk, walk_at};
+use crate::walk::{BlockWalk, walk_at};
 use ls_set::{ItemSet, PLACES, Query};
 use ls_theory::BlockFault;
 use std::alloc::AllocError;
@@ -92,7 +92,7 @@ impl Blocks {
     }
 
     /// A walk that has come to the set. It may be the empty set, before all of them.
-    pub fn walk_from(&self, set: ItemSet) -> Walk
+    pub fn walk_from(&self, set: ItemSet) -> BlockWalk
         requires within { IsWithin set (full self.now.item_count) }
         requires size { len set ≤ self.now.largest }
         ensures blocks { result.blocks ≡ self.now }

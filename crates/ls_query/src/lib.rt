@@ -14,4 +14,4 @@ pub use blocks::Blocks;
 pub use counting::MOST_SETS;
 pub use ls_theory::BlockFault;
 pub use turns::each_comes_in_turn;
-pub use walk::Walk;
+pub use walk::BlockWalk;

@@ -13,14 +13,14 @@ use std::marker::Model;
 /// come to, and this set without its greatest item.
 // The next set mostly has the same others, and the item after the greatest.
 #[derive(Debug, Drop)]
-pub struct Walk {
+pub struct BlockWalk {
     blocks: Blocks,
     others: ItemSet,
     // one more than the greatest item, or 0 where there is none
     end: u32,
 }
 
-impl Model for Walk {
+impl Model for BlockWalk {
     ghost use Rattle.ls_query.specs.Walks.{Walked, topped, IsWalk};
 
     ghost Value = { Walked };
@@ -49,7 +49,7 @@ fn greatest(set: ItemSet) -> Option<u32>
 }
 
 // The walk that has come to the set.
-pub fn walk_at(blocks: Blocks, set: ItemSet) -> Walk
+pub fn walk_at(blocks: Blocks, set: ItemSet) -> BlockWalk
     requires bounded { AreBounded blocks }
     requires within { IsWithin set (full blocks.item_count) }
     requires size { len set ≤ blocks.largest }
@@ -57,12 +57,12 @@ pub fn walk_at(blocks: Blocks, set: ItemSet) -> Walk
     ensures set { result.set ≡ set }
 {
     match greatest(set) {
-        Some(item) => Walk {
+        Some(item) => BlockWalk {
             blocks,
             others: set.without(item),
             end: item + 1,
         },
-        None => Walk {
+        None => BlockWalk {
             blocks,
             others: set,
             end: 0,
@@ -70,7 +70,7 @@ pub fn walk_at(blocks: Blocks, set: ItemSet) -> Walk
     }
 }
 
-impl Walk {
+impl BlockWalk {
     /// The greatest item of the set that was come to; the empty set has none.
     pub fn greatest(&self) -> Option<u32>
         ensures item { MatchOption result (self.now.set ≡ empty)

@@ -1,7 +1,7 @@
 use Rattle.std.proofs.Common.{sym, ◌∙◌, arith}
 use Rattle.ls_theory.specs.Queries.{block_before}
 use Rattle.ls_query.proofs.Walks.{topped-next, found-of_blocks}
-use Rattle.ls_query.proofs.walk.Walk.advance.Goals as goal
+use Rattle.ls_query.proofs.walk.BlockWalk.advance.Goals as goal
 
 pub returns-then-self-items-clause-next : goal.returns-then-self-items-clause-next
 returns-then-self-items-clause-next c = rw (← c.self.view_is) (topped-next c.self.inside.blocks c.self.inside.others c.self.inside.end c.self.invariant (omega (arith, c.if-self-items.true, c.items.ensures)))
