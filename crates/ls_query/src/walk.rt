@@ -1,5 +1,5 @@
 // A walk through the sets of blocks.
-ghost use Rattle.std.specs.Prelude.{◌≡◌, ◌<◌, ◌≤◌, ℕ, true, Some, None, find, IfSome, MatchOption, if◌then◌else◌};
+ghost use Rattle.std.specs.Prelude.{◌≡◌, ◌<◌, ◌≤◌, ℕ, true, false, Some, None, find, IfSome, MatchOption, if◌then◌else◌};
 ghost use Rattle.ls_set.specs.ItemSet.{Items, has, empty, full, with, len, most_items, IsWithin};
 ghost use Rattle.ls_theory.specs.Queries.{block_before};
 ghost use Rattle.ls_query.specs.Blocks.{AreBounded, sets_of};
@@ -106,6 +106,7 @@ impl BlockWalk {
         ensures next { find (block_before self.old.set) (sets_of self.old.blocks)
             ≡ (if result then Some self.new.set else None) }
         ensures blocks { self.new.blocks ≡ self.old.blocks }
+        ensures last { result ≡ false → self.new ≡ self.old }
     {
         if self.end < self.blocks.items() {
             self.end += 1;
