@@ -341,8 +341,9 @@ impl Decider {
             (K.written out.new) (K.faults out.new) room.new
             (bytes_of (lines_of (standing_session self.now.course) response.now)) }
     {
-        if !matches!(response, Response::Silence) {
-            self.put_lines(response, room, out, steps);
+        match response {
+            Response::Silence => {}
+            _ => self.put_lines(response, room, out, steps),
         }
     }
 

@@ -1,5 +1,7 @@
-use Rattle.std.proofs.Common.{Err, refl, ap}
+use Rattle.std.proofs.Common.{Err, Some, refl, ap, ◌∙◌}
 use Rattle.ls_reply.proofs.Effects.{line_effect-long, line_effect-command, line_effect-fault}
+use Rattle.ls_lines.specs.declared.command.Command.TheVariants as command
+use Rattle.ls_reply.specs.Replies.{command_effect}
 use Rattle.ls_session.specs.Courses.{standing_session}
 use Rattle.ls_session.proofs.Deciding.{decides_made, decides_as, decides_nothing}
 use Rattle.ls_session.proofs.decider.Decider.decide_line.Goals as goal
@@ -13,6 +15,12 @@ pub returns-in-Ok-clause-decides : goal.returns-in-Ok-clause-decides
 returns-in-Ok-clause-decides g c =
     decides_as _ (λ calls. line_effect-command (standing_session c.args.self.now.course) calls c.args.line.now c.in-Ok.command c.if-line-gt-LONGEST_LINE.false c.in-Ok.ensures.read)
     c.decide.ensures.decides
+
+pub returns-in-Ok-Nothing-clause-decides : goal.returns-in-Ok-Nothing-clause-decides
+unfolding command_effect
+returns-in-Ok-Nothing-clause-decides g c =
+    decides_made _ _ _ (λ calls. line_effect-command (standing_session c.args.self.now.course) calls c.args.line.now command.Nothing c.if-line-gt-LONGEST_LINE.false (c.in-Ok-Nothing.ensures.read ∙ ap Some c.in-Ok-Nothing.field-0-is)) refl
+    (record { response = refl; session = refl; undone = tt })
 
 pub returns-in-Err-Shape-clause-decides : goal.returns-in-Err-Shape-clause-decides
 returns-in-Err-Shape-clause-decides g c =
