@@ -1,76 +1,59 @@
--- The first open query, as an inquiry keeps it.
-use Rattle.std.proofs.Common.{◌≡◌, inl, inr, Bool, true, false, not, ◌&&◌, List, [], ◌∷◌, ◌++◌, filter, find, Option, Some, None, IfSome, sym, ap, ◌∙◌, subst, true≢false}
+-- From where an inquiry looks for an open query.
+use Rattle.std.proofs.Common.{◌≡◌, inl, inr, Bool, true, false, not, ◌&&◌, List, [], ◌∷◌, ◌++◌, filter, find, Option, Some, None, sym, ap, ◌∙◌, refl, subst, true≢false, ◌<◌, arith}
 use Rattle.std.specs.List.{AllByRecursion, list_all}
-use Rattle.std.proofs.lemmas.Bool.{and_parts, and_from, false_from_ne_true, not-true, not_from_false}
+use Rattle.std.proofs.lemmas.Bool.{and_parts, and_from, cases_Bool, false_from_ne_true, not-true, not_from_false}
 use Rattle.ls_lists.specs.Lists.{IsIn, IsSorted}
-use Rattle.ls_lists.proofs.Bools.{same_truth}
 use Rattle.ls_lists.proofs.Filters.{filter_true}
 use Rattle.ls_lists.proofs.Finds.{find-filter}
-use Rattle.ls_lists.proofs.Sorted.{find-same, find-no_element, find-first, find-is, find-none_is}
+use Rattle.ls_lists.proofs.Sorted.{find-same, find-no_element, find-is, find-none_is}
 use Rattle.ls_set.specs.ItemSet.{Items, is_among}
-use Rattle.ls_set.specs.Query.{is_good}
 use Rattle.ls_set.specs.declared.query.Query.{Query}
-use Rattle.ls_theory.specs.Queries.{some_breaks, queries, query_before}
-use Rattle.ls_theory.specs.Interviews.{Interview, accepted, no_queries, nos}
+use Rattle.ls_theory.specs.Queries.{some_breaks, block_before, queries, query_before}
+use Rattle.ls_theory.specs.Pages.{comes_after}
+use Rattle.ls_theory.specs.Interviews.{Interview, accepted, no_queries}
 use Rattle.ls_theory.specs.Compatible.{compatible_sets}
 use Rattle.ls_theory.specs.Fitting.{spaces_of}
 use Rattle.ls_theory.specs.Forced.{is_open, next_question}
-use Rattle.ls_theory.specs.Blocks.{BlockRange}
-use Rattle.ls_laws.specs.Forced.{IsSound}
 use Rattle.ls_laws.proofs.Breaks.{among-left_parts}
 use Rattle.ls_laws.proofs.Answering.{FitsIn, all_spaces}
 use Rattle.ls_laws.proofs.Accepting.{compatible-yes, compatible-no}
+use Rattle.ls_query.proofs.BlockOrder.{before-transitive}
 use Rattle.ls_query.proofs.Sorted.{sorted-cases}
-use Rattle.ls_query.proofs.QuerySets.{sorted-queries, query_before-asymmetric}
-use Rattle.ls_infer.specs.Tables.{TableState, table_of}
-use Rattle.ls_expert.specs.Held.{IsHeld, IsInquiry}
+use Rattle.ls_query.proofs.QuerySets.{sorted-queries, query_before-asymmetric, query_before-cases, before-by_set, before-by_item}
+use Rattle.ls_theory.specs.Blocks.{BlockRange}
+use Rattle.ls_query.specs.Blocks.{queries_of}
+use Rattle.ls_infer.specs.Tables.{TableState}
+use Rattle.ls_expert.specs.Held.{blocks_of, IsHeld, NoneBefore, PlaceFor, IsInquiry}
 use Rattle.ls_expert.proofs.AnswerLists.{no_queries-yes, no_queries-no}
-use Rattle.ls_expert.proofs.Ruling.{own_blocks, question-good}
 
--- the first query that is open by the table of what is held
-pub asking : (i : Interview) (rules : List Query) (t : TableState) (first : Option Query) → IsHeld i rules t
-    → ((i : Interview) → IsSound i → i.count ≡ t.blocks.item_count → i.block ≡ t.blocks.largest → t ≡ table_of t.blocks (compatible_sets i) (nos i.answers) → first ≡ next_question i None)
-    → IsInquiry i rules t first
-asking i rules t first held next = record {
-  held = held;
-  asked = next i held.standing.sound (ap (λ t. t.blocks.item_count) (sym held.tabled)) (ap (λ t. t.blocks.largest) (sym held.tabled)) (own_blocks i t held.tabled);
-}
+-- ---- the first of a list that passes, from an element on
 
--- it is good for each table of these blocks
-pub first-good : (i : Interview) (rules : List Query) (t new : TableState) (first : Option Query) → IsInquiry i rules t first → new.blocks ≡ t.blocks
-    → IfSome first (λ s. is_good new.blocks.item_count s ≡ true)
-first-good i rules t new first kept same =
-    let count = ap (λ (b : BlockRange). b.item_count) same ∙ ap (λ (u : TableState). u.blocks.item_count) kept.held.tabled in
-    subst (λ (o : Option Query). IfSome o (λ s. is_good new.blocks.item_count s ≡ true)) (sym kept.asked)
-    (subst (λ m. IfSome (next_question i None) (λ s. is_good m s ≡ true)) (sym count) (question-good i None))
+module _ {X : Type 0} (before : X → X → Bool) (p : X → Bool) (xs : List X) where
+  -- where none before the element passes
+  find-on : (s : X) → ((x : X) → IsIn x xs → before x s ≡ true → p x ≡ false) → find (λ x. not (before x s) && p x) xs ≡ find p xs
+  find-on s none = find-same (λ x. not (before x s) && p x) p xs (λ x c. elim (cases_Bool (before x s)) [
+    | inl h ↦ rw h (sym (none x c h))
+    | inr h ↦ rw h refl
+  ])
 
--- ---- the first of a list that passes, where fewer pass than before
+  module _ (sorted : IsSorted before xs) (asymmetric : (x y : X) → before x y ≡ true → before y x ≡ false) (transitive : (x y z : X) → before x y ≡ true → before y z ≡ true → before x z ≡ true) (r : X) where
+    -- where the element is the first that comes after another
+    find-after : (s : X) → find (before r) xs ≡ Some s → find (λ x. not (before x s) && p x) xs ≡ find p (filter (before r) xs)
+    find-after s e =
+        let f = find-is before (before r) xs s sorted asymmetric e in
+        find-same (λ x. not (before x s) && p x) (λ x. before r x && p x) xs (λ x c.
+        ap (λ b. b && p x) (elim (sorted-cases before xs x s sorted c f.0) [
+          | inl same ↦ rw (same, f.1) (ap not (false_from_ne_true (before s s) (λ h. true≢false (sym h ∙ asymmetric s s h))))
+          | inr o ↦ elim o [
+            | inl h ↦ rw (h, f.2 x c h) refl
+            | inr h ↦ rw (asymmetric s x h, transitive r s x f.1 h) refl
+          ]
+        ]))
+        ∙ sym (find-filter (before r) p xs)
 
-module _ {X : Type 0} (before : X → X → Bool) (p q : X → Bool) (xs : List X) (fewer : (x : X) → q x ≡ true → p x ≡ true) where
-  fails-still : (x : X) → p x ≡ false → q x ≡ false
-  fails-still x h = false_from_ne_true (q x) (λ k. true≢false (sym (fewer x k) ∙ h))
-
-  none-still : find p xs ≡ None → find q xs ≡ None
-  none-still e = find-no_element q xs (λ x c. fails-still x (find-none_is p xs e x c))
-
-  module _ (sorted : IsSorted before xs) (asymmetric : (x y : X) → before x y ≡ true → before y x ≡ false) (x : X) (e : find p xs ≡ Some x) where
-    first-still : q x ≡ true → find q xs ≡ Some x
-    first-still h =
-        let f = find-is before p xs x sorted asymmetric e in
-        find-first before q xs x sorted f.0 h (λ c d b. fails-still c (f.2 c d b))
-
-    first-later : q x ≡ false → find q xs ≡ find q (filter (before x) xs)
-    first-later h =
-        let f = find-is before p xs x sorted asymmetric e in
-        find-same q (λ y. before x y && q y) xs (λ y c.
-        same_truth (q y) (before x y && q y)
-        (λ k. and_from (before x y) (q y)
-        (elim (sorted-cases before xs x y sorted f.0 c) [
-          | inl s ↦ absurd (true≢false (sym k ∙ ap q (sym s) ∙ h))
-          | inr s ↦ elim s [ inl m ↦ m | inr m ↦ absurd (true≢false (sym k ∙ fails-still y (f.2 y c m))) ]
-        ]) k)
-        (λ k. (and_parts (before x y) (q y) k).1))
-        ∙ sym (find-filter (before x) q xs)
+  -- where none comes after the other
+  find-past : (r : X) → find (before r) xs ≡ None → None ≡ find p (filter (before r) xs)
+  find-past r e = sym (find-filter (before r) p xs ∙ find-no_element (λ x. before r x && p x) xs (λ x c. rw (find-none_is (before r) xs e x c) refl))
 
 -- ---- what is open after an answer was open before
 
@@ -110,34 +93,100 @@ module _ (i : Interview) (r : Query) (is_yes : Bool) where
       let p = and_parts (not (list_all sure (spaces_of after))) (not (list_all never (spaces_of after))) h in
       and_from (not (list_all sure (spaces_of i))) (not (list_all never (spaces_of i))) (not_all sure p.0) (not_all never p.1)
 
-  -- ---- the first question after an answer
+  no_longer : (s : Query) → is_open (spaces_of i) s ≡ false → is_open (spaces_of after) s ≡ false
+  no_longer s h = false_from_ne_true (is_open (spaces_of after) s) (λ k. true≢false (sym (was_open s k) ∙ h))
 
+  -- an answer leaves the place from which an open query is looked for
+  pub still-none_before : (from : Option Query) → NoneBefore i from → NoneBefore after from
+  still-none_before None none = λ s c. no_longer s (none s c)
+  still-none_before (Some s) none = (none.0, λ x c h. no_longer x (none.1 x c h))
+
+-- ---- the place from which an open query is looked for
+
+query_before-transitive : (r s u : Query) → query_before r s ≡ true → query_before s u ≡ true → query_before r u ≡ true
+query_before-transitive r s u h k = elim (query_before-cases r s h) [
+  | inl x ↦ elim (query_before-cases s u k) [
+    | inl y ↦ before-by_set r u (before-transitive r.a s.a u.a x y)
+    | inr y ↦ before-by_set r u (subst (λ a. block_before r.a a ≡ true) y.0 x)
+  ]
+  | inr x ↦ elim (query_before-cases s u k) [
+    | inl y ↦ before-by_set r u (subst (λ a. block_before a u.a ≡ true) (sym x.0) y)
+    | inr y ↦ before-by_item r u (x.0 ∙ y.0) (let l = x.1 in let m = y.1 in omega arith)
+  ]
+]
+
+module _ (i : Interview) where
   abbrev asked : List Query
   asked = queries i.count i.block
 
-  pub still_none : None ≡ next_question i None → None ≡ next_question after None
-  unfolding next_question
-  still_none e =
-      sym (ap (find (is_open (spaces_of after))) (filter_true asked)
-      ∙ none-still query_before (is_open (spaces_of i)) (is_open (spaces_of after)) asked was_open (ap (find (is_open (spaces_of i))) (sym (filter_true asked)) ∙ sym e))
+  -- it is the first query of the blocks,
+  pub none-before_first : (from : Option Query) → from ≡ find (comes_after query_before None) asked → NoneBefore i from
+  none-before_first None e = λ s c. absurd (true≢false (find-none_is (λ x. true) asked (sym e) s c))
+  none-before_first (Some s) e =
+      let f = find-is query_before (λ x. true) asked s (sorted-queries i.count i.block) query_before-asymmetric (sym e) in
+      (f.0, λ x c h. absurd (true≢false (f.2 x c h)))
 
-  pub still_first : (s : Query) → Some s ≡ next_question i None → is_open (spaces_of after) s ≡ true → Some s ≡ next_question after None
+  -- or the first question
+  pub none-before_question : (from : Option Query) → from ≡ next_question i None → NoneBefore i from
   unfolding next_question
-  still_first s e h =
-      sym (ap (find (is_open (spaces_of after))) (filter_true asked)
-      ∙ first-still query_before (is_open (spaces_of i)) (is_open (spaces_of after)) asked was_open (sorted-queries i.count i.block) query_before-asymmetric s
-      (ap (find (is_open (spaces_of i))) (sym (filter_true asked)) ∙ sym e) h)
+  none-before_question None e = λ s c. find-none_is (is_open (spaces_of i)) asked (sym (e ∙ ap (find (is_open (spaces_of i))) (filter_true asked))) s c
+  none-before_question (Some s) e =
+      let f = find-is query_before (is_open (spaces_of i)) asked s (sorted-queries i.count i.block) query_before-asymmetric (sym (e ∙ ap (find (is_open (spaces_of i))) (filter_true asked))) in
+      (f.0, f.2)
 
-  pub next_first : (s : Query) → Some s ≡ next_question i None → is_open (spaces_of after) s ≡ false → next_question after (Some s) ≡ next_question after None
+  -- what is found from there on is the first question
+  pub question-none : NoneBefore i None → None ≡ next_question i None
   unfolding next_question
-  next_first s e h =
-      sym (ap (find (is_open (spaces_of after))) (filter_true asked)
-      ∙ first-later query_before (is_open (spaces_of i)) (is_open (spaces_of after)) asked was_open (sorted-queries i.count i.block) query_before-asymmetric s
-      (ap (find (is_open (spaces_of i))) (sym (filter_true asked)) ∙ sym e) h)
+  question-none none = sym (ap (find (is_open (spaces_of i))) (filter_true asked) ∙ find-no_element (is_open (spaces_of i)) asked none)
 
--- the first question is of the blocks
-pub question-in : (i : Interview) (s : Query) → Some s ≡ next_question i None → IsIn s (queries i.count i.block)
-unfolding next_question
-question-in i s e =
-    (find-is query_before (is_open (spaces_of i)) (queries i.count i.block) s (sorted-queries i.count i.block) query_before-asymmetric
-    (ap (find (is_open (spaces_of i))) (sym (filter_true (queries i.count i.block))) ∙ sym e)).0
+  pub question-from : (s : Query) → NoneBefore i (Some s) → find (λ x. not (query_before x s) && is_open (spaces_of i) x) asked ≡ next_question i None
+  unfolding next_question
+  question-from s none = find-on query_before (is_open (spaces_of i)) asked s none.1 ∙ ap (find (is_open (spaces_of i))) (sym (filter_true asked))
+
+  -- and from the query after another on the next one
+  pub question-past : (r : Query) → None ≡ find (query_before r) asked → None ≡ next_question i (Some r)
+  unfolding next_question
+  question-past r e = find-past query_before (is_open (spaces_of i)) asked r (sym e)
+
+  pub question-after : (r s : Query) → Some s ≡ find (query_before r) asked → find (λ x. not (query_before x s) && is_open (spaces_of i) x) asked ≡ next_question i (Some r)
+  unfolding next_question
+  question-after r s e = find-after query_before (is_open (spaces_of i)) asked (sorted-queries i.count i.block) query_before-asymmetric query_before-transitive r s (sym e)
+
+  -- the query after another is of the blocks
+  pub after-in : (r s : Query) → Some s ≡ find (query_before r) asked → IsIn s asked
+  after-in r s e = (find-is query_before (query_before r) asked s (sorted-queries i.count i.block) query_before-asymmetric (sym e)).0
+
+-- what is found from the place on is the question that is looked for
+pub place-in : (i : Interview) (last : Option Query) (s : Query) → PlaceFor i last (Some s) → IsIn s (queries i.count i.block)
+place-in i None s p = p.0
+place-in i (Some r) s p = after-in i r s p
+
+pub place-none : (i : Interview) (last : Option Query) → PlaceFor i last None → None ≡ next_question i last
+place-none i None p = question-none i p
+place-none i (Some r) p = question-past i r p
+
+pub place-some : (i : Interview) (last : Option Query) (s : Query) → PlaceFor i last (Some s) → find (λ x. not (query_before x s) && is_open (spaces_of i) x) (queries i.count i.block) ≡ next_question i last
+place-some i None s p = question-from i s p
+place-some i (Some r) s p = question-after i r s p
+
+-- ---- what an inquiry keeps
+
+-- where an open query is looked for from the first query of the blocks on
+pub asking : (i : Interview) (b : BlockRange) (rules : List Query) (t : TableState) (from : Option Query) → IsHeld i rules t → b ≡ blocks_of i → 0 < i.block
+    → from ≡ find (comes_after query_before None) (queries_of b) → IsInquiry i b rules t from
+asking i b rules t from held e some first = record {
+  held = held;
+  asked = e;
+  some_sizes = some;
+  none_before = none-before_first i from (first ∙ ap (λ (b : BlockRange). find (comes_after query_before None) (queries_of b)) e);
+}
+
+-- where an answer is taken
+pub still-asking : (i : Interview) (r : Query) (is_yes : Bool) (b : BlockRange) (rules more : List Query) (t new : TableState) (from : Option Query) → IsInquiry i b rules t from
+    → IsHeld (accepted i r is_yes) more new → IsInquiry (accepted i r is_yes) b more new from
+still-asking i r is_yes b rules more t new from kept held = record {
+  held = held;
+  asked = kept.asked;
+  some_sizes = kept.some_sizes;
+  none_before = still-none_before i r is_yes from kept.none_before;
+}

@@ -1,5 +1,5 @@
 -- What an interview keeps, through its beginning and its changes.
-use Rattle.std.proofs.Common.{ℕ, zero, suc, ◌+◌, ◌<◌, ◌≤◌, ◌≡◌, length, List, [], Ok, refl, sym, ap, ap₂, ◌∙◌, subst, arith}
+use Rattle.std.proofs.Common.{ℕ, zero, suc, ◌+◌, ◌<◌, ◌≤◌, ◌≡◌, length, List, [], Result, Ok, refl, sym, ap, ap₂, ◌∙◌, subst, arith}
 use Rattle.std.specs.List.{IsDistinct}
 use Rattle.ls_set.specs.declared.item_set.TheConstants.{PLACES}
 use Rattle.ls_set.specs.declared.query.Query.{Query}
@@ -9,6 +9,7 @@ use Rattle.ls_theory.specs.Compatible.{compat}
 use Rattle.ls_theory.specs.Interviews.{Interview, begun, yes_queries, nos}
 use Rattle.ls_theory.specs.declared.answer.Answer.{Answer}
 use Rattle.ls_theory.specs.Blocks.{BlockRange, made, most_sets}
+use Rattle.ls_theory.specs.declared.block_fault.BlockFault.{BlockFault}
 use Rattle.ls_theory.specs.Answering.{is_same_query}
 use Rattle.ls_laws.specs.Forced.{IsSound}
 use Rattle.ls_laws.proofs.Numbered.{begun-numbered}
@@ -20,7 +21,7 @@ use Rattle.ls_query.proofs.Binomials.{choose-none, choose-more, choose-zero_more
 use Rattle.ls_query.proofs.BySize.{length-blocks_more, length-blocks_none}
 use Rattle.ls_query.proofs.Counted.{made-ok, none_too_wide}
 use Rattle.ls_infer.specs.Tables.{TableState, table_of}
-use Rattle.ls_expert.specs.Held.{blocks_of, closures_of, IsHeld}
+use Rattle.ls_expert.specs.Held.{single_items, closures_of, IsHeld}
 
 -- ---- blocks of single items
 
@@ -35,19 +36,21 @@ made-one n some few =
     let many : length (blocks n 1) ≤ most_sets = omega (arith, sets, length-blocks_none n, choose-one n) in
     made-ok n 1 (λ e. cc) (omega arith) (none_too_wide n 1 many)
 
+pub one-made : (n m : ℕ) (r : Result BlockRange BlockFault) (b : BlockRange) → 0 < n → n ≤ PLACES → m ≡ n → r ≡ made m 1 → r ≡ Ok b → b ≡ single_items n
+one-made n m r b some few e f g = let h : Ok b ≡ Ok (single_items n) = sym g ∙ f ∙ ap (λ k. made k 1) e ∙ made-one n some few in cc
+
 -- the blocks that are made are those that are asked for
 pub range-of : (n k : ℕ) (b : BlockRange) → made n k ≡ Ok b → b ≡ (let x : BlockRange = record { item_count = n; largest = k } in x)
 range-of n k b e = sym (made_of n k b e)
 
 -- ---- tables
 
--- a table that was built for the blocks, the start, the rules and the answers of an interview is its table
-pub tabled-by : (i : Interview) (b : BlockRange) (s : theory.Start) (rules : List Query) (answers : List Answer) (t : TableState)
-    → t ≡ table_of b (compat b.item_count s rules) (nos answers) → b ≡ blocks_of i → s ≡ i.start → rules ≡ yes_queries i.answers → answers ≡ i.answers → t ≡ closures_of i
-tabled-by i b s rules answers t h eb es er ea =
-    h ∙ ap (λ (b : BlockRange). table_of b (compat b.item_count s rules) (nos answers)) eb
-    ∙ ap (λ (s : theory.Start). table_of (blocks_of i) (compat i.count s rules) (nos answers)) es
-    ∙ ap₂ (λ (rs : List Query) (done : List Answer). table_of (blocks_of i) (compat i.count i.start rs) (nos done)) er ea
+-- a table that was built for the items, the start, the rules and the answers of an interview is its table
+pub tabled-by : (i : Interview) (n : ℕ) (s : theory.Start) (rules : List Query) (answers : List Answer) (t : TableState)
+    → t ≡ table_of (single_items n) (compat n s rules) (nos answers) → n ≡ i.count → s ≡ i.start → rules ≡ yes_queries i.answers → answers ≡ i.answers → t ≡ closures_of i
+tabled-by i n s rules answers t h en es er ea =
+    h ∙ ap₂ (λ (m : ℕ) (s : theory.Start). table_of (single_items m) (compat m s rules) (nos answers)) en es
+    ∙ ap₂ (λ (rs : List Query) (done : List Answer). table_of (single_items i.count) (compat i.count i.start rs) (nos done)) er ea
 
 -- ---- the beginning
 
@@ -76,13 +79,19 @@ held-begun n start i rules t some few is_start e none table =
       };
     }) table
 
--- other blocks, with their table
-pub held-blocks : (i : Interview) (k : ℕ) (rules : List Query) (t new : TableState) → IsHeld i rules t → new ≡ closures_of (record i { block = k }) → IsHeld (record i { block = k }) rules new
-held-blocks i k rules t new h table = record {
+-- blocks that are made have some sizes
+pub some-made : (n k : ℕ) (b : BlockRange) → made n k ≡ Ok b → 0 < k
+unfolding made
+some-made n zero b e = absurd (cc e)
+some-made n (suc k) b e = omega arith
+
+-- other blocks; the table is the same
+pub held-blocks : (i : Interview) (k : ℕ) (rules : List Query) (t : TableState) → IsHeld i rules t → IsHeld (record i { block = k }) rules t
+held-blocks i k rules t h = record {
   some_items = h.some_items;
   few_items = h.few_items;
   ruled = h.ruled;
-  tabled = table;
+  tabled = h.tabled;
   standing = record {
     sound = record { some_fits = h.standing.sound.some_fits; are_good = h.standing.sound.are_good };
     good = h.standing.good;

@@ -1,11 +1,12 @@
 -- What an interview keeps when it takes an answer back.
-use Rattle.std.proofs.Common.{◌+◌, ◌*◌, ◌≤◌, ◌<◌, ◌≡◌, Bool, true, false, cond, not, ◌&&◌, eqb, length, List, [], ◌∷◌, map, filter, count_by, remove, Some, refl, sym, ap, ap₂, ◌∙◌, arith}
+use Rattle.std.proofs.Common.{ℕ, zero, suc, subst, ◌-◌, ◌+◌, ◌*◌, ◌≤◌, ◌<◌, ◌≡◌, Bool, true, false, cond, not, ◌&&◌, eqb, length, List, [], ◌∷◌, map, filter, count_by, remove, Some, refl, sym, ap, ap₂, ◌∙◌, arith}
 use Rattle.std.specs.List.{AllByRecursion, IsDistinct, list_all}
 use Rattle.std.proofs.Math.Bool.{and_assoc}
 use Rattle.std.proofs.lemmas.Bool.{and_parts}
 use Rattle.std.proofs.lemmas.List.{length-map}
 use Rattle.std.proofs.lemmas.List.Recursion.{is_sum_by}
-use Rattle.std.proofs.lemmas.List.Sums.{length-filter, count_by-le-length, sum_by-cons}
+use Rattle.std.proofs.lemmas.List.Sums.{length-filter, count_by-le-length, sum_by-cons, sum_by-append}
+use Rattle.ls_query.proofs.BySize.{of_size, blocks-more}
 use Rattle.std.proofs.lemmas.List.Elements.{filter_agree}
 use Rattle.ls_lists.proofs.Filters.{filter-both}
 use Rattle.ls_set.specs.ItemSet.{Items, full, is_within, subsets}
@@ -25,7 +26,7 @@ use Rattle.ls_laws.proofs.Accepting.{taken_out}
 use Rattle.ls_laws.proofs.Numbered.{retracted-numbered}
 use Rattle.ls_infer.specs.Tables.{TableState, standing, table_of}
 use Rattle.ls_expert.specs.Steps.{closures_over}
-use Rattle.ls_expert.specs.Held.{blocks_of, closures_of, rules_before, IsHeld}
+use Rattle.ls_expert.specs.Held.{single_items, closures_of, rules_before, IsHeld}
 use Rattle.ls_expert.proofs.AnswerLists.{is_other, all-fewer, all-told, told-all, nos-others, rising, yes_queries-without_yes, yes_queries-without_no, nos-without_yes, rules_before-within}
 
 -- ---- what is kept
@@ -55,15 +56,30 @@ length-fewer p answers = omega (arith, length-filter p answers, count_by-le-leng
 count_by-images : {X Y : Type 0} (p : Y → Bool) (g : X → Y) (xs : List X) → count_by p (map g xs) ≡ count_by (λ x. p (g x)) xs
 count_by-images p g = is_sum_by (λ xs. count_by p (map g xs)) (λ x. cond (p (g x)) 1 0) refl (λ x xs. sum_by-cons (λ y. cond (p y) 1 0) (g x) (map g xs))
 
+-- the sets of one item are some of the sets of the blocks
+fewer_sizes : (p : Items → Bool) (n k : ℕ) → count_by p (blocks n 1) ≤ count_by p (blocks n (suc k))
+fewer_sizes p n zero = omega arith
+fewer_sizes p n (suc k) =
+    let more : count_by p (blocks n (suc (suc k))) ≡ count_by p (blocks n (suc k)) + count_by p (of_size 0 n (suc (suc k))) =
+    ap (count_by p) (blocks-more n (suc k)) ∙ sum_by-append (λ x. cond (p x) 1 0) (blocks n (suc k)) (of_size 0 n (suc (suc k))) in
+    omega (arith, more, fewer_sizes p n k)
+
 -- what a change costs, told by a table
-pub steps-over : (i : Interview) (t : TableState) (a : Items) → t ≡ closures_of i
-    → count_by (λ c. is_within a c) t.closures + (t.blocks.item_count + 1) * length t.standing ≡ closures_over i a + (i.count + 1) * length (nos i.answers)
-steps-over i t a h =
+pub steps-over : (i : Interview) (t : TableState) (a : Items) → t ≡ closures_of i → 0 < i.block
+    → count_by (λ c. is_within a c) t.closures + (t.blocks.item_count + 1) * length t.standing ≤ closures_over i a + (i.count + 1) * length (nos i.answers)
+steps-over i t a h some =
     let close = closure (full i.count) (compatible_sets i) in
+    let p = λ (b : Items). is_within a (close b) in
+    let by_ones : count_by (λ c. is_within a c) t.closures + (t.blocks.item_count + 1) * length t.standing ≡ count_by p (blocks i.count 1) + (i.count + 1) * length (nos i.answers) =
     ap (λ (u : TableState). count_by (λ c. is_within a c) u.closures + (u.blocks.item_count + 1) * length u.standing) h
     ∙ ap₂ (λ m k. m + (i.count + 1) * k)
-    (count_by-images (λ c. is_within a c) close (blocks i.count i.block))
-    (length-map (nos i.answers) (standing i.count (compatible_sets i)))
+    (count_by-images (λ c. is_within a c) close (blocks i.count 1))
+    (length-map (nos i.answers) (standing i.count (compatible_sets i))) in
+    let fewer : count_by p (blocks i.count 1) ≤ count_by p (blocks i.count i.block) = subst (λ k. count_by p (blocks i.count 1) ≤ count_by p (blocks i.count k)) (suc_pred i.block some) (fewer_sizes p i.count (i.block - 1)) in
+    omega (arith, by_ones, fewer)
+  where
+    suc_pred : (k : ℕ) → 0 < k → suc (k - 1) ≡ k
+    suc_pred k l = omega arith
 
 module _ (i : Interview) (a : Answer) (rules : List Query) (t new : TableState) (h : IsHeld i rules t) (stands : answer_with i a.number ≡ Some a) where
   abbrev after : Interview
@@ -118,7 +134,7 @@ module _ (i : Interview) (a : Answer) (rules : List Query) (t new : TableState) 
       back others ruled
       (kept (nos i.answers) (h.tabled ∙ ap₂ (λ (b : BlockRange) (m : List Items). table_of b m (nos i.answers)) (sym blocks) (left-before y ∙ ap (left_by a.query) (sym left)))
       ∙ ap₂ (λ (b : BlockRange) (m : List Items). table_of b m (nos i.answers)) blocks left
-      ∙ ap (λ (l : List No). table_of (blocks_of i) (compatible_sets after) l) (sym (nos-without_yes i a h.standing.numbered stands y)))
+      ∙ ap (λ (l : List No). table_of (single_items i.count) (compatible_sets after) l) (sym (nos-without_yes i a h.standing.numbered stands y)))
 
   -- ---- a No
 
@@ -129,4 +145,4 @@ module _ (i : Interview) (a : Answer) (rules : List Query) (t new : TableState) 
       back rules (h.ruled ∙ sym same)
       (kept (compatible_sets i) (nos i.answers) (h.tabled ∙ ap (λ (b : BlockRange). table_of b (compatible_sets i) (nos i.answers)) (sym blocks))
       ∙ ap (λ (b : BlockRange). table_of b (compatible_sets i) (filter (λ x. not (eqb x.number a.number)) (nos i.answers))) blocks
-      ∙ ap₂ (λ (k : List Items) (l : List No). table_of (blocks_of i) k l) (ap (compat i.count i.start) (sym same)) (nos-others a.number i.answers))
+      ∙ ap₂ (λ (k : List Items) (l : List No). table_of (single_items i.count) k l) (ap (compat i.count i.start) (sym same)) (nos-others a.number i.answers))

@@ -1,9 +1,9 @@
 -- What an interview keeps when it takes an answer.
-use Rattle.std.proofs.Common.{ℕ, ◌≤◌, ◌<◌, ◌≡◌, Bool, true, false, cond, ◌&&◌, length, List, [], ◌∷◌, ◌++◌, map, find, Option, Some, None, refl, sym, ap, ap₂, ◌∙◌, subst, arith, length-append}
+use Rattle.std.proofs.Common.{ℕ, ◌≤◌, ◌<◌, ◌≡◌, Bool, true, false, cond, not, ◌&&◌, length, List, [], ◌∷◌, ◌++◌, map, find, Option, Some, None, refl, sym, ap, ap₂, ◌∙◌, subst, arith, length-append}
 use Rattle.std.specs.List.{AllByRecursion, IsDistinct, list_all}
 use Rattle.std.specs.Option.{option_map}
 use Rattle.std.proofs.lemmas.Bool.Decides.{nat_tests}
-use Rattle.std.proofs.lemmas.Bool.{and_from}
+use Rattle.std.proofs.lemmas.Bool.{and_from, not-true, or_parts}
 use Rattle.std.proofs.lemmas.List.Folds.{list_all-append}
 use Rattle.ls_lists.proofs.Bools.{none_common}
 use Rattle.ls_lists.proofs.Options.{not_first}
@@ -28,10 +28,12 @@ use Rattle.ls_laws.proofs.Accepting.{yes_added, no_added, compatible-yes, compat
 use Rattle.ls_laws.specs.Families.{IsFamily}
 use Rattle.ls_laws.proofs.Families.{compat-IsFamily}
 use Rattle.ls_laws.proofs.Compat.{compat-more}
-use Rattle.ls_laws.proofs.Answering.{not_both}
+use Rattle.ls_laws.proofs.Answering.{not_both, forced_yes_unbroken}
+use Rattle.ls_theory.specs.Queries.{breaks, some_breaks}
+use Rattle.ls_lists.proofs.Filters.{filter-all}
 use Rattle.ls_laws.proofs.Numbered.{accepted-numbered}
 use Rattle.ls_infer.specs.Tables.{TableState, table_of}
-use Rattle.ls_expert.specs.Held.{blocks_of, closures_of, IsHeld}
+use Rattle.ls_expert.specs.Held.{single_items, closures_of, IsHeld}
 use Rattle.ls_expert.proofs.AnswerLists.{yes_queries-yes, yes_queries-no, nos-yes, nos-no}
 
 -- ---- what a refusal that isn't found tells
@@ -153,7 +155,7 @@ module _ (i : Interview) (r : Query) (old new : TableState) (f : List Items) (h 
   tabled-no x family e kept =
       kept (nos i.answers) (own (nos i.answers) f family refl)
       ∙ ap (λ (b : BlockRange). table_of b f (nos i.answers ++ x ∷ [])) (ap (λ (t : TableState). t.blocks) h)
-      ∙ ap₂ (λ (k : List Items) (l : List No). table_of (blocks_of i) k l) (family ∙ sym (compatible-no i r)) (ap (λ y. nos i.answers ++ y ∷ []) e ∙ sym (nos-no i r))
+      ∙ ap₂ (λ (k : List Items) (l : List No). table_of (single_items i.count) k l) (family ∙ sym (compatible-no i r)) (ap (λ y. nos i.answers ++ y ∷ []) e ∙ sym (nos-no i r))
 
   -- the table after a Yes
   pub tabled-yes : f ≡ compat i.count i.start (yes_queries i.answers ++ r ∷ [])
@@ -163,4 +165,26 @@ module _ (i : Interview) (r : Query) (old new : TableState) (f : List Items) (h 
       kept (compatible_sets i) (nos i.answers)
       (subst (λ n. IsFamily n (compatible_sets i)) (ap (λ (t : TableState). t.blocks.item_count) (sym h)) (compat-IsFamily i.count i.start (yes_queries i.answers))) left (own (nos i.answers) (compatible_sets i) refl refl)
       ∙ ap (λ (b : BlockRange). table_of b f (nos i.answers)) (ap (λ (t : TableState). t.blocks) h)
-      ∙ ap₂ (λ (k : List Items) (l : List No). table_of (blocks_of i) k l) (left ∙ sym (compatible-yes i r)) (sym (nos-yes i r))
+      ∙ ap₂ (λ (k : List Items) (l : List No). table_of (single_items i.count) k l) (left ∙ sym (compatible-yes i r)) (sym (nos-yes i r))
+
+-- a Yes that the others force leaves the compatible sets
+forced_yes : (sure never : Bool) (k : ℕ) → cond sure Known.Yes (cond never (Known.No k) Known.Unsettled) ≡ Known.Yes → sure ≡ true
+forced_yes true never k e = refl
+forced_yes false true k e = absurd (cc e)
+forced_yes false false k e = absurd (cc e)
+
+none_left_out : (f : List Items) (r : Query) → some_breaks f r ≡ false → AllByRecursion (λ k. not (breaks k r) ≡ true) f
+none_left_out [] r e = tt
+none_left_out (k ∷ f) r e = let p = or_parts (breaks k r) (some_breaks f r) e in (ap not p.0, none_left_out f r p.1)
+
+forced-left : (i : Interview) (r : Query) → SomeFits i → known i r ≡ Known.Yes → left_by r (compatible_sets i) ≡ compatible_sets i
+unfolding known
+forced-left i r fits e =
+    let sure = forced_yes (is_forced_yes (spaces_of i) r) (is_forced_no (spaces_of i) r) _ e in
+    let none : some_breaks (compatible_sets i) r ≡ false = not-true (some_breaks (compatible_sets i) r) (sym (forced_yes_unbroken i r fits) ∙ sure) in
+    filter-all (λ k. not (breaks k r)) (compatible_sets i) (none_left_out (compatible_sets i) r none)
+
+-- and so the table
+pub tabled-forced : (i : Interview) (r : Query) (t : TableState) → SomeFits i → known i r ≡ Known.Yes → t ≡ closures_of i → t ≡ closures_of (accepted i r true)
+tabled-forced i r t fits e h =
+    h ∙ ap₂ (λ (k : List Items) (l : List No). table_of (single_items i.count) k l) (sym (compatible-yes i r ∙ forced-left i r fits e)) (sym (nos-yes i r))

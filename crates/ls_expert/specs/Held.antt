@@ -1,5 +1,5 @@
 -- What an inquiry keeps true of its parts.
-use Rattle.std.specs.Prelude.{◌≡◌, ℕ, ◌+◌, ◌<◌, ◌≤◌, true, ◌&&◌, nat_lt, List, map, length, count_by, Option, None}
+use Rattle.std.specs.Prelude.{◌≡◌, ℕ, ◌+◌, ◌<◌, ◌≤◌, true, false, ◌&&◌, nat_lt, List, map, length, count_by, find, Option, None, Some}
 use Rattle.std.specs.List.{list_all, IsDistinct}
 use Rattle.ls_set.specs.ItemSet.{most_items}
 use Rattle.ls_set.specs.declared.query.Query.{Query}
@@ -8,7 +8,10 @@ use Rattle.ls_theory.specs.declared.answer.Answer.{Answer}
 use Rattle.ls_theory.specs.Starts as theory
 use Rattle.ls_theory.specs.Interviews.{Interview, yes_queries, nos}
 use Rattle.ls_theory.specs.Compatible.{compatible_sets}
-use Rattle.ls_theory.specs.Forced.{next_question}
+use Rattle.ls_theory.specs.Fitting.{spaces_of}
+use Rattle.ls_theory.specs.Forced.{is_open}
+use Rattle.ls_theory.specs.Queries.{queries, query_before}
+use Rattle.ls_lists.specs.Lists.{IsIn}
 use Rattle.ls_theory.specs.Blocks.{BlockRange}
 use Rattle.ls_theory.specs.Answering.{most_answers, most_number, is_same_query}
 use Rattle.ls_laws.specs.Forced.{IsSound, IsNumbered}
@@ -27,9 +30,13 @@ interview_of s = interview_on s.item_count s.start
 abbrev pub blocks_of : Interview → BlockRange
 blocks_of i = record { item_count = i.count; largest = i.block }
 
--- its table
+-- the sets of one of n items
+abbrev pub single_items : ℕ → BlockRange
+single_items n = record { item_count = n; largest = 1 }
+
+-- its table, of the sets of one item
 abbrev pub closures_of : Interview → TableState
-closures_of i = table_of (blocks_of i) (compatible_sets i) (nos i.answers)
+closures_of i = table_of (single_items i.count) (compatible_sets i) (nos i.answers)
 
 -- Answers that stand: some space fits them, they stand in order of number, below the next number, their queries are good, and none is there twice; and there is
 -- room for them.
@@ -54,7 +61,19 @@ pub record IsHeld (i : Interview) (rules : List Query) (table : TableState) : Ty
   pub tabled : table ≡ closures_of i
   pub standing : IsStanding i
 
--- With that the first open query is kept.
-pub record IsInquiry (i : Interview) (rules : List Query) (table : TableState) (first : Option Query) : Type 0 where
+-- No query of the blocks before the given one of them is open; none at all, where none is given.
+abbrev pub NoneBefore : Interview → Option Query → Type 0
+NoneBefore i None = (r : Query) → IsIn r (queries i.count i.block) → is_open (spaces_of i) r ≡ false
+NoneBefore i (Some s) = IsIn s (queries i.count i.block) × ((r : Query) → IsIn r (queries i.count i.block) → query_before r s ≡ true → is_open (spaces_of i) r ≡ false)
+
+-- where the question after a query, or the first, is looked for: from the next query of the blocks on, or from one before which none is open
+abbrev pub PlaceFor : Interview → Option Query → Option Query → Type 0
+PlaceFor i None from = NoneBefore i from
+PlaceFor i (Some r) from = from ≡ find (query_before r) (queries i.count i.block)
+
+-- With that the blocks are kept, which have some sizes, and the query from which an open one is looked for.
+pub record IsInquiry (i : Interview) (blocks : BlockRange) (rules : List Query) (table : TableState) (from : Option Query) : Type 0 where
   pub held : IsHeld i rules table
-  pub asked : first ≡ next_question i None
+  pub asked : blocks ≡ blocks_of i
+  pub some_sizes : 0 < i.block
+  pub none_before : NoneBefore i from

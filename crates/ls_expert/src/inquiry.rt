@@ -12,7 +12,7 @@ ghost use Rattle.ls_theory.specs.Bases.{base};
 ghost use Rattle.ls_theory.specs.Blocks.{made, IsBlockFault};
 ghost use Rattle.ls_theory.specs.Answering.{refusal, answer_with, IsFaultOf};
 ghost use Rattle.ls_infer.specs.Tables.{table_of};
-ghost use Rattle.ls_expert.specs.Held.{blocks_of, rules_before, IsStanding};
+ghost use Rattle.ls_expert.specs.Held.{single_items, blocks_of, rules_before, IsStanding, PlaceFor};
 ghost use Rattle.ls_expert.specs.Steps.{steps_back, most_steps};
 
 mod resumed;
@@ -43,8 +43,8 @@ pub const MOST_NUMBER: u64 = 999_999_999;
 
 /// What an expert was asked and answered: the items, the start, the greatest size of the sets that
 /// are asked, the standing answers in order of number, and the number of the next. Some space fits
-/// the answers. (The QUERY routine.) It keeps the first open query, and so knows without a search
-/// what to ask, and whether all is settled.
+/// the answers. (The QUERY routine.) It keeps the closures of single items alone; those of the sets
+/// that are asked are formed when an open query is looked for, from where the search last ended.
 #[derive(Drop)]
 pub struct Inquiry {
     alloc: Global,
@@ -53,9 +53,12 @@ pub struct Inquiry {
     answers: Vec<Answer>,
     next: u64,
     block: u32,
+    // the sets that are asked
+    blocks: Blocks,
+    // of the sets of one item
     table: Table,
-    // the first open query of the blocks
-    first: Option<Query>,
+    // no query of the blocks before it is open; and none at all where there is none
+    from: Option<Query>,
 }
 
 impl Model for Inquiry {
@@ -68,24 +71,26 @@ impl Model for Inquiry {
 
     ghost invariant = { λ s. IsInquiry
         (interview_of s.family.inner s.block s.answers.items s.next)
-        s.family.rules s.table.table s.first };
+        s.blocks s.family.rules s.table.table s.from };
 }
 
-// The table of a family with rules, for the answers that are No.
+// The table of a family with rules, of the sets of one item, for the answers that are No.
 fn build<L: Ledger>(
     alloc: Global,
-    blocks: Blocks,
     family: &Ruled<OnItems>,
     answers: &[Answer],
     steps: &mut Steps<L>,
 ) -> Result<Table, AllocError>
-    requires items { family.now.inner.item_count ≡ blocks.item_count }
-    requires good { list_all (λ a. is_good blocks.item_count a.query) answers.now ≡ true }
-    ensures { IfOk result (λ t. t.table ≡ table_of blocks
-        (compat blocks.item_count family.now.inner.start family.now.rules)
-        (nos answers.now)) }
+    requires some { 0 < family.now.inner.item_count }
+    requires few { family.now.inner.item_count ≤ PLACES }
+    requires good { list_all (λ a. is_good family.now.inner.item_count a.query) answers.now
+        ≡ true }
+    ensures { let n = family.now.inner.item_count in
+        IfOk result (λ t. t.table ≡ table_of (single_items n)
+        (compat n family.now.inner.start family.now.rules) (nos answers.now)) }
 {
     let nos = nos(alloc, answers)?;
+    let blocks = Blocks::new(family.items(), 1).unwrap();
     Table::build(alloc, blocks, &Counted::new(family), &nos, steps)
 }
 
@@ -107,36 +112,31 @@ impl Inquiry {
     {
         let family = Ruled::new(alloc, OnItems::new(n, start));
         let answers = Vec::new(alloc);
+        let table = build(alloc, &family, &answers, steps)?;
         let blocks = Blocks::new(n, 1).unwrap();
-        let table = build(alloc, blocks, &family, &answers, steps)?;
-        let first = table.next_unsettled(None);
         Ok(Inquiry {
             alloc,
             family,
             answers,
             next: 1,
             block: 1,
+            blocks,
             table,
-            first,
+            from: blocks.next_query(None),
         })
     }
 
     /// Asks queries of sets of 1 to `k` items from now on; it may be called at any time. It is
-    /// refused as blocks are, and nothing changes then.
-    pub fn set_blocks<L: Ledger>(&mut self, k: u32, steps: &mut Steps<L>) -> Result<(), BlockFault>
+    /// refused as blocks are, and nothing changes then. It takes no memory and no interior.
+    pub fn set_blocks(&mut self, k: u32) -> Result<(), BlockFault>
         ensures made { OnOk result (made self.old.count k ≡ Ok (blocks_of self.new)) }
         ensures ok { OnOk result (self.new ≡ record self.old { block = k }) }
         ensures fault { IfErr result (IsBlockFault (made self.old.count k)) }
         ensures err { OnErr result (self.new ≡ self.old) }
     {
-        let blocks = Blocks::new(self.family.items(), k)?;
-        let table = match build(self.alloc, blocks, &self.family, &self.answers, steps) {
-            Ok(table) => table,
-            Err(e) => return Err(BlockFault::Memory(e)),
-        };
-        self.first = table.next_unsettled(None);
-        self.table = table;
+        self.blocks = Blocks::new(self.family.items(), k)?;
         self.block = k;
+        self.from = self.blocks.next_query(None);
         Ok(())
     }
 
@@ -157,11 +157,10 @@ impl Inquiry {
             return Err(StartFault::AnswersStand);
         }
         let family = Ruled::new(self.alloc, OnItems::new(self.family.items(), start));
-        let blocks = self.table.blocks();
-        let table = build(self.alloc, blocks, &family, &self.answers, steps)?;
-        self.first = table.next_unsettled(None);
+        let table = build(self.alloc, &family, &self.answers, steps)?;
         self.family = family;
         self.table = table;
+        self.from = self.blocks.next_query(None);
         Ok(())
     }
 
@@ -183,8 +182,8 @@ impl Inquiry {
         ensures cost { steps.new ≤ steps.old + most_steps self.old query yes }
         ensures refused { OnErr result (steps.new ≤ steps.old + 1) }
     {
-        self.test(&query, yes, steps)?;
-        Ok(self.take(&query, yes, steps)?)
+        let told = self.test(&query, yes, steps)?;
+        Ok(self.take(&query, yes, told, steps)?)
     }
 
     /// Takes back the answer with the number, which is never given again. It is refused only where
@@ -223,16 +222,34 @@ impl Inquiry {
     }
 
     /// The first open query of the blocks that comes after the given good one, or the first of all.
-    /// It takes no memory.
+    /// It takes no memory. It forms the closures of the sets that it looks at; for the first of all
+    /// it begins where the last `seek` ended.
     pub fn next_question(&self, after: Option<&Query>) -> Option<Query>
         requires { ForSome after (λ r. is_good self.now.count r.now ≡ true) }
         ensures value { result ≡ next_question self.now (option_map (λ r. r.now) after.entry) }
         ensures good { IfSome result (λ r. is_good self.now.count r ≡ true) }
     {
+        let from = self.place_for(after)?;
+        self.table.find_open(&self.family, self.blocks, &from)
+    }
+
+    // Where the question after the given query, or the first, is looked for.
+    fn place_for(&self, after: Option<&Query>) -> Option<Query>
+        requires { ForSome after (λ r. is_good self.now.count r.now ≡ true) }
+        ensures { PlaceFor self.now (option_map (λ r. r.now) after.entry) result }
+    {
         match after {
-            Some(_) => self.table.next_unsettled(after),
-            None => self.first,
+            Some(_) => self.blocks.next_query(after),
+            None => self.from,
         }
+    }
+
+    /// Looks for the first open query, so that the next search begins with it. It takes no memory.
+    /// An answer that is taken leaves the place; a retraction and other blocks give it up.
+    pub fn seek(&mut self)
+        ensures { self.new ≡ self.old }
+    {
+        self.from = self.next_question(None);
     }
 
     /// Whether no query of the blocks is open. Where the largest sets are asked, exactly one space
@@ -242,7 +259,8 @@ impl Inquiry {
         ensures one { result ≡ true → self.now.block ≡ max 1 (self.now.count - 1) →
             spaces_of self.now ≡ compatible_sets self.now ∷ [] }
     {
-        self.first.is_none()
+        let _ = self.standing();
+        self.next_question(None).is_none()
     }
 
     /// The standing answers, in order of number.
@@ -280,7 +298,7 @@ impl Inquiry {
     pub fn blocks(&self) -> Blocks
         ensures { result ≡ blocks_of self.now }
     {
-        self.table.blocks()
+        self.blocks
     }
 
     /// The start.

@@ -108,13 +108,13 @@ impl Interview {
 
     /// Asks queries of sets of 1 to `k` items from now on; it may be called at any time. It is
     /// refused as blocks are, and nothing changes then.
-    pub fn set_blocks<L: Ledger>(&mut self, k: u32, steps: &mut Steps<L>) -> Result<(), BlockFault>
+    pub fn set_blocks<L: Ledger>(&mut self, k: u32, _steps: &mut Steps<L>) -> Result<(), BlockFault>
         ensures made { OnOk result (made self.old.count k ≡ Ok (blocks_of self.new)) }
         ensures ok { OnOk result (self.new ≡ record self.old { block = k }) }
         ensures fault { IfErr result (IsBlockFault (made self.old.count k)) }
         ensures err { OnErr result (self.new ≡ self.old) }
     {
-        self.inquiry.set_blocks(k, steps)
+        self.inquiry.set_blocks(k)
     }
 
     /// Begins with another start; the blocks and the next number stay. It is refused only where an
@@ -157,11 +157,11 @@ impl Interview {
         ensures cost { steps.new ≤ steps.old + most_steps self.old query yes }
         ensures refused { OnErr result (steps.new ≤ steps.old + 1) }
     {
-        self.inquiry.test(&query, yes, steps)?;
+        let told = self.inquiry.test(&query, yes, steps)?;
         let number = if yes {
-            self.take_yes(&query, steps)
+            self.take_yes(&query, told, steps)
         } else {
-            self.inquiry.take(&query, false, steps)
+            self.inquiry.take(&query, false, told, steps)
         };
         Ok(number?)
     }
@@ -170,9 +170,11 @@ impl Interview {
     fn take_yes<L: Ledger>(
         &mut self,
         query: &Query,
+        told: Known,
         steps: &mut Steps<L>,
     ) -> Result<u64, AllocError>
-        requires { refusal self.old query.now true ≡ None }
+        requires passes { refusal self.old query.now true ≡ None }
+        requires known { told ≡ known self.old query.now }
         ensures number { IfOk result (λ m. m ≡ self.old.next) }
         ensures ok { OnOk result (self.new ≡ accepted self.old query.now true) }
         ensures err { OnErr result (self.new ≡ self.old) }
@@ -181,7 +183,7 @@ impl Interview {
     {
         let position = self.inquiry.yes_queries().len() + 1;
         let followed = self.followed.after_yes(position, query)?;
-        let number = self.inquiry.take(query, true, steps)?;
+        let number = self.inquiry.take(query, true, told, steps)?;
         self.followed = followed;
         Ok(number)
     }

@@ -50,16 +50,16 @@ impl Inquiry {
         if !each_no_broken(&Counted::new(&family), answers, steps) {
             return Err(StandingFault::BadAnswers);
         }
-        let table = build(alloc, blocks, &family, answers, steps)?;
-        let first = table.next_unsettled(None);
+        let table = build(alloc, &family, answers, steps)?;
         Ok(Inquiry {
             alloc,
             family,
             answers: Vec::from_slice(alloc, answers)?,
             next,
             block: k,
+            blocks,
             table,
-            first,
+            from: blocks.next_query(None),
         })
     }
 }

@@ -1,47 +1,37 @@
 // Answers that an inquiry takes and takes back.
 ghost use Rattle.std.specs.Prelude.{◌≡◌, ◌+◌, ◌≤◌, Bool, true, false, Some, None, IfSome, IfOk, IfErr, OnOk, OnErr};
-ghost use Rattle.ls_set.specs.Query.{is_good};
-ghost use Rattle.ls_set.specs.declared.query.Query.{Query as Asked};
-ghost use Rattle.ls_theory.specs.Interviews.{Interview, accepted, retracted};
-ghost use Rattle.ls_theory.specs.Forced.{next_question};
+ghost use Rattle.ls_theory.specs.Interviews.{accepted, retracted};
+ghost use Rattle.ls_theory.specs.Forced.{known};
+ghost use Rattle.ls_theory.specs.declared.known.Known.TheVariants as Known;
 ghost use Rattle.ls_theory.specs.Answering.{refusal, standing_number, answer_with, is_full};
-ghost use Rattle.ls_laws.specs.Forced.{IsSound};
-ghost use Rattle.ls_expert.specs.Held.{closures_of};
 ghost use Rattle.ls_expert.specs.Steps.{steps_back, most_steps};
 
 use crate::answers::{opposed, put_last, rules_before, take_out};
 use crate::inquiry::{Inquiry, MOST_ANSWERS, MOST_NUMBER};
-use ls_infer::Table;
 use ls_interior::{Counted, Steps};
 use ls_set::Query;
-use ls_theory::{Answer, AnswerFault, No};
+use ls_theory::{Answer, AnswerFault, Known, No};
 use std::alloc::AllocError;
 use std::sync::ledger::Ledger;
 
-// The first open query once an answer is taken, from the first before. What is open then was open
-// before, so it is that query or comes after it.
-fn first_left(table: &Table, first: Option<Query>) -> Option<Query>
-    requires { IfSome first (λ s. is_good table.now.table.blocks.item_count s ≡ true) }
-    ensures { (i : Interview) (r : Asked) (is_yes : Bool) → IsSound (accepted i r is_yes) →
-        first ≡ next_question i None → table.now.table ≡ closures_of (accepted i r is_yes) →
-        result ≡ next_question (accepted i r is_yes) None }
+// Whether it is known that the answer is Yes.
+fn is_yes(told: Known) -> bool
+    ensures { result ≡ true → told ≡ Known.Yes }
 {
-    let query = first?;
-    if table.is_open(&query) {
-        return Some(query);
-    }
-    table.next_unsettled(Some(&query))
+    matches!(told, Known::Yes)
 }
 
 impl Inquiry {
-    // Whether the answer is taken, or why it isn't. It takes at most one interior.
+    // What is known of the query whose answer is taken, or why it isn't taken. It takes at most one
+    // interior.
     pub(crate) fn test<L: Ledger>(
         &self,
         query: &Query,
         yes: bool,
         steps: &mut Steps<L>,
-    ) -> Result<(), AnswerFault>
+    ) -> Result<Known, AnswerFault>
         ensures ok { OnOk result (refusal self.now query.now yes ≡ None) }
+        ensures known { IfOk result (λ k. k ≡ known self.now query.now) }
         ensures fault { IfErr result (λ e. refusal self.now query.now yes ≡ Some e) }
         ensures cost { steps.new ≤ steps.old + 1 }
     {
@@ -57,7 +47,7 @@ impl Inquiry {
         if self.is_full() {
             return Err(AnswerFault::Full);
         }
-        Ok(())
+        Ok(known)
     }
 
     // The number of the standing answer to the query, if there is one.
@@ -77,14 +67,16 @@ impl Inquiry {
         self.answers.len() >= MOST_ANSWERS || self.next > MOST_NUMBER
     }
 
-    // Takes an answer that is not refused.
+    // Takes an answer that is not refused, of whose query that is known.
     pub(crate) fn take<L: Ledger>(
         &mut self,
         query: &Query,
         yes: bool,
+        told: Known,
         steps: &mut Steps<L>,
     ) -> Result<u64, AllocError>
-        requires { refusal self.old query.now yes ≡ None }
+        requires passes { refusal self.old query.now yes ≡ None }
+        requires known { told ≡ known self.old query.now }
         ensures number { IfOk result (λ m. m ≡ self.old.next) }
         ensures ok { OnOk result (self.new ≡ accepted self.old query.now yes) }
         ensures err { OnErr result (self.new ≡ self.old) }
@@ -92,19 +84,22 @@ impl Inquiry {
         ensures refused { OnErr result (steps.new ≡ steps.old) }
     {
         if yes {
-            self.take_yes(query, steps)
+            self.take_yes(query, told, steps)
         } else {
             self.take_no(query, steps)
         }
     }
 
-    // Takes a Yes that is not refused.
+    // Takes a Yes that is not refused. One that the others force leaves the same sets, so what is
+    // kept of them stays.
     fn take_yes<L: Ledger>(
         &mut self,
         query: &Query,
+        told: Known,
         steps: &mut Steps<L>,
     ) -> Result<u64, AllocError>
-        requires { refusal self.old query.now true ≡ None }
+        requires passes { refusal self.old query.now true ≡ None }
+        requires known { told ≡ known self.old query.now }
         ensures number { IfOk result (λ m. m ≡ self.old.next) }
         ensures ok { OnOk result (self.new ≡ accepted self.old query.now true) }
         ensures err { OnErr result (self.new ≡ self.old) }
@@ -114,9 +109,10 @@ impl Inquiry {
         self.answers.reserve(1)?;
         self.family.reserve()?;
         self.family.push_reserved(*query);
-        self.table
-            .yes_added(&Counted::new(&self.family), query, steps);
-        self.first = first_left(&self.table, self.first);
+        if !is_yes(told) {
+            self.table
+                .yes_added(&Counted::new(&self.family), query, steps);
+        }
         Ok(put_last(&mut self.answers, &mut self.next, query, true))
     }
 
@@ -136,7 +132,6 @@ impl Inquiry {
             query: *query,
         };
         self.table.no_added(&Counted::new(&self.family), no, steps);
-        self.first = first_left(&self.table, self.first);
         Ok(put_last(&mut self.answers, &mut self.next, query, false))
     }
 
@@ -164,7 +159,7 @@ impl Inquiry {
         self.family.remove(rule);
         self.table
             .yes_removed(&Counted::new(&self.family), &answer.query, steps);
-        self.first = self.table.next_unsettled(None);
+        self.from = self.blocks.next_query(None);
         take_out(&mut self.answers, answer.number);
     }
 
@@ -176,7 +171,7 @@ impl Inquiry {
     {
         let number = answer.number;
         self.table.no_removed(number);
-        self.first = self.table.next_unsettled(None);
+        self.from = self.blocks.next_query(None);
         take_out(&mut self.answers, number);
     }
 }

@@ -1,31 +1,49 @@
-use Rattle.std.proofs.Common.{ℕ, ◌≡◌, ap, ap₂, not, ◌∙◌, List, true}
+use Rattle.std.proofs.Common.{ℕ, ◌≡◌, ap, ap₂, not, refl, sym, ◌∙◌, List, [], filter, true}
 use Rattle.std.specs.List.{list_all}
 use Rattle.std.proofs.lemmas.Result.{IfOk-weaker}
 use Rattle.ls_set.specs.ItemSet.{Items}
 use Rattle.ls_set.specs.Query.{is_good}
+use Rattle.ls_theory.specs.Queries.{breaks_none}
 use Rattle.ls_theory.specs.Compatible.{compat}
+use Rattle.ls_theory.specs.Blocks.{BlockRange, made}
 use Rattle.ls_theory.specs.declared.no.No.{No}
 use Rattle.ls_infer.specs.Tables.{table_of}
 use Rattle.ls_rules.specs.Ruled.{RuledState}
 use Rattle.ls_expert.specs.Starts.{StartOn}
+use Rattle.ls_expert.specs.Held.{single_items}
 use Rattle.ls_expert.proofs.AnswerLists.{all-told}
+use Rattle.ls_expert.proofs.Holding.{made-one, one-made}
 use Rattle.ls_expert.proofs.Ruling.{ruled-compat}
+use Rattle.ls_expert.proofs.inquiry.build.Given as given
 use Rattle.ls_expert.proofs.inquiry.build.Goals as goal
+use Rattle.ls_expert.proofs.inquiry.build.Goals.{After-unwrap-blocks}
+
+pub unwrap-blocks-requires : goal.unwrap-blocks-requires
+unwrap-blocks-requires g c = rw (c.new.ensures.value ∙ ap (λ n. made n 1) c.items.ensures.count ∙ made-one c.args.family.now.inner.item_count c.requires.some c.requires.few) refl
+
+-- the blocks of single items
+blocks_are : (g : given.Over) (c : After-unwrap-blocks g) → c.unwrap-blocks.result ≡ single_items c.args.family.now.inner.item_count
+blocks_are g c = one-made c.args.family.now.inner.item_count c.items.result c.new.result c.unwrap-blocks.result c.requires.some c.requires.few c.items.ensures.count c.new.ensures.value c.unwrap-blocks.ensures
+
+pub build-requires-clause-items : goal.build-requires-clause-items
+build-requires-clause-items g c =
+    ap (λ (f : RuledState StartOn). f.inner.item_count) c.new-2.ensures ∙ sym (ap (λ (b : BlockRange). b.item_count) (blocks_are g (goal.at.build-requires-clause-items g c).After-unwrap-blocks))
 
 pub build-requires-clause-good : goal.build-requires-clause-good
 build-requires-clause-good g c =
-    let n = c.args.blocks.item_count in
-    let told : list_all (λ (a : No). is_good c.new.result.inner.item_count a.query) c.deref.result.now ≡ true =
-    ap₂ (λ (m : ℕ) (l : List No). list_all (λ (a : No). is_good m a.query) l) (ap (λ (f : RuledState StartOn). f.inner.item_count) c.new.ensures ∙ c.requires.items) (c.deref.ensures.value ∙ c.in_ok-nos.ensures)
+    let n = c.args.family.now.inner.item_count in
+    let told : list_all (λ (a : No). is_good c.new-2.result.inner.item_count a.query) c.deref.result.now ≡ true =
+    ap₂ (λ (m : ℕ) (l : List No). list_all (λ (a : No). is_good m a.query) l) (ap (λ (f : RuledState StartOn). f.inner.item_count) c.new-2.ensures) (c.deref.ensures.value ∙ c.in_ok-nos.ensures)
     ∙ all-told (λ (a : No). is_good n a.query) (λ a. not a.yes) (λ a. let x : No = record { number = a.number; query = a.query } in x) c.args.answers.now c.requires.good in
     told
 
 pub returns : goal.returns
 returns g c =
-    let b = c.args.blocks in
     let f = c.args.family.now in
+    let n = f.inner.item_count in
     IfOk-weaker c.build.result _ _
-    (λ t h. h ∙ ap₂ (λ (k : List Items) (l : List No). table_of b k l)
-    (rw c.new.ensures (ruled-compat f.inner.item_count f.inner.start f.rules ∙ ap (λ m. compat m f.inner.start f.rules) c.requires.items))
+    (λ t h. h ∙ ap (λ (b : BlockRange). table_of b (filter (breaks_none c.new-2.result.rules) (compat c.new-2.result.inner.item_count c.new-2.result.inner.start [])) c.deref.result.now) (blocks_are g (goal.at.returns g c).After-unwrap-blocks)
+    ∙ ap₂ (λ (k : List Items) (l : List No). table_of (single_items n) k l)
+    (rw c.new-2.ensures (ruled-compat n f.inner.start f.rules))
     (c.deref.ensures.value ∙ c.in_ok-nos.ensures))
     c.build.ensures.built

@@ -12,7 +12,7 @@ use Rattle.ls_expert.specs.Starts.{StartOn, start_of}
 use Rattle.ls_expert.specs.Held.{blocks_of, interview_on, IsHeld}
 use Rattle.ls_expert.proofs.AnswerLists.{all-told}
 use Rattle.ls_expert.proofs.Asking.{asking}
-use Rattle.ls_expert.proofs.Holding.{range-of, tabled-by}
+use Rattle.ls_expert.proofs.Holding.{range-of, some-made, tabled-by}
 use Rattle.ls_expert.proofs.Saving.{made-as, ran_out, fit-decides}
 use Rattle.ls_expert.proofs.inquiry.Inquiry.from_standing.Given as given
 use Rattle.ls_expert.proofs.inquiry.Inquiry.from_standing.Goals as goal
@@ -75,16 +75,17 @@ with_rules-requires g c =
     ap₂ (λ (m : ℕ) (l : List Query). list_all (is_good m) l) c.new-2.ensures.items (c.deref.ensures.value ∙ c.in_ok-yeses.ensures)
     ∙ all-told (is_good c.args.n) (λ a. a.yes) (λ a. a.query) c.args.answers.now (c.can_stand.ensures.good c.if-not-can_stand.false)
 
-pub build-requires-clause-items : goal.build-requires-clause-items
-build-requires-clause-items g c =
-    let at = (goal.at.build-requires-clause-items g c).After-each_no_broken in
-    ap (λ (s : StartOn). s.item_count) (inner g at) ∙ sym (ap (λ (b : BlockRange). b.item_count) (range g at))
+pub build-requires-clause-some : goal.build-requires-clause-some
+build-requires-clause-some g c = rw (ap (λ (s : StartOn). s.item_count) (inner g (goal.at.build-requires-clause-some g c).After-each_no_broken)) c.requires.some
+
+pub build-requires-clause-few : goal.build-requires-clause-few
+build-requires-clause-few g c = rw (ap (λ (s : StartOn). s.item_count) (inner g (goal.at.build-requires-clause-few g c).After-each_no_broken)) c.requires.few
 
 pub build-requires-clause-good : goal.build-requires-clause-good
 build-requires-clause-good g c =
     let at = (goal.at.build-requires-clause-good g c).After-each_no_broken in
-    let told : list_all (λ (a : Answer). is_good c.in_ok-blocks.blocks.item_count a.query) c.args.answers.now ≡ true =
-    ap (λ (b : BlockRange). list_all (λ (a : Answer). is_good b.item_count a.query) c.args.answers.now) (range g at) ∙ c.can_stand.ensures.good c.if-not-can_stand.false in
+    let told : list_all (λ (a : Answer). is_good c.in_ok-family.family.inner.item_count a.query) c.args.answers.now ≡ true =
+    ap (λ (s : StartOn). list_all (λ (a : Answer). is_good s.item_count a.query) c.args.answers.now) (inner g at) ∙ c.can_stand.ensures.good c.if-not-can_stand.false in
     told
 
 pub invariant_of-result-2 : goal.invariant_of-result-2
@@ -95,12 +96,12 @@ invariant_of-result-2 g c =
       some_items = c.requires.some;
       few_items = c.requires.few;
       ruled = refl;
-      tabled = tabled-by i c.in_ok-blocks.blocks c.in_ok-family.family.inner.start c.in_ok-family.family.rules c.args.answers.now c.in_ok-table.table.table c.in_ok-table.ensures
-          (range g at) (ap (λ (u : StartOn). u.start) (inner g at)) (ruled g at) refl;
+      tabled = tabled-by i c.in_ok-family.family.inner.item_count c.in_ok-family.family.inner.start c.in_ok-family.family.rules c.args.answers.now c.in_ok-table.table.table c.in_ok-table.ensures
+          (ap (λ (u : StartOn). u.item_count) (inner g at)) (ap (λ (u : StartOn). u.start) (inner g at)) (ruled g at) refl;
       standing = c.can_stand.ensures.enough i.start c.args.k c.if-not-can_stand.false ((decides g at).0 c.if-not-each_no_broken.false);
     } in
     rw (ap (λ (f : RuledState StartOn). f.inner) c.family.view_is ∙ inner g at, ap (λ (f : RuledState StartOn). f.rules) c.family.view_is ∙ ruled g at, c.in_ok-from_slice.ensures.items)
-    (asking i (yes_queries i.answers) c.in_ok-table.table.table c.next_unsettled-first.result held c.next_unsettled-first.ensures.next)
+    (asking i c.in_ok-blocks.blocks (yes_queries i.answers) c.in_ok-table.table.table c.next_query.result held (range g at) (some-made c.args.n c.args.k c.in_ok-blocks.blocks (sym c.new.ensures.value ∙ c.in_ok-blocks.was)) c.next_query.ensures)
 
 pub returns-clause-made : goal.returns-clause-made
 returns-clause-made g c =

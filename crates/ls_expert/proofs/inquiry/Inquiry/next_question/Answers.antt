@@ -1,29 +1,44 @@
-use Rattle.std.proofs.Common.{sym, ap, ◌∙◌, IfSome, subst, Option, None, ◌≡◌, true}
+use Rattle.std.proofs.Common.{sym, ap, ◌∙◌, IfSome, subst, Option, Some, None, ◌≡◌, true}
 use Rattle.std.specs.Option.{option_map}
+use Rattle.ls_lists.specs.Lists.{IsIn}
 use Rattle.ls_set.specs.Query.{is_good}
 use Rattle.ls_set.specs.declared.query.Query.{Query}
 use Rattle.ls_theory.specs.Interviews.{Interview}
+use Rattle.ls_theory.specs.Compatible.{compat}
+use Rattle.ls_theory.specs.Blocks.{BlockRange}
 use Rattle.ls_theory.specs.Forced.{next_question}
-use Rattle.ls_expert.specs.Held.{interview_of}
-use Rattle.ls_expert.proofs.Ruling.{own_blocks, question-good}
+use Rattle.ls_query.specs.Blocks.{queries_of}
+use Rattle.ls_infer.specs.Tables.{TableState}
+use Rattle.ls_expert.specs.Held.{interview_of, PlaceFor}
+use Rattle.ls_expert.proofs.Asking.{place-in, place-none, place-some}
+use Rattle.ls_expert.proofs.Ruling.{own_blocks, ruled-compat, question-good}
 use Rattle.ls_expert.proofs.inquiry.Inquiry.next_question.Goals as goal
 
-pub returns-in-Some-clause-value : goal.returns-in-Some-clause-value
-returns-in-Some-clause-value c =
-    let i = interview_of c.self.inside.family.inner c.self.inside.block c.self.inside.answers.items c.self.inside.next in
+pub returns-in_err-from-clause-value : goal.returns-in_err-from-clause-value
+returns-in_err-from-clause-value c =
+    let last = option_map (λ r. r.now) c.args.after in
+    c.from_residual.ensures ∙ place-none c.args.self.now last (subst (PlaceFor c.args.self.now last) c.in_err-from.was c.place_for.ensures)
+
+pub find_open-requires-clause-query : goal.find_open-requires-clause-query
+find_open-requires-clause-query c =
+    let i = c.args.self.now in
+    let last = option_map (λ r. r.now) c.args.after in
+    subst (λ (b : BlockRange). IsIn c.in_ok-from.from (queries_of b)) (sym (c.self.invariant.asked ∙ ap (λ (j : Interview). let b : BlockRange = record { item_count = j.count; largest = j.block } in b) c.self.view_is))
+    (place-in i last c.in_ok-from.from (subst (PlaceFor i last) c.in_ok-from.was c.place_for.ensures))
+
+pub returns-clause-value : goal.returns-clause-value
+returns-clause-value c =
+    let s = c.self.inside.family.inner in
+    let i = interview_of s c.self.inside.block c.self.inside.answers.items c.self.inside.next in
     let held = c.self.invariant.held in
-    c.next_unsettled.ensures.next i held.standing.sound (ap (λ t. t.blocks.item_count) (sym held.tabled)) (ap (λ t. t.blocks.largest) (sym held.tabled)) (own_blocks i c.self.inside.table.table held.tabled)
-    ∙ ap (λ (j : Interview). next_question j (option_map (λ r. r.now) c.args.after)) c.self.view_is
+    let last = option_map (λ r. r.now) c.args.after in
+    c.find_open.ensures.found i held.standing.sound (ap (λ b. b.item_count) (sym c.self.invariant.asked)) (ap (λ b. b.largest) (sym c.self.invariant.asked))
+    (ruled-compat s.item_count s.start c.self.inside.family.rules ∙ ap (compat s.item_count s.start) held.ruled)
+    (own_blocks i c.self.inside.table.table held.tabled)
+    ∙ place-some i last c.in_ok-from.from (subst (λ (j : Interview). PlaceFor j last (Some c.in_ok-from.from)) (sym c.self.view_is) (subst (PlaceFor c.args.self.now last) c.in_ok-from.was c.place_for.ensures))
+    ∙ ap (λ (j : Interview). next_question j last) c.self.view_is
 
-pub returns-in-Some-clause-good : goal.returns-in-Some-clause-good
-returns-in-Some-clause-good c =
+pub returns-clause-good : goal.returns-clause-good
+returns-clause-good c =
     let i = c.args.self.now in
-    subst (λ (o : Option Query). IfSome o (λ r. is_good i.count r ≡ true)) (sym (returns-in-Some-clause-value c)) (question-good i (option_map (λ r. r.now) c.args.after))
-
-pub returns-in-None-clause-value : goal.returns-in-None-clause-value
-returns-in-None-clause-value c = rw c.in-None.is (c.self.invariant.asked ∙ ap (λ (j : Interview). next_question j None) c.self.view_is)
-
-pub returns-in-None-clause-good : goal.returns-in-None-clause-good
-returns-in-None-clause-good c =
-    let i = c.args.self.now in
-    subst (λ (o : Option Query). IfSome o (λ r. is_good i.count r ≡ true)) (sym (returns-in-None-clause-value c)) (question-good i (option_map (λ r. r.now) c.args.after))
+    subst (λ (o : Option Query). IfSome o (λ r. is_good i.count r ≡ true)) (sym (returns-clause-value c)) (question-good i (option_map (λ r. r.now) c.args.after))

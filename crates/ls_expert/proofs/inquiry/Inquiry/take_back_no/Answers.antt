@@ -11,7 +11,7 @@ invariant_of-self c =
     let i = interview_of c.self.inside.family.inner c.self.inside.block c.self.inside.answers.items c.self.inside.next in
     let a = c.args.answer.now in
     rw c.take_out.ensures
-    (asking (retracted i a.number) c.self.inside.family.rules c.no_removed.new.self.table c.next_unsettled-self-inside.result
+    (asking (retracted i a.number) c.self.inside.blocks c.self.inside.family.rules c.no_removed.new.self.table c.next_query-self-inside.result
     (held-without_no i a c.self.inside.family.rules c.self.inside.table.table c.no_removed.new.self.table c.self.invariant.held
     (ap (λ (j : Interview). answer_with j a.number) c.self.view_is ∙ c.requires.stands) c.requires.no c.no_removed.ensures.kept)
-    c.next_unsettled-self-inside.ensures.next)
+    c.self.invariant.asked c.self.invariant.some_sizes c.next_query-self-inside.ensures)

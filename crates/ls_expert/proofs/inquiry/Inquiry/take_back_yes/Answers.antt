@@ -16,7 +16,7 @@ pub returns-clause-cost : goal.returns-clause-cost
 returns-clause-cost g c =
     let i = interview_of c.self.inside.family.inner c.self.inside.block c.self.inside.answers.items c.self.inside.next in
     let a = c.args.answer.now in
-    let most = steps-over i c.self.inside.table.table a.query.a c.self.invariant.held.tabled in
+    let most = steps-over i c.self.inside.table.table a.query.a c.self.invariant.held.tabled c.self.invariant.some_sizes in
     rw (← c.self.view_is, c.requires.yes) (omega (arith, c.yes_removed.ensures.cost, most))
 
 pub remove-requires : goal.remove-requires
@@ -49,4 +49,4 @@ invariant_of-self g c =
     (ap (λ (j : Interview). answer_with j a.number) c.self.view_is ∙ c.requires.stands) others _ c.requires.yes
     (c.remove.ensures.rules ∙ ap (remove c.self.inside.family.rules) rule) (rw c.new.ensures family) c.yes_removed.ensures.kept in
     rw (c.take_out.ensures, c.remove.ensures.inner)
-    (asking (retracted i a.number) others c.yes_removed.new.self.table c.next_unsettled-self-inside.result held c.next_unsettled-self-inside.ensures.next)
+    (asking (retracted i a.number) c.self.inside.blocks others c.yes_removed.new.self.table c.next_query-self-inside.result held c.self.invariant.asked c.self.invariant.some_sizes c.next_query-self-inside.ensures)

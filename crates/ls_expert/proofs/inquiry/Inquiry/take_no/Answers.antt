@@ -1,18 +1,12 @@
 use Rattle.std.proofs.Common.{false, refl, ap, ◌∙◌}
-use Rattle.ls_theory.specs.Interviews.{Interview, accepted}
+use Rattle.ls_theory.specs.Interviews.{Interview}
 use Rattle.ls_theory.specs.Compatible.{compat}
 use Rattle.ls_theory.specs.Answering.{refusal}
-use Rattle.ls_infer.specs.Tables.{TableState}
-use Rattle.ls_expert.specs.Held.{interview_of, IsInquiry}
+use Rattle.ls_expert.specs.Held.{interview_of}
 use Rattle.ls_expert.proofs.Ruling.{ruled-compat}
-use Rattle.ls_expert.proofs.Asking.{first-good}
+use Rattle.ls_expert.proofs.Asking.{still-asking}
 use Rattle.ls_expert.proofs.Taking.{held-no, tabled-no}
 use Rattle.ls_expert.proofs.inquiry.Inquiry.take_no.Goals as goal
-
-pub first_left-self-inside-requires : goal.first_left-self-inside-requires
-first_left-self-inside-requires g c =
-    let i = interview_of c.self.inside.family.inner c.self.inside.block c.self.inside.answers.items c.self.inside.next in
-    first-good i c.self.inside.family.rules c.self.inside.table.table c.no_added.new.self.table c.self.inside.first c.self.invariant (c.no_added.ensures.blocks ∙ ap (λ (u : TableState). u.blocks) c.reserve_no.ensures.table)
 
 pub invariant_of-self-2 : goal.invariant_of-self-2
 invariant_of-self-2 g c =
@@ -24,8 +18,5 @@ invariant_of-self-2 g c =
     (ap (λ (j : Interview). refusal j r false) c.self.view_is ∙ c.requires)
     (tabled-no i r c.reserve_no.new.self.table c.no_added.new.self.table _ (c.reserve_no.ensures.table ∙ h.tabled) (record { number = c.self.inside.next; query = r })
     (rw c.new.ensures (ruled-compat s.item_count s.start c.self.inside.family.rules ∙ ap (compat s.item_count s.start) h.ruled)) refl c.no_added.ensures.kept) in
-    let kept : IsInquiry (accepted i r false) c.self.inside.family.rules c.no_added.new.self.table c.first_left-self-inside.result = record {
-      held = held;
-      asked = c.first_left-self-inside.ensures i r false held.standing.sound c.self.invariant.asked held.tabled;
-    } in
+    let kept = still-asking i r false c.self.inside.blocks c.self.inside.family.rules c.self.inside.family.rules c.self.inside.table.table c.no_added.new.self.table c.self.inside.from c.self.invariant held in
     rw (c.put_last.ensures.last, c.put_last.ensures.next, c.reserve.ensures.items) kept

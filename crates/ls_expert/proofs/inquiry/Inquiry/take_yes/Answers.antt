@@ -1,19 +1,18 @@
-use Rattle.std.proofs.Common.{◌≡◌, ◌∷◌, ◌++◌, [], List, true, ap, ap₂, ◌∙◌}
+use Rattle.std.proofs.Common.{◌≡◌, ◌∷◌, ◌++◌, [], List, true, arith, sym, ap, ap₂, ◌∙◌}
 use Rattle.ls_set.specs.declared.query.Query.{Query}
 use Rattle.ls_theory.specs.Interviews.{Interview, accepted}
 use Rattle.ls_theory.specs.Compatible.{compat}
+use Rattle.ls_theory.specs.Forced.{known}
 use Rattle.ls_theory.specs.Answering.{refusal}
+use Rattle.ls_infer.specs.Tables.{TableState}
 use Rattle.ls_expert.specs.Starts.{StartOn}
-use Rattle.ls_expert.specs.Held.{interview_of, IsInquiry}
+use Rattle.ls_expert.specs.Held.{interview_of, closures_of}
 use Rattle.ls_expert.proofs.Ruling.{ruled-compat}
-use Rattle.ls_expert.proofs.Asking.{first-good}
-use Rattle.ls_expert.proofs.Taking.{held-yes, tabled-yes}
+use Rattle.ls_expert.proofs.Asking.{still-asking}
+use Rattle.ls_expert.proofs.Retracting.{steps-over}
+use Rattle.ls_expert.proofs.Taking.{held-yes, tabled-yes, tabled-forced}
 use Rattle.ls_expert.proofs.inquiry.Inquiry.take_yes.Goals as goal
-
-pub first_left-self-inside-requires : goal.first_left-self-inside-requires
-first_left-self-inside-requires g c =
-    let i = interview_of c.self.inside.family.inner c.self.inside.block c.self.inside.answers.items c.self.inside.next in
-    first-good i c.self.inside.family.rules c.self.inside.table.table c.yes_added.new.self.table c.self.inside.first c.self.invariant c.yes_added.ensures.blocks
+use Rattle.ls_expert.proofs.inquiry.Inquiry.take_yes.Goals.{then-not-is_yes, else-not-is_yes}
 
 pub invariant_of-self-2 : goal.invariant_of-self-2
 invariant_of-self-2 g c =
@@ -26,11 +25,21 @@ invariant_of-self-2 g c =
     let family =
     ruled-compat c.push_reserved.new.self.inner.item_count c.push_reserved.new.self.inner.start c.push_reserved.new.self.rules
     ∙ ap₂ (λ (u : StartOn) (l : List Query). compat u.item_count u.start l) inner (ruled ∙ ap (λ (l : List Query). l ++ r ∷ []) h.ruled) in
-    let held = held-yes i r c.self.inside.family.rules c.self.inside.table.table c.yes_added.new.self.table h c.push_reserved.new.self.rules
-    (ap (λ (j : Interview). refusal j r true) c.self.view_is ∙ c.requires) ruled
-    (tabled-yes i r c.self.inside.table.table c.yes_added.new.self.table _ h.tabled (rw c.new.ensures family) c.yes_added.ensures.kept) in
-    let kept : IsInquiry (accepted i r true) c.push_reserved.new.self.rules c.yes_added.new.self.table c.first_left-self-inside.result = record {
-      held = held;
-      asked = c.first_left-self-inside.ensures i r true held.standing.sound c.self.invariant.asked held.tabled;
-    } in
-    rw (c.put_last.ensures.last, c.put_last.ensures.next, c.reserve.ensures.items, inner) kept
+    let held = λ (new : TableState). held-yes i r c.self.inside.family.rules c.self.inside.table.table new h c.push_reserved.new.self.rules
+    (ap (λ (j : Interview). refusal j r true) c.self.view_is ∙ c.requires.passes) ruled in
+    let kept = λ (new : TableState) (e : new ≡ closures_of (accepted i r true)). still-asking i r true c.self.inside.blocks c.self.inside.family.rules c.push_reserved.new.self.rules c.self.inside.table.table new c.self.inside.from c.self.invariant (held new e) in
+    elim c.if-not-is_yes.branch [
+      | then-not-is_yes w ↦ rw (c.put_last.ensures.last, c.put_last.ensures.next, w.self-inside-is, c.reserve.ensures.items, inner)
+          (kept w.yes_added.new.self.table (tabled-yes i r c.self.inside.table.table w.yes_added.new.self.table _ h.tabled (rw w.new.ensures family) w.yes_added.ensures.kept))
+      | else-not-is_yes w ↦ rw (c.put_last.ensures.last, c.put_last.ensures.next, w.self-inside-is, c.reserve.ensures.items, inner)
+          (kept c.self.inside.table.table (tabled-forced i r c.self.inside.table.table h.standing.sound.some_fits (ap (λ (j : Interview). known j r) c.self.view_is ∙ sym c.requires.known ∙ c.is_yes.ensures w.if-not-is_yes.false) h.tabled))
+    ]
+
+pub returns-clause-cost : goal.returns-clause-cost
+returns-clause-cost g c =
+    let i = interview_of c.self.inside.family.inner c.self.inside.block c.self.inside.answers.items c.self.inside.next in
+    let most = steps-over i c.self.inside.table.table c.args.query.now.a c.self.invariant.held.tabled c.self.invariant.some_sizes in
+    rw (← c.self.view_is) (elim c.if-not-is_yes.branch [
+      | then-not-is_yes w ↦ rw w.steps-is (omega (arith, w.yes_added.ensures.cost, most))
+      | else-not-is_yes w ↦ rw w.steps-is (omega arith)
+    ])

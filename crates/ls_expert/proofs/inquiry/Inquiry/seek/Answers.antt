@@ -1,0 +1,18 @@
+use Rattle.std.proofs.Common.{sym, ap, ◌∙◌, None}
+use Rattle.ls_theory.specs.Interviews.{Interview}
+use Rattle.ls_theory.specs.Forced.{next_question}
+use Rattle.ls_expert.specs.Held.{interview_of}
+use Rattle.ls_expert.proofs.Asking.{none-before_question}
+use Rattle.ls_expert.proofs.inquiry.Inquiry.seek.Goals as goal
+
+pub invariant_of-self : goal.invariant_of-self
+invariant_of-self c =
+    let s = c.self.inside in
+    let i = interview_of s.family.inner s.block s.answers.items s.next in
+    record {
+      held = c.self.invariant.held;
+      asked = c.self.invariant.asked;
+      some_sizes = c.self.invariant.some_sizes;
+      none_before = none-before_question i c.next_question-self-inside.result
+          (c.next_question-self-inside.ensures.value ∙ ap (λ (j : Interview). next_question j None) (sym c.self.view_is));
+    }
