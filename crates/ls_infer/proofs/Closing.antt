@@ -1,22 +1,21 @@
 -- Closures of sets with one more item, and those that a loop over the blocks finds again.
-use Rattle.std.proofs.Common.{ℕ, zero, suc, ◌+◌, ◌<◌, ◌≤◌, ◌≡◌, inl, inr, true, false, cond, not, List, [], ◌∷◌, map, take, length, get_or, slice_get, Option, Some, None, refl, sym, ap, ap₂, ◌∙◌, subst, arith, add-one, true≢false, lt-ltb}
+use Rattle.std.proofs.Common.{ℕ, zero, suc, ◌+◌, ◌<◌, ◌≤◌, ◌≡◌, inl, inr, true, false, not, List, [], ◌∷◌, map, take, length, get_or, slice_get, Option, Some, None, refl, sym, ap, ap₂, ◌∙◌, subst, arith, add-one}
 use Rattle.std.specs.List.{list_any}
-use Rattle.std.proofs.lemmas.Bool.{and_parts, or_parts, false_from_ne_true}
-use Rattle.std.proofs.lemmas.Bool.Decides.{nat_tests}
+use Rattle.std.proofs.lemmas.Bool.{and_parts, or_parts}
 use Rattle.std.proofs.lemmas.Option.{slice_get-get_or}
 use Rattle.ls_lists.specs.Lists.{images}
 use Rattle.ls_lists.proofs.Overwriting.{images-at}
-use Rattle.ls_set.specs.ItemSet.{Items, has, empty, full, with, without, minus, least, is_among, is_within, IsWithin}
+use Rattle.ls_set.specs.ItemSet.{Items, has, empty, full, with, without, minus, least, is_among, is_within}
 use Rattle.ls_set.specs.declared.query.Query.{Query}
-use Rattle.ls_set.proofs.Sets.{members, has-empty, has-full, same_set, same_within, minus-within, empty-within, is_within-from}
+use Rattle.ls_set.proofs.Sets.{has-empty}
 use Rattle.ls_set.proofs.Ascending.{least-none}
-use Rattle.ls_theory.specs.Families.{interior, closure}
+use Rattle.ls_theory.specs.Families.{closure}
 use Rattle.ls_laws.specs.Families.{IsFamily}
-use Rattle.ls_laws.proofs.Interiors.{IsUnionFamily, interior-within, interior_grows}
+use Rattle.ls_laws.proofs.Interiors.{IsUnionFamily}
 use Rattle.ls_laws.proofs.Breaks.{IsGood}
 use Rattle.ls_laws.proofs.Counts.{some_item}
 use Rattle.ls_laws.proofs.Closures.{closure_stays}
-use Rattle.ls_laws.proofs.ClosureChanges.{minus_shrinks, closure_again, closure_before_yes}
+use Rattle.ls_laws.proofs.ClosureChanges.{closure_before_yes}
 use Rattle.ls_laws.proofs.Families.{family_sets}
 use Rattle.ls_interior.specs.Keeping.{interior_keeping}
 use Rattle.ls_infer.specs.declared.yes_change.YesChange.{YesChange}
@@ -24,75 +23,22 @@ use Rattle.ls_infer.specs.Changes.{IsChange, is_stale}
 use Rattle.ls_infer.specs.Fronts.{AreFirst}
 use Rattle.ls_theory.specs.Blocks.{BlockRange}
 use Rattle.ls_query.specs.Blocks.{sets_of}
-use Rattle.ls_infer.proofs.Outside.{out-parts, out-from, in-from, minus_twice, with-left, with-here, with-cases, outside-member}
-
-minus-with : (whole s : Items) (i : ℕ) → without (minus whole s) i ≡ minus whole (with s i)
-minus-with whole s i = same_set (without (minus whole s) i) (minus whole (with s i)) (λ j. grind (arith, members, nat_tests))
-
--- ---- closures of sets that have the same items of `whole`
-
--- each item of `whole` that is in s is in t
-abbrev IsWithinOn : Items → Items → Items → Type 0
-IsWithinOn whole s t = (i : ℕ) → has whole i ≡ true → has s i ≡ true → has t i ≡ true
-
-grows-on : (whole : Items) (f : List Items) (s t : Items) → IsWithinOn whole s t → IsWithin (closure whole f s) (closure whole f t)
-grows-on whole f s t on = minus_shrinks whole (interior f (minus whole t)) (interior f (minus whole s)) (interior_grows f (minus whole t) (minus whole s) (λ i h.
-    let p = out-parts whole t i h in
-    out-from whole s i p.0 (false_from_ne_true (has s i) (λ a. true≢false (sym (on i p.0 a) ∙ p.1)))))
-
-holds-on : (whole : Items) (f : List Items) (s : Items) → IsWithinOn whole s (closure whole f s)
-holds-on whole f s i w h = out-from whole (interior f (minus whole s)) i w (false_from_ne_true (has (interior f (minus whole s)) i) (λ a.
-    true≢false (sym h ∙ (out-parts whole s i (interior-within f (minus whole s) i a)).1)))
-
--- the closure of a set in the closure of s is within it
-inside-closure : (whole : Items) (f : List Items) (s t : Items) → IsWithinOn whole t (closure whole f s) → IsWithin (closure whole f t) (closure whole f s)
-inside-closure whole f s t on i h = subst (λ c. has c i ≡ true) (closure_again whole f s) (grows-on whole f t (closure whole f s) on i h)
-
--- a set between s and the closure of s has the same closure
-closure-between : (whole : Items) (f : List Items) (s t : Items) → IsWithinOn whole s t → IsWithinOn whole t (closure whole f s) → closure whole f t ≡ closure whole f s
-closure-between whole f s t low high = same_within (closure whole f t) (closure whole f s) (inside-closure whole f s t high) (grows-on whole f s t low)
+use Rattle.ls_infer.proofs.Outside.{outside-same, outside-left, outside-closed}
 
 -- ---- with one more item
 
--- the closure with an item goes on from that without it
-closure-goes_on : (whole : Items) (f : List Items) (s : Items) (i : ℕ) → closure whole f (with (closure whole f s) i) ≡ closure whole f (with s i)
-closure-goes_on whole f s i = closure-between whole f (with s i) (with (closure whole f s) i)
-    (λ j w h. elim (with-cases s i j h) [ inl a ↦ with-left (closure whole f s) i j (holds-on whole f s j w a) | inr e ↦ subst (λ k. has (with (closure whole f s) i) k ≡ true) (sym e) (with-here (closure whole f s) i) ])
-    (λ j w h. elim (with-cases (closure whole f s) i j h) [
-      | inl a ↦ grows-on whole f s (with s i) (λ k v b. with-left s i k b) j a
-      | inr e ↦ holds-on whole f (with s i) j w (subst (λ k. has (with s i) k ≡ true) (sym e) (with-here s i))
-    ])
-
--- an item of the closure adds nothing
-closure-has : (whole : Items) (f : List Items) (s : Items) (i : ℕ) → has (closure whole f s) i ≡ true → closure whole f (with s i) ≡ closure whole f s
-closure-has whole f s i here = closure-between whole f s (with s i)
-    (λ j w h. with-left s i j h)
-    (λ j w h. elim (with-cases s i j h) [ inl a ↦ holds-on whole f s j w a | inr e ↦ subst (λ k. has (closure whole f s) k ≡ true) (sym e) here ])
-
-closure-within : (whole : Items) (f : List Items) (s : Items) → IsWithin (closure whole f s) whole
-closure-within whole f s = minus-within whole (interior f (minus whole s))
-
 -- an item that is not outside
-pub closed-already : (n : ℕ) (f : List Items) (closed set : Items) (i : ℕ) → i < n → closed ≡ closure (full n) f set → has (minus (full n) closed) i ≡ false → minus (full n) (minus (full n) closed) ≡ closure (full n) f (with set i)
-closed-already n f closed set i l e out =
-    let here : has closed i ≡ true = in-from (full n) closed i (has-full n i ∙ lt-ltb i n l) out in
-    minus_twice (full n) closed (subst (λ c. IsWithin c (full n)) (sym e) (closure-within (full n) f set))
-    ∙ e ∙ sym (closure-has (full n) f set i (subst (λ c. has c i ≡ true) e here))
-
--- nothing to keep
-kept_all : (f : List Items) (s : Items) → interior_keeping f s empty ≡ Some (interior f s)
-kept_all f s = ap (λ b. cond b (Some (interior f s)) None) (is_within-from empty (interior f s) (empty-within (interior f s)))
+pub closed-already : (n : ℕ) (f : List Items) (closed set : Items) (i : ℕ) → IsUnionFamily n f → closed ≡ closure (full n) f set → has (minus (full n) closed) i ≡ false → minus (full n) (minus (full n) closed) ≡ closure (full n) f (with set i)
+closed-already n f closed set i family e out =
+    let same = outside-closed n f closed set e in
+    ap (minus (full n)) (same ∙ outside-same n f set i family (ap (λ s. has s i) (sym same) ∙ out))
 
 -- an item that is outside, by what it leaves of the member outside
 pub closed-further : (n : ℕ) (f : List Items) (closed set left : Items) (i : ℕ) (found : Option Items) → IsUnionFamily n f → closed ≡ closure (full n) f set
     → (is_among f (minus (full n) closed) ≡ true → found ≡ interior_keeping f (without (minus (full n) closed) i) empty)
     → ((k : Items) → found ≡ Some k → left ≡ k) → minus (full n) left ≡ closure (full n) f (with set i)
 closed-further n f closed set left i found family e keeping taken =
-    let member = subst (λ c. is_among f (minus (full n) c) ≡ true) (sym e) (outside-member n f set family) in
-    let some = keeping member ∙ kept_all f (without (minus (full n) closed) i) ∙ ap (λ t. Some (interior f t)) (minus-with (full n) closed i) in
-    ap (minus (full n)) (taken (interior f (minus (full n) (with closed i))) some)
-    ∙ ap (λ c. closure (full n) f (with c i)) e
-    ∙ closure-goes_on (full n) f set i
+    ap (minus (full n)) (outside-left n f set (minus (full n) closed) empty left i found family (outside-closed n f closed set e) refl keeping taken)
 
 -- ---- the first ones of a list
 

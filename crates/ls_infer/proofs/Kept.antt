@@ -1,17 +1,17 @@
 -- What is kept of standing answers.
-use Rattle.std.proofs.Common.{ℕ, ◌+◌, ◌<◌, ◌≡◌, inl, inr, Bool, true, false, not, ◌&&◌, ◌||◌, eqb, ltb, List, Option, Some, None, drop, length, get_or, refl, sym, ap, ◌∙◌, arith, le-leb, lt-ltb, eqb-true, zero-add, true≢false}
+use Rattle.std.proofs.Common.{ℕ, ◌+◌, ◌<◌, ◌≡◌, inl, inr, Bool, true, false, not, ◌&&◌, ◌||◌, eqb, ltb, List, Option, Some, None, drop, length, get_or, refl, sym, ap, ◌∙◌, arith, le-leb, lt-ltb, eqb-true, zero-add, true≢false, zero, suc, [], ◌∷◌, slice_get}
 use Rattle.std.specs.List.{list_any}
-use Rattle.std.specs.Option.{is_some}
+use Rattle.std.specs.Option.{is_some, option_map_or}
 use Rattle.std.proofs.lemmas.Bool.{or_cases}
 use Rattle.std.proofs.lemmas.Bool.Decides.{nat_tests}
 use Rattle.ls_lists.proofs.Places.{drop-next}
-use Rattle.ls_set.specs.ItemSet.{Items, has, full, with, minus, least, is_within, IsWithin}
+use Rattle.ls_set.specs.ItemSet.{Items, has, full, with, least, IsWithin}
 use Rattle.ls_set.proofs.Listed.{least-none_left}
-use Rattle.ls_set.proofs.Sets.{has-with, has-minus, has-full}
+use Rattle.ls_set.proofs.Sets.{has-with, has-full}
 use Rattle.ls_set.proofs.Cursors.{has-set_of-filter}
 use Rattle.ls_theory.specs.Families.{closure}
 use Rattle.ls_infer.specs.declared.standing_no.StandingNo.{StandingNo}
-use Rattle.ls_infer.specs.Tables.{enough_for, forces}
+use Rattle.ls_infer.specs.Tables.{enough_for}
 
 -- ---- the items that are enough
 
@@ -46,20 +46,34 @@ not_either true true r = refl
 not_either true false r = refl
 not_either false e r = refl
 
--- the next answer, where A is within its closure
-pub unforced-next : (ss : List StandingNo) (i : ℕ) (s : StandingNo) (a left : Items) (q : ℕ) → i < length ss → s ≡ get_or ss i s → is_within a s.closed ≡ true
-    → (has (minus left s.enough) q && not (list_any (forces (record { a = a; q = q })) (drop (i + 1) ss))) ≡ (has left q && not (list_any (forces (record { a = a; q = q })) (drop i ss)))
-unforced-next ss i s a left q l e h =
-    let rest = list_any (forces (record { a = a; q = q })) (drop (i + 1) ss) in
-    ap (λ b. b && not rest) (has-minus left s.enough q)
-    ∙ not_either (has left q) (has s.enough q) rest
-    ∙ ap (λ b. has left q && not ((b && has s.enough q) || rest)) (sym h)
-    ∙ ap (λ xs. has left q && not (list_any (forces (record { a = a; q = q })) xs)) (sym (drop-next ss i s l e))
+-- the next answer
+pub unforced-next : (p : StandingNo → Bool) (ss : List StandingNo) (i : ℕ) (s : StandingNo) (x y : Bool) → i < length ss → s ≡ get_or ss i s → y ≡ (x && not (p s))
+    → (y && not (list_any p (drop (i + 1) ss))) ≡ (x && not (list_any p (drop i ss)))
+unforced-next p ss i s x y l at e =
+    let rest = list_any p (drop (i + 1) ss) in
+    ap (λ b. b && not rest) e ∙ not_either x (p s) rest ∙ ap (λ xs. x && not (list_any p xs)) (sym (drop-next ss i s l at))
 
--- and where it is not
-pub unforced-same : (ss : List StandingNo) (i : ℕ) (s : StandingNo) (a left : Items) (q : ℕ) → i < length ss → s ≡ get_or ss i s → is_within a s.closed ≡ false
-    → (has left q && not (list_any (forces (record { a = a; q = q })) (drop (i + 1) ss))) ≡ (has left q && not (list_any (forces (record { a = a; q = q })) (drop i ss)))
-unforced-same ss i s a left q l e h =
-    let rest = list_any (forces (record { a = a; q = q })) (drop (i + 1) ss) in
-    ap (λ b. has left q && not ((b && has s.enough q) || rest)) (sym h)
-    ∙ ap (λ xs. has left q && not (list_any (forces (record { a = a; q = q })) xs)) (sym (drop-next ss i s l e))
+-- an answer that is asked first is asked again
+or_same : (b r : Bool) → (b || (b || r)) ≡ (b || r)
+or_same true r = refl
+or_same false r = refl
+
+or_later : (o b r : Bool) → (o || r) ≡ r → (o || (b || r)) ≡ (b || r)
+or_later true true r e = refl
+or_later true false r e = e
+or_later false b r e = refl
+
+asked_twice : (p : StandingNo → Bool) (ss : List StandingNo) (i : ℕ) → (option_map_or p (slice_get ss i) false || list_any p ss) ≡ list_any p ss
+asked_twice p [] i = refl
+asked_twice p (s ∷ ss) zero = or_same (p s) (list_any p ss)
+asked_twice p (s ∷ ss) (suc i) = or_later (option_map_or p (slice_get ss i) false) (p s) (list_any p ss) (asked_twice p ss i)
+
+pub unforced-first : (p : StandingNo → Bool) (ss : List StandingNo) (i : ℕ) (x y : Bool) → y ≡ (x && not (option_map_or p (slice_get ss i) false)) → (y && not (list_any p ss)) ≡ (x && not (list_any p ss))
+unforced-first p ss i x y e =
+    ap (λ b. b && not (list_any p ss)) e
+    ∙ not_either x (option_map_or p (slice_get ss i) false) (list_any p ss)
+    ∙ ap (λ b. x && not b) (asked_twice p ss i)
+
+-- where none is left
+pub unforced-none : (y rest z : Bool) → y ≡ false → (y && not rest) ≡ z → y ≡ z
+unforced-none y rest z e h = e ∙ sym (ap (λ b. b && not rest) e) ∙ h

@@ -8,5 +8,6 @@ mod States
 mod Changes
 mod Standing
 mod Closing
+mod Searching
 pub mod Least
 pub mod WithinFamily

@@ -1,11 +1,15 @@
 -- Complements, sets with one more item, and what is outside a closure.
-use Rattle.std.proofs.Common.{ℕ, ◌≡◌, ◌⊎◌, inl, inr, true, false, not, ◌&&◌, eqb, List, refl, sym, ap, ◌∙◌, subst, true≢false, eqb-true, eq-eqb}
-use Rattle.std.proofs.lemmas.Bool.{and_parts, and_from, or_cases, or_left, or_right, not-true, not_from_false, true_from_ne_false}
+use Rattle.std.proofs.Common.{ℕ, ◌≡◌, ◌⊎◌, inl, inr, true, false, cond, not, ◌&&◌, ◌||◌, eqb, List, Option, Some, None, refl, sym, ap, ap₂, ◌∙◌, subst, arith, true≢false, eqb-true, eq-eqb}
+use Rattle.std.proofs.lemmas.Bool.{and_parts, and_from, or_cases, or_left, or_right, not-true, not_from_false, false_from_ne_true, true_from_ne_false}
+use Rattle.std.proofs.lemmas.Bool.Decides.{nat_tests}
 use Rattle.ls_lists.proofs.Bools.{both_out}
-use Rattle.ls_set.specs.ItemSet.{Items, has, full, with, minus, is_among, IsWithin}
-use Rattle.ls_set.proofs.Sets.{has-minus, has-with, same_set, minus-within}
+use Rattle.ls_set.specs.ItemSet.{Items, has, empty, full, with, without, minus, is_among, IsWithin}
+use Rattle.ls_set.proofs.Sets.{members, has-minus, has-with, has-without, same_set, same_within, minus-within, empty-within, is_within-from}
 use Rattle.ls_theory.specs.Families.{interior, closure}
-use Rattle.ls_laws.proofs.Interiors.{IsUnionFamily, interior-is, interior-within}
+use Rattle.ls_laws.proofs.Interiors.{IsUnionFamily, interior-is, interior-within, interior_grows, interior_again, interior-greatest}
+use Rattle.ls_laws.proofs.ClosureChanges.{minus_shrinks}
+use Rattle.ls_interior.specs.Keeping.{interior_keeping}
+use Rattle.ls_infer.specs.Search.{outside_of}
 
 -- ---- complements
 
@@ -39,3 +43,49 @@ outside-member n f s family =
     let inside = interior f (minus (full n) s) in
     subst (λ t. is_among f t ≡ true) (sym (minus_twice (full n) inside (λ i h. minus-within (full n) s i (interior-within f (minus (full n) s) i h))))
     (interior-is f family.holds_empty family.holds_unions (minus (full n) s)).member
+
+-- ---- what is outside a closure
+
+pub outside-within : (n : ℕ) (f : List Items) (a : Items) → IsWithin (outside_of n f a) (full n)
+outside-within n f a i h = minus-within (full n) a i (interior-within f (minus (full n) a) i h)
+
+outside-among : (n : ℕ) (f : List Items) (a : Items) → IsUnionFamily n f → is_among f (outside_of n f a) ≡ true
+outside-among n f a family = (interior-is f family.holds_empty family.holds_unions (minus (full n) a)).member
+
+-- with one more item it goes on from what is outside without it
+outside-further : (n : ℕ) (f : List Items) (a : Items) (i : ℕ) → IsUnionFamily n f → interior f (without (outside_of n f a) i) ≡ outside_of n f (with a i)
+outside-further n f a i family = same_within (interior f (without (outside_of n f a) i)) (outside_of n f (with a i))
+    (interior_grows f (without (outside_of n f a) i) (minus (full n) (with a i)) (λ j h.
+    let p = and_parts (has (outside_of n f a) j) (not (eqb j i)) (sym (has-without (outside_of n f a) i j) ∙ h) in
+    let o = out-parts (full n) a j (interior-within f (minus (full n) a) j p.0) in
+    out-from (full n) (with a i) j o.0 (has-with a i j ∙ ap₂ (λ b c. b || c) o.1 (not-true (eqb j i) p.1))))
+    (interior-greatest f (without (outside_of n f a) i) (outside_of n f (with a i)) (outside-among n f (with a i) family) (λ j h.
+    let o = out-parts (full n) (with a i) j (interior-within f (minus (full n) (with a i)) j h) in
+    has-without (outside_of n f a) i j
+    ∙ and_from (has (outside_of n f a) j) (not (eqb j i))
+    (interior_grows f (minus (full n) (with a i)) (minus (full n) a) (minus_shrinks (full n) a (with a i) (with-left a i)) j h)
+    (not_from_false (eqb j i) (false_from_ne_true (eqb j i) (λ e. true≢false (sym (has-with a i j ∙ or_right (has a j) (eqb j i) e) ∙ o.1))))))
+
+-- an item that is not outside leaves all
+pub outside-same : (n : ℕ) (f : List Items) (a : Items) (i : ℕ) → IsUnionFamily n f → has (outside_of n f a) i ≡ false → outside_of n f a ≡ outside_of n f (with a i)
+outside-same n f a i family h =
+    sym (interior_again f (minus (full n) a))
+    ∙ ap (interior f) (same_set (outside_of n f a) (without (outside_of n f a) i) (λ j. grind (arith, members, nat_tests)))
+    ∙ outside-further n f a i family
+
+-- nothing to keep
+kept_all : (f : List Items) (s : Items) → interior_keeping f s empty ≡ Some (interior f s)
+kept_all f s = ap (λ b. cond b (Some (interior f s)) None) (is_within-from empty (interior f s) (empty-within (interior f s)))
+
+-- what an item leaves of it
+pub outside-left : (n : ℕ) (f : List Items) (a outside keep left : Items) (i : ℕ) (found : Option Items) → IsUnionFamily n f → outside ≡ outside_of n f a → keep ≡ empty
+    → (is_among f outside ≡ true → found ≡ interior_keeping f (without outside i) keep)
+    → ((k : Items) → found ≡ Some k → left ≡ k) → left ≡ outside_of n f (with a i)
+outside-left n f a outside keep left i found family same none keeping taken =
+    let member = subst (λ s. is_among f s ≡ true) (sym same) (outside-among n f a family) in
+    taken (interior f (without outside i)) (keeping member ∙ ap (interior_keeping f (without outside i)) none ∙ kept_all f (without outside i))
+    ∙ ap (λ s. interior f (without s i)) same ∙ outside-further n f a i family
+
+-- outside a set that is the closure
+pub outside-closed : (n : ℕ) (f : List Items) (closed a : Items) → closed ≡ closure (full n) f a → minus (full n) closed ≡ outside_of n f a
+outside-closed n f closed a e = ap (minus (full n)) e ∙ minus_twice (full n) (outside_of n f a) (outside-within n f a)

@@ -17,11 +17,12 @@ use Rattle.ls_theory.specs.Forced.{is_open, next_question}
 use Rattle.ls_theory.specs.Pages.{comes_after}
 use Rattle.ls_theory.specs.Blocks.{BlockRange}
 use Rattle.ls_laws.specs.Forced.{IsSound, is_forced_by_closures}
-use Rattle.ls_laws.proofs.Breaks.{good-to}
+use Rattle.ls_laws.proofs.Breaks.{good-from, good-to}
 use Rattle.ls_laws.proofs.Answering.{forced_yes_is, forced_no_by}
 use Rattle.ls_query.specs.Blocks.{queries_of}
 use Rattle.ls_query.proofs.QuerySets.{queries-in}
 use Rattle.ls_infer.specs.Tables.{TableState, standing, forces, is_open_in, table_of}
+use Rattle.ls_infer.specs.Search.{is_open_by}
 use Rattle.ls_infer.proofs.Told.{forces-standing, closed_of-table}
 use Rattle.ls_query.proofs.Placed.{block_place}
 
@@ -31,21 +32,27 @@ any-standing : (n : ℕ) (f : List Items) (r : Query) (given : List Answer) → 
 any-standing n f r [] l = refl
 any-standing n f r (a ∷ given) l = ap₂ (λ b c. b || c) (forces-standing n f r (record { number = a.number; query = a.query }) l) (any-standing n f r given l)
 
+-- a good query is open by closures exactly where it is open
+pub open-by : (i : Interview) (n : ℕ) (r : Query) → IsSound i → i.count ≡ n → is_good n r ≡ true
+    → is_open_by n (compatible_sets i) (map (standing n (compatible_sets i)) (nos i.answers)) r ≡ is_open (spaces_of i) r
+open-by i n r sound count good =
+    let f = compatible_sets i in
+    let item : r.q < n = (good-from n r good).item in
+    let item_here : r.q < i.count = rw count item in
+    ap₂ (λ u v. not u && not v)
+    (ap (λ m. has (closure (full m) f r.a) r.q) (sym count) ∙ sym (forced_yes_is i r sound.some_fits item_here))
+    (any-standing n f r (filter (λ a. not a.yes) i.answers) item
+    ∙ ap (λ m. list_any (is_forced_by_closures m f r) (no_queries i.answers)) (sym count) ∙ sym (forced_no_by i r sound (ap (λ m. is_good m r) count ∙ good)))
+
 -- a query of the blocks is open by the table exactly where it is open
 open-told : (i : Interview) (b : BlockRange) (r : Query) → IsSound i → i.count ≡ b.item_count → IsIn r (queries_of b)
     → is_open_in (table_of b (compatible_sets i) (nos i.answers)) r ≡ is_open (spaces_of i) r
 open-told i b r sound count here =
     let f = compatible_sets i in
     let d = queries-in b.item_count b.largest r here in
-    let good : is_good i.count r ≡ true = ap (λ m. is_good m r) count ∙ good-to b.item_count r d.0 in
-    let item : r.q < b.item_count = d.0.item in
-    let item_here : r.q < i.count = rw count item in
     let place = block_place b.item_count b.largest r.a d.1 in
-    let table = table_of b f (nos i.answers) in
-    ap₂ (λ u v. not u && not v)
-    (ap (λ s. has s r.q) (closed_of-table b f (nos i.answers) place.0 r.a place.1 ∙ ap (λ m. closure (full m) f r.a) (sym count)) ∙ sym (forced_yes_is i r sound.some_fits item_here))
-    (any-standing b.item_count f r (filter (λ a. not a.yes) i.answers) item
-    ∙ ap (λ m. list_any (is_forced_by_closures m f r) (no_queries i.answers)) (sym count) ∙ sym (forced_no_by i r sound good))
+    ap (λ s. not (has s r.q) && not (list_any (forces r) (map (standing b.item_count f) (nos i.answers)))) (closed_of-table b f (nos i.answers) place.0 r.a place.1)
+    ∙ open-by i b.item_count r sound count (good-to b.item_count r d.0)
 
 -- and where its item is among those for which queries of its set are open
 pub opened : (i : Interview) (t : TableState) (r : Query) → IsSound i → i.count ≡ t.blocks.item_count → t ≡ table_of t.blocks (compatible_sets i) (nos i.answers) → IsIn r (queries_of t.blocks)

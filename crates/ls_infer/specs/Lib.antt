@@ -2,3 +2,4 @@ pub mod Tables
 pub mod Forced
 pub mod Changes
 pub mod Fronts
+pub mod Search

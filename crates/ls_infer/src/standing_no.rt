@@ -1,9 +1,10 @@
 // What is kept of a standing answer that is No.
-ghost use Rattle.std.specs.Prelude.{◌≡◌, ◌+◌, ◌*◌, ◌<◌, ◌≤◌, ◌==◌, ◌&&◌, ℕ, List, true, false, not, min, map, length, filter, option_map};
+ghost use Rattle.std.specs.Prelude.{◌≡◌, ◌+◌, ◌*◌, ◌<◌, ◌≤◌, ◌==◌, ◌&&◌, ℕ, List, true, false, not, min, map, length, filter, slice_get, option_map};
 ghost use Rattle.std.specs.List.{list_all, list_any};
 ghost use Rattle.std.specs.Option.{option_map_or};
 ghost use Rattle.ls_set.specs.ItemSet.{Items, full, has, is_among, IsWithin};
 ghost use Rattle.ls_set.specs.Query.{is_good};
+ghost use Rattle.ls_set.specs.declared.query.Query.{Query};
 ghost use Rattle.ls_theory.specs.Words.{first_least};
 ghost use Rattle.ls_theory.specs.Families.{closure};
 ghost use Rattle.ls_theory.specs.Queries.{breaks};
@@ -218,6 +219,18 @@ impl StandingNo {
     {
         r.a.is_within(self.closed) && self.enough.has(r.q)
     }
+
+    // The items `q` of `undecided` for which the answer does not force the query (`a`, q) No.
+    fn unforced(&self, a: ItemSet, undecided: ItemSet) -> ItemSet
+        ensures { (q : ℕ) → has result q
+            ≡ (has undecided q && not (forces (record { a = a; q = q }) self.now)) }
+    {
+        if a.is_within(self.closed) {
+            undecided.minus(self.enough)
+        } else {
+            undecided
+        }
+    }
 }
 
 // The number, or the least so far where that is less.
@@ -245,18 +258,39 @@ pub fn forcing(standing: &[StandingNo], r: &Query) -> Option<u64>
     least
 }
 
-/// The items `q` of `undecided` for which no answer forces the query (`a`, q) No.
-pub fn unforced(standing: &[StandingNo], a: ItemSet, undecided: ItemSet) -> ItemSet
+// The items `q` of `undecided` for which the answer at the place, if there is one, does not force
+// the query (`a`, q) No.
+fn unforced_at(standing: &[StandingNo], place: usize, a: ItemSet, undecided: ItemSet) -> ItemSet
+    ensures { (q : ℕ) → let r : Query = record { a = a; q = q } in has result q
+        ≡ (has undecided q && not (option_map_or (forces r) (slice_get standing.now place) false)) }
+{
+    match standing.get(place) {
+        Some(s) => s.unforced(a, undecided),
+        None => undecided,
+    }
+}
+
+/// The items `q` of `undecided` for which no answer forces the query (`a`, q) No. The answer at the
+/// hint is asked first, if there is one; where none is left, the hint is the place of the answer
+/// after which none was.
+pub fn unforced(
+    standing: &[StandingNo],
+    hint: &mut usize,
+    a: ItemSet,
+    undecided: ItemSet,
+) -> ItemSet
     ensures { (q : ℕ) → has result q ≡ (has undecided q
         && not (list_any (forces (record { a = a; q = q })) standing.now)) }
 {
-    let mut left = undecided;
-    for s in standing {
-        if a.is_within(s.closed) {
-            left = left.minus(s.enough);
-            if left.least().is_none() {
-                return left;
-            }
+    let mut left = unforced_at(standing, *hint, a, undecided);
+    if left.least().is_none() {
+        return left;
+    }
+    for place in 0..standing.len() {
+        left = standing[place].unforced(a, left);
+        if left.least().is_none() {
+            *hint = place;
+            return left;
         }
     }
     left

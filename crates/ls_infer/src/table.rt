@@ -106,6 +106,13 @@ impl Table {
         self.blocks
     }
 
+    // What is kept of the standing answers that are No.
+    pub(crate) fn standing(&self) -> &[StandingNo]
+        ensures { result.now ≡ self.now.table.standing }
+    {
+        &self.standing
+    }
+
     // Keeps the table where a Yes to the good query `r` comes or is taken back.
     fn change<I: Interior, L: Ledger>(
         &mut self,
@@ -251,8 +258,8 @@ impl Table {
     }
 
     // The items q for which the query (A, q) is open, where the walk has come to the block set A, at
-    // the place.
-    fn open_items(&self, place: u32, walk: &BlockWalk) -> ItemSet
+    // the place. The standing No at the hint is asked first.
+    fn open_items(&self, place: u32, walk: &BlockWalk, hint: &mut usize) -> ItemSet
         requires { slice_get (sets_of self.now.table.blocks) place ≡ Some walk.now.set }
         ensures { (q : ℕ) → has result q
             ≡ (is_good self.now.table.blocks.item_count (record { a = walk.now.set; q = q })
@@ -264,7 +271,7 @@ impl Table {
             return undecided;
         }
         let a = walk.set();
-        unforced(&self.standing, a, undecided.minus(a))
+        unforced(&self.standing, hint, a, undecided.minus(a))
     }
 
     /// Whether the good query, which is of the blocks, is open. It takes no memory and no step.
@@ -278,7 +285,7 @@ impl Table {
         match self.blocks.place_of(r.a) {
             Some(place) => {
                 let walk = self.blocks.walk_from(r.a);
-                self.open_items(place, &walk).has(r.q)
+                self.open_items(place, &walk, &mut 0).has(r.q)
             }
             None => false,
         }
@@ -292,9 +299,10 @@ impl Table {
         ensures { result ≡ find (λ s. block_before walk.set s.a && is_open_in self.now.table s)
             (queries_of self.now.table.blocks) }
     {
+        let mut hint = 0;
         for place in start..self.blocks.count() {
             walk.advance();
-            if let Some(q) = self.open_items(place, &walk).least() {
+            if let Some(q) = self.open_items(place, &walk, &mut hint).least() {
                 return Some(Query { a: walk.set(), q });
             }
         }
@@ -313,7 +321,7 @@ impl Table {
         };
         let place = self.blocks.place_of(r.a)?;
         let walk = self.blocks.walk_from(r.a);
-        match self.open_items(place, &walk).next_member(r.q) {
+        match self.open_items(place, &walk, &mut 0).next_member(r.q) {
             Some(q) => Some(Query { a: r.a, q }),
             None => self.open_from(place + 1, walk),
         }

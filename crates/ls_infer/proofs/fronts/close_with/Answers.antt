@@ -13,7 +13,7 @@ returns-then-not-has-clause-value g c set w e =
     let all : c.full-all.result ≡ full n = c.full-all.ensures ∙ ap full c.items.ensures.count in
     let outside : c.minus-outside.result ≡ minus (full n) c.args.closed = c.minus-outside.ensures ∙ ap (λ s. minus s c.args.closed) all in
     c.minus.ensures ∙ ap (λ s. minus s c.minus-outside.result) all ∙ ap (minus (full n)) outside
-    ∙ closed-already n (g.I.Interior.members c.args.f.now) c.args.closed set c.args.item c.requires.item e (ap (λ s. has s c.args.item) (sym outside) ∙ sym c.has.ensures ∙ c.if-not-has.true)
+    ∙ closed-already n (g.I.Interior.members c.args.f.now) c.args.closed set c.args.item (family_sets n (g.I.Interior.members c.args.f.now) (g.met.I.Interior.is_family c.args.f.now)) e (ap (λ s. has s c.args.item) (sym outside) ∙ sym c.has.ensures ∙ c.if-not-has.true)
 
 pub returns-then-not-has-clause-within : goal.returns-then-not-has-clause-within
 returns-then-not-has-clause-within g c = rw (c.minus.ensures, c.full-all.ensures, c.items.ensures.count) (minus-within (full (g.I.Interior.item_count c.args.f.now)) c.minus-outside.result)

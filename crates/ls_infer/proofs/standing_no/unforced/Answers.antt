@@ -1,33 +1,36 @@
-use Rattle.std.proofs.Common.{◌≡◌, ◌&&◌, ◌+◌, not, false, drop, sym, ap, ◌∙◌}
+use Rattle.std.proofs.Common.{◌&&◌, ◌+◌, not, drop, ◌∙◌}
 use Rattle.std.specs.List.{list_any}
 use Rattle.ls_set.specs.ItemSet.{has}
 use Rattle.ls_infer.specs.Tables.{forces}
-use Rattle.ls_infer.proofs.Kept.{unforced-next, unforced-same, none_left}
+use Rattle.ls_infer.proofs.Kept.{unforced-first, unforced-next, unforced-none, none_left}
 use Rattle.ls_infer.proofs.standing_no.unforced.Goals as goal
-use Rattle.ls_infer.proofs.standing_no.unforced.Goals.{then-is_within+else-is_none, else-is_within}
 
 pub returns-then-is_none : goal.returns-then-is_none
-returns-then-is_none c = λ q.
+returns-then-is_none c q =
     let ss = c.args.standing.now in
-    let i = c.loop-s.s-index in
-    let s = c.s-item.result in
-    let left = c.loop-s.left in
-    let rest = list_any (forces (record { a = c.args.a; q = q })) (drop (i + 1) ss) in
-    let none : has c.minus-left.result q ≡ false = none_left c.minus-left.result q c.least.result c.least.ensures.value c.if-is_none.ensures in
-    none ∙ sym (ap (λ b. b && not rest) none)
-    ∙ ap (λ t. has t q && not rest) c.minus-left.ensures
-    ∙ unforced-next ss i s c.args.a left q c.loop-s-test.true c.s-item.is (sym c.is_within.ensures ∙ c.if-is_within.true)
-    ∙ c.loop-s.invariant q
+    let left = c.unforced_at-left.result in
+    let p = forces (record { a = c.args.a; q = q }) in
+    unforced-none (has left q) (list_any p ss) (has c.args.undecided q && not (list_any p ss))
+    (none_left left q c.least.result c.least.ensures.value c.if-is_none.ensures)
+    (unforced-first p ss c.args.hint.now (has c.args.undecided q) (has left q) (c.unforced_at-left.ensures q))
 
-pub loop-s-preserved : goal.loop-s-preserved
-loop-s-preserved c = λ q.
+pub loop-place-init : goal.loop-place-init
+loop-place-init c q =
+    unforced-first (forces (record { a = c.args.a; q = q })) c.args.standing.now c.args.hint.now (has c.args.undecided q) (has c.unforced_at-left.result q) (c.unforced_at-left.ensures q)
+
+pub returns-then-is_none-2 : goal.returns-then-is_none-2
+returns-then-is_none-2 c q =
     let ss = c.args.standing.now in
-    let i = c.loop-s.s-index in
-    let s = c.s-item.result in
-    let left = c.loop-s.left in
-    elim c.if-is_within.branch [
-      | then-is_within+else-is_none w ↦ rw (w.left-is, w.minus-left.ensures)
-          (unforced-next ss i s c.args.a left q c.loop-s-test.true c.s-item.is (sym c.is_within.ensures ∙ w.if-is_within.true) ∙ c.loop-s.invariant q)
-      | else-is_within w ↦ rw w.left-is
-          (unforced-same ss i s c.args.a left q c.loop-s-test.true c.s-item.is (sym c.is_within.ensures ∙ w.if-is_within.false) ∙ c.loop-s.invariant q)
-    ]
+    let i = c.loop-place.place in
+    let s = c.index-standing-place.result in
+    let left = c.unforced-left.result in
+    let p = forces (record { a = c.args.a; q = q }) in
+    unforced-none (has left q) (list_any p (drop (i + 1) ss)) (has c.args.undecided q && not (list_any p ss))
+    (none_left left q c.least-in-loop-place.result c.least-in-loop-place.ensures.value c.if-is_none-2.ensures)
+    (unforced-next p ss i s (has c.loop-place.left q) (has left q) c.loop-place-test.true c.index-standing-place.is (c.unforced-left.ensures q) ∙ c.loop-place.invariant q)
+
+pub loop-place-preserved : goal.loop-place-preserved
+loop-place-preserved c q =
+    let p = forces (record { a = c.args.a; q = q }) in
+    unforced-next p c.args.standing.now c.loop-place.place c.index-standing-place.result (has c.loop-place.left q) (has c.unforced-left.result q) c.loop-place-test.true c.index-standing-place.is (c.unforced-left.ensures q)
+    ∙ c.loop-place.invariant q

@@ -5,5 +5,5 @@ use Rattle.ls_infer.specs.Tables.{forces}
 use Rattle.ls_infer.proofs.standing_no.unforced.Given as goal
 
 -- of the items that are left, those that the answers that are left do not force
-abbrev pub invariant-loop-s : goal.invariant-loop-s
-invariant-loop-s l = (q : ℕ) → (has l.left q && not (list_any (forces (record { a = l.a; q = q })) (drop l.s-index l.standing))) ≡ (has l.fn.undecided q && not (list_any (forces (record { a = l.a; q = q })) l.standing))
+abbrev pub invariant-loop-place : goal.invariant-loop-place
+invariant-loop-place l = (q : ℕ) → (has l.left q && not (list_any (forces (record { a = l.a; q = q })) (drop l.place l.standing))) ≡ (has l.fn.undecided q && not (list_any (forces (record { a = l.a; q = q })) l.standing))

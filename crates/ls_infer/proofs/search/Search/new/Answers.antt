@@ -1,0 +1,6 @@
+use Rattle.ls_set.specs.ItemSet.{full}
+use Rattle.ls_set.proofs.Sets.{minus-within}
+use Rattle.ls_infer.proofs.search.Search.new.Goals as goal
+
+pub inside-requires : goal.inside-requires
+inside-requires g c = rw (c.minus.ensures, c.full-all.ensures, c.items.ensures.count) (minus-within (full (g.F.Inside.item_count c.args.f.now)) c.args.others)

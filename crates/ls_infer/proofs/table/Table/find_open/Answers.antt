@@ -1,0 +1,65 @@
+use Rattle.std.proofs.Common.{◌≡◌, ◌&&◌, find, map, Some, None, sym, ap, ◌∙◌, subst, arith}
+use Rattle.ls_set.specs.ItemSet.{full, minus, least}
+use Rattle.ls_theory.specs.Queries.{block_before}
+use Rattle.ls_theory.specs.Interviews.{nos}
+use Rattle.ls_theory.specs.Compatible.{compatible_sets}
+use Rattle.ls_query.specs.Blocks.{queries_of}
+use Rattle.ls_query.proofs.BlockSets.{blocks-in}
+use Rattle.ls_query.proofs.Passing.{ArePassing}
+use Rattle.ls_query.proofs.QuerySets.{queries-in}
+use Rattle.ls_infer.specs.Tables.{standing}
+use Rattle.ls_infer.specs.Search.{is_open_by}
+use Rattle.ls_infer.proofs.Searching.{first-from, later-from, found_open}
+use Rattle.ls_infer.proofs.table.Table.find_open.Goals as goal
+
+pub walk_from-walk-requires-clause-within : goal.walk_from-walk-requires-clause-within
+walk_from-walk-requires-clause-within g c = (queries-in c.args.blocks.item_count c.args.blocks.largest c.args.first.now c.requires.query).0.small
+
+pub walk_from-walk-requires-clause-size : goal.walk_from-walk-requires-clause-size
+walk_from-walk-requires-clause-size g c =
+    let b = c.args.blocks in
+    (blocks-in b.item_count b.largest c.args.first.now.a (queries-in b.item_count b.largest c.args.first.now c.requires.query).1).few
+
+pub open_items-opens-requires-clause-set : goal.open_items-opens-requires-clause-set
+open_items-opens-requires-clause-set g c =
+    let b = c.args.blocks in
+    rw (c.walk_from-walk.ensures.set, c.walk_from-walk.ensures.blocks) ((queries-in b.item_count b.largest c.args.first.now c.requires.query).1)
+
+pub full-requires : goal.full-requires
+full-requires g c =
+    let item = (queries-in c.args.blocks.item_count c.args.blocks.largest c.args.first.now c.requires.query).0.item in
+    omega (arith, c.requires.items, c.new-search.ensures.few)
+
+pub returns-in-Some : goal.returns-in-Some
+returns-in-Some g c = record {
+  «open» = λ i sound count block family table.
+      let n = g.F.Inside.item_count c.args.f.now in
+      let f = g.F.Inside.members c.args.f.now in
+      let b = c.args.blocks in
+      let r = c.args.first.now in
+      let ss = c.standing-standing.result.now in
+      let those = c.open_items-opens.result in
+      let opens = subst (λ m. ArePassing m (is_open_by n f ss) r.a those) c.requires.items (subst (λ s. ArePassing n (is_open_by n f ss) s those) c.walk_from-walk.ensures.set c.open_items-opens.ensures.open) in
+      let first : least (minus those (full r.q)) ≡ Some c.in-Some.q = ap least (sym (c.minus.ensures ∙ ap (minus those) c.full.ensures)) ∙ sym c.least.ensures.value ∙ c.in-Some.is in
+      sym (first-from b.item_count b.largest (is_open_by n f ss) r those c.in-Some.q c.requires.query opens first)
+      ∙ found_open i b n f ss r sound count block c.requires.items family
+      (c.standing-standing.ensures ∙ ap (λ t. t.standing) table ∙ ap (λ m. map (standing m (compatible_sets i)) (nos i.answers)) (c.requires.own ∙ sym c.requires.items));
+}
+
+pub returns-in-None : goal.returns-in-None
+returns-in-None g c = record {
+  «open» = λ i sound count block family table.
+      let n = g.F.Inside.item_count c.args.f.now in
+      let f = g.F.Inside.members c.args.f.now in
+      let b = c.args.blocks in
+      let r = c.args.first.now in
+      let ss = c.standing-standing.result.now in
+      let those = c.open_items-opens.result in
+      let opens = subst (λ m. ArePassing m (is_open_by n f ss) r.a those) c.requires.items (subst (λ s. ArePassing n (is_open_by n f ss) s those) c.walk_from-walk.ensures.set c.open_items-opens.ensures.open) in
+      let none : least (minus those (full r.q)) ≡ None = ap least (sym (c.minus.ensures ∙ ap (minus those) c.full.ensures)) ∙ sym c.least.ensures.value ∙ c.in-None.is in
+      c.find_after.ensures
+      ∙ ap (λ e. find (λ s. block_before e s.a && is_open_by n f ss s) (queries_of b)) c.walk_from-walk.ensures.set
+      ∙ later-from b.item_count b.largest (is_open_by n f ss) r those c.requires.query opens none
+      ∙ found_open i b n f ss r sound count block c.requires.items family
+      (c.standing-standing.ensures ∙ ap (λ t. t.standing) table ∙ ap (λ m. map (standing m (compatible_sets i)) (nos i.answers)) (c.requires.own ∙ sym c.requires.items));
+}

@@ -1,0 +1,23 @@
+-- A search for open queries where no closures are kept.
+--     outside_of n f a      the items outside the closure of a
+--     is_open_by n f ss r      no closure in the family f decides the query r, and no standing No of which ss are kept
+use Rattle.std.specs.Prelude.{ℕ, Bool, not, ◌&&◌, ◌≤◌, ◌≡◌, List}
+use Rattle.std.specs.List.{list_any}
+use Rattle.ls_set.specs.ItemSet.{Items, has, full, minus, most_items}
+use Rattle.ls_set.specs.declared.query.Query.{Query}
+use Rattle.ls_theory.specs.Families.{interior, closure}
+use Rattle.ls_infer.specs.declared.search.Search.{Search}
+use Rattle.ls_infer.specs.declared.standing_no.StandingNo.{StandingNo}
+use Rattle.ls_infer.specs.Tables.{forces}
+
+abbrev pub outside_of : ℕ → List Items → Items → Items
+outside_of n f a = interior f (minus (full n) a)
+
+abbrev pub is_open_by : ℕ → List Items → List StandingNo → Query → Bool
+is_open_by n f ss r = not (has (closure (full n) f r.a) r.q) && not (list_any (forces r) ss)
+
+-- what a search keeps: all items, of which there are n, and those outside the closure of the others
+pub record IsSearch (n : ℕ) (f : List Items) (s : Search) : Type 0 where
+  pub few : n ≤ most_items
+  pub all : s.all ≡ full n
+  pub outside : s.outside ≡ outside_of n f s.others

@@ -1,0 +1,144 @@
+// A search for open queries where no closures are kept.
+ghost use Rattle.std.specs.Prelude.{◌≡◌, ◌&&◌, ℕ, not, find};
+ghost use Rattle.ls_set.specs.ItemSet.{has, full, IsWithin};
+ghost use Rattle.ls_set.specs.Query.{is_good};
+ghost use Rattle.ls_set.specs.declared.query.Query.{Query};
+ghost use Rattle.ls_lists.specs.Lists.{IsIn};
+ghost use Rattle.ls_theory.specs.Queries.{block_before, query_before};
+ghost use Rattle.ls_theory.specs.Interviews.{Interview, nos};
+ghost use Rattle.ls_theory.specs.Compatible.{compatible_sets};
+ghost use Rattle.ls_theory.specs.Fitting.{spaces_of};
+ghost use Rattle.ls_theory.specs.Forced.{is_open};
+ghost use Rattle.ls_theory.specs.Queries.{queries};
+ghost use Rattle.ls_laws.specs.Forced.{IsSound};
+ghost use Rattle.ls_query.specs.Blocks.{sets_of, queries_of};
+ghost use Rattle.ls_infer.specs.Tables.{table_of};
+ghost use Rattle.ls_infer.specs.Search.{IsSearch, outside_of, is_open_by};
+
+use crate::standing_no::{StandingNo, unforced};
+use crate::table::Table;
+use ls_interior::Inside;
+use ls_query::{BlockWalk, Blocks};
+use ls_set::{ItemSet, Query};
+
+// What a search keeps from set to set: all items; the others of the set that it came to, with the
+// items outside their closure; and the place of the standing No at which nothing was left open.
+#[derive(Clone, Copy, Debug)]
+struct Search {
+    all: ItemSet,
+    others: ItemSet,
+    outside: ItemSet,
+    hint: usize,
+}
+
+impl Search {
+    // A search that comes to a set with these others.
+    fn new<F: Inside>(f: &F, others: ItemSet) -> Search
+        ensures { IsSearch (F.item_count f.now) (F.members f.now) result }
+    {
+        let all = ItemSet::full(f.items());
+        Search {
+            all,
+            others,
+            outside: f.inside(all.minus(others)),
+            hint: 0,
+        }
+    }
+
+    // Comes to sets with these others. What is outside their closure is formed where they are not
+    // those of the set before.
+    fn come_to<F: Inside>(&mut self, f: &F, others: ItemSet)
+        requires { IsSearch (F.item_count f.now) (F.members f.now) self.old }
+        ensures others { self.new.others ≡ others }
+        ensures search { IsSearch (F.item_count f.now) (F.members f.now) self.new }
+    {
+        if self.others != others {
+            self.others = others;
+            self.outside = f.inside(self.all.minus(others));
+        }
+    }
+
+    // The items outside the closure of the set that the walk has come to: of those that are outside
+    // the closure of its others, what the greatest item leaves.
+    fn outside<F: Inside>(&mut self, f: &F, walk: &BlockWalk) -> ItemSet
+        requires items { F.item_count f.now ≡ walk.now.blocks.item_count }
+        requires search { IsSearch (F.item_count f.now) (F.members f.now) self.old }
+        ensures value { result ≡ outside_of (F.item_count f.now) (F.members f.now) walk.now.set }
+        ensures search { IsSearch (F.item_count f.now) (F.members f.now) self.new }
+    {
+        self.come_to(f, walk.others());
+        let Some(item) = walk.greatest() else {
+            return f.inside(self.all.minus(walk.set()));
+        };
+        if !self.outside.has(item) {
+            return self.outside;
+        }
+        let left = f.inside_without(self.outside, item, ItemSet::empty());
+        left.unwrap_or(ItemSet::empty())
+    }
+
+    // The items q for which the query (A, q) is open, where the walk has come to the block set A.
+    fn open_items<F: Inside>(&mut self, f: &F, standing: &[StandingNo], walk: &BlockWalk) -> ItemSet
+        requires items { F.item_count f.now ≡ walk.now.blocks.item_count }
+        requires search { IsSearch (F.item_count f.now) (F.members f.now) self.old }
+        requires set { IsIn walk.now.set (sets_of walk.now.blocks) }
+        ensures open { (q : ℕ) → let r : Query = record { a = walk.now.set; q = q } in
+            has result q ≡ (is_good (F.item_count f.now) r
+            && is_open_by (F.item_count f.now) (F.members f.now) standing.now r) }
+        ensures search { IsSearch (F.item_count f.now) (F.members f.now) self.new }
+    {
+        let outside = self.outside(f, walk);
+        unforced(standing, &mut self.hint, walk.set(), outside)
+    }
+}
+
+// The first open query of the sets of the blocks that come after that of the walk.
+fn find_after<F: Inside>(
+    f: &F,
+    standing: &[StandingNo],
+    blocks: Blocks,
+    mut walk: BlockWalk,
+    mut search: Search,
+) -> Option<Query>
+    requires items { F.item_count f.now ≡ blocks.item_count }
+    requires walk { walk.blocks ≡ blocks }
+    requires search { IsSearch (F.item_count f.now) (F.members f.now) search }
+    ensures { let opens = is_open_by (F.item_count f.now) (F.members f.now) standing.now in
+        result ≡ find (λ s. block_before walk.set s.a && opens s) (queries_of blocks) }
+{
+    for _passed in 0..blocks.count() {
+        if !walk.advance() {
+            return None;
+        }
+        if let Some(q) = search.open_items(f, standing, &walk).least() {
+            return Some(Query { a: walk.set(), q });
+        }
+    }
+    None
+}
+
+impl Table {
+    /// The first open query of the blocks that is the given one of them or comes after it. The
+    /// blocks need not be those of the table: the closure of each of their sets is formed when it
+    /// is looked at. `f` is the family of the table. It takes no memory; its interiors are not
+    /// counted.
+    pub fn find_open<F: Inside>(&self, f: &F, blocks: Blocks, first: &Query) -> Option<Query>
+        requires items { F.item_count f.now ≡ blocks.item_count }
+        requires own { self.now.table.blocks.item_count ≡ blocks.item_count }
+        requires query { IsIn first.now (queries_of blocks) }
+        ensures open { (i : Interview) → IsSound i → i.count ≡ blocks.item_count →
+            i.block ≡ blocks.largest → F.members f.now ≡ compatible_sets i →
+            self.now.table ≡ table_of self.now.table.blocks (compatible_sets i) (nos i.answers) →
+            result ≡ find (λ s. not (query_before s first.now) && is_open (spaces_of i) s)
+            (queries i.count i.block) }
+    {
+        let standing = self.standing();
+        let walk = blocks.walk_from(first.a);
+        let mut search = Search::new(f, walk.others());
+        let opens = search.open_items(f, standing, &walk);
+        match opens.minus(ItemSet::full(first.q)).least() {
+            Some(q) => Some(Query { a: first.a, q }),
+            None => find_after(f, standing, blocks, walk, search),
+        }
+    }
+}
