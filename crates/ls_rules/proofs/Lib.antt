@@ -1,3 +1,5 @@
+pub mod Alone
 pub mod Indexing
 pub mod Rounds
+pub mod Begun
 pub mod Reaching

@@ -1,27 +1,28 @@
 -- Looking at rules: what stays, what falls out, and that at the end no rule is broken.
-use Rattle.std.proofs.Common.{ℕ, ◌+◌, ◌*◌, ◌<◌, ◌≤◌, ◌≡◌, inl, inr, Bool, true, false, cond, not, Option, List, [], ◌∷◌, map, filter, fold, None, Some, refl, sym, ap, ◌∙◌, subst, arith, true≢false, length, get_or, drop, drop-cons, add-one, ap₂, slice_get, ◌&&◌}
+use Rattle.std.proofs.Common.{ℕ, ◌+◌, ◌*◌, ◌<◌, ◌≤◌, ◌≡◌, inl, inr, Bool, true, false, cond, not, Option, List, [], ◌∷◌, map, filter, fold, None, Some, refl, sym, ap, ◌∙◌, subst, arith, true≢false, length, get_or, drop, drop-cons, add-one, ap₂, slice_get}
 use Rattle.std.specs.Option.{option_map_or}
-use Rattle.std.specs.List.{AllByRecursion, list_all}
+use Rattle.std.specs.List.{AllByRecursion}
 use Rattle.std.proofs.lemmas.Bool.{cases_Bool, cases_eq, and_parts, and_from, not-true, not_from_false, false_from_ne_true}
-use Rattle.ls_lists.proofs.Every.{list_all-All, All-passing, All-filter, All-list_all, All-kept, each}
-use Rattle.ls_set.specs.ItemSet.{Items, has, empty, full, meet, minus, single, with, without, is_same, len, least, IsWithin}
-use Rattle.ls_set.specs.Query.{is_good}
+use Rattle.ls_lists.proofs.Every.{list_all-All, All-passing, All-filter, All-list_all}
+use Rattle.ls_set.specs.ItemSet.{Items, has, empty, full, union, meet, minus, single, with, without, is_same, len, least, IsWithin}
 use Rattle.ls_set.specs.declared.query.Query.{Query}
 use Rattle.std.proofs.lemmas.Bool.Decides.{nat_tests}
-use Rattle.ls_set.proofs.Sets.{members, has-empty, has-meet, without-within, same_set, same_within, Decides-is_same, and-false}
-use Rattle.ls_set.proofs.Sizes.{len-less}
+use Rattle.ls_set.proofs.Sets.{members, has-empty, has-meet, minus-within, without-within, union-left, same_set, Decides-is_same}
+use Rattle.ls_set.proofs.Sizes.{len-less, len-within}
 use Rattle.ls_set.proofs.Firsts.{items-none}
 use Rattle.ls_set.proofs.Ascending.{least-cases}
 use Rattle.ls_set.proofs.Order.{Each-both}
 use Rattle.ls_theory.specs.Queries.{breaks, breaks_none}
-use Rattle.ls_laws.proofs.Breaks.{IsGood, Breaks-from, breaks-from, good-from}
+use Rattle.ls_laws.proofs.Breaks.{Breaks-from, breaks-from}
 use Rattle.ls_laws.proofs.Counts.{len-single, len-parts, len-zero, some_item}
 use Rattle.std.proofs.lemmas.Option.{slice_get_read}
-use Rattle.std.proofs.lemmas.List.{get_or_past}
 use Rattle.ls_rules.specs.Places.{PlaceList, places_at, IsIndexOf}
+use Rattle.ls_rules.proofs.Alone.{several-is, asked-has, asked-out}
 use Rattle.ls_rules.proofs.Indexing.{indexed_rules}
-use Rattle.ls_rules.specs.Heads.{head_at, has_head, IsHeaded}
-use Rattle.ls_rules.specs.Waking.{look, look_at, rules_at, first_of, IsAwake, Settling, Settles, NoneKeeps}
+use Rattle.ls_rules.specs.Parts.{first_of, several}
+use Rattle.ls_rules.specs.Sets.{set_at}
+use Rattle.ls_rules.specs.Singles.{asked_alone, AreSingles}
+use Rattle.ls_rules.specs.Waking.{look, look_at, lose_all, lost_with, rules_at, IsAwake, Settling, Settles, NoneKeeps}
 use Rattle.ls_rules.specs.declared.round.Round.{Round}
 
 -- ---- sets
@@ -38,7 +39,7 @@ pub no_least : (s : Items) → least s ≡ None → s ≡ empty
 unfolding len
 no_least s e = len-zero s (ap length (items-none s e))
 
-kept : (s : Items) (j i : ℕ) → has s j ≡ true → (j ≡ i → ⊥) → has (without s i) j ≡ true
+pub kept : (s : Items) (j i : ℕ) → has s j ≡ true → (j ≡ i → ⊥) → has (without s i) j ≡ true
 kept s j i h n = grind (arith, members, nat_tests)
 
 taken : (s : Items) (i : ℕ) → has (without s i) i ≡ false
@@ -109,6 +110,21 @@ pub After-looks : (s : Round) (rs : List Query) → After s (fold look s rs)
 After-looks s [] = After-same s
 After-looks s (r ∷ rs) = After-more s (look s r) (fold look (look s r) rs) (After-look s r) (After-looks (look s r) rs)
 
+len-union : (s t : Items) → len (union s t) ≤ len s + len t
+len-union s t =
+    let parts = len-parts s (minus t s) (union s t) (λ j. grind (arith, members, nat_tests)) (λ j. grind (arith, members, nat_tests)) in
+    omega (arith, parts, len-within (minus t s) t (minus-within t s))
+
+pub After-lose : (s : Round) (set : Items) → After s (lose_all s set)
+After-lose s set =
+    let parts = len-parts (minus s.kept set) (meet s.kept set) s.kept (λ j. grind (arith, members, nat_tests)) (λ j. grind (arith, members, nat_tests)) in
+    record {
+      within = minus-within s.kept set;
+      grows = union-left s.fallen (meet s.kept set);
+      fell = λ i h g. grind (arith, members, nat_tests);
+      lighter = omega (arith, parts, len-union s.fallen (meet s.kept set));
+    }
+
 look-keeps : (t : Items) (s : Round) (r : Query) → breaks t r ≡ false → IsWithin t s.kept → IsWithin t (look s r).kept
 look-keeps t s r u w =
     elim (breaks s.kept r) as (λ b. breaks s.kept r ≡ b → IsWithin t (cond b (without s.kept r.q) s.kept)) [
@@ -167,20 +183,62 @@ stays_awake s to i r after old looked h = elim (cases_Bool (breaks s.kept r)) [
       (x.0, x.2, after.fell x.0 x.1 (no_item to.kept r x.0 h x.2))
 ]
 
-pub Settling-more : (rules : List Query) (from : Items) (s : Round) (i : ℕ) → Settling rules from s → Settling rules from (fold look (woken s i) (filter (λ r. has r.a i) rules))
-Settling-more rules from s i a =
-    let to = fold look (woken s i) (filter (λ r. has r.a i) rules) in
-    let after = After-looks (woken s i) (filter (λ r. has r.a i) rules) in
+-- the rules that the item wakes were looked at
+abbrev pub turn : List Query → List Items → ℕ → Round → Round
+turn rules singles i s = fold look (lose_all s (lost_with singles s.kept i)) (filter (λ r. has (several r.a) i) rules)
+
+pub After-turn : (rules : List Query) (singles : List Items) (i : ℕ) (s : Round) → After s (turn rules singles i s)
+After-turn rules singles i s =
+    let lost = lose_all s (lost_with singles s.kept i) in
+    After-more s lost (turn rules singles i s) (After-lose s (lost_with singles s.kept i)) (After-looks lost (filter (λ r. has (several r.a) i) rules))
+
+-- what a rule of one item asks of is gone where that was not kept
+alone_gone : (singles : List Items) (rules : List Query) (s : Round) (r : Query) (i : ℕ) → AreSingles singles rules → has (asked_alone rules i) r.q ≡ true → has s.kept i ≡ false → has (lose_all s (lost_with singles s.kept i)).kept r.q ≡ false
+alone_gone singles rules s r i a asked out =
+    let here : has (set_at singles i) r.q ≡ true = ap (λ k. has k r.q) (a i) ∙ asked in
+    rw out (grind (arith, members, nat_tests))
+
+-- the item of each rule that it woke and that was broken is gone
+turn-breaks : (rules : List Query) (singles : List Items) (i : ℕ) (s : Round) → AreSingles singles rules → AllByRecursion (λ r. has r.a i ≡ true → breaks s.kept r ≡ true → has (turn rules singles i s).kept r.q ≡ false) rules
+turn-breaks rules singles i s a =
+    let lost = lose_all s (lost_with singles s.kept i) in
+    let p = λ (r : Query). has (several r.a) i in
+    let to = turn rules singles i s in
+    let after = After-looks lost (filter p rules) in
+    Each-both (λ r. (i : ℕ) → is_same r.a (single i) ≡ true → has (asked_alone rules i) r.q ≡ true) (λ r. p r ≡ true → breaks s.kept r ≡ true → has to.kept r.q ≡ false)
+    (λ r. has r.a i ≡ true → breaks s.kept r ≡ true → has to.kept r.q ≡ false)
+    (λ r asked looked h b. elim (cases_Bool (is_same r.a (single i))) [
+      | inl e ↦ false_from_ne_true (has to.kept r.q) (λ x. true≢false (sym (after.within r.q x) ∙ alone_gone singles rules s r i a (asked i e) (no_item s.kept r i b h)))
+      | inr e ↦ looked (rw (several-is r.a i h e) h) b
+    ]) rules (asked-has rules) (looks-break_at s.kept lost p rules (After-lose s (lost_with singles s.kept i)).within)
+
+-- a set that breaks no rule keeps its items
+lose-keeps : (rules : List Query) (singles : List Items) (t : Items) (i : ℕ) (s : Round) → AreSingles singles rules → breaks_none rules t ≡ true → IsWithin t s.kept → IsWithin t (lose_all s (lost_with singles s.kept i)).kept
+lose-keeps rules singles t i s a u w j h = elim (cases_Bool (has s.kept i)) [
+  | inl x ↦ rw x (let here = w j h in grind (arith, members, nat_tests))
+  | inr x ↦ rw x (
+      let here = w j h in
+      let out : has t i ≡ false = false_from_ne_true (has t i) (λ y. true≢false (sym (w i y) ∙ x)) in
+      let kept : has (set_at singles i) j ≡ false = false_from_ne_true (has (set_at singles i) j) (λ y. true≢false (sym h ∙ asked-out rules t i j u out (ap (λ k. has k j) (sym (a i)) ∙ y))) in
+      grind (arith, members, nat_tests))
+]
+
+pub Settling-more : (rules : List Query) (singles : List Items) (from : Items) (s : Round) (i : ℕ) → AreSingles singles rules → Settling rules from s → Settling rules from (turn rules singles i (woken s i))
+Settling-more rules singles from s i alone a =
+    let to = turn rules singles i (woken s i) in
+    let after = After-turn rules singles i (woken s i) in
     record {
       within = λ j h. a.within j (after.within j h);
       awake = Each-both (IsAwake s) (λ r. has r.a i ≡ true → breaks s.kept r ≡ true → has to.kept r.q ≡ false) (IsAwake to)
-          (λ r old looked. stays_awake s to i r after old looked) rules a.awake (looks-break_at s.kept (woken s i) (λ r. has r.a i) rules (λ j h. h));
-      greatest = λ t u w. looks-keep t (woken s i) (filter (λ r. has r.a i) rules) (none_of_part t (λ r. has r.a i) rules u) (a.greatest t u w);
+          (λ r old looked. stays_awake s to i r after old looked) rules a.awake (turn-breaks rules singles i (woken s i) alone);
+      greatest = λ t u w.
+          looks-keep t (lose_all (woken s i) (lost_with singles s.kept i)) (filter (λ r. has (several r.a) i) rules) (none_of_part t (λ r. has (several r.a) i) rules u)
+          (lose-keeps rules singles t i (woken s i) alone u (a.greatest t u w));
     }
 
-pub lighter : (s : Round) (i : ℕ) (rs : List Query) → has s.fallen i ≡ true → let to = fold look (woken s i) rs in 2 * len to.kept + len to.fallen < 2 * len s.kept + len s.fallen
-lighter s i rs h =
-    let a = (After-looks (woken s i) rs).lighter in
+pub lighter : (rules : List Query) (singles : List Items) (s : Round) (i : ℕ) → has s.fallen i ≡ true → let to = turn rules singles i (woken s i) in 2 * len to.kept + len to.fallen < 2 * len s.kept + len s.fallen
+lighter rules singles s i h =
+    let a = (After-turn rules singles i (woken s i)).lighter in
     let b = len-without s.fallen i h in
     omega arith
 
@@ -192,88 +250,12 @@ none_broken s (r ∷ rules) e a =
     (none_broken s rules e a.1)
 
 -- where an item of keep falls out, no set that breaks no rule has all of keep
-pub NoneKeeps-lost : (rules : List Query) (from keep : Items) (s : Round) (i j : ℕ) → Settling rules from s → has keep j ≡ true → has (fold look (woken s i) (filter (λ r. has r.a i) rules)).kept j ≡ false → NoneKeeps rules from keep
-NoneKeeps-lost rules from keep s i j a k out t u w x = true≢false (sym ((Settling-more rules from s i a).greatest t u w j (x j k)) ∙ out)
+pub NoneKeeps-lost : (rules : List Query) (singles : List Items) (from keep : Items) (s : Round) (i j : ℕ) → AreSingles singles rules → Settling rules from s → has keep j ≡ true → has (turn rules singles i (woken s i)).kept j ≡ false → NoneKeeps rules from keep
+NoneKeeps-lost rules singles from keep s i j alone a k out t u w x = true≢false (sym ((Settling-more rules singles from s i alone a).greatest t u w j (x j k)) ∙ out)
 
 -- when nothing fell out, no rule is broken
 pub Settling-done : (rules : List Query) (from : Items) (s : Round) → least s.fallen ≡ None → Settling rules from s → Settles rules from s.kept
 Settling-done rules from s e a = record { within = a.within; unbroken = none_broken s rules (no_least s.fallen e) a.awake; greatest = a.greatest }
-
--- ---- the first round
-
--- the round with which the rules are looked at first
-abbrev pub begun : Items → Round
-begun k = record { kept = k; fallen = empty }
-
--- each rule whose set A begins outside k, and not with an item that is left, was looked at
-pub record Started (rules : List Query) (k left : Items) (s : Round) : Type 0 where
-  pub after : After (begun k) s
-  pub looked : AllByRecursion (λ r. (i : ℕ) → has (first_of r.a) i ≡ true → has k i ≡ false → has left i ≡ false → breaks k r ≡ true → has s.kept r.q ≡ false) rules
-  pub greatest : (t : Items) → breaks_none rules t ≡ true → IsWithin t k → IsWithin t s.kept
-
-pub Started-first : (rules : List Query) (firsts k : Items) → AllByRecursion (λ r. IsWithin (first_of r.a) firsts) rules → Started rules k (minus firsts k) (begun k)
-Started-first rules firsts k h = record {
-  after = After-same (begun k);
-  looked = each {P = λ r. IsWithin (first_of r.a) firsts} {Q = λ r. (i : ℕ) → has (first_of r.a) i ≡ true → has k i ≡ false → has (minus firsts k) i ≡ false → breaks k r ≡ true → has k r.q ≡ false}
-      (λ r w i f o g b. let there : has firsts i ≡ true = w i f in absurd (let no : ⊥ = grind (arith, members, nat_tests) in no)) rules h;
-  greatest = λ t _ w. w;
-}
-
-pub Started-more : (rules : List Query) (k left : Items) (s : Round) (i : ℕ) → Started rules k left s → Started rules k (without left i) (fold look s (filter (λ r. has (first_of r.a) i) rules))
-Started-more rules k left s i a =
-    let p = λ (r : Query). has (first_of r.a) i in
-    let to = fold look s (filter p rules) in
-    let after = After-looks s (filter p rules) in
-    record {
-      after = After-more (begun k) s to a.after after;
-      looked = Each-both (λ r. (j : ℕ) → has (first_of r.a) j ≡ true → has k j ≡ false → has left j ≡ false → breaks k r ≡ true → has s.kept r.q ≡ false)
-          (λ r. p r ≡ true → breaks k r ≡ true → has to.kept r.q ≡ false)
-          (λ r. (j : ℕ) → has (first_of r.a) j ≡ true → has k j ≡ false → has (without left i) j ≡ false → breaks k r ≡ true → has to.kept r.q ≡ false)
-          (λ r old looked j f o g b. elim (cases_eq j i) [
-            | inl e ↦ looked (subst (λ x. has (first_of r.a) x ≡ true) e f) b
-            | inr n ↦ false_from_ne_true (has to.kept r.q) (λ x. true≢false (sym (after.within r.q x) ∙ old j f o (false_from_ne_true (has left j) (λ y. true≢false (sym (kept left j i y n) ∙ g))) b))
-          ]) rules a.looked (looks-break_at k s p rules a.after.within);
-      greatest = λ t u w. looks-keep t s (filter p rules) (none_of_part t p rules u) (a.greatest t u w);
-    }
-
--- a set that is not empty has its first item
-first_at : (a : Items) (o : Option ℕ) → least a ≡ o → is_same a empty ≡ false → (i : ℕ) × (has (option_map_or (λ i. with empty i) o empty) i ≡ true) × (has a i ≡ true)
-first_at a None e h = absurd (true≢false (sym ((Decides-is_same a empty).1 (no_least a e)) ∙ h))
-first_at a (Some i) e h = (i, grind (arith, members, nat_tests), (least-cases a i e).0)
-
-first_item : (a : Items) → is_same a empty ≡ false → (i : ℕ) × (has (first_of a) i ≡ true) × (has a i ≡ true)
-first_item a h = first_at a (least a) refl h
-
-woken_first : (n : ℕ) (k : Items) (s : Round) (r : Query) → IsGood n r → After (begun k) s
-    → ((i : ℕ) → has (first_of r.a) i ≡ true → has k i ≡ false → breaks k r ≡ true → has s.kept r.q ≡ false) → IsAwake s r
-woken_first n k s r good after looked h = elim (cases_Bool (breaks k r)) [
-  | inl b ↦
-      let x = first_item r.a good.nonempty in
-      absurd (true≢false (sym (Breaks-from s.kept r h).has_q ∙ looked x.0 x.1 (no_item k r x.0 b x.2) b))
-  | inr u ↦
-      let x = meets_rule k r (after.within r.q (Breaks-from s.kept r h).has_q) u in
-      (x.0, x.2, after.fell x.0 x.1 (no_item s.kept r x.0 h x.2))
-]
-
--- after it the items that fell out wake every rule that is broken
-pub Started-done : (rules : List Query) (n : ℕ) (k left : Items) (s : Round) → list_all (is_good n) rules ≡ true → least left ≡ None → Started rules k left s → Settling rules k s
-Started-done rules n k left s good e a =
-    let none = no_least left e in
-    record {
-      within = a.after.within;
-      awake = Each-both (λ r. is_good n r ≡ true)
-          (λ r. (i : ℕ) → has (first_of r.a) i ≡ true → has k i ≡ false → has left i ≡ false → breaks k r ≡ true → has s.kept r.q ≡ false) (IsAwake s)
-          (λ r g looked. woken_first n k s r (good-from n r g) a.after (λ i f o b. looked i f o (ap (λ l. has l i) none ∙ has-empty i) b))
-          rules (list_all-All (is_good n) rules good) a.looked;
-      greatest = a.greatest;
-    }
-
--- where nothing fell out, the whole set is kept
-pub whole : (k : Items) (s : Round) → After (begun k) s → s.fallen ≡ empty → s.kept ≡ k
-whole k s a e = same_within s.kept k a.within (λ i h. elim (cases_Bool (has s.kept i)) [
-  | inl x ↦ x
-  | inr x ↦ absurd (true≢false (sym (a.fell i h x) ∙ ap (λ f. has f i) e ∙ has-empty i))
-])
 
 -- ---- the loop over places
 
@@ -299,6 +281,21 @@ gone s all r rs h e =
     subst (λ (t : Round). has t.kept r.q ≡ false) e
     (false_from_ne_true (has (fold look (look s r) rs).kept r.q) (λ x. true≢false (sym ((After-looks (look s r) rs).within r.q x) ∙ look-breaks s.kept s r (λ i y. y) h)))
 
+-- what is gone stays so
+pub still_gone : (s : Round) (rs : List Query) (j : ℕ) → has s.kept j ≡ false → has (fold look s rs).kept j ≡ false
+still_gone s rs j h = false_from_ne_true (has (fold look s rs).kept j) (λ x. true≢false (sym ((After-looks s rs).within j x) ∙ h))
+
+-- an item of keep falls out with the set
+pub lost_keep : (k set keep : Items) → is_same (meet (meet k set) keep) empty ≡ false → (i : ℕ) × (has keep i ≡ true) × (has (minus k set) i ≡ false)
+lost_keep k set keep h = let x = common_item (meet k set) keep h in let in_both = x.1 in (x.0, x.2, grind (arith, members, nat_tests))
+
+-- none does
+pub keeps-all : (k set keep : Items) → is_same (meet (meet k set) keep) empty ≡ true → IsWithin keep k → IsWithin keep (minus k set)
+keeps-all k set keep e w j x =
+    let here = w j x in
+    let none = ap (λ s. has s j) ((Decides-is_same (meet (meet k set) keep) empty).0 e) in
+    grind (arith, members, nat_tests)
+
 -- what has not the item keeps all where it falls out
 pub keeps-without : (keep k : Items) (q : ℕ) → has keep q ≡ false → IsWithin keep k → IsWithin keep (without k q)
 keeps-without keep k q h w j x = kept k j q (w j x) (λ e. true≢false (sym x ∙ ap (has keep) e ∙ h))
@@ -321,38 +318,3 @@ first-within a i h = first_in a i (least a) refl h
 pub turned : (rules : List Query) (key : Query → Items) (ls : List PlaceList) (i : ℕ) (ps : List ℕ) (s to : Round) → IsIndexOf ls (map key rules) → ps ≡ places_at ls i → to ≡ look_at rules ps s
     → to ≡ fold look s (filter (λ r. has (key r) i) rules)
 turned rules key ls i ps s to index e h = h ∙ ap (fold look s) (indexed_rules rules key ls i ps index e)
-
--- ---- an item whose rules are passed over
-
-first_is : (a : Items) (i : ℕ) (o : Option ℕ) → has (option_map_or (λ i. with empty i) o empty) i ≡ true → o ≡ Some i
-first_is a i None h = absurd (true≢false (sym h ∙ has-empty i))
-first_is a i (Some j) h = let e : i ≡ j = grind (arith, members, nat_tests) in ap (λ x. Some x) (sym e)
-
--- where the set of the item has no item that is kept, the item of a rule that begins with it is not kept
-head_gone : (heads : List Items) (r : Query) (i : ℕ) (k : Items) → meet (head_at heads i) k ≡ empty → has_head heads r ≡ true → has (first_of r.a) i ≡ true → has k r.q ≡ false
-head_gone heads r i k e h f =
-    let here = subst (λ (o : Option ℕ). option_map_or (λ i. has (head_at heads i) r.q) o true ≡ true) (first_is r.a i (least r.a) f) h in
-    false_from_ne_true (has k r.q) (λ x.
-    true≢false (sym (has-meet (head_at heads i) k r.q ∙ and_from (has (head_at heads i) r.q) (has k r.q) here x) ∙ ap (λ s. has s r.q) e ∙ has-empty r.q))
-
-looks-none : (s : Round) (rs : List Query) → AllByRecursion (λ r. has s.kept r.q ≡ false) rs → fold look s rs ≡ s
-looks-none s [] h = refl
-looks-none s (r ∷ rs) h =
-    let same : s ≡ look s r = look-unbroken s s r (ap (λ b. is_same (meet s.kept r.a) empty && b) h.0 ∙ and-false (is_same (meet s.kept r.a) empty)) refl in
-    ap (λ t. fold look t rs) (sym same) ∙ looks-none s rs h.1
-
--- past the end no item meets a set
-pub none_met : (heads : List Items) (i : ℕ) (k : Items) → length heads ≤ i → false ≡ not (is_same (meet (head_at heads i) k) empty)
-none_met heads i k h =
-    let past : head_at heads i ≡ empty = get_or_past heads i empty h in
-    let none : meet (head_at heads i) k ≡ empty = same_set (meet (head_at heads i) k) empty (λ j. rw past (has-meet empty k j ∙ ap (λ b. b && has k j) (has-empty j) ∙ sym (has-empty j))) in
-    ap not (sym ((Decides-is_same (meet (head_at heads i) k) empty).1 none))
-
--- the round is as if they had been looked at
-pub passed : (rules : List Query) (starts : List PlaceList) (heads : List Items) (i : ℕ) (s : Round) → IsIndexOf starts (map (λ r. first_of r.a) rules) → IsHeaded heads rules
-    → is_same (meet (head_at heads i) s.kept) empty ≡ true → s ≡ look_at rules (places_at starts i) s
-passed rules starts heads i s index headed e =
-    let none = (Decides-is_same (meet (head_at heads i) s.kept) empty).0 e in
-    let p = λ (r : Query). has (first_of r.a) i in
-    let gone = each {P = λ r. has_head heads r ≡ true} {Q = λ r. p r ≡ true → has s.kept r.q ≡ false} (λ r h f. head_gone heads r i s.kept none h f) rules (list_all-All (has_head heads) rules headed) in
-    sym (turned rules (λ r. first_of r.a) starts i (places_at starts i) s (look_at rules (places_at starts i) s) index refl refl ∙ looks-none s (filter p rules) (All-kept (λ r. has s.kept r.q ≡ false) p rules gone))

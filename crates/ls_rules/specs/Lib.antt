@@ -1,4 +1,7 @@
 pub mod Ruled
+pub mod Parts
 pub mod Places
+pub mod Sets
 pub mod Heads
+pub mod Singles
 pub mod Waking

@@ -1,13 +1,15 @@
 -- Rules that are looked at again where an item of theirs fell out.
 use Rattle.std.specs.Prelude.{ℕ, ◌≤◌, ◌≡◌, Bool, true, false, if◌then◌else◌, Option, None, Some, List, length, map, slice_get, fold}
-use Rattle.std.specs.Option.{option_map_or}
 use Rattle.std.specs.List.{AllByRecursion, list_all, filter_map}
-use Rattle.ls_set.specs.ItemSet.{Items, most_items, has, empty, with, without, least, IsWithin}
+use Rattle.ls_set.specs.ItemSet.{Items, most_items, has, empty, meet, minus, union, with, without, IsWithin}
 use Rattle.ls_set.specs.declared.query.Query.{Query}
 use Rattle.ls_set.specs.Query.{is_good}
 use Rattle.ls_theory.specs.Queries.{breaks, breaks_none}
 use Rattle.ls_rules.specs.Heads.{IsHeaded}
-use Rattle.ls_rules.specs.Places.{PlaceList, IsIndexOf}
+use Rattle.ls_rules.specs.Parts.{first_of, several}
+use Rattle.ls_rules.specs.Places.{PlaceList, places_at, IsIndexOf}
+use Rattle.ls_rules.specs.Sets.{set_at}
+use Rattle.ls_rules.specs.Singles.{AreSingles}
 use Rattle.ls_rules.specs.declared.round.Round.{Round}
 
 -- where the kept set breaks the rule, its item falls out
@@ -25,9 +27,17 @@ rules_at rules places = filter_map (slice_get rules) places
 abbrev pub look_at : List Query → List ℕ → Round → Round
 look_at rules places s = fold look s (rules_at rules places)
 
--- the least item of the set alone
-abbrev pub first_of : Items → Items
-first_of a = option_map_or (λ i. with empty i) (least a) empty
+-- the items of the set that are kept fall out
+abbrev pub lose_all : Round → Items → Round
+lose_all s set = record { kept = minus s.kept set; fallen = union s.fallen (meet s.kept set) }
+
+-- what an item that is not kept takes with it by the rules of the item alone
+abbrev pub lost_with : List Items → Items → ℕ → Items
+lost_with singles kept i = if has kept i then empty else set_at singles i
+
+-- an item wakes its rules: by those of the item alone items fall out together, then the others are looked at
+abbrev pub wake : List Query → List Items → List PlaceList → ℕ → Round → Round
+wake rules singles wakes i s = look_at rules (places_at wakes i) (lose_all s (lost_with singles s.kept i))
 
 -- if the kept set breaks the rule, then an item of its A has fallen out and was not looked at since
 abbrev pub IsAwake : Round → Query → Type 0
@@ -39,14 +49,16 @@ pub record Settling (rules : List Query) (from : Items) (s : Round) : Type 0 whe
   pub awake : AllByRecursion (IsAwake s) rules
   pub greatest : (t : Items) → breaks_none rules t ≡ true → IsWithin t from → IsWithin t s.kept
 
--- the rules can be asked about n items; the places of their sets A, and of the least items of these, are kept, and for these their items
-pub record IsIndexed (n : ℕ) (rules : List Query) (wakes starts : List PlaceList) (heads : List Items) : Type 0 where
+-- the rules can be asked about n items. The items of those with one item in A are kept by that item; of the others there are kept the places of their sets A, and of the least items of these, and for these their items
+pub record IsIndexed (n : ℕ) (rules : List Query) (singles : List Items) (wakes starts : List PlaceList) (heads : List Items) : Type 0 where
   pub good : list_all (is_good n) rules ≡ true
-  pub wakes_are : IsIndexOf wakes (map (λ r. r.a) rules)
-  pub starts_are : IsIndexOf starts (map (λ r. first_of r.a) rules)
+  pub singles_are : AreSingles singles rules
+  pub wakes_are : IsIndexOf wakes (map (λ r. several r.a) rules)
+  pub starts_are : IsIndexOf starts (map (λ r. first_of (several r.a)) rules)
   pub headed : IsHeaded heads rules
   pub few_wakes : length wakes ≤ n
   pub few_starts : length starts ≤ n
+  pub singles_reach : length starts ≤ length singles
   pub heads_reach : length starts ≤ length heads
   pub few_heads : length heads ≤ most_items
 

@@ -1,17 +1,21 @@
-// For each item, the items of the rules that begin with it.
-ghost use Rattle.std.specs.Prelude.{◌≡◌, ℕ, ◌<◌, ◌≤◌, [], true, not, Some, length, set, OnOk, slice_index_or};
-ghost use Rattle.ls_set.specs.ItemSet.{empty, meet, with, least, is_same};
-ghost use Rattle.ls_rules.specs.Heads.{head_at, has_head, Grows};
+// For each item, the items of the rules of several items that begin with it.
+ghost use Rattle.std.specs.Prelude.{◌≡◌, ℕ, ◌<◌, ◌≤◌, [], true, not, Some, length, OnOk};
+ghost use Rattle.ls_set.specs.ItemSet.{empty, meet, least, is_same};
+ghost use Rattle.ls_rules.specs.Parts.{several};
+ghost use Rattle.ls_rules.specs.Sets.{set_at};
+ghost use Rattle.ls_rules.specs.Heads.{has_head, Grows};
 
+use crate::parts::several;
+use crate::sets::Sets;
 use ls_set::{ItemSet, PLACES, Query};
 use std::alloc::{AllocError, Global};
 use std::marker::Model;
 
-/// A set of items for each item, empty past the end. For each rule that was pushed, the set of the
-/// least item of its set A has its item q; it may have more.
+/// A set of items for each item, empty past the end. For each rule that was pushed whose set A has
+/// more than one item, the set of the least of them has its item q; it may have more.
 #[derive(Debug, Drop)]
 pub struct Heads {
-    sets: Vec<ItemSet>,
+    sets: Sets,
 }
 
 impl Model for Heads {
@@ -20,30 +24,7 @@ impl Model for Heads {
 
     ghost Value = { List Items };
 
-    ghost view = { λ h. h.sets.items };
-}
-
-// Adds empty sets until there are `n`.
-fn widen(sets: &mut Vec<ItemSet>, n: u32) -> Result<(), AllocError>
-    requires { n ≤ PLACES }
-    ensures ok { OnOk result (n ≤ length sets.new.items) }
-    ensures grows { Grows sets.old.items sets.new.items }
-    ensures len { length sets.old.items ≤ length sets.new.items }
-    ensures few { length sets.old.items ≤ PLACES → length sets.new.items ≤ PLACES }
-{
-    while sets.len() < n as usize {
-        sets.push(ItemSet::empty())?;
-    }
-    Ok(())
-}
-
-// Puts item `q` into the set of item `i`.
-fn put(sets: &mut [ItemSet], i: u32, q: u32)
-    requires within { i < length sets.old }
-    requires item { q < PLACES }
-    ensures { sets.new ≡ set sets.old i (with (slice_index_or sets.old i empty) q) }
-{
-    sets[i as usize] = sets[i as usize].with(q);
+    ghost view = { λ h. h.sets };
 }
 
 impl Heads {
@@ -52,7 +33,7 @@ impl Heads {
         ensures { result ≡ [] }
     {
         Heads {
-            sets: Vec::new(alloc),
+            sets: Sets::new(alloc),
         }
     }
 
@@ -61,34 +42,32 @@ impl Heads {
     pub fn reserve(&mut self, n: u32) -> Result<(), AllocError>
         requires { n ≤ PLACES }
         ensures ok { OnOk result (n ≤ length self.new) }
-        ensures grows { Grows self.old self.new }
+        ensures sets { (i : ℕ) → set_at self.new i ≡ set_at self.old i }
         ensures len { length self.old ≤ length self.new }
         ensures few { length self.old ≤ PLACES → length self.new ≤ PLACES }
     {
-        widen(&mut self.sets, n)
+        self.sets.reserve(n)
     }
 
     /// Puts in the item of a rule, in the room that was made.
     pub fn push(&mut self, r: &Query)
-        requires room { (i : ℕ) → least r.now.a ≡ Some i → i < length self.old }
+        requires room { (i : ℕ) → least (several r.now.a) ≡ Some i → i < length self.old }
         requires item { r.now.q < PLACES }
         ensures held { has_head self.new r.now ≡ true }
         ensures grows { Grows self.old self.new }
         ensures len { length self.new ≡ length self.old }
     {
-        if let Some(i) = r.a.least() {
-            put(&mut self.sets, i, r.q);
+        if let Some(i) = several(r.a).least() {
+            let items = self.sets.of(i).with(r.q);
+            self.sets.put(i, items);
         }
     }
 
     /// Whether the set of the item has an item that is kept.
     #[tactic(auto, unfolding(ls_set::specs::ItemSet::is_same))]
     pub fn meets(&self, i: u32, kept: ItemSet) -> bool
-        ensures { result ≡ not (is_same (meet (head_at self.now i) kept) empty) }
+        ensures { result ≡ not (is_same (meet (set_at self.now i) kept) empty) }
     {
-        match self.sets.get(i as usize) {
-            Some(set) => set.meet(kept) != ItemSet::empty(),
-            None => false,
-        }
+        self.sets.of(i).meet(kept) != ItemSet::empty()
     }
 }

@@ -3,9 +3,12 @@
 
 mod heads;
 mod index;
+mod parts;
 mod places;
 mod round;
 mod ruled;
+mod sets;
+mod singles;
 mod waking;
 
 pub use ruled::Ruled;

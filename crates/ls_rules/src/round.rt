@@ -13,7 +13,7 @@ pub struct Round {
 impl Round {
     ghost use Rattle.ls_set.specs.ItemSet.{with, without};
     ghost use Rattle.ls_theory.specs.Queries.{breaks};
-    ghost use Rattle.ls_rules.specs.Waking.{look};
+    ghost use Rattle.ls_rules.specs.Waking.{look, lose_all};
 
     /// Whether the kept set breaks the rule. Most sets have an item of most sets A, so that is asked
     /// first: a test that mostly ends the same way costs least.
@@ -33,6 +33,14 @@ impl Round {
     {
         self.kept = self.kept.without(item);
         self.fallen = self.fallen.with(item);
+    }
+
+    /// The items of the set that are kept fall out.
+    pub fn lose_all(&mut self, set: ItemSet)
+        ensures { self.new ≡ lose_all self.old set }
+    {
+        self.fallen = self.fallen.union(self.kept.meet(set));
+        self.kept = self.kept.minus(set);
     }
 
     /// Looks at a rule: where the kept set breaks it, its item falls out.

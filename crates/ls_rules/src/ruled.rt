@@ -6,11 +6,14 @@ ghost use Rattle.ls_set.specs.Query.{is_good};
 ghost use Rattle.ls_theory.specs.Queries.{breaks_none};
 ghost use Rattle.ls_theory.specs.Families.{interior};
 ghost use Rattle.ls_interior.specs.Keeping.{interior_keeping};
-ghost use Rattle.ls_rules.specs.Waking.{first_of, Settling};
+ghost use Rattle.std.specs.List.{AllByRecursion};
+ghost use Rattle.ls_rules.specs.Waking.{Settling};
 
 use crate::heads::Heads;
 use crate::index::Index;
+use crate::parts::{first_of, several};
 use crate::round::Round;
+use crate::singles::Singles;
 use crate::waking::{begin, settle};
 use ls_interior::Inside;
 use ls_set::{ItemSet, PLACES, Query};
@@ -24,10 +27,12 @@ use std::marker::Model;
 pub struct Ruled<F: Inside> {
     inner: F,
     rules: Vec<Query>,
-    // the places of the rules by the items of their sets A, and by the least of these alone
+    // the items q of the rules whose set A is one item alone, by that item
+    singles: Singles,
+    // the places of the others by the items of their sets A, and by the least of these alone
     wakes: Index,
     starts: Index,
-    // the items q of the rules, and maybe more, by these least items
+    // the items q of these, and maybe more, by these least items
     heads: Heads,
     alloc: Global,
 }
@@ -49,17 +54,7 @@ impl<F: Inside> Model for Ruled<F> {
     } };
 
     ghost invariant = { λ r.
-        IsIndexed (F.item_count r.inner) r.rules.items r.wakes r.starts r.heads };
-}
-
-// The set of the least item alone; the empty set, of the empty set.
-fn first_of(set: ItemSet) -> ItemSet
-    ensures { result ≡ first_of set }
-{
-    match set.least() {
-        Some(i) => ItemSet::empty().with(i),
-        None => ItemSet::empty(),
-    }
+        IsIndexed (F.item_count r.inner) r.rules.items r.singles r.wakes r.starts r.heads };
 }
 
 impl<F: Inside> Ruled<F> {
@@ -71,6 +66,7 @@ impl<F: Inside> Ruled<F> {
         Ruled {
             inner,
             rules: Vec::new(alloc),
+            singles: Singles::new(alloc),
             wakes: Index::new(alloc),
             starts: Index::new(alloc),
             heads: Heads::new(alloc),
@@ -87,6 +83,7 @@ impl<F: Inside> Ruled<F> {
         let n = self.inner.items();
         self.wakes.reserve(self.alloc, n)?;
         self.heads.reserve(n)?;
+        self.singles.reserve(n)?;
         self.starts.reserve(self.alloc, n)?;
         self.rules.reserve(1)
     }
@@ -99,8 +96,10 @@ impl<F: Inside> Ruled<F> {
         ensures inner { self.new.inner ≡ self.old.inner }
     {
         let place = self.rules.len();
-        self.wakes.push(r.a, place);
-        self.starts.push(first_of(r.a), place);
+        let several = several(r.a);
+        self.singles.push(&r);
+        self.wakes.push(several, place);
+        self.starts.push(first_of(several), place);
         self.heads.push(&r);
         self.rules.push(r).unwrap()
     }
@@ -113,7 +112,9 @@ impl<F: Inside> Ruled<F> {
     {
         self.wakes.remove(place);
         self.starts.remove(place);
-        let _ = self.rules.remove(place);
+        let r = self.rules.remove(place);
+        let n = self.inner.items();
+        self.singles.remove(&r, n, &self.rules);
     }
 
     /// The rules, in their order.
@@ -130,6 +131,13 @@ impl<F: Inside> Ruled<F> {
         &self.inner
     }
 
+    // The items that wake a rule where they fall out, and maybe more.
+    fn waking_items(&self) -> ItemSet
+        ensures { AllByRecursion (λ r. IsWithin r.a result) self.now.rules }
+    {
+        self.wakes.items().union(self.singles.items())
+    }
+
     // The interior of a member of the inner family under the rules, where it has all of `keep`. It
     // begins with a round in which some items of the member have fallen out.
     fn settle_within(&self, member: ItemSet, round: Round, keep: ItemSet) -> Option<ItemSet>
@@ -144,7 +152,7 @@ impl<F: Inside> Ruled<F> {
         let mut member = member;
         let mut round = round;
         'rounds: loop {
-            let kept = settle(&self.rules, &self.wakes, n, round, keep)?;
+            let kept = settle(&self.rules, &self.singles, &self.wakes, n, round, keep)?;
             if member.is_within(kept) {
                 return Some(kept);
             }
@@ -158,7 +166,7 @@ impl<F: Inside> Ruled<F> {
             member = next;
             round = Round {
                 kept: next,
-                fallen: kept.minus(next).meet(self.wakes.items()),
+                fallen: kept.minus(next).meet(self.waking_items()),
             };
         }
     }
@@ -173,7 +181,14 @@ impl<F: Inside> Ruled<F> {
     {
         let n = self.inner.items();
         let member = self.inner.inside(s);
-        let first = begin(&self.rules, &self.starts, &self.heads, n, member);
+        let first = begin(
+            &self.rules,
+            &self.singles,
+            &self.starts,
+            &self.heads,
+            n,
+            member,
+        );
         if first.fallen == ItemSet::empty() {
             return member;
         }
@@ -196,7 +211,7 @@ impl<F: Inside> Ruled<F> {
         ensures part { IfSome result (λ k. IsWithin k member) }
     {
         let next = self.inner.inside_without(member, item, keep)?;
-        let fallen = member.minus(next).meet(self.wakes.items());
+        let fallen = member.minus(next).meet(self.waking_items());
         if fallen == ItemSet::empty() {
             return Some(next);
         }

@@ -1,15 +1,20 @@
 // Going on from the items that fell out to the rules that they wake.
-ghost use Rattle.std.specs.Prelude.{◌≡◌, ◌<◌, ◌≤◌, map, All, length, true, IfSome};
+ghost use Rattle.std.specs.Prelude.{◌≡◌, ℕ, ◌<◌, ◌≤◌, map, All, length, true, false, IfSome};
 ghost use Rattle.std.specs.List.{list_all};
-ghost use Rattle.ls_set.specs.ItemSet.{Items, empty, IsWithin};
+ghost use Rattle.ls_set.specs.ItemSet.{Items, has, empty, IsWithin};
 ghost use Rattle.ls_set.specs.Query.{is_good};
 ghost use Rattle.ls_rules.specs.Heads.{IsHeaded};
+ghost use Rattle.ls_rules.specs.Parts.{first_of, several};
 ghost use Rattle.ls_rules.specs.Places.{IsIndexOf, places_at};
-ghost use Rattle.ls_rules.specs.Waking.{look_at, first_of, Settling, IsKeeping, SettlesKeeping};
+ghost use Rattle.ls_rules.specs.Sets.{set_at};
+ghost use Rattle.ls_rules.specs.Singles.{AreSingles};
+ghost use Rattle.ls_rules.specs.Waking.{look_at, lose_all, lost_with, wake, Settling};
+ghost use Rattle.ls_rules.specs.Waking.{IsKeeping, SettlesKeeping};
 
 use crate::heads::Heads;
 use crate::index::Index;
 use crate::round::Round;
+use crate::singles::Singles;
 use ls_set::{ItemSet, PLACES, Query};
 
 // Looks at the rules at the places.
@@ -42,11 +47,71 @@ fn look_keeping(rules: &[Query], places: &[usize], keep: ItemSet, round: &mut Ro
     true
 }
 
+// The items of the set that are kept fall out, unless one of `keep` is among them. The result is
+// whether none is.
+#[tactic(auto, unfolding(ls_set::specs::ItemSet::is_same))]
+fn lose_keeping(set: ItemSet, keep: ItemSet, round: &mut Round) -> bool
+    ensures { IsKeeping keep round.old (lose_all round.old set) round.new result }
+{
+    if round.kept.meet(set).meet(keep) != ItemSet::empty() {
+        return false;
+    }
+    round.lose_all(set);
+    true
+}
+
+// What an item that is not kept takes with it by the rules of the item alone.
+fn lost_with(singles: &Singles, kept: ItemSet, i: u32) -> ItemSet
+    requires { i < PLACES }
+    ensures { result ≡ lost_with singles.now kept i }
+{
+    if kept.has(i) {
+        ItemSet::empty()
+    } else {
+        singles.of(i)
+    }
+}
+
+// The item wakes its rules, until an item of `keep` falls out. The result is whether none does.
+fn wake(
+    rules: &[Query],
+    singles: &Singles,
+    wakes: &Index,
+    i: u32,
+    keep: ItemSet,
+    round: &mut Round,
+) -> bool
+    requires item { i < PLACES }
+    requires items { All (λ r. r.q < PLACES) rules.now }
+    requires wakes { IsIndexOf wakes.now (map (λ r. several r.a) rules.now) }
+    ensures { IsKeeping keep round.old (wake rules.now singles.now wakes.now i round.old)
+        round.new result }
+{
+    lose_keeping(lost_with(singles, round.kept, i), keep, round)
+        && look_keeping(rules, wakes.of(i), keep, round)
+}
+
+// What the items outside the set take with them by the rules of one item alone.
+fn lost_outside(singles: &Singles, set: ItemSet) -> ItemSet
+    ensures all { (i j : ℕ) → has set i ≡ false → has (set_at singles.now i) j ≡ true →
+        has result j ≡ true }
+    ensures no_other { (j : ℕ) → has result j ≡ true →
+        (i : ℕ) × (has set i ≡ false) × (has (set_at singles.now i) j ≡ true) }
+{
+    let mut left = singles.items().minus(set);
+    let mut lost = ItemSet::empty();
+    while let Some(i) = left.least() {
+        left = left.without(i);
+        lost = lost.union(singles.of(i));
+    }
+    lost
+}
+
 // Looks at the rules whose sets A begin with the item. Where no item q of theirs is kept, none of
 // them is broken, and they need no look.
 fn look_from(rules: &[Query], starts: &Index, heads: &Heads, i: u32, round: &mut Round)
     requires items { All (λ r. r.q < PLACES) rules.now }
-    requires starts { IsIndexOf starts.now (map (λ r. first_of r.a) rules.now) }
+    requires starts { IsIndexOf starts.now (map (λ r. first_of (several r.a)) rules.now) }
     requires heads { IsHeaded heads.now rules.now }
     ensures { round.new ≡ look_at rules.now (places_at starts.now i) round.old }
 {
@@ -57,10 +122,18 @@ fn look_from(rules: &[Query], starts: &Index, heads: &Heads, i: u32, round: &mut
 
 /// Looks at each rule whose set A begins with an item outside the set, of `n` items. Of the set
 /// there is kept what no rule takes out, and what fell out wakes each rule that is still broken.
-pub fn begin(rules: &[Query], starts: &Index, heads: &Heads, n: u32, set: ItemSet) -> Round
+pub fn begin(
+    rules: &[Query],
+    singles: &Singles,
+    starts: &Index,
+    heads: &Heads,
+    n: u32,
+    set: ItemSet,
+) -> Round
     requires few { n ≤ PLACES }
     requires good { list_all (is_good n) rules.now ≡ true }
-    requires starts { IsIndexOf starts.now (map (λ r. first_of r.a) rules.now) }
+    requires singles { AreSingles singles.now rules.now }
+    requires starts { IsIndexOf starts.now (map (λ r. first_of (several r.a)) rules.now) }
     requires heads { IsHeaded heads.now rules.now }
     ensures settling { Settling rules.now set result }
     ensures whole { result.fallen ≡ empty → result.kept ≡ set }
@@ -70,6 +143,7 @@ pub fn begin(rules: &[Query], starts: &Index, heads: &Heads, n: u32, set: ItemSe
         kept: set,
         fallen: ItemSet::empty(),
     };
+    round.lose_all(lost_outside(singles, set));
     while let Some(i) = left.least() {
         left = left.without(i);
         look_from(rules, starts, heads, i, &mut round);
@@ -80,6 +154,7 @@ pub fn begin(rules: &[Query], starts: &Index, heads: &Heads, n: u32, set: ItemSe
 /// Goes on from the items that fell out, until no rule is broken or an item of `keep` falls out.
 pub fn settle(
     rules: &[Query],
+    singles: &Singles,
     wakes: &Index,
     n: u32,
     round: Round,
@@ -87,7 +162,8 @@ pub fn settle(
 ) -> Option<ItemSet>
     requires few { n ≤ PLACES }
     requires good { list_all (is_good n) rules.now ≡ true }
-    requires wakes { IsIndexOf wakes.now (map (λ r. r.a) rules.now) }
+    requires singles { AreSingles singles.now rules.now }
+    requires wakes { IsIndexOf wakes.now (map (λ r. several r.a) rules.now) }
     ensures value { (first : Items) → Settling rules.now first round → IsWithin keep round.kept →
         SettlesKeeping rules.now first keep result }
     ensures part { IfSome result (λ k. IsWithin k round.kept) }
@@ -95,7 +171,7 @@ pub fn settle(
     let mut round = round;
     while let Some(i) = round.fallen.least() {
         round.fallen = round.fallen.without(i);
-        if !look_keeping(rules, wakes.of(i), keep, &mut round) {
+        if !wake(rules, singles, wakes, i, keep, &mut round) {
             return None;
         }
     }

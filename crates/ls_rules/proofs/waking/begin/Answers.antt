@@ -1,15 +1,17 @@
 use Rattle.std.proofs.Common.{sym, refl, ◌∙◌}
 use Rattle.ls_rules.specs.Places.{places_at}
-use Rattle.ls_rules.specs.Waking.{first_of}
+use Rattle.ls_rules.specs.Parts.{first_of, several}
 use Rattle.ls_rules.proofs.Indexing.{covered, small_items}
-use Rattle.ls_rules.proofs.Rounds.{turned, len-without_least, Started-first, Started-more, Started-done, whole}
+use Rattle.ls_rules.proofs.Rounds.{turned, len-without_least}
+use Rattle.ls_rules.proofs.Begun.{Started-first, Started-more, Started-done, whole}
 use Rattle.ls_rules.proofs.waking.begin.Goals as goal
 
 pub loop-i-init : goal.loop-i-init
 loop-i-init c =
     let rules = c.args.rules.now in
-    rw (c.minus-left.ensures, c.empty.ensures)
-    (Started-first rules c.items.result c.args.set (covered c.items.result rules (λ r. first_of r.a) c.args.starts.now c.requires.starts c.items.ensures))
+    let firsts = covered c.items.result rules (λ r. first_of (several r.a)) c.args.starts.now c.requires.starts c.items.ensures in
+    rw (c.minus-left.ensures, c.lose_all.ensures, c.empty.ensures)
+    (Started-first rules c.args.singles.now c.items.result c.args.set c.lost_outside.result c.requires.singles firsts c.lost_outside.ensures.all c.lost_outside.ensures.no_other)
 
 pub look_from-requires-clause-items : goal.look_from-requires-clause-items
 look_from-requires-clause-items c = small_items c.args.n c.args.rules.now c.requires.few c.requires.good
@@ -19,7 +21,7 @@ loop-i-smaller c = rw c.without-left.ensures (len-without_least c.loop-i.left c.
 
 pub loop-i-preserved : goal.loop-i-preserved
 loop-i-preserved c =
-    let looked = turned c.args.rules.now (λ r. first_of r.a) c.args.starts.now c.in-Some.i (places_at c.args.starts.now c.in-Some.i) c.loop-i.round c.look_from.new.round c.requires.starts refl c.look_from.ensures in
+    let looked = turned c.args.rules.now (λ r. first_of (several r.a)) c.args.starts.now c.in-Some.i (places_at c.args.starts.now c.in-Some.i) c.loop-i.round c.look_from.new.round c.requires.starts refl c.look_from.ensures in
     rw (c.without-left.ensures, looked) (Started-more c.args.rules.now c.args.set c.loop-i.left c.loop-i.round c.in-Some.i c.loop-i.invariant)
 
 pub returns-clause-settling : goal.returns-clause-settling

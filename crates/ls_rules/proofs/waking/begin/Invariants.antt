@@ -1,5 +1,5 @@
 use Rattle.ls_set.specs.ItemSet.{len}
-use Rattle.ls_rules.proofs.Rounds.{Started}
+use Rattle.ls_rules.proofs.Begun.{Started}
 use Rattle.ls_rules.proofs.waking.begin.Given as goal
 
 abbrev pub invariant-loop-i : goal.invariant-loop-i

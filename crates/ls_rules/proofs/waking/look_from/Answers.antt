@@ -1,12 +1,12 @@
 use Rattle.std.proofs.Common.{sym, ◌∙◌}
 use Rattle.std.proofs.lemmas.Bool.{not-false}
-use Rattle.ls_rules.specs.Waking.{first_of}
+use Rattle.ls_rules.specs.Parts.{first_of, several}
 use Rattle.ls_rules.proofs.Indexing.{indexed_small}
-use Rattle.ls_rules.proofs.Rounds.{passed}
+use Rattle.ls_rules.proofs.Begun.{passed}
 use Rattle.ls_rules.proofs.waking.look_from.Goals as goal
 
 pub look_at-requires-clause-places : goal.look_at-requires-clause-places
-look_at-requires-clause-places c = indexed_small c.args.rules.now (λ r. first_of r.a) c.args.starts.now c.args.i c.of.result.now c.requires.starts c.of.ensures
+look_at-requires-clause-places c = indexed_small c.args.rules.now (λ r. first_of (several r.a)) c.args.starts.now c.args.i c.of.result.now c.requires.starts c.of.ensures
 
 pub returns-else-meets : goal.returns-else-meets
 returns-else-meets c =

@@ -4,7 +4,6 @@ use Rattle.ls_set.proofs.Sets.{Decides-is_same}
 use Rattle.ls_set.proofs.Members.{among-filter}
 use Rattle.std.proofs.lemmas.Bool.{and_parts}
 use Rattle.ls_theory.specs.Queries.{breaks_none}
-use Rattle.ls_rules.proofs.Indexing.{covered}
 use Rattle.ls_rules.proofs.Reaching.{none_under, nothing_woken, without_settled}
 use Rattle.ls_rules.proofs.ruled.Ruled.inside_ruled_without.Goals as goal
 
@@ -24,21 +23,21 @@ returns-then-eq-clause-value g c =
     let n = g.F.Inside.item_count c.self.inside.inner in
     let f = g.F.Inside.members c.self.inside.inner in
     let rules = c.self.inside.rules.items in
+    let woken = rw (← c.self.view_is) at c.waking_items.ensures in
     let family = g.met.F.Inside.is_family c.self.inside.inner in
-    let woken = covered c.items.result rules (λ r. r.a) c.self.inside.wakes c.self.invariant.wakes_are c.items.ensures in
     let next = c.in_ok-next.next in
-    let fallen = c.meet-fallen.ensures ∙ ap (λ s. meet s c.items.result) c.minus.ensures in
+    let fallen = c.meet-fallen.ensures ∙ ap (λ s. meet s c.waking_items.result) c.minus.ensures in
     let none = sym fallen ∙ (Decides-is_same c.meet-fallen.result c.empty.result).0 (sym c.eq.ensures ∙ c.if-eq.true) ∙ c.empty.ensures in
-    rw (← c.self.view_is) (without_settled n f rules c.items.result c.args.member (without c.args.member c.args.item) c.args.keep next (Some next) family woken
-    c.in_ok-next.ensures.value c.in_ok-next.ensures.part (λ here a w. nothing_woken n f rules c.args.keep next (meet (minus c.args.member next) c.items.result) family none here a w))
+    rw (← c.self.view_is) (without_settled n f rules c.waking_items.result c.args.member (without c.args.member c.args.item) c.args.keep next (Some next) family woken
+    c.in_ok-next.ensures.value c.in_ok-next.ensures.part (λ here a w. nothing_woken n f rules c.args.keep next (meet (minus c.args.member next) c.waking_items.result) family none here a w))
 
 pub returns-clause-value : goal.returns-clause-value
 returns-clause-value g c =
     let n = g.F.Inside.item_count c.self.inside.inner in
     let f = g.F.Inside.members c.self.inside.inner in
     let rules = c.self.inside.rules.items in
+    let woken = rw (← c.self.view_is) at c.waking_items.ensures in
     let family = g.met.F.Inside.is_family c.self.inside.inner in
-    let woken = covered c.items.result rules (λ r. r.a) c.self.inside.wakes c.self.invariant.wakes_are c.items.ensures in
     let settles = rw (← c.self.view_is, c.meet-fallen.ensures, c.minus.ensures) at c.settle_within.ensures.value in
-    rw (← c.self.view_is) (without_settled n f rules c.items.result c.args.member (without c.args.member c.args.item) c.args.keep c.in_ok-next.next c.settle_within.result family woken
+    rw (← c.self.view_is) (without_settled n f rules c.waking_items.result c.args.member (without c.args.member c.args.item) c.args.keep c.in_ok-next.next c.settle_within.result family woken
     c.in_ok-next.ensures.value c.in_ok-next.ensures.part settles)

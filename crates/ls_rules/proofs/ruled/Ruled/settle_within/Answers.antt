@@ -4,7 +4,6 @@ use Rattle.ls_set.proofs.Sets.{IsWithin-from}
 use Rattle.ls_set.proofs.Sizes.{len-within}
 use Rattle.ls_theory.specs.Families.{interior}
 use Rattle.ls_laws.proofs.Interiors.{interior-within}
-use Rattle.ls_rules.proofs.Indexing.{covered}
 use Rattle.ls_rules.proofs.Reaching.{none_settled, none_inside, nothing_fell, nothing_lost, fewer_kept, Going-settled, Going-more}
 use Rattle.ls_rules.proofs.ruled.Ruled.settle_within.Goals as goal
 
@@ -77,13 +76,13 @@ rounds-preserved g c =
     let invariant = rw (← c.self.view_is) at c.rounds.invariant in
     let settled = rw c.deref.ensures.value at c.in_ok-kept.ensures.value in
     let kept = c.in_ok-kept.kept in
-    let woken = covered c.items.result rules (λ r. r.a) c.self.inside.wakes c.self.invariant.wakes_are c.items.ensures in
+    let woken = rw (← c.self.view_is) at c.waking_items.ensures in
     let test : is_within c.args.keep c.inside-next.result ≡ true = sym c.is_within-in-rounds-2.ensures ∙ c.if-not-is_within.false in
     let test_in = rw c.inside-next.ensures at test in
     rw (← c.self.view_is, c.meet.ensures, c.minus.ensures, c.inside-next.ensures) (record {
       going = λ a b k.
           let going = invariant.going a b k in
           let reaches = Going-settled f rules c.args.member c.args.keep c.rounds.member kept c.rounds.round going (settled c.rounds.member going.settling going.keeps).0 in
-          Going-more n f rules c.items.result c.args.member c.args.keep kept (g.met.F.Inside.is_family c.self.inside.inner) woken reaches (IsWithin-from c.args.keep (interior f kept) test_in);
+          Going-more n f rules c.waking_items.result c.args.member c.args.keep kept (g.met.F.Inside.is_family c.self.inside.inner) woken reaches (IsWithin-from c.args.keep (interior f kept) test_in);
       part = λ i h. invariant.part i (c.in_ok-kept.ensures.part i (interior-within f kept i h));
     })
