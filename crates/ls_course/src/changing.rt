@@ -14,18 +14,14 @@ use std::alloc::AllocError;
 use std::sync::ledger::Ledger;
 
 /// `blocks SIZE`
-pub fn set_blocks<L: Ledger>(
-    inquiry: &mut Inquiry,
-    size: u32,
-    steps: &mut Steps<L>,
-) -> Result<Response, AllocError>
+pub fn set_blocks(inquiry: &mut Inquiry, size: u32) -> Result<Response, AllocError>
     ensures response { IfOk result (λ r. r ≡ (blocks_row inquiry.old size).response) }
     ensures next { OnOk result (inquiry.new ≡ (blocks_row inquiry.old size).next) }
     ensures trail { (t : List Entry) → IsTrailOf inquiry.old t → IsTrailOf inquiry.new t }
     ensures items { inquiry.new.count ≡ inquiry.old.count }
     ensures err { OnErr result (inquiry.new ≡ inquiry.old) }
 {
-    match inquiry.set_blocks(size, steps) {
+    match inquiry.set_blocks(size) {
         Ok(()) => Ok(Response::Done {
             number: u64::from(inquiry.blocks().count()),
         }),

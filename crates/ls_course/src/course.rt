@@ -20,7 +20,7 @@ ghost use Rattle.ls_pupils.specs.Cases.{ArePupils};
 ghost use Rattle.ls_course.specs.States.{session_with, CanTell};
 
 use crate::changing::{set_blocks, take, take_back};
-use crate::following::follow;
+use crate::following::{follow, seek};
 use crate::starting::{begin_with, read_start};
 use crate::testing::test_sets;
 use ls_assess::Settings;
@@ -269,7 +269,8 @@ impl Course {
         Ok(Course::of(alloc, domain, inquiry, settings, pupils)?)
     }
 
-    // What is shown. The base is followed where it is asked for.
+    // What is shown. The base is followed, or the first open query looked for, where it is asked
+    // for.
     fn view<L: Ledger>(&mut self, view: View, steps: &mut Steps<L>) -> Result<Response, AllocError>
         requires { IsOn (length self.old.session.names) view }
         ensures response { IfOk result (λ r. r ≡ view_row self.old.session.interview view) }
@@ -280,6 +281,7 @@ impl Course {
         if is_based(&view) {
             self.based(view)
         } else {
+            seek(&mut self.inquiry, &view);
             Ok(decide(&self.inquiry, &view, steps))
         }
     }
@@ -310,7 +312,7 @@ impl Course {
         ensures err { OnErr result (self.new.session ≡ self.old.session) }
     {
         match edit {
-            Edit::Blocks { size } => set_blocks(&mut self.inquiry, *size, steps),
+            Edit::Blocks { size } => set_blocks(&mut self.inquiry, *size),
             Edit::Answer { query, yes } => take(&mut self.inquiry, *query, *yes, steps),
             Edit::Retract { number } => {
                 let response = take_back(&mut self.inquiry, &mut self.trail, *number, steps);

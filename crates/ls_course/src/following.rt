@@ -1,4 +1,4 @@
-// The base of a course, followed when it is asked for.
+// The base of a course, followed when it is asked for, and its first open query.
 ghost use Rattle.std.specs.Prelude.{◌≡◌, true, OnOk};
 ghost use Rattle.ls_theory.specs.Interviews.{yes_queries};
 ghost use Rattle.ls_base.specs.Trail.{EndsAt, is_begun};
@@ -6,6 +6,7 @@ ghost use Rattle.ls_course.specs.States.{IsTrailOf};
 
 use ls_base::Trail;
 use ls_expert::Inquiry;
+use ls_reply::View;
 use std::alloc::AllocError;
 
 /// Follows the base of the compatible sets over the Yes answers. Where memory runs out, the trail
@@ -31,4 +32,13 @@ fn begin(trail: &mut Trail, inquiry: &Inquiry) -> Result<(), AllocError>
     }
     let first = inquiry.first_base()?;
     trail.begin(first)
+}
+
+/// Looks for the first open query where it is asked for, so that the next search begins with it.
+pub fn seek(inquiry: &mut Inquiry, view: &View)
+    ensures { inquiry.new ≡ inquiry.old }
+{
+    if matches!(view, View::Ask) {
+        inquiry.seek();
+    }
 }

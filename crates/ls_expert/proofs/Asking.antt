@@ -173,20 +173,22 @@ place-some i (Some r) s p = question-after i r s p
 
 -- where an open query is looked for from the first query of the blocks on
 pub asking : (i : Interview) (b : BlockRange) (rules : List Query) (t : TableState) (from : Option Query) → IsHeld i rules t → b ≡ blocks_of i → 0 < i.block
-    → from ≡ find (comes_after query_before None) (queries_of b) → IsInquiry i b rules t from
+    → from ≡ find (comes_after query_before None) (queries_of b) → IsInquiry i b rules t from false
 asking i b rules t from held e some first = record {
   held = held;
   asked = e;
   some_sizes = some;
   none_before = none-before_first i from (first ∙ ap (λ (b : BlockRange). find (comes_after query_before None) (queries_of b)) e);
+  found = λ e. cc;
 }
 
 -- where an answer is taken
-pub still-asking : (i : Interview) (r : Query) (is_yes : Bool) (b : BlockRange) (rules more : List Query) (t new : TableState) (from : Option Query) → IsInquiry i b rules t from
-    → IsHeld (accepted i r is_yes) more new → IsInquiry (accepted i r is_yes) b more new from
-still-asking i r is_yes b rules more t new from kept held = record {
+pub still-asking : (i : Interview) (r : Query) (is_yes : Bool) (b : BlockRange) (rules more : List Query) (t new : TableState) (from : Option Query) (is_found : Bool) → IsInquiry i b rules t from is_found
+    → IsHeld (accepted i r is_yes) more new → IsInquiry (accepted i r is_yes) b more new from false
+still-asking i r is_yes b rules more t new from is_found kept held = record {
   held = held;
   asked = kept.asked;
   some_sizes = kept.some_sizes;
   none_before = still-none_before i r is_yes from kept.none_before;
+  found = λ e. cc;
 }

@@ -1,5 +1,5 @@
 -- What an inquiry keeps true of its parts.
-use Rattle.std.specs.Prelude.{◌≡◌, ℕ, ◌+◌, ◌<◌, ◌≤◌, true, false, ◌&&◌, nat_lt, List, map, length, count_by, find, Option, None, Some}
+use Rattle.std.specs.Prelude.{◌≡◌, ℕ, Bool, ◌+◌, ◌<◌, ◌≤◌, true, false, ◌&&◌, nat_lt, List, map, length, count_by, find, Option, None, Some}
 use Rattle.std.specs.List.{list_all, IsDistinct}
 use Rattle.ls_set.specs.ItemSet.{most_items}
 use Rattle.ls_set.specs.declared.query.Query.{Query}
@@ -9,7 +9,7 @@ use Rattle.ls_theory.specs.Starts as theory
 use Rattle.ls_theory.specs.Interviews.{Interview, yes_queries, nos}
 use Rattle.ls_theory.specs.Compatible.{compatible_sets}
 use Rattle.ls_theory.specs.Fitting.{spaces_of}
-use Rattle.ls_theory.specs.Forced.{is_open}
+use Rattle.ls_theory.specs.Forced.{is_open, next_question}
 use Rattle.ls_theory.specs.Queries.{queries, query_before}
 use Rattle.ls_lists.specs.Lists.{IsIn}
 use Rattle.ls_theory.specs.Blocks.{BlockRange}
@@ -71,9 +71,10 @@ abbrev pub PlaceFor : Interview → Option Query → Option Query → Type 0
 PlaceFor i None from = NoneBefore i from
 PlaceFor i (Some r) from = from ≡ find (query_before r) (queries i.count i.block)
 
--- With that the blocks are kept, which have some sizes, and the query from which an open one is looked for.
-pub record IsInquiry (i : Interview) (blocks : BlockRange) (rules : List Query) (table : TableState) (from : Option Query) : Type 0 where
+-- With that the blocks are kept, which have some sizes; the query from which an open one is looked for; and whether that is the first open one.
+pub record IsInquiry (i : Interview) (blocks : BlockRange) (rules : List Query) (table : TableState) (from : Option Query) (is_found : Bool) : Type 0 where
   pub held : IsHeld i rules table
   pub asked : blocks ≡ blocks_of i
   pub some_sizes : 0 < i.block
   pub none_before : NoneBefore i from
+  pub found : is_found ≡ true → from ≡ next_question i None

@@ -59,6 +59,8 @@ pub struct Inquiry {
     table: Table,
     // no query of the blocks before it is open; and none at all where there is none
     from: Option<Query>,
+    // whether that is the first open query
+    is_found: bool,
 }
 
 impl Model for Inquiry {
@@ -71,7 +73,7 @@ impl Model for Inquiry {
 
     ghost invariant = { λ s. IsInquiry
         (interview_of s.family.inner s.block s.answers.items s.next)
-        s.blocks s.family.rules s.table.table s.from };
+        s.blocks s.family.rules s.table.table s.from s.is_found };
 }
 
 // The table of a family with rules, of the sets of one item, for the answers that are No.
@@ -123,6 +125,7 @@ impl Inquiry {
             blocks,
             table,
             from: blocks.next_query(None),
+            is_found: false,
         })
     }
 
@@ -137,6 +140,7 @@ impl Inquiry {
         self.blocks = Blocks::new(self.family.items(), k)?;
         self.block = k;
         self.from = self.blocks.next_query(None);
+        self.is_found = false;
         Ok(())
     }
 
@@ -161,6 +165,7 @@ impl Inquiry {
         self.family = family;
         self.table = table;
         self.from = self.blocks.next_query(None);
+        self.is_found = false;
         Ok(())
     }
 
@@ -223,13 +228,16 @@ impl Inquiry {
 
     /// The first open query of the blocks that comes after the given good one, or the first of all.
     /// It takes no memory. It forms the closures of the sets that it looks at; for the first of all
-    /// it begins where the last `seek` ended.
+    /// it begins where the last `seek` ended, and looks at none where nothing has changed since.
     pub fn next_question(&self, after: Option<&Query>) -> Option<Query>
         requires { ForSome after (λ r. is_good self.now.count r.now ≡ true) }
         ensures value { result ≡ next_question self.now (option_map (λ r. r.now) after.entry) }
         ensures good { IfSome result (λ r. is_good self.now.count r ≡ true) }
     {
         let from = self.place_for(after)?;
+        if after.is_none() && self.is_found {
+            return Some(from);
+        }
         self.table.find_open(&self.family, self.blocks, &from)
     }
 
@@ -250,6 +258,7 @@ impl Inquiry {
         ensures { self.new ≡ self.old }
     {
         self.from = self.next_question(None);
+        self.is_found = true;
     }
 
     /// Whether no query of the blocks is open. Where the largest sets are asked, exactly one space

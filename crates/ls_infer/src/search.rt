@@ -126,7 +126,7 @@ impl Table {
         requires items { F.item_count f.now ≡ blocks.item_count }
         requires own { self.now.table.blocks.item_count ≡ blocks.item_count }
         requires query { IsIn first.now (queries_of blocks) }
-        ensures open { (i : Interview) → IsSound i → i.count ≡ blocks.item_count →
+        ensures found { (i : Interview) → IsSound i → i.count ≡ blocks.item_count →
             i.block ≡ blocks.largest → F.members f.now ≡ compatible_sets i →
             self.now.table ≡ table_of self.now.table.blocks (compatible_sets i) (nos i.answers) →
             result ≡ find (λ s. not (query_before s first.now) && is_open (spaces_of i) s)

@@ -60,6 +60,7 @@ impl Inquiry {
             blocks,
             table,
             from: blocks.next_query(None),
+            is_found: false,
         })
     }
 }

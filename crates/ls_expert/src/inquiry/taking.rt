@@ -113,6 +113,7 @@ impl Inquiry {
             self.table
                 .yes_added(&Counted::new(&self.family), query, steps);
         }
+        self.is_found = false;
         Ok(put_last(&mut self.answers, &mut self.next, query, true))
     }
 
@@ -132,6 +133,7 @@ impl Inquiry {
             query: *query,
         };
         self.table.no_added(&Counted::new(&self.family), no, steps);
+        self.is_found = false;
         Ok(put_last(&mut self.answers, &mut self.next, query, false))
     }
 
@@ -160,6 +162,7 @@ impl Inquiry {
         self.table
             .yes_removed(&Counted::new(&self.family), &answer.query, steps);
         self.from = self.blocks.next_query(None);
+        self.is_found = false;
         take_out(&mut self.answers, answer.number);
     }
 
@@ -172,6 +175,7 @@ impl Inquiry {
         let number = answer.number;
         self.table.no_removed(number);
         self.from = self.blocks.next_query(None);
+        self.is_found = false;
         take_out(&mut self.answers, number);
     }
 }

@@ -27,7 +27,7 @@ invariant_of-self-2 g c =
     ∙ ap₂ (λ (u : StartOn) (l : List Query). compat u.item_count u.start l) inner (ruled ∙ ap (λ (l : List Query). l ++ r ∷ []) h.ruled) in
     let held = λ (new : TableState). held-yes i r c.self.inside.family.rules c.self.inside.table.table new h c.push_reserved.new.self.rules
     (ap (λ (j : Interview). refusal j r true) c.self.view_is ∙ c.requires.passes) ruled in
-    let kept = λ (new : TableState) (e : new ≡ closures_of (accepted i r true)). still-asking i r true c.self.inside.blocks c.self.inside.family.rules c.push_reserved.new.self.rules c.self.inside.table.table new c.self.inside.from c.self.invariant (held new e) in
+    let kept = λ (new : TableState) (e : new ≡ closures_of (accepted i r true)). still-asking i r true c.self.inside.blocks c.self.inside.family.rules c.push_reserved.new.self.rules c.self.inside.table.table new c.self.inside.from c.self.inside.is_found c.self.invariant (held new e) in
     elim c.if-not-is_yes.branch [
       | then-not-is_yes w ↦ rw (c.put_last.ensures.last, c.put_last.ensures.next, w.self-inside-is, c.reserve.ensures.items, inner)
           (kept w.yes_added.new.self.table (tabled-yes i r c.self.inside.table.table w.yes_added.new.self.table _ h.tabled (rw w.new.ensures family) w.yes_added.ensures.kept))

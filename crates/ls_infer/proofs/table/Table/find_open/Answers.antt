@@ -32,7 +32,7 @@ full-requires g c =
 
 pub returns-in-Some : goal.returns-in-Some
 returns-in-Some g c = record {
-  «open» = λ i sound count block family table.
+  found = λ i sound count block family table.
       let n = g.F.Inside.item_count c.args.f.now in
       let f = g.F.Inside.members c.args.f.now in
       let b = c.args.blocks in
@@ -48,7 +48,7 @@ returns-in-Some g c = record {
 
 pub returns-in-None : goal.returns-in-None
 returns-in-None g c = record {
-  «open» = λ i sound count block family table.
+  found = λ i sound count block family table.
       let n = g.F.Inside.item_count c.args.f.now in
       let f = g.F.Inside.members c.args.f.now in
       let b = c.args.blocks in
