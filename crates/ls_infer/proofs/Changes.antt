@@ -1,15 +1,21 @@
 -- What stays true of a table when it is built and changed.
-use Rattle.std.proofs.Common.{ℕ, ◌≡◌, true, false, cond, not, eqb, List, [], ◌∷◌, ◌++◌, map, filter, length, refl, ap, ap₂, ◌∙◌, subst, arith}
-use Rattle.std.specs.List.{list_all}
-use Rattle.std.proofs.lemmas.Bool.{and_parts, and_from}
+use Rattle.std.proofs.Common.{ℕ, ◌≡◌, true, false, cond, not, eqb, List, [], ◌∷◌, ◌++◌, map, filter, length, refl, sym, ap, ap₂, ◌∙◌, subst, arith}
+use Rattle.std.specs.List.{list_all, list_any}
+use Rattle.std.proofs.lemmas.Bool.{and_parts, and_from, or_parts, not-true}
 use Rattle.std.proofs.lemmas.List.Folds.{list_all-append}
 use Rattle.ls_lists.proofs.Every.{All-filter, All-list_all, list_all-All}
-use Rattle.ls_set.specs.ItemSet.{Items, full, is_within}
+use Rattle.ls_set.specs.ItemSet.{Items, has, full, is_within}
 use Rattle.ls_set.specs.Query.{is_good}
 use Rattle.ls_set.proofs.Sets.{is_within-from, minus-within}
 use Rattle.ls_theory.specs.declared.no.No.{No}
+use Rattle.ls_set.specs.declared.query.Query.{Query}
+use Rattle.ls_theory.specs.Queries.{breaks, some_breaks}
 use Rattle.ls_theory.specs.Families.{closure}
-use Rattle.ls_laws.proofs.Breaks.{good-from}
+use Rattle.ls_laws.specs.Families.{IsFamily}
+use Rattle.ls_laws.specs.Spans.{left_by}
+use Rattle.ls_laws.proofs.Breaks.{IsGood, good-from}
+use Rattle.ls_laws.proofs.Closures.{has-closure}
+use Rattle.ls_laws.proofs.Families.{family_sets}
 use Rattle.ls_query.specs.Blocks.{sets_of}
 use Rattle.ls_infer.specs.declared.standing_no.StandingNo.{StandingNo}
 use Rattle.ls_infer.specs.Changes.{is_kept}
@@ -75,3 +81,15 @@ table-changed m n t cs ss h same alike within kept = record {
   within = subst (λ j. list_all (λ c. is_within c (full j)) cs ≡ true) same within;
   kept = subst (λ j. list_all (is_kept j) ss ≡ true) same kept;
 }
+
+-- ---- a Yes that is given without it
+
+unbroken-stays : (f : List Items) (r : Query) → list_any (λ k. breaks k r) f ≡ false → left_by r f ≡ f
+unbroken-stays [] r h = refl
+unbroken-stays (k ∷ f) r h =
+    let p = or_parts (breaks k r) (list_any (λ k. breaks k r) f) h in
+    ap (λ b. cond (not b) (k ∷ left_by r f) (left_by r f)) p.0 ∙ ap (λ l. k ∷ l) (unbroken-stays f r p.1)
+
+-- where q is in the closure of A, no member breaks the query
+pub yes-given : (n : ℕ) (f : List Items) (r : Query) → IsFamily n f → IsGood n r → has (closure (full n) f r.a) r.q ≡ true → left_by r f ≡ f
+yes-given n f r family good h = unbroken-stays f r (not-true (some_breaks f r) (sym (has-closure n f r (family_sets n f family).small good.item) ∙ h))

@@ -1,9 +1,10 @@
 -- Which items are enough with a closed set for an item, and where they are a state.
 use Rattle.std.proofs.Common.{ℕ, ◌+◌, ◌<◌, ◌≤◌, ◌≡◌, ◌⊎◌, inl, inr, true, false, not, ◌&&◌, ◌||◌, eqb, ltb, List, refl, sym, ap, ◌∙◌, subst, arith, true≢false, eq-eqb, lt-ltb, ltb-true}
-use Rattle.std.proofs.lemmas.Bool.{and_parts, and_from, or_left, or_right, false_from_ne_true, true_from_ne_false}
-use Rattle.ls_set.specs.ItemSet.{Items, has, full, with, minus, len, is_among, IsWithin}
+use Rattle.std.proofs.lemmas.Bool.{cases_lt, and_parts, and_from, or_left, or_right, false_from_ne_true, true_from_ne_false}
+use Rattle.ls_set.specs.ItemSet.{Items, has, empty, full, with, minus, len, is_among, IsWithin}
 use Rattle.ls_set.specs.declared.query.Query.{Query}
-use Rattle.ls_set.proofs.Sets.{has-with, has-full, same_within, minus-within, and-true}
+use Rattle.ls_set.proofs.Sets.{has-with, has-full, same_within, minus-within, and-true, Decides-is_same}
+use Rattle.ls_laws.proofs.Counts.{some_item}
 use Rattle.ls_set.proofs.Sizes.{len-less}
 use Rattle.ls_theory.specs.Families.{interior, closure}
 use Rattle.ls_theory.specs.Queries.{breaks}
@@ -140,3 +141,35 @@ others-few n among known closed p w l h =
     let more = len-less others (with others p) p (with-left others p) lacks (with-here others p) in
     let few = len-few (with others p) n (with-within n others p small l) in
     omega (arith, more, few)
+
+-- and an item of the closed set is a further one that is none of them
+pub others-fewer : (n : ℕ) (among known closed : Items) (p i : ℕ) → IsWithin among (full n) → p < n → has known p ≡ true → has closed p ≡ false → has closed i ≡ true → i < n → len (minus (minus among known) closed) + 2 ≤ n
+others-fewer n among known closed p i w l h lacks here m =
+    let others = minus (minus among known) closed in
+    let small = with-within n others p (others-within n among known closed w) l in
+    let out : has others p ≡ false = false_from_ne_true (has others p) (λ x. true≢false (sym h ∙ (out-parts among known p (minus-within (minus among known) closed p x)).1)) in
+    let apart : has (with others p) i ≡ false = false_from_ne_true (has (with others p) i) (λ x. elim (with-cases others p i x) [
+      | inl y ↦ true≢false (sym here ∙ (out-parts (minus among known) closed i y).1)
+      | inr y ↦ true≢false (sym here ∙ ap (has closed) y ∙ lacks)
+    ]) in
+    let more = len-less others (with others p) p (with-left others p) out (with-here others p) in
+    let further = len-less (with others p) (with (with others p) i) i (with-left (with others p) i) apart (with-here (with others p) i) in
+    let few = len-few (with (with others p) i) n (with-within n (with others p) i small m) in
+    omega (arith, more, further, few)
+
+-- a good query has an item, and another in its set
+pub good-item : (n : ℕ) (r : Query) → IsGood n r → (i : ℕ) × (has r.a i ≡ true) × (i < n)
+good-item n r good = elim (some_item r.a) [
+  | inl e ↦ absurd (true≢false (sym ((Decides-is_same r.a empty).1 e) ∙ good.nonempty))
+  | inr p ↦ (p.0, p.1, ltb-true p.0 n (sym (has-full n p.0) ∙ good.small p.0 p.1))
+]
+
+pub good-several : (n : ℕ) (r : Query) → IsGood n r → 1 < n
+good-several n r good =
+    let i = good-item n r good in
+    let item = good.item in
+    let apart : i.0 ≡ r.q → ⊥ = λ e. true≢false (sym i.1 ∙ ap (has r.a) e ∙ good.outside) in
+    elim (cases_lt 1 n) [
+      | inl l ↦ l
+      | inr l ↦ let below = i.2 in absurd (apart (omega arith))
+    ]

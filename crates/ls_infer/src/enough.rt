@@ -69,7 +69,8 @@ pub fn enough_among<I: Interior, L: Ledger>(
 }
 
 /// The items that are enough, where those that are known to be, and only items of `among` are; in a
-/// step at most for each item but `q`, which always is.
+/// step at most for each item but `q`, which always is, and one fewer where the closed set has an
+/// item.
 pub fn enough_between<I: Interior, L: Ledger>(
     f: &I,
     closed: ItemSet,
@@ -87,6 +88,8 @@ pub fn enough_between<I: Interior, L: Ledger>(
         result ≡ enough_for (I.item_count f.now) (I.members f.now) closed q }
     ensures within { IsWithin result (full (I.item_count f.now)) }
     ensures cost { steps.new + 1 ≤ steps.old + I.item_count f.now }
+    ensures fewer { (i : ℕ) → has closed i ≡ true → i < I.item_count f.now →
+        1 < I.item_count f.now → steps.new + 2 ≤ steps.old + I.item_count f.now }
 {
     let all = ItemSet::full(f.items());
     if closed.has(q) {

@@ -105,6 +105,8 @@ impl StandingNo {
             result ≡ standing n (I.members f.now) self.now.no }
         ensures kept { is_kept (I.item_count f.now) result ≡ true }
         ensures cost { steps.new ≤ steps.old + I.item_count f.now }
+        ensures fewer { (i : ℕ) → has closed i ≡ true → i < I.item_count f.now →
+            steps.new + 1 ≤ steps.old + I.item_count f.now }
     {
         let all = ItemSet::full(f.items());
         let enough = enough_between(f, closed, self.no.query.q, self.enough, all, steps);
@@ -134,7 +136,7 @@ impl StandingNo {
             self.now ≡ standing n before self.now.no →
             result ≡ standing n (I.members f.now) self.now.no }
         ensures kept { is_kept (I.item_count f.now) result ≡ true }
-        ensures cost { steps.new ≤ steps.old + (I.item_count f.now + 1) }
+        ensures cost { steps.new ≤ steps.old + I.item_count f.now }
     {
         if self.closed.has(r.q) {
             return *self;
@@ -169,7 +171,7 @@ impl StandingNo {
             self.now ≡ standing n before self.now.no →
             result ≡ standing n (I.members f.now) self.now.no }
         ensures kept { is_kept (I.item_count f.now) result ≡ true }
-        ensures cost { steps.new ≤ steps.old + (I.item_count f.now + 1) }
+        ensures cost { steps.new ≤ steps.old + I.item_count f.now }
     {
         let has_all = r.a.is_within(self.closed);
         if !has_all && self.closed.has(r.q) {
@@ -204,7 +206,7 @@ impl StandingNo {
             self.now ≡ standing n before self.now.no →
             result ≡ standing n (I.members f.now) self.now.no }
         ensures kept { is_kept (I.item_count f.now) result ≡ true }
-        ensures cost { steps.new ≤ steps.old + (I.item_count f.now + 1) }
+        ensures cost { steps.new ≤ steps.old + I.item_count f.now }
     {
         match change {
             YesChange::Added => self.after_yes(f, r, steps),
@@ -296,8 +298,8 @@ pub fn unforced(
     left
 }
 
-/// Makes what is kept of each answer that after a Yes to `r` came or was taken back, in a step at
-/// most for each item and one more for each answer. `f` is the family after the change.
+/// Makes what is kept of each answer that after a Yes to `r` came or was taken back, in at most as
+/// many steps for each answer as there are items. `f` is the family after the change.
 pub fn change_each<I: Interior, L: Ledger>(
     kept: &mut [StandingNo],
     f: &I,
@@ -313,7 +315,7 @@ pub fn change_each<I: Interior, L: Ledger>(
         kept.old ≡ map (standing n before) nos →
         kept.new ≡ map (standing n (I.members f.now)) nos }
     ensures kept { list_all (is_kept (I.item_count f.now)) kept.new ≡ true }
-    ensures cost { steps.new ≤ steps.old + (I.item_count f.now + 1) * length kept.old }
+    ensures cost { steps.new ≤ steps.old + I.item_count f.now * length kept.old }
 {
     for s in kept.iter_mut() {
         *s = s.after(f, change, r, steps);

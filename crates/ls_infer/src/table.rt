@@ -129,7 +129,7 @@ impl Table {
             self.new.table ≡ table_of self.old.table.blocks (I.members f.now) nos }
         ensures cost { steps.new ≤ steps.old
             + (count_by (λ c. is_within r.now.a c) self.old.table.closures
-            + (self.old.table.blocks.item_count + 1) * length self.old.table.standing) }
+            + self.old.table.blocks.item_count * length self.old.table.standing) }
         ensures blocks { self.new.table.blocks ≡ self.old.table.blocks }
     {
         close_again(&mut self.closures, self.blocks, f, change, r, steps);
@@ -170,6 +170,10 @@ impl Table {
             + (self.old.table.blocks.item_count + 1) * length self.old.table.standing) }
         ensures blocks { self.new.table.blocks ≡ self.old.table.blocks }
     {
+        // Where the other answers still give the Yes, the family is the same without it.
+        if !self.standing.is_empty() && closure(f, r.a, steps).has(r.q) {
+            return;
+        }
         self.change(f, YesChange::Removed, r, steps);
     }
 

@@ -2,7 +2,7 @@ use Rattle.std.proofs.Common.{◌≡◌, ◌≤◌, ◌+◌, sym, ap, ◌∙◌,
 use Rattle.ls_set.specs.ItemSet.{full, with, minus, len}
 use Rattle.ls_infer.proofs.Kept.{with-within}
 use Rattle.ls_infer.proofs.Outside.{with-here}
-use Rattle.ls_infer.proofs.States.{enough-all, with-itself, among-others, others-within, others-few}
+use Rattle.ls_infer.proofs.States.{enough-all, with-itself, among-others, others-within, others-few, others-fewer}
 use Rattle.ls_infer.proofs.enough.enough_between.Goals as goal
 
 pub returns-then-has-clause-value : goal.returns-then-has-clause-value
@@ -28,4 +28,11 @@ pub returns-clause-cost : goal.returns-clause-cost
 returns-clause-cost g c =
     let n = g.I.Interior.item_count c.args.f.now in
     let few : len c.minus-others.result + 1 ≤ n = rw (c.minus-others.ensures, c.minus.ensures, c.with-known.ensures) (others-few n c.args.among (with c.args.known c.args.q) c.args.closed c.args.q c.requires.among c.requires.item (with-here c.args.known c.args.q)) in
+    omega (arith, few, c.enough_among.ensures.cost)
+
+pub returns-clause-fewer : goal.returns-clause-fewer
+returns-clause-fewer g c i here l more =
+    let n = g.I.Interior.item_count c.args.f.now in
+    let few : len c.minus-others.result + 2 ≤ n = rw (c.minus-others.ensures, c.minus.ensures, c.with-known.ensures)
+    (others-fewer n c.args.among (with c.args.known c.args.q) c.args.closed c.args.q i c.requires.among c.requires.item (with-here c.args.known c.args.q) (sym c.has.ensures ∙ c.if-has.false) here l) in
     omega (arith, few, c.enough_among.ensures.cost)

@@ -14,5 +14,5 @@ invariant-loop-s g l = record {
   made : (before : List Items) (nos : List No) → IsChange l.change (g.I.Interior.item_count l.f) l.r before (g.I.Interior.members l.f)
       → l.initial.kept ≡ map (standing (g.I.Interior.item_count l.f) before) nos
       → l.kept ≡ images (standing (g.I.Interior.item_count l.f) (g.I.Interior.members l.f)) (standing (g.I.Interior.item_count l.f) before) nos l.s-index;
-  cost : l.steps ≤ l.fn.steps + (g.I.Interior.item_count l.f + 1) * l.s-index;
+  cost : l.steps ≤ l.fn.steps + g.I.Interior.item_count l.f * l.s-index;
 }

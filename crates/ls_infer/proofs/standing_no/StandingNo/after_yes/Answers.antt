@@ -1,9 +1,12 @@
-use Rattle.std.proofs.Common.{◌≡◌, ◌&&◌, not, false, sym, ap, ap₂, ◌∙◌}
+use Rattle.std.proofs.Common.{◌≡◌, ◌&&◌, not, true, false, sym, ap, ap₂, ◌∙◌, arith}
 use Rattle.std.specs.Option.{is_some}
-use Rattle.ls_set.specs.ItemSet.{full, least, IsWithin}
-use Rattle.ls_set.proofs.Sets.{minus-within}
+use Rattle.ls_set.specs.ItemSet.{full, has, least, IsWithin}
+use Rattle.ls_set.proofs.Sets.{minus-within, IsWithin-from}
 use Rattle.ls_theory.specs.Families.{closure}
 use Rattle.ls_theory.specs.Queries.{breaks}
+use Rattle.ls_laws.proofs.Breaks.{good-from}
+use Rattle.ls_laws.proofs.ClosureChanges.{closure_holds}
+use Rattle.ls_infer.proofs.States.{good-item}
 use Rattle.ls_infer.proofs.Standing.{some-item, kept-parts, kept-again, after-closed, after-met, after-again, after-lack, after-known, after-state, after-no_state}
 use Rattle.ls_infer.proofs.standing_no.StandingNo.after_yes.Goals as goal
 use Rattle.ls_infer.proofs.standing_no.StandingNo.after_yes.Goals.{then-has_all, else-has_all, else-self-via-then-self+else-not-breaks, else-self-via-else-self}
@@ -65,3 +68,18 @@ returns-clause-value g c = λ before change e.
       | else-self-via-else-self w ↦ ap (λ b. b && not (breaks s.enough r)) w.if-self.false
     ] in
     c.with_closed.ensures.value made (after-known n before after r s closed change e made) (after-no_state n before after r s change e none)
+
+pub returns-clause-cost : goal.returns-clause-cost
+returns-clause-cost g c =
+    let n = g.I.Interior.item_count c.args.f.now in
+    let after = g.I.Interior.members c.args.f.now in
+    let s = c.args.self.now in
+    let item = good-item n c.args.r.now (good-from n c.args.r.now c.requires.good) in
+    elim c.if-has_all.branch [
+      | then-has_all w ↦
+          let old : has s.closed item.0 ≡ true = IsWithin-from c.args.r.now.a s.closed (sym c.is_within-has_all.ensures ∙ w.if-has_all.true) item.0 item.1 in
+          let here : has c.if-has_all.closed item.0 ≡ true = rw (w.closed-is, w.closure-closed.ensures.value) (closure_holds (full n) after s.closed (kept-parts n s c.requires.kept).closed item.0 old) in
+          let fewer = c.with_closed.ensures.fewer item.0 here item.2 in
+          omega (arith, w.steps-is, w.closure-closed.ensures.cost, fewer)
+      | else-has_all w ↦ omega (arith, w.steps-is, c.with_closed.ensures.cost)
+    ]

@@ -1,9 +1,11 @@
-use Rattle.std.proofs.Common.{◌≡◌, sym, refl, ◌∙◌}
-use Rattle.ls_set.specs.ItemSet.{full, is_among, IsWithin}
+use Rattle.std.proofs.Common.{◌≡◌, true, sym, refl, ◌∙◌, arith}
+use Rattle.ls_set.specs.ItemSet.{full, has, is_among, IsWithin}
 use Rattle.ls_set.proofs.Sets.{minus-within, empty-within, IsWithin-from}
 use Rattle.ls_theory.specs.Families.{closure}
+use Rattle.ls_laws.proofs.ClosureChanges.{closure_holds}
 use Rattle.ls_laws.proofs.Families.{family_sets}
 use Rattle.ls_infer.proofs.Outside.{outside-member}
+use Rattle.ls_infer.proofs.States.{good-item, good-several}
 use Rattle.ls_infer.proofs.Standing.{kept-parts, kept-again, before-closed, before-lack, before-among, before-state, standing-from}
 use Rattle.ls_infer.proofs.standing_no.StandingNo.before_yes.Goals as goal
 use Rattle.ls_infer.proofs.standing_no.StandingNo.before_yes.Goals.{then-has_all, else-has_all}
@@ -81,3 +83,18 @@ returns-clause-kept g c =
       | else-has_all w ↦ rw w.closed-is k.closed
     ] in
     rw c.of.ensures.value (kept-again n s c.if-has_all.closed c.enough_between-enough.result (is_among f c.enough_between-enough.result) c.requires.kept within c.enough_between-enough.ensures.within)
+
+pub returns-clause-cost : goal.returns-clause-cost
+returns-clause-cost g c =
+    let n = g.I.Interior.item_count c.args.f.now in
+    let after = g.I.Interior.members c.args.f.now in
+    let a = c.args.self.now.no.query.a in
+    let good = (kept-parts n c.args.self.now c.requires.kept).good in
+    let item = good-item n c.args.self.now.no.query good in
+    elim c.if-has_all.branch [
+      | then-has_all w ↦
+          let here : has c.if-has_all.closed item.0 ≡ true = rw (w.closed-is, w.closure-closed.ensures.value) (closure_holds (full n) after a good.small item.0 item.1) in
+          let fewer = c.enough_between-enough.ensures.fewer item.0 here item.2 (good-several n c.args.self.now.no.query good) in
+          omega (arith, w.steps-is, w.closure-closed.ensures.cost, fewer, c.of.ensures.cost)
+      | else-has_all w ↦ omega (arith, w.steps-is, c.enough_between-enough.ensures.cost, c.of.ensures.cost)
+    ]

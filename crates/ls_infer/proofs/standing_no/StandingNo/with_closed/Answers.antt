@@ -1,10 +1,10 @@
-use Rattle.std.proofs.Common.{◌≡◌, false, ◌∙◌, ap, refl, sym}
+use Rattle.std.proofs.Common.{◌≡◌, false, ◌∙◌, ap, refl, sym, arith}
 use Rattle.ls_set.specs.ItemSet.{full, is_among}
 use Rattle.ls_set.proofs.Sets.{IsWithin-from, same_within}
 use Rattle.ls_laws.proofs.Families.{family_sets}
 use Rattle.ls_infer.specs.Tables.{enough_for}
 use Rattle.ls_infer.proofs.Outside.{outside-member}
-use Rattle.ls_infer.proofs.States.{enough-within}
+use Rattle.ls_infer.proofs.States.{enough-within, good-several}
 use Rattle.ls_infer.proofs.Standing.{kept-parts, kept-again, standing-from}
 use Rattle.ls_infer.proofs.standing_no.StandingNo.with_closed.Goals as goal
 
@@ -51,3 +51,13 @@ returns-clause-kept g c =
     let n = g.I.Interior.item_count c.args.f.now in
     rw c.of.ensures.value (kept-again n c.args.self.now c.args.closed c.enough_between-enough.result (is_among (g.I.Interior.members c.args.f.now) c.enough_between-enough.result) c.requires.kept c.requires.within
     c.enough_between-enough.ensures.within)
+
+pub returns-then-is_within-clause-fewer : goal.returns-then-is_within-clause-fewer
+returns-then-is_within-clause-fewer g c i here l =
+    let fewer = c.enough_between-enough.ensures.fewer i here l (good-several _ _ (kept-parts _ c.args.self.now c.requires.kept).good) in
+    omega arith
+
+pub returns-clause-fewer : goal.returns-clause-fewer
+returns-clause-fewer g c i here l =
+    let fewer = c.enough_between-enough.ensures.fewer i here l (good-several _ _ (kept-parts _ c.args.self.now c.requires.kept).good) in
+    omega (arith, c.of.ensures.cost)
