@@ -234,10 +234,10 @@ impl Inquiry {
         ensures value { result ≡ next_question self.now (option_map (λ r. r.now) after.entry) }
         ensures good { IfSome result (λ r. is_good self.now.count r ≡ true) }
     {
-        let from = self.place_for(after)?;
         if after.is_none() && self.is_found {
-            return Some(from);
+            return self.from;
         }
+        let from = self.place_for(after)?;
         self.table.find_open(&self.family, self.blocks, &from)
     }
 

@@ -113,3 +113,10 @@ returns-clause-standing g c =
     let at = (goal.at.returns-clause-standing g c).After-each_no_broken in
     rw (ap (λ (f : RuledState StartOn). f.inner) c.family.view_is ∙ inner g at, c.in_ok-from_slice.ensures.items)
     (c.can_stand.ensures.enough (start_of c.args.start) c.args.k c.if-not-can_stand.false ((decides g at).0 c.if-not-each_no_broken.false))
+
+pub each_no_broken-requires : goal.each_no_broken-requires
+each_no_broken-requires g c =
+    let items = ap (λ (f : RuledState StartOn). f.inner.item_count) c.new-3.ensures ∙ ap (λ (s : StartOn). s.item_count) c.in_ok-family.ensures.inner ∙ c.new-2.ensures.items in
+    let told : list_all (λ (a : Answer). is_good c.new-3.result.inner.item_count a.query) c.args.answers.now ≡ true =
+    ap (λ (m : ℕ). list_all (λ (a : Answer). is_good m a.query) c.args.answers.now) items ∙ c.can_stand.ensures.good c.if-not-can_stand.false in
+    told

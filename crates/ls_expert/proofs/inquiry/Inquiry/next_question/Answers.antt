@@ -1,6 +1,7 @@
 use Rattle.std.proofs.Common.{sym, ap, ◌∙◌, IfSome, subst, Option, Some, None, ◌≡◌, true}
 use Rattle.std.specs.Option.{option_map}
 use Rattle.ls_lists.specs.Lists.{IsIn}
+use Rattle.ls_lists.proofs.Options.{nothing}
 use Rattle.ls_set.specs.Query.{is_good}
 use Rattle.ls_set.specs.declared.query.Query.{Query}
 use Rattle.ls_theory.specs.Interviews.{Interview}
@@ -42,3 +43,11 @@ pub returns-clause-good : goal.returns-clause-good
 returns-clause-good c =
     let i = c.args.self.now in
     subst (λ (o : Option Query). IfSome o (λ r. is_good i.count r ≡ true)) (sym (returns-clause-value c)) (question-good i (option_map (λ r. r.now) c.args.after))
+
+pub returns-then-self-clause-value : goal.returns-then-self-clause-value
+returns-then-self-clause-value c = rw (nothing c.args.after c.if-is_none.ensures) (c.self.invariant.found c.if-self.true ∙ ap (λ (j : Interview). next_question j None) c.self.view_is)
+
+pub returns-then-self-clause-good : goal.returns-then-self-clause-good
+returns-then-self-clause-good c =
+    let i = c.args.self.now in
+    subst (λ (o : Option Query). IfSome o (λ r. is_good i.count r ≡ true)) (sym (returns-then-self-clause-value c)) (question-good i (option_map (λ r. r.now) c.args.after))

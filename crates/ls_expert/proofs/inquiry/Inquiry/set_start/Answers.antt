@@ -19,7 +19,7 @@ invariant_of-self g c =
     let is_start : IsStart s.item_count t = subst (λ (j : Interview). IsStart j.count t) (sym c.self.view_is) c.requires.is_start in
     let tabled =
     tabled-by (record i { start = t }) c.new-family.result.inner.item_count c.new-family.result.inner.start rules c.deref.result.now c.in_ok-table.table.table c.in_ok-table.ensures
-      (ap (λ (x : StartOn). x.item_count) inner) (ap (λ (x : StartOn). x.start) inner)
+    (ap (λ (x : StartOn). x.item_count) inner) (ap (λ (x : StartOn). x.start) inner)
     (c.new-family.ensures.rules ∙ sym (ap yes_queries none)) c.deref.ensures.value in
     let held = held-start i t c.self.inside.family.rules rules c.self.inside.table.table c.in_ok-table.table.table c.self.invariant.held none is_start c.new-family.ensures.rules tabled in
     rw inner (asking (record i { start = t }) c.self.inside.blocks rules c.in_ok-table.table.table c.next_query-self-inside.result held c.self.invariant.asked c.self.invariant.some_sizes c.next_query-self-inside.ensures)
