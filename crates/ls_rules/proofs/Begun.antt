@@ -1,14 +1,14 @@
 -- The first round: looking at the rules whose sets A begin outside a set.
-use Rattle.std.proofs.Common.{ℕ, ◌≡◌, inl, inr, true, false, Option, List, [], ◌∷◌, map, filter, fold, None, Some, refl, sym, ap, ◌∙◌, subst, arith, true≢false, ◌&&◌}
+use Rattle.std.proofs.Common.{ℕ, ◌≡◌, inl, inr, true, false, Option, List, [], ◌∷◌, map, filter, fold, None, Some, refl, sym, ap, ap₂, ◌∙◌, subst, arith, true≢false, ◌&&◌}
 use Rattle.std.specs.Option.{option_map_or}
 use Rattle.std.specs.List.{AllByRecursion, list_all}
 use Rattle.std.proofs.lemmas.Bool.{cases_Bool, cases_eq, and_from, false_from_ne_true}
 use Rattle.ls_lists.proofs.Every.{list_all-All, All-kept, each}
-use Rattle.ls_set.specs.ItemSet.{Items, has, empty, meet, minus, single, with, without, is_same, least, IsWithin}
+use Rattle.ls_set.specs.ItemSet.{Items, has, empty, union, meet, minus, single, with, without, is_same, is_within, least, IsWithin}
 use Rattle.ls_set.specs.Query.{is_good}
 use Rattle.ls_set.specs.declared.query.Query.{Query}
 use Rattle.std.proofs.lemmas.Bool.Decides.{nat_tests}
-use Rattle.ls_set.proofs.Sets.{members, has-empty, has-meet, same_within, Decides-is_same, and-false}
+use Rattle.ls_set.proofs.Sets.{members, has-empty, has-meet, same_set, same_within, Decides-is_same, IsWithin-from, and-false}
 use Rattle.ls_set.proofs.Ascending.{least-cases}
 use Rattle.ls_set.proofs.Order.{Each-both}
 use Rattle.ls_theory.specs.Queries.{breaks, breaks_none}
@@ -18,7 +18,7 @@ use Rattle.ls_rules.proofs.Alone.{first_of-is, several-is, asked-has, asked-out}
 use Rattle.ls_rules.specs.Parts.{first_of, several}
 use Rattle.ls_rules.specs.Sets.{set_at}
 use Rattle.ls_rules.specs.Heads.{has_head, IsHeaded}
-use Rattle.ls_rules.specs.Singles.{asked_alone, AreSingles}
+use Rattle.ls_rules.specs.Singles.{asked_alone, AreSingles, CoversSets}
 use Rattle.ls_rules.specs.Waking.{look, look_at, lose_all, IsAwake, Settling}
 use Rattle.ls_rules.specs.declared.round.Round.{Round}
 use Rattle.ls_rules.proofs.Rounds.{After, After-more, After-lose, After-looks, looks-keep, looks-break_at, none_of_part, meets_rule, no_item, no_least, kept, turned, look-unbroken}
@@ -54,6 +54,20 @@ Started-first rules singles firsts k lost a h all no_other =
           true≢false (sym x ∙ asked-out rules t from.0 j u out (ap (λ m. has m j) (sym (a from.0)) ∙ from.2))) in
           grind (arith, members, nat_tests);
     }
+
+lose-none : (k : Items) → lose_all (begun k) empty ≡ begun k
+lose-none k =
+    let all = same_set (minus k empty) k (λ j. grind (arith, members, nat_tests)) in
+    let none = same_set (union empty (meet k empty)) empty (λ j. grind (arith, members, nat_tests)) in
+    ap₂ (λ (x y : Items). let s : Round = record { kept = x; fallen = y } in s) all none
+
+-- no item outside k takes one with it
+pub Started-none : (rules : List Query) (singles : List Items) (items firsts k : Items) → AreSingles singles rules → AllByRecursion (λ r. IsWithin (first_of (several r.a)) firsts) rules → CoversSets items singles → is_within items k ≡ true
+    → Started rules k (minus firsts k) (begun k)
+Started-none rules singles items firsts k a h covers w =
+    let outside = λ (i : ℕ) (o : has k i ≡ false). covers i (false_from_ne_true (has items i) (λ y. true≢false (sym (IsWithin-from items k w i y) ∙ o))) in
+    subst (λ (s : Round). Started rules k (minus firsts k) s) (lose-none k)
+    (Started-first rules singles firsts k empty a h (λ i j o x. absurd (true≢false (sym x ∙ ap (λ s. has s j) (outside i o) ∙ has-empty j))) (λ j x. absurd (true≢false (sym x ∙ has-empty j))))
 
 pub Started-more : (rules : List Query) (k left : Items) (s : Round) (i : ℕ) → Started rules k left s → Started rules k (without left i) (fold look s (filter (λ r. has (first_of (several r.a)) i) rules))
 Started-more rules k left s i a =

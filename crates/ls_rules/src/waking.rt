@@ -143,7 +143,9 @@ pub fn begin(
         kept: set,
         fallen: ItemSet::empty(),
     };
-    round.lose_all(lost_outside(singles, set));
+    if !singles.items().is_within(set) {
+        round.lose_all(lost_outside(singles, set));
+    }
     while let Some(i) = left.least() {
         left = left.without(i);
         look_from(rules, starts, heads, i, &mut round);

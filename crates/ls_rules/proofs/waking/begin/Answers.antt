@@ -3,15 +3,24 @@ use Rattle.ls_rules.specs.Places.{places_at}
 use Rattle.ls_rules.specs.Parts.{first_of, several}
 use Rattle.ls_rules.proofs.Indexing.{covered, small_items}
 use Rattle.ls_rules.proofs.Rounds.{turned, len-without_least}
-use Rattle.ls_rules.proofs.Begun.{Started-first, Started-more, Started-done, whole}
+use Rattle.ls_rules.proofs.Begun.{Started-first, Started-none, Started-more, Started-done, whole}
 use Rattle.ls_rules.proofs.waking.begin.Goals as goal
+use Rattle.ls_rules.proofs.waking.begin.Goals.{then-not-is_within, else-not-is_within}
 
 pub loop-i-init : goal.loop-i-init
 loop-i-init c =
     let rules = c.args.rules.now in
     let firsts = covered c.items.result rules (λ r. first_of (several r.a)) c.args.starts.now c.requires.starts c.items.ensures in
-    rw (c.minus-left.ensures, c.lose_all.ensures, c.empty.ensures)
-    (Started-first rules c.args.singles.now c.items.result c.args.set c.lost_outside.result c.requires.singles firsts c.lost_outside.ensures.all c.lost_outside.ensures.no_other)
+    let singles = c.args.singles.now in
+    let set = c.args.set in
+    elim c.if-not-is_within.branch [
+      | then-not-is_within w ↦
+          rw (c.minus-left.ensures, w.round-is, w.lose_all.ensures, c.empty.ensures)
+          (Started-first rules singles c.items.result set w.lost_outside.result c.requires.singles firsts w.lost_outside.ensures.all w.lost_outside.ensures.no_other)
+      | else-not-is_within w ↦
+          rw (c.minus-left.ensures, w.round-is, c.empty.ensures)
+          (Started-none rules singles c.items-2.result c.items.result set c.requires.singles firsts c.items-2.ensures (sym c.is_within.ensures ∙ w.if-not-is_within.false))
+    ]
 
 pub look_from-requires-clause-items : goal.look_from-requires-clause-items
 look_from-requires-clause-items c = small_items c.args.n c.args.rules.now c.requires.few c.requires.good

@@ -7,7 +7,7 @@ use Rattle.ls_rules.proofs.singles.Singles.push.Goals as goal
 pub invariant_of-self : goal.invariant_of-self
 invariant_of-self c =
     let room = rw (← c.self.view_is) at c.requires.room c.in-Some.i c.in-Some.ensures.one in
-    rw (c.with-self-inside.ensures, c.put.ensures) (CoversSets-put c.self.inside.items c.self.inside.sets c.in-Some.i c.with-items.result room c.self.invariant)
+    rw (c.with-self-inside.ensures, c.put.ensures) (CoversSets-put c.self.inside.items c.self.inside.sets c.in-Some.i _ room c.self.invariant)
 
 pub returns-in-Some-clause-sets : goal.returns-in-Some-clause-sets
 returns-in-Some-clause-sets c =

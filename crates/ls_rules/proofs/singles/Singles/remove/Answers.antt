@@ -9,7 +9,7 @@ asked_alone-requires-clause-items c = small_items c.args.n c.args.left.now c.req
 pub invariant_of-self : goal.invariant_of-self
 invariant_of-self c =
     let room = rw (← c.self.view_is) at c.requires.room c.in-Some.i c.in-Some.ensures.one in
-    rw (c.with-self-inside.ensures, c.put.ensures) (CoversSets-put c.self.inside.items c.self.inside.sets c.in-Some.i c.asked_alone.result room c.self.invariant)
+    rw (c.with-self-inside.ensures, c.put.ensures) (CoversSets-put c.self.inside.items c.self.inside.sets c.in-Some.i _ room c.self.invariant)
 
 pub returns-in-Some-clause-sets : goal.returns-in-Some-clause-sets
 returns-in-Some-clause-sets c =
