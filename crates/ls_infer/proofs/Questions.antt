@@ -54,13 +54,6 @@ open-told i b r sound count here =
     ap (λ s. not (has s r.q) && not (list_any (forces r) (map (standing b.item_count f) (nos i.answers)))) (closed_of-table b f (nos i.answers) place.0 r.a place.1)
     ∙ open-by i b.item_count r sound count (good-to b.item_count r d.0)
 
--- and where its item is among those for which queries of its set are open
-pub opened : (i : Interview) (t : TableState) (r : Query) → IsSound i → i.count ≡ t.blocks.item_count → t ≡ table_of t.blocks (compatible_sets i) (nos i.answers) → IsIn r (queries_of t.blocks)
-    → (is_good t.blocks.item_count r && is_open_in t r) ≡ is_open (spaces_of i) r
-opened i t r sound count table here =
-    ap (λ b. b && is_open_in t r) (good-to t.blocks.item_count r (queries-in t.blocks.item_count t.blocks.largest r here).0)
-    ∙ ap (λ u. is_open_in u r) table ∙ open-told i t.blocks r sound count here
-
 pub next-told : (i : Interview) (t : TableState) (last : Option Query) → IsSound i → i.count ≡ t.blocks.item_count → i.block ≡ t.blocks.largest
     → t ≡ table_of t.blocks (compatible_sets i) (nos i.answers)
     → find (is_open_in t) (filter (comes_after query_before last) (queries_of t.blocks)) ≡ next_question i last

@@ -8,10 +8,8 @@ ghost use Rattle.ls_theory.specs.Queries.{block_before, query_before};
 ghost use Rattle.ls_theory.specs.Families.{closure};
 ghost use Rattle.ls_theory.specs.Interviews.{Interview, nos};
 ghost use Rattle.ls_theory.specs.Compatible.{compatible_sets};
-ghost use Rattle.ls_theory.specs.Fitting.{spaces_of};
-ghost use Rattle.ls_theory.specs.Forced.{is_open, known, next_question};
+ghost use Rattle.ls_theory.specs.Forced.{known, next_question};
 ghost use Rattle.ls_theory.specs.Pages.{comes_after};
-ghost use Rattle.ls_lists.specs.Lists.{IsIn};
 ghost use Rattle.ls_laws.specs.Spans.{left_by};
 ghost use Rattle.ls_laws.specs.Families.{IsFamily};
 ghost use Rattle.ls_laws.specs.Forced.{IsSound, IsNumbered};
@@ -276,23 +274,6 @@ impl Table {
         }
         let a = walk.set();
         unforced(&self.standing, hint, a, undecided.minus(a))
-    }
-
-    /// Whether the good query, which is of the blocks, is open. It takes no memory and no step.
-    pub fn is_open(&self, r: &Query) -> bool
-        requires { is_good self.now.table.blocks.item_count r.now ≡ true }
-        ensures { (i : Interview) → IsSound i → i.count ≡ self.now.table.blocks.item_count →
-            self.now.table ≡ table_of self.now.table.blocks (compatible_sets i) (nos i.answers) →
-            IsIn r.now (queries_of self.now.table.blocks) →
-            result ≡ is_open (spaces_of i) r.now }
-    {
-        match self.blocks.place_of(r.a) {
-            Some(place) => {
-                let walk = self.blocks.walk_from(r.a);
-                self.open_items(place, &walk, &mut 0).has(r.q)
-            }
-            None => false,
-        }
     }
 
     // The first open query from the place on, where the walk has come to the set before it.

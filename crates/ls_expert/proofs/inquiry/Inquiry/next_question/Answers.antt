@@ -9,7 +9,6 @@ use Rattle.ls_theory.specs.Compatible.{compat}
 use Rattle.ls_theory.specs.Blocks.{BlockRange}
 use Rattle.ls_theory.specs.Forced.{next_question}
 use Rattle.ls_query.specs.Blocks.{queries_of}
-use Rattle.ls_infer.specs.Tables.{TableState}
 use Rattle.ls_expert.specs.Held.{interview_of, PlaceFor}
 use Rattle.ls_expert.proofs.Asking.{place-in, place-none, place-some}
 use Rattle.ls_expert.proofs.Ruling.{own_blocks, ruled-compat, question-good}

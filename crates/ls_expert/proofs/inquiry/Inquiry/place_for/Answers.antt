@@ -1,4 +1,4 @@
-use Rattle.std.proofs.Common.{ap, ◌∙◌, ◌≡◌, subst, find, refl, Some, None}
+use Rattle.std.proofs.Common.{◌∙◌, ◌≡◌, subst, find, refl, Some, None}
 use Rattle.ls_theory.specs.Interviews.{Interview}
 use Rattle.ls_theory.specs.Queries.{query_before}
 use Rattle.ls_theory.specs.Blocks.{BlockRange}
