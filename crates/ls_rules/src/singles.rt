@@ -1,6 +1,6 @@
 // For each item, the items of the rules whose set A is that item alone.
-ghost use Rattle.std.specs.Prelude.{◌≡◌, ℕ, ◌<◌, ◌≤◌, [], true, false, None, if◌then◌else◌, length};
-ghost use Rattle.std.specs.Prelude.{All, OnOk, IfSome};
+ghost use Rattle.std.specs.Prelude.{◌≡◌, ℕ, ◌<◌, ◌≤◌, [], true, false, None, if◌then◌else◌};
+ghost use Rattle.std.specs.Prelude.{length, All, OnOk, IfSome};
 ghost use Rattle.std.specs.List.{list_all};
 ghost use Rattle.ls_set.specs.ItemSet.{has, single, with, is_same};
 ghost use Rattle.ls_set.specs.Query.{is_good};
