@@ -1,15 +1,13 @@
 // Reading a line by the table of forms.
-ghost use Rattle.std.specs.Prelude.{◌≡◌, ◌≤◌, ◌+◌, ℕ, All, IfOk, IfSome, IsErrOf, None, Some, length, is_some, take};
-ghost use Rattle.std.specs.List.{find};
+ghost use Rattle.std.specs.Prelude.{◌≡◌, ◌<◌, ◌≤◌, ◌+◌, ℕ, All, IfOk, IfSome, IsErrOf, None, Some, length, take};
 ghost use Rattle.std.specs.Str.{IsAscii};
 ghost use Rattle.ls_lines.specs.Lines.{words, longest_line};
-ghost use Rattle.ls_lines.specs.Forms.{parts, forms};
-ghost use Rattle.ls_lines.specs.Commands.{fits, front, cut, command_of, fault_place};
-ghost use Rattle.ls_lines.specs.Reading.{begun_length};
+ghost use Rattle.ls_lines.specs.Commands.{fits, front, command_of, fault_place};
+ghost use Rattle.ls_lines.specs.Reading.{initial, begun_length};
 
 use crate::cut::Cut;
 use crate::token::{Token, tokens};
-use crate::{Command, FORMS, Form, LineFault, Part};
+use crate::{Command, Form, LineFault, Part};
 use std::alloc::{AllocError, Global};
 
 /// The command that a line is. The line has no line feed, and at most as many bytes as are read.
@@ -42,45 +40,34 @@ fn command_of(alloc: Global, words: &[Token]) -> Result<Option<Command>, AllocEr
 // caller, so that a line of no words needs no large frame.
 #[inline(never)]
 fn command_by_form(alloc: Global, words: &[Token]) -> Result<Option<Command>, AllocError>
+    requires { 0 < length words.now }
     ensures { IfOk result (λ read. read ≡ command_of words.now) }
 {
-    let Some(form) = form_with_line(words) else {
-        return Ok(None);
-    };
-    let cut = Cut::new(alloc, form.parts(), words)?;
-    Ok(Some(form.command(&cut)?))
-}
-
-// The first form that has the words as a line.
-fn form_with_line(words: &[Token]) -> Option<Form>
-    ensures { result ≡ find (λ f. is_some (cut (parts f) words.now)) forms }
-{
-    FORMS
-        .iter()
-        .find(|form| is_line(form.parts(), words))
-        .copied()
-}
-
-// Whether the words are a line of the form.
-fn is_line(form: &[Part], words: &[Token]) -> bool
-    ensures { result ≡ is_some (cut form.now words.now) }
-{
-    let mut start = 0;
-    for part in form {
-        let Some(count) = front(*part, &words[start..]) else {
-            return false;
-        };
-        start += count;
+    let forms = Form::with_initial(initial(words));
+    for form in forms {
+        if let Some(cut) = Cut::new(alloc, form.parts(), words) {
+            return Ok(Some(form.command(&cut)?));
+        }
     }
-    start == words.len()
+    Ok(None)
 }
 
-// The place of a fault, in one pass for each form.
+// The first byte of the first word.
+fn initial(words: &[Token]) -> u8
+    ensures { result ≡ initial words.now }
+{
+    match words {
+        [] => 0,
+        [word, ..] => word.as_bytes().first().copied().unwrap_or(0),
+    }
+}
+
+// The place of a fault, in one pass for each form that its first word may begin.
 fn fault_place(words: &[Token]) -> usize
     ensures place { result ≡ fault_place words.now }
     ensures within { result ≤ length words.now + 1 }
 {
-    let begun = FORMS
+    let begun = Form::with_initial(initial(words))
         .iter()
         .map(|form| begun_length(form.parts(), words))
         .max()

@@ -1,16 +1,14 @@
-use Rattle.std.proofs.Common.{◌∙◌, ap, sym, Some}
-use Rattle.ls_lists.proofs.Finds.{found-passes}
-use Rattle.ls_lines.specs.Forms.{forms}
-use Rattle.ls_lines.proofs.Choosing.{has_line, command_of-form, command_of-none}
+use Rattle.std.proofs.Common.{◌∙◌, sym}
+use Rattle.ls_lines.proofs.Initials.{reading_starts, form_fails, few_parts}
 use Rattle.ls_lines.proofs.reading.command_by_form.Goals as goal
 
-pub returns-in_default : goal.returns-in_default
-returns-in_default c = sym (command_of-none c.args.words.now (sym c.in_default.ensures))
+pub loop-form-init : goal.loop-form-init
+loop-form-init c = record { value = rw (c.with_initial-forms.ensures, c.initial.ensures) (reading_starts c.args.words.now c.requires) }
 
 pub new-requires : goal.new-requires
-new-requires c = rw c.parts.ensures (found-passes (has_line c.args.words.now) forms c.in-Some.form (sym c.in-Some.ensures))
+new-requires c = rw c.parts.ensures (few_parts _)
 
-pub returns : goal.returns
-returns c =
-    let read = command_of-form c.args.words.now c.in-Some.form _ (sym c.in-Some.ensures) (rw c.parts.ensures at c.in_ok-cut.ensures.words) in
-    ap Some c.in_ok-command.ensures ∙ sym read
+pub loop-form-preserved : goal.loop-form-preserved
+loop-form-preserved c =
+    let none = rw c.parts.ensures at c.in_default.ensures.words in
+    record { value = form_fails c.with_initial-forms.result.now c.loop-form.form-index _ c.args.words.now c.loop-form-test.true (sym none) ∙ c.loop-form.invariant.value }
