@@ -1,9 +1,9 @@
 use Rattle.std.proofs.Common.{◌∙◌, sym}
 use Rattle.ls_lines.proofs.Initials.{reading_starts, form_fails, few_parts}
-use Rattle.ls_lines.proofs.reading.command_by_form.Goals as goal
+use Rattle.ls_lines.proofs.reading.read_words.Goals as goal
 
 pub loop-form-init : goal.loop-form-init
-loop-form-init c = record { value = rw (c.with_initial-forms.ensures, c.initial.ensures) (reading_starts c.args.words.now c.requires) }
+loop-form-init c = record { value = rw (c.with_initial-forms.ensures, c.initial.ensures) (reading_starts c.args.words.now c.requires.some) }
 
 pub new-requires : goal.new-requires
 new-requires c = rw c.parts.ensures (few_parts _)
