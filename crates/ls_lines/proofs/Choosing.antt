@@ -14,7 +14,7 @@ abbrev pub has_line : List Text → Form → Bool
 has_line ws f = is_some (cut (parts f) ws)
 
 -- the commands that the words are by the forms
-abbrev readings : List Form → List Text → List Command
+abbrev pub readings : List Form → List Text → List Command
 readings fs ws = filter_map (λ f. option_map (command f) (cut (parts f) ws)) fs
 
 first_found : (fs : List Form) (ws : List Text) (f : Form) (given : List (List Text)) → find (has_line ws) fs ≡ Some f → cut (parts f) ws ≡ Some given → slice_get (readings fs ws) 0 ≡ Some (command f given)
@@ -28,21 +28,9 @@ first_found (g ∷ fs) ws f given h k =
           rw (same, given_same) refl
     ] refl h
 
-none_found : (fs : List Form) (ws : List Text) → find (has_line ws) fs ≡ None → slice_get (readings fs ws) 0 ≡ None
-none_found [] ws h = refl
-none_found (g ∷ fs) ws h =
-    elim (cut (parts g) ws) as (λ o. cond (is_some o) (Some g) (find (has_line ws) fs) ≡ None → slice_get (cons_option (option_map (command g) o) (readings fs ws)) 0 ≡ None) [
-      | None ↦ λ e. none_found fs ws e
-      | Some lists ↦ λ e. absurd (none-some g (sym e))
-    ] h
-
 pub command_of-form : (ws : List Text) (f : Form) (given : List (List Text)) → find (has_line ws) forms ≡ Some f → cut (parts f) ws ≡ Some given → command_of ws ≡ Some (command f given)
 unfolding command_of
 command_of-form ws f given h k = first_found forms ws f given h k
-
-pub command_of-none : (ws : List Text) → find (has_line ws) forms ≡ None → command_of ws ≡ None
-unfolding command_of
-command_of-none ws h = none_found forms ws h
 
 -- a form that has the line, and none but which has it, is found
 pub only_found : (fs : List Form) (ws : List Text) (i : ℕ) (f : Form) → slice_get fs i ≡ Some f → has_line ws f ≡ true → ((g : Form) → has_line ws g ≡ true → g ≡ f) → find (has_line ws) fs ≡ Some f

@@ -9,6 +9,7 @@ pub mod Counts
 pub mod Parted
 pub mod Exact
 pub mod Apart
+pub mod Initials
 pub mod Printed
 pub mod Rewords
 pub mod Recut

@@ -5,7 +5,7 @@ use Rattle.std.specs.Option.{option_eq}
 use Rattle.std.proofs.lemmas.List.{append-nil, append_assoc, drop_more, length-append}
 use Rattle.std.proofs.lemmas.List.Edits.{between_more, between_none, length-between}
 use Rattle.std.proofs.lemmas.Bool.Decides.{nat_tests}
-use Rattle.ls_lines.specs.Lines.{Text, is_blank, is_note, parts_words, spaced, runs}
+use Rattle.ls_lines.specs.Lines.{Text, is_blank, is_note, parts_words, spaced, runs, words, without_return}
 
 -- the run as a word, unless it has no byte
 abbrev pub word_of : List ℕ → List Text
@@ -110,3 +110,12 @@ is_note-by_first (b ∷ line) =
       | true ↦ λ e. let next : 1 + prefix_len is_blank line ≡ suc (prefix_len is_blank line) = omega arith in rw (e, next) (is_note-by_first line)
       | false ↦ λ e. rw e refl
     ] refl
+
+-- a note has no words, and those of another line are its runs
+pub words-note : (line : List ℕ) → is_note (without_return line) ≡ true → words line ≡ []
+unfolding words
+words-note line h = rw h refl
+
+pub words-runs : (line : List ℕ) → is_note (without_return line) ≡ false → words line ≡ runs (without_return line)
+unfolding words
+words-runs line h = rw h refl

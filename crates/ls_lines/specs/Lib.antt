@@ -1,4 +1,5 @@
 pub mod Lines
+pub mod WordTexts
 pub mod Numbers
 pub mod Kinds
 pub mod Forms

@@ -1,5 +1,5 @@
 // A line, cut by a form.
-ghost use Rattle.std.specs.Prelude.{◌≡◌, true, All, IfOk, is_some};
+ghost use Rattle.std.specs.Prelude.{◌≡◌, ◌≤◌, All, IfOk, IfSome, length};
 ghost use Rattle.std.specs.Str.{IsAscii};
 ghost use Rattle.ls_lines.specs.Commands.{cut};
 ghost use Rattle.ls_lines.specs.Forms.{all, one, count, number, is_right};
@@ -8,14 +8,19 @@ use crate::number::number_up_to;
 use crate::reading::front;
 use crate::token::Token;
 use crate::{GREATEST_NUMBER, MOST_COUNTED, Part, Word, WordList};
+use arrayvec::ArrayVec;
 use std::alloc::{AllocError, Global};
 use std::marker::Model;
 
-/// The words at each part of a form, which stay in the line; seen as these lists of words.
+/// The most parts that a form has.
+const MOST_PARTS: usize = 6;
+
+/// The words at each part of a form, which stay in the line; seen as these lists of words. It takes
+/// no memory.
 #[derive(Drop)]
 pub(crate) struct Cut<'a> {
     alloc: Global,
-    parts: Vec<&'a [Token<'a>]>,
+    parts: ArrayVec<&'a [Token<'a>], MOST_PARTS>,
 }
 
 impl<'a> Model for Cut<'a> {
@@ -27,24 +32,23 @@ impl<'a> Model for Cut<'a> {
 }
 
 impl<'a> Cut<'a> {
-    // The words at the parts of a form, of which they are a line.
-    pub(crate) fn new(
-        alloc: Global,
-        form: &[Part],
-        words: &'a [Token<'a>],
-    ) -> Result<Cut<'a>, AllocError>
-        requires { is_some (cut form.now words.now) ≡ true }
-        ensures words { IfOk result (λ c. cut form.now words.now ≡ Some c) }
-        ensures ascii { IfOk result (λ c. All (λ ws. All IsAscii ws) c) }
+    // The words at the parts of a form, if they are a line of it.
+    pub(crate) fn new(alloc: Global, form: &[Part], words: &'a [Token<'a>]) -> Option<Cut<'a>>
+        requires { length form.now ≤ MOST_PARTS }
+        ensures words { result ≡ cut form.now words.now }
+        ensures ascii { IfSome result (λ c. All (λ ws. All IsAscii ws) c) }
     {
-        let mut parts = Vec::with_capacity(alloc, form.len())?;
+        let mut parts = ArrayVec::new();
         let mut start = 0;
         for part in form {
-            let end = start + front(*part, &words[start..]).unwrap();
-            parts.push(&words[start..end])?;
+            let end = start + front(*part, &words[start..])?;
+            parts.push(&words[start..end]);
             start = end;
         }
-        Ok(Cut { alloc, parts })
+        if start < words.len() {
+            return None;
+        }
+        Some(Cut { alloc, parts })
     }
 
     // The words at a part.
@@ -88,10 +92,11 @@ impl<'a> Cut<'a> {
     fn at(&self, place: usize) -> &[Token<'a>]
         ensures { result.now ≡ all self.now place }
     {
-        if place >= self.parts.len() {
+        let parts = self.parts.as_slice();
+        if place >= parts.len() {
             return &[];
         }
-        self.parts[place]
+        parts[place]
     }
 
     // The bytes of the one word at a part.

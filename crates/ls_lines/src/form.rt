@@ -1,5 +1,6 @@
 // The forms of commands.
 ghost use Rattle.std.specs.Prelude.{◌≡◌, All, IfOk};
+ghost use Rattle.ls_lines.specs.Reading.{forms_from};
 ghost use Rattle.std.specs.Str.{IsAscii};
 
 use crate::cut::Cut;
@@ -90,6 +91,64 @@ impl Form {
             Form::Listing(form) => form.command(cut),
             Form::Structure(form) => form.command(cut),
             Form::Pupil(form) => form.command(cut),
+        }
+    }
+
+    // The forms of the lines that may begin with a word of this first byte.
+    #[tactic(auto, unfolding(crate::specs::Forms::forms, crate::specs::Forms::parts, crate::specs::Forms::spelling))]
+    pub(crate) fn with_initial(byte: u8) -> &'static [Form]
+        ensures { result.now ≡ forms_from byte }
+    {
+        match byte {
+            b'a' => &[Form::Interview(InterviewForm::Ask)],
+            b'b' => &[
+                Form::Interview(InterviewForm::Blocks),
+                Form::Listing(ListingForm::Base),
+            ],
+            b'c' => &[Form::Pupil(PupilForm::Close), Form::Pupil(PupilForm::Class)],
+            b'f' => &[Form::Structure(StructureForm::Fringes)],
+            b'i' => &[Form::Setting(SettingForm::Items)],
+            b'k' => &[Form::Interview(InterviewForm::Known)],
+            b'l' => &[
+                Form::Setting(SettingForm::LoadItems),
+                Form::Listing(ListingForm::Learning),
+                Form::Pupil(PupilForm::Limits),
+            ],
+            b'n' => &[Form::Interview(InterviewForm::No)],
+            b'o' => &[
+                Form::Setting(SettingForm::Reopen),
+                Form::Pupil(PupilForm::OddsAll),
+                Form::Pupil(PupilForm::OddsItem),
+            ],
+            b'p' => &[
+                Form::Listing(ListingForm::Project),
+                Form::Listing(ListingForm::ProjectAfter),
+                Form::Listing(ListingForm::ProjectBase),
+                Form::Structure(StructureForm::Paths),
+                Form::Structure(StructureForm::PathsAfter),
+                Form::Pupil(PupilForm::Pupil),
+            ],
+            b'q' => &[Form::Pupil(PupilForm::Question)],
+            b'r' => &[
+                Form::Interview(InterviewForm::Retract),
+                Form::Pupil(PupilForm::RatioAll),
+                Form::Pupil(PupilForm::RatioItem),
+                Form::Pupil(PupilForm::Reply),
+                Form::Pupil(PupilForm::Report),
+            ],
+            b's' => &[
+                Form::Setting(SettingForm::StartSurmise),
+                Form::Setting(SettingForm::StartBase),
+                Form::Setting(SettingForm::Save),
+                Form::Listing(ListingForm::States),
+                Form::Listing(ListingForm::StatesUpTo),
+                Form::Listing(ListingForm::StatesAfter),
+                Form::Listing(ListingForm::Surmise),
+                Form::Structure(StructureForm::StateOf),
+            ],
+            b't' => &[Form::Structure(StructureForm::Test)],
+            b'y' => &[Form::Interview(InterviewForm::Yes)],
+            _ => &[],
         }
     }
 }

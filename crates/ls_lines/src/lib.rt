@@ -23,6 +23,7 @@ mod structure_form;
 mod token;
 mod word;
 mod word_list;
+mod word_text;
 
 pub use command::Command;
 pub use cutter::{Cutter, LONGEST_LINE, lines_go_on};

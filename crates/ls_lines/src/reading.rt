@@ -1,16 +1,15 @@
 // Reading a line by the table of forms.
-ghost use Rattle.std.specs.Prelude.{◌≡◌, ◌≤◌, ◌+◌, ℕ, All, IfOk, IfSome, IsErrOf, None, Some, length, is_some, take};
-ghost use Rattle.std.specs.List.{find};
+ghost use Rattle.std.specs.Prelude.{◌≡◌, ◌<◌, ◌≤◌, ◌+◌, ℕ, All, IfOk, IfSome, IsErrOf, None, Some, length, take};
 ghost use Rattle.std.specs.Str.{IsAscii};
-ghost use Rattle.ls_lines.specs.Lines.{words, longest_line};
-ghost use Rattle.ls_lines.specs.Forms.{parts, forms};
-ghost use Rattle.ls_lines.specs.Commands.{fits, front, cut, command_of, fault_place};
-ghost use Rattle.ls_lines.specs.Reading.{begun_length};
+ghost use Rattle.ls_lines.specs.Lines.{words, runs, longest_line};
+ghost use Rattle.ls_lines.specs.Commands.{fits, front, command_of, fault_place};
+ghost use Rattle.ls_lines.specs.Reading.{initial, begun_length};
 
 use crate::cut::Cut;
-use crate::token::{Token, tokens};
-use crate::{Command, FORMS, Form, LineFault, Part};
-use std::alloc::{AllocError, Global};
+use crate::token::{Token, is_note, push_runs, without_return};
+use crate::{Command, Form, LineFault, Part};
+use smallvec::SmallVec;
+use std::alloc::Global;
 
 /// The command that a line is. The line has no line feed, and at most as many bytes as are read.
 pub fn read_command(alloc: Global, line: &[u8]) -> Result<Command, LineFault>
@@ -20,67 +19,67 @@ pub fn read_command(alloc: Global, line: &[u8]) -> Result<Command, LineFault>
         → IsErrOf result (LineFault.Shape place)
         → (command_of (words line.now) ≡ None) × (place ≡ fault_place (words line.now)) }
 {
-    let words = tokens(alloc, line).map_err(LineFault::Memory)?;
-    if let Some(command) = command_of(alloc, &words).map_err(LineFault::Memory)? {
-        return Ok(command);
+    let body = without_return(line);
+    if is_note(body) {
+        return Ok(Command::Nothing);
     }
-    let place = fault_place(&words) as u32;
+    read_runs(alloc, body)
+}
+
+// The command that the words of a line are, which is no note. It is not made part of its caller, so
+// that a note needs no large frame.
+#[inline(never)]
+fn read_runs(alloc: Global, line: &[u8]) -> Result<Command, LineFault>
+    requires { length line.now ≤ longest_line }
+    ensures read { IfOk result (λ c. command_of (runs line.now) ≡ Some c) }
+    ensures shape { (place : ℕ)
+        → IsErrOf result (LineFault.Shape place)
+        → (command_of (runs line.now) ≡ None) × (place ≡ fault_place (runs line.now)) }
+{
+    let mut words = SmallVec::new(alloc);
+    push_runs(&mut words, line).map_err(LineFault::Memory)?;
+    if words.is_empty() {
+        return Ok(Command::Nothing);
+    }
+    read_words(alloc, words.as_slice())
+}
+
+// The command that the words are, by the form of which they are a line.
+#[inline(never)]
+fn read_words<'a>(alloc: Global, words: &'a [Token<'a>]) -> Result<Command, LineFault>
+    requires some { 0 < length words.now }
+    requires few { length words.now ≤ longest_line }
+    ensures read { IfOk result (λ c. command_of words.now ≡ Some c) }
+    ensures shape { (place : ℕ)
+        → IsErrOf result (LineFault.Shape place)
+        → (command_of words.now ≡ None) × (place ≡ fault_place words.now) }
+{
+    let forms = Form::with_initial(initial(words));
+    for form in forms {
+        if let Some(cut) = Cut::new(alloc, form.parts(), words) {
+            return form.command(&cut).map_err(LineFault::Memory);
+        }
+    }
+    let place = fault_place(words) as u32;
     Err(LineFault::Shape { place })
 }
 
-// The command that the words are, if they are one.
-fn command_of(alloc: Global, words: &[Token]) -> Result<Option<Command>, AllocError>
-    ensures { IfOk result (λ read. read ≡ command_of words.now) }
+// The first byte of the first word.
+fn initial(words: &[Token]) -> u8
+    ensures { result ≡ initial words.now }
 {
-    if words.is_empty() {
-        return Ok(Some(Command::Nothing));
+    match words {
+        [] => 0,
+        [word, ..] => word.as_bytes().first().copied().unwrap_or(0),
     }
-    command_by_form(alloc, words)
 }
 
-// The command that the words are, if they are a line of some form. It is not made part of its
-// caller, so that a line of no words needs no large frame.
-#[inline(never)]
-fn command_by_form(alloc: Global, words: &[Token]) -> Result<Option<Command>, AllocError>
-    ensures { IfOk result (λ read. read ≡ command_of words.now) }
-{
-    let Some(form) = form_with_line(words) else {
-        return Ok(None);
-    };
-    let cut = Cut::new(alloc, form.parts(), words)?;
-    Ok(Some(form.command(&cut)?))
-}
-
-// The first form that has the words as a line.
-fn form_with_line(words: &[Token]) -> Option<Form>
-    ensures { result ≡ find (λ f. is_some (cut (parts f) words.now)) forms }
-{
-    FORMS
-        .iter()
-        .find(|form| is_line(form.parts(), words))
-        .copied()
-}
-
-// Whether the words are a line of the form.
-fn is_line(form: &[Part], words: &[Token]) -> bool
-    ensures { result ≡ is_some (cut form.now words.now) }
-{
-    let mut start = 0;
-    for part in form {
-        let Some(count) = front(*part, &words[start..]) else {
-            return false;
-        };
-        start += count;
-    }
-    start == words.len()
-}
-
-// The place of a fault, in one pass for each form.
+// The place of a fault, in one pass for each form that its first word may begin.
 fn fault_place(words: &[Token]) -> usize
     ensures place { result ≡ fault_place words.now }
     ensures within { result ≤ length words.now + 1 }
 {
-    let begun = FORMS
+    let begun = Form::with_initial(initial(words))
         .iter()
         .map(|form| begun_length(form.parts(), words))
         .max()

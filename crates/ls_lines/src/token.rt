@@ -1,12 +1,14 @@
 // The words of a line, as parts of its bytes.
-ghost use Rattle.std.specs.Prelude.{◌≡◌, ◌≤◌, ◌++◌, ◌∷◌, [], length, vec_len, nat_lt, if◌then◌else◌, OnOk, IfOk, OnErr, ◌||◌, ◌==◌};
-ghost use Rattle.ls_lines.specs.Lines.{words, without_return, is_note, is_blank, parts_words, runs};
+ghost use Rattle.std.specs.Prelude.{◌≡◌, ◌≤◌, ◌++◌, ◌∷◌, [], length, nat_lt, if◌then◌else◌, OnOk, IfOk, OnErr, ◌||◌, ◌==◌};
+ghost use Rattle.smallvec.specs.SmallVec.{small_vec_len};
+ghost use Rattle.ls_lines.specs.Lines.{without_return, is_note, is_blank, parts_words, runs};
 
-use std::alloc::{AllocError, Global};
+use smallvec::SmallVec;
+use std::alloc::AllocError;
 use std::marker::Model;
 
 /// A word of a line, seen as its bytes, which stay in the line.
-#[derive(Debug, Drop)]
+#[derive(Debug, Default, Drop)]
 pub(crate) struct Token<'a> {
     bytes: &'a [u8],
 }
@@ -28,20 +30,8 @@ impl<'a> Token<'a> {
     }
 }
 
-// The words of the line, in their order; a note has none.
-pub(crate) fn tokens(alloc: Global, line: &[u8]) -> Result<Vec<Token<'_>>, AllocError>
-    ensures words { IfOk result (λ v. v.items ≡ words line.now) }
-    ensures few { IfOk result (λ v. vec_len v ≤ length line.now) }
-{
-    let body = without_return(line);
-    if is_note(body) {
-        return Ok(Vec::new(alloc));
-    }
-    runs(alloc, body)
-}
-
 // The line without the one carriage return at its end, if it has one.
-fn without_return(line: &[u8]) -> &[u8]
+pub(crate) fn without_return(line: &[u8]) -> &[u8]
     ensures { result.now ≡ without_return line.now }
 {
     match line {
@@ -51,7 +41,7 @@ fn without_return(line: &[u8]) -> &[u8]
 }
 
 // A note begins with `#`, after spaces and tabs.
-fn is_note(line: &[u8]) -> bool
+pub(crate) fn is_note(line: &[u8]) -> bool
     ensures { result ≡ is_note line.now }
 {
     line.iter().find(|b| !is_blank(**b)).copied() == Some(b'#')
@@ -77,32 +67,34 @@ fn stands_alone(b: u8) -> bool
     b == b':' || b == b'|'
 }
 
-// Room for the words of most lines.
+// How many words most lines have at most: these take no memory.
 const MOSTLY: usize = 8;
 
-// The runs of bytes between those that part words, in one pass.
-fn runs(alloc: Global, line: &[u8]) -> Result<Vec<Token<'_>>, AllocError>
-    ensures runs { IfOk result (λ v. v.items ≡ runs line.now) }
-    ensures few { IfOk result (λ v. vec_len v ≤ length line.now) }
+/// Words of a line, in their order.
+pub(crate) type Tokens<'a> = SmallVec<Token<'a>, MOSTLY>;
+
+// Puts the runs of bytes between those that part words into an empty list, in one pass.
+pub(crate) fn push_runs<'a>(tokens: &mut Tokens<'a>, line: &'a [u8]) -> Result<(), AllocError>
+    requires { tokens.old.items ≡ [] }
+    ensures runs { OnOk result (tokens.new.items ≡ runs line.now) }
+    ensures few { OnOk result (small_vec_len tokens.new ≤ length line.now) }
 {
-    let mut tokens = Vec::with_capacity(alloc, MOSTLY)?;
     let mut start = 0;
     for (i, b) in line.iter().enumerate() {
         if parts_words(*b) {
-            push_run(&mut tokens, &line[start..i])?;
+            push_run(tokens, &line[start..i])?;
             start = i + 1;
         } else if stands_alone(*b) {
-            push_run(&mut tokens, &line[start..i])?;
-            push_run(&mut tokens, &line[i..i + 1])?;
+            push_run(tokens, &line[start..i])?;
+            push_run(tokens, &line[i..i + 1])?;
             start = i + 1;
         }
     }
-    push_run(&mut tokens, &line[start..])?;
-    Ok(tokens)
+    push_run(tokens, &line[start..])
 }
 
 // A run of no bytes is no word.
-fn push_run<'a>(tokens: &mut Vec<Token<'a>>, run: &'a [u8]) -> Result<(), AllocError>
+fn push_run<'a>(tokens: &mut Tokens<'a>, run: &'a [u8]) -> Result<(), AllocError>
     ensures { OnOk result (tokens.new.items ≡ tokens.old.items ++
         (if nat_lt 0 (length run.now) then run.now ∷ [] else [])) }
 {

@@ -1,22 +1,24 @@
 // Words of a script.
-ghost use Rattle.std.specs.Prelude.{◌≡◌, [], IfOk};
+ghost use Rattle.std.specs.Prelude.{◌≡◌, IfOk};
 ghost use Rattle.std.specs.Str.{IsAscii};
 
+use crate::word_text::WordText;
 use std::alloc::{AllocError, Global};
 use std::marker::Model;
 
-/// A text of a script, seen as its list of bytes.
+/// A text of a script, seen as its list of bytes. A short one takes no memory.
 #[derive(Debug, Drop)]
 pub struct Word {
-    text: String,
+    text: WordText,
 }
 
 impl Model for Word {
-    ghost use Rattle.std.specs.Prelude.{List, ℕ, string_bytes};
+    ghost use Rattle.std.specs.Prelude.{List, ℕ};
+    ghost use Rattle.ls_lines.specs.WordTexts.{text_bytes};
 
     ghost Value = { List ℕ };
 
-    ghost view = { λ w. string_bytes w.text };
+    ghost view = { λ w. text_bytes w.text };
 }
 
 impl Word {
@@ -25,7 +27,7 @@ impl Word {
         ensures { IfOk result (λ w. w ≡ text.now) }
     {
         Ok(Word {
-            text: String::from_str(alloc, text)?,
+            text: WordText::new(alloc, text)?,
         })
     }
 
@@ -41,17 +43,8 @@ impl Word {
         ensures { IfOk result (λ w. w ≡ self.now) }
     {
         Ok(Word {
-            text: self.text.clone()?,
+            text: self.text.copy()?,
         })
-    }
-
-    // The word of no bytes.
-    pub(crate) fn empty(alloc: Global) -> Word
-        ensures { result ≡ [] }
-    {
-        Word {
-            text: String::new(alloc),
-        }
     }
 
     // The bytes as a word.

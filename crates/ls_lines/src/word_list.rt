@@ -65,11 +65,11 @@ impl WordList {
     pub fn copy(&self, alloc: Global) -> Result<WordList, AllocError>
         ensures { IfOk result (λ l. l ≡ self.now) }
     {
-        let mut copied = WordList::new(alloc);
+        let mut words = Vec::with_capacity(alloc, self.len())?;
         for word in self.as_slice() {
-            copied.push(word.copy()?)?;
+            words.push(word.copy()?)?;
         }
-        Ok(copied)
+        Ok(WordList { words })
     }
 
     // The words, copied.
@@ -77,11 +77,11 @@ impl WordList {
         requires { All IsAscii tokens.now }
         ensures { IfOk result (λ l. l ≡ tokens.now) }
     {
-        let mut list = WordList::new(alloc);
+        let mut words = Vec::with_capacity(alloc, tokens.len())?;
         for token in tokens {
-            list.push(Word::from_ascii(alloc, token.as_bytes())?)?;
+            words.push(Word::from_ascii(alloc, token.as_bytes())?)?;
         }
-        Ok(list)
+        Ok(WordList { words })
     }
 
     // The first word, if there is one.

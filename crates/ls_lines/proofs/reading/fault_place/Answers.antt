@@ -2,18 +2,19 @@ use Rattle.std.proofs.Common.{ℕ, rules, tests, arith, ap, unwrap_or, ◌≡◌
 use Rattle.std.proofs.lemmas.Iterator.{YieldsList-from_slice, YieldsList-from_map}
 use Rattle.std.proofs.lemmas.Iterator.Consumers.{reduce_from_yields_List}
 use Rattle.std.proofs.lemmas.List.Folds.{max_of_map}
-use Rattle.ls_lines.specs.Forms.{forms, parts}
+use Rattle.ls_lines.specs.Forms.{parts}
 use Rattle.ls_lines.specs.Reading.{begun_length}
 use Rattle.ls_lines.specs.declared.form.Form.{Form}
-use Rattle.ls_lines.specs.declared.form.TheConstants.{FORMS}
-use Rattle.ls_lines.proofs.Places.{most_begun, fault_place-most}
+use Rattle.ls_lines.proofs.Places.{most_begun}
+use Rattle.ls_lines.proofs.Initials.{fault_place-tried}
 use Rattle.ls_lines.proofs.reading.fault_place.Goals as goal
 
 pub returns-clause-place : goal.returns-clause-place
-unfolding forms
 returns-clause-place c =
     let words = c.args.words.now in
     let begun : Form → ℕ = λ f. begun_length (parts f) words in
-    let most : c.unwrap_or-begun.result ≡ most_begun words 0 FORMS =
-    c.unwrap_or-begun.ensures ∙ ap (λ o. unwrap_or o 0) (reduce_from_yields_List _ c.map.result _ c.max.ensures.ran (YieldsList-from_map _ begun (YieldsList-from_slice FORMS cc) c.map.ensures.closure (λ x b q k. search (rules, tests)))) ∙ max_of_map begun FORMS in
-    omega (arith, most, fault_place-most words)
+    let fs = c.with_initial.result.now in
+    let most : c.unwrap_or-begun.result ≡ most_begun words 0 fs =
+    c.unwrap_or-begun.ensures ∙ ap (λ o. unwrap_or o 0) (reduce_from_yields_List _ c.map.result _ c.max.ensures.ran (YieldsList-from_map _ begun (YieldsList-from_slice fs cc) c.map.ensures.closure (λ x b q k. search (rules, tests)))) ∙ max_of_map begun fs in
+    let same = rw (c.with_initial.ensures, c.initial.ensures) at most in
+    omega (arith, same, fault_place-tried words)

@@ -2,4 +2,4 @@ use Rattle.std.proofs.Common.{◌≡◌, take}
 use Rattle.ls_lines.proofs.word_list.WordList.copy.Given as goal
 
 abbrev pub invariant-loop-word : goal.invariant-loop-word
-invariant-loop-word l = l.copied ≡ take l.word-index l.word-items
+invariant-loop-word l = l.words.items ≡ take l.word-index l.word-items

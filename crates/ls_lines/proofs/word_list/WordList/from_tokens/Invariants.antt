@@ -2,4 +2,4 @@ use Rattle.std.proofs.Common.{◌≡◌, take}
 use Rattle.ls_lines.proofs.word_list.WordList.from_tokens.Given as goal
 
 abbrev pub invariant-loop-token : goal.invariant-loop-token
-invariant-loop-token l = l.list ≡ take l.token-index l.tokens
+invariant-loop-token l = l.words.items ≡ take l.token-index l.tokens

@@ -2,7 +2,7 @@ use Rattle.std.proofs.Common.{◌≡◌, ◌≤◌, ◌++◌, drop, length}
 use Rattle.std.specs.List.{slice_range}
 use Rattle.ls_lines.specs.Lines.{runs}
 use Rattle.ls_lines.proofs.Runs.{runs_from}
-use Rattle.ls_lines.proofs.token.runs.Given as goal
+use Rattle.ls_lines.proofs.token.push_runs.Given as goal
 
 abbrev pub invariant-loop-i : goal.invariant-loop-i
 invariant-loop-i l = record {

@@ -1,13 +1,13 @@
 use Rattle.std.proofs.Common.{◌+◌, arith, sym}
 use Rattle.ls_lines.proofs.Runs.{runs-byte_by_byte, ends_run, is_alone, goes_on, few_more}
-use Rattle.ls_lines.proofs.token.runs.Goals as goal
-use Rattle.ls_lines.proofs.token.runs.Goals.{then-parts_words+in_ok-push_run, else-parts_words+then-stands_alone+in_ok-push_run-2+in_ok-push_run-3, else-parts_words+else-stands_alone}
+use Rattle.ls_lines.proofs.token.push_runs.Goals as goal
+use Rattle.ls_lines.proofs.token.push_runs.Goals.{then-parts_words+in_ok-push_run, else-parts_words+then-stands_alone+in_ok-push_run-2+in_ok-push_run-3, else-parts_words+else-stands_alone}
 
 pub loop-i-init : goal.loop-i-init
 loop-i-init c = record {
   in_order = omega arith;
-  few = rw c.in_ok-tokens.ensures.items (omega arith);
-  runs_on = rw c.in_ok-tokens.ensures.items (runs-byte_by_byte c.args.line.now);
+  few = rw c.requires (omega arith);
+  runs_on = rw c.requires (runs-byte_by_byte c.args.line.now);
 }
 
 pub loop-i-preserved : goal.loop-i-preserved
