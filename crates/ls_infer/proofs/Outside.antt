@@ -3,7 +3,7 @@ use Rattle.std.proofs.Common.{ℕ, ◌≡◌, ◌⊎◌, inl, inr, true, false, 
 use Rattle.std.proofs.lemmas.Bool.{and_parts, and_from, or_cases, or_left, or_right, not-true, not_from_false, false_from_ne_true, true_from_ne_false}
 use Rattle.std.proofs.lemmas.Bool.Decides.{nat_tests}
 use Rattle.ls_lists.proofs.Bools.{both_out}
-use Rattle.ls_set.specs.ItemSet.{Items, has, empty, full, with, without, minus, is_among, IsWithin}
+use Rattle.ls_set.specs.ItemSet.{Items, has, empty, full, single, with, without, minus, is_among, IsWithin}
 use Rattle.ls_set.proofs.Sets.{members, has-minus, has-with, has-without, same_set, same_within, minus-within, empty-within, is_within-from}
 use Rattle.ls_theory.specs.Families.{interior, closure}
 use Rattle.ls_laws.proofs.Interiors.{IsUnionFamily, interior-is, interior-within, interior_grows, interior_again, interior-greatest}
@@ -32,6 +32,9 @@ with-left c s i h = has-with c s i ∙ or_left (has c i) (eqb i s) h
 
 pub with-here : (c : Items) (s : ℕ) → has (with c s) s ≡ true
 with-here c s = has-with c s s ∙ or_right (has c s) (eqb s s) (eq-eqb s s refl)
+
+pub with-empty : (i : ℕ) → with empty i ≡ single i
+with-empty i = same_set _ _ (λ j. grind (arith, members, nat_tests))
 
 pub with-cases : (c : Items) (s i : ℕ) → has (with c s) i ≡ true → (has c i ≡ true) ⊎ (i ≡ s)
 with-cases c s i h = elim (or_cases (has c i) (eqb i s) (sym (has-with c s i) ∙ h)) [ inl a ↦ inl a | inr e ↦ inr (eqb-true i s e) ]

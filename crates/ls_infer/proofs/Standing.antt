@@ -1,7 +1,7 @@
 -- What a Yes that comes or goes changes of what is kept of a standing No.
-use Rattle.std.proofs.Common.{ℕ, ◌+◌, ◌<◌, ◌≡◌, inl, inr, Bool, true, false, not, ◌&&◌, ltb, List, length, get_or, slice_get, Some, None, refl, sym, ap, ap₂, ◌∙◌, subst, true≢false, ltb-true}
+use Rattle.std.proofs.Common.{ℕ, ◌+◌, ◌<◌, ◌≡◌, inl, inr, Bool, true, false, not, ◌&&◌, ◌||◌, ltb, List, length, get_or, slice_get, Some, None, refl, sym, ap, ap₂, ◌∙◌, subst, true≢false, ltb-true}
 use Rattle.std.specs.Option.{is_some}
-use Rattle.std.proofs.lemmas.Bool.{and_parts, and_from, false_from_ne_true}
+use Rattle.std.proofs.lemmas.Bool.{and_parts, and_from, false_from_ne_true, not-true}
 use Rattle.std.proofs.Math.ListN.{set}
 use Rattle.std.proofs.lemmas.Option.{slice_get-get_or}
 use Rattle.ls_lists.specs.Lists.{images}
@@ -242,14 +242,18 @@ before-among n before after r s closed change e made i h =
     ap (λ (t : StandingNo). has t.enough i) e
     ∙ enough-grows n after before s.no.query.a s.no.query.q (subst (λ g. IsPart g after) (sym change) (left-IsPart after r)) i (ap (λ c. has (enough_for n after c s.no.query.q) i) (sym made) ∙ h)
 
--- where nothing less is, a state is still one
+-- where nothing less is, it is a state without the Yes as with it, unless it was none and breaks the query
 pub before-state : (n : ℕ) (before after : List Items) (r : Query) (s : StandingNo) (closed enough : Items) → IsChange YesChange.Removed n r before after → s ≡ standing n before s.no → closed ≡ closure (full n) after s.no.query.a
-    → enough ≡ enough_for n after closed s.no.query.q → IsWithin s.enough enough → s.is_state ≡ true → record { no = s.no; closed = closed; enough = s.enough; is_state = s.is_state } ≡ standing n after s.no
-before-state n before after r s closed enough change e made all within state =
+    → enough ≡ enough_for n after closed s.no.query.q → IsWithin s.enough enough → (s.is_state || not (breaks s.enough r)) ≡ true → record { no = s.no; closed = closed; enough = s.enough; is_state = s.is_state } ≡ standing n after s.no
+before-state n before after r s closed enough change e made all within keeps =
     let old = stands n before s e in
     let same : s.enough ≡ enough_for n after closed s.no.query.q = same_within s.enough (enough_for n after closed s.no.query.q) (λ i h. ap (λ t. has t i) (sym all) ∙ within i h) (before-among n before after r s closed change e made) in
-    standing-from n after s.no closed s.enough s.is_state made same
-    (state ∙ sym (left-IsPart after r s.enough (ap (λ g. is_among g s.enough) (sym change) ∙ sym old.is_state ∙ state)))
+    let was : s.is_state ≡ is_among (left_by r after) s.enough = old.is_state ∙ ap (λ g. is_among g s.enough) change in
+    let still : s.is_state ≡ is_among after s.enough = elim s.is_state as (λ b. s.is_state ≡ b → s.is_state ≡ is_among after s.enough) [
+      | true ↦ λ h. h ∙ sym (left-IsPart after r s.enough (sym was ∙ h))
+      | false ↦ λ h. was ∙ unbroken-among after r s.enough (not-true (breaks s.enough r) (ap (λ b. b || not (breaks s.enough r)) (sym h) ∙ keeps))
+    ] refl in
+    standing-from n after s.no closed s.enough s.is_state made same still
 
 -- ---- one No after another
 

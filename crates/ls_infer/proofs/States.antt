@@ -1,9 +1,9 @@
 -- Which items are enough with a closed set for an item, and where they are a state.
-use Rattle.std.proofs.Common.{ℕ, ◌+◌, ◌<◌, ◌≤◌, ◌≡◌, ◌⊎◌, inl, inr, true, false, not, ◌&&◌, ◌||◌, eqb, ltb, List, refl, sym, ap, ◌∙◌, subst, arith, true≢false, eq-eqb, lt-ltb, ltb-true}
+use Rattle.std.proofs.Common.{ℕ, ◌+◌, ◌<◌, ◌≤◌, ◌≡◌, ◌⊎◌, inl, inr, true, false, not, ◌&&◌, ◌||◌, eqb, ltb, List, refl, sym, ap, ◌∙◌, subst, arith, true≢false, eq-eqb, eqb-true, lt-ltb, ltb-true}
 use Rattle.std.proofs.lemmas.Bool.{cases_lt, and_parts, and_from, or_left, or_right, false_from_ne_true, true_from_ne_false}
-use Rattle.ls_set.specs.ItemSet.{Items, has, empty, full, with, minus, len, is_among, IsWithin}
+use Rattle.ls_set.specs.ItemSet.{Items, has, empty, full, single, with, minus, len, is_among, IsWithin}
 use Rattle.ls_set.specs.declared.query.Query.{Query}
-use Rattle.ls_set.proofs.Sets.{has-with, has-full, same_within, minus-within, and-true, Decides-is_same}
+use Rattle.ls_set.proofs.Sets.{has-single, has-with, has-full, same_within, minus-within, and-true, Decides-is_same}
 use Rattle.ls_laws.proofs.Counts.{some_item}
 use Rattle.ls_set.proofs.Sizes.{len-less}
 use Rattle.ls_theory.specs.Families.{interior, closure}
@@ -24,6 +24,10 @@ with-grows s t i w j h = has-with t i j ∙ elim (with-cases s i j h) [
   | inl a ↦ or_left (has t j) (eqb j i) (w j a)
   | inr e ↦ subst (λ k. (has t j || eqb j k) ≡ true) e (or_right (has t j) (eqb j j) (eq-eqb j j refl))
 ]
+
+-- an item of a set alone is that one
+single-only : (k i : ℕ) → has (single k) i ≡ true → i ≡ k
+single-only k i h = eqb-true i k (sym (has-single k i) ∙ h)
 
 with-same : (s : Items) (i : ℕ) → has s i ≡ true → with s i ≡ s
 with-same s i h = same_within (with s i) s (λ j a. elim (with-cases s i j a) [ inl x ↦ x | inr e ↦ subst (λ k. has s k ≡ true) (sym e) h ]) (with-left s i)
@@ -84,6 +88,12 @@ enough-grows n f g b p part i h =
     enough-from n g wide p i (ltb-true i n e.0)
     (closure_grows (full n) g (with closed i) (with wide i) (with-grows closed wide i (closure_widens (full n) f g b part)) p
     (closure_widens (full n) f g (with closed i) part p e.1))
+
+-- items of whose closures p is
+pub reached : (n : ℕ) (f : List Items) (closed : Items) (p : ℕ) (known : Items) → IsWithin known (full n) → ((i : ℕ) → has known i ≡ true → has (closure (full n) f (single i)) p ≡ true) → IsWithin known (enough_for n f closed p)
+reached n f closed p known small reach i h =
+    enough-from n f closed p i (ltb-true i n (sym (has-full n i) ∙ small i h))
+    (closure_grows (full n) f (single i) (with closed i) (λ j a. subst (λ k. has (with closed i) k ≡ true) (sym (single-only i j a)) (with-here closed i)) p (reach i h))
 
 -- where p is in the interior of some items that are enough, and that the closed set lacks, no other is
 pub enough-only : (n : ℕ) (f : List Items) (closed : Items) (p : ℕ) (known : Items) → IsWithin known (enough_for n f closed p) → ((i : ℕ) → has known i ≡ true → has closed i ≡ false) → has (interior f known) p ≡ true

@@ -5,6 +5,7 @@ mod closures;
 mod enough;
 mod fronts;
 mod laws;
+mod reaching;
 mod search;
 mod standing_no;
 mod table;

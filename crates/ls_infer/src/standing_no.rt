@@ -1,5 +1,5 @@
 // What is kept of a standing answer that is No.
-ghost use Rattle.std.specs.Prelude.{◌≡◌, ◌+◌, ◌*◌, ◌<◌, ◌≤◌, ◌==◌, ◌&&◌, ℕ, List, true, false, not, min, map, length, filter, slice_get, option_map};
+ghost use Rattle.std.specs.Prelude.{◌≡◌, ◌+◌, ◌*◌, ◌<◌, ◌≤◌, ◌==◌, ◌&&◌, ◌||◌, ℕ, List, true, false, not, min, map, length, filter, slice_get, option_map};
 ghost use Rattle.std.specs.List.{list_all, list_any};
 ghost use Rattle.std.specs.Option.{option_map_or};
 ghost use Rattle.ls_set.specs.ItemSet.{Items, full, has, is_among, IsWithin};
@@ -9,13 +9,16 @@ ghost use Rattle.ls_theory.specs.Words.{first_least};
 ghost use Rattle.ls_theory.specs.Families.{closure};
 ghost use Rattle.ls_theory.specs.Queries.{breaks};
 ghost use Rattle.ls_theory.specs.declared.no.No.{No};
+ghost use Rattle.ls_query.specs.Blocks.{sets_of};
 ghost use Rattle.ls_infer.specs.Changes.{IsChange, is_kept};
 ghost use Rattle.ls_infer.specs.Tables.{enough_for, standing, forces};
 ghost use Rattle.ls_infer.specs.declared.yes_change.YesChange.TheVariants as YesChange;
 
 use crate::enough::{enough_between, enough_for, is_state};
+use crate::reaching::reaching;
 use crate::yes_change::YesChange;
 use ls_interior::{Interior, Steps, closure};
+use ls_query::Blocks;
 use ls_set::{ItemSet, PLACES, Query};
 use ls_theory::No;
 use std::sync::ledger::Ledger;
@@ -156,18 +159,31 @@ impl StandingNo {
         self.with_closed(f, closed, steps)
     }
 
+    // Whether what is enough is a state without a Yes to `r` exactly where it is one with it.
+    fn keeps_state(&self, r: &Query) -> bool
+        requires { r.now.q < PLACES }
+        ensures { result ≡ (self.now.is_state || not (breaks self.now.enough r.now)) }
+    {
+        self.is_state || !breaks(self.enough, r)
+    }
+
     // What is kept of it where a Yes to the good query `r` is taken back. Nothing more is enough.
+    // Items whose closures have p, by those that are kept of single items, still are.
     fn before_yes<I: Interior, L: Ledger>(
         &self,
         f: &I,
+        closures: &[ItemSet],
+        blocks: Blocks,
         r: &Query,
         steps: &mut Steps<L>,
     ) -> StandingNo
         requires kept { is_kept (I.item_count f.now) self.now ≡ true }
         requires good { is_good (I.item_count f.now) r.now ≡ true }
         requires item { r.now.q < PLACES }
+        requires few { I.item_count f.now ≤ PLACES }
         ensures value { (before : List Items) → let n = I.item_count f.now in
             IsChange YesChange.Removed n r.now before (I.members f.now) →
+            closures.now ≡ map (closure (full n) (I.members f.now)) (sets_of blocks) →
             self.now ≡ standing n before self.now.no →
             result ≡ standing n (I.members f.now) self.now.no }
         ensures kept { is_kept (I.item_count f.now) result ≡ true }
@@ -183,8 +199,9 @@ impl StandingNo {
             self.closed
         };
         let q = self.no.query.q;
-        let enough = enough_between(f, closed, q, ItemSet::empty(), self.enough, steps);
-        if self.is_state && self.enough.is_within(enough) {
+        let known = reaching(closures, blocks, self.enough, q);
+        let enough = enough_between(f, closed, q, known, self.enough, steps);
+        if self.keeps_state(r) && self.enough.is_within(enough) {
             return StandingNo { closed, ..*self };
         }
         StandingNo::of(f, self.no, closed, enough, steps)
@@ -194,6 +211,8 @@ impl StandingNo {
     fn after<I: Interior, L: Ledger>(
         &self,
         f: &I,
+        closures: &[ItemSet],
+        blocks: Blocks,
         change: YesChange,
         r: &Query,
         steps: &mut Steps<L>,
@@ -201,8 +220,10 @@ impl StandingNo {
         requires kept { is_kept (I.item_count f.now) self.now ≡ true }
         requires good { is_good (I.item_count f.now) r.now ≡ true }
         requires item { r.now.q < PLACES }
+        requires few { I.item_count f.now ≤ PLACES }
         ensures value { (before : List Items) → let n = I.item_count f.now in
             IsChange change n r.now before (I.members f.now) →
+            closures.now ≡ map (closure (full n) (I.members f.now)) (sets_of blocks) →
             self.now ≡ standing n before self.now.no →
             result ≡ standing n (I.members f.now) self.now.no }
         ensures kept { is_kept (I.item_count f.now) result ≡ true }
@@ -210,7 +231,7 @@ impl StandingNo {
     {
         match change {
             YesChange::Added => self.after_yes(f, r, steps),
-            YesChange::Removed => self.before_yes(f, r, steps),
+            YesChange::Removed => self.before_yes(f, closures, blocks, r, steps),
         }
     }
 
@@ -299,10 +320,13 @@ pub fn unforced(
 }
 
 /// Makes what is kept of each answer that after a Yes to `r` came or was taken back, in at most as
-/// many steps for each answer as there are items. `f` is the family after the change.
+/// many steps for each answer as there are items. `f` is the family after the change, and
+/// `closures` are those of the sets of the blocks in it.
 pub fn change_each<I: Interior, L: Ledger>(
     kept: &mut [StandingNo],
     f: &I,
+    closures: &[ItemSet],
+    blocks: Blocks,
     change: YesChange,
     r: &Query,
     steps: &mut Steps<L>,
@@ -310,15 +334,17 @@ pub fn change_each<I: Interior, L: Ledger>(
     requires kept { list_all (is_kept (I.item_count f.now)) kept.old ≡ true }
     requires good { is_good (I.item_count f.now) r.now ≡ true }
     requires item { r.now.q < PLACES }
+    requires few { I.item_count f.now ≤ PLACES }
     ensures each { (before : List Items) (nos : List No) → let n = I.item_count f.now in
         IsChange change n r.now before (I.members f.now) →
+        closures.now ≡ map (closure (full n) (I.members f.now)) (sets_of blocks) →
         kept.old ≡ map (standing n before) nos →
         kept.new ≡ map (standing n (I.members f.now)) nos }
     ensures kept { list_all (is_kept (I.item_count f.now)) kept.new ≡ true }
     ensures cost { steps.new ≤ steps.old + I.item_count f.now * length kept.old }
 {
     for s in kept.iter_mut() {
-        *s = s.after(f, change, r, steps);
+        *s = s.after(f, closures, blocks, change, r, steps);
     }
 }
 

@@ -131,7 +131,16 @@ impl Table {
         ensures blocks { self.new.table.blocks ≡ self.old.table.blocks }
     {
         close_again(&mut self.closures, self.blocks, f, change, r, steps);
-        change_each(&mut self.standing, f, change, r, steps);
+        let blocks = self.blocks;
+        change_each(
+            &mut self.standing,
+            f,
+            &self.closures,
+            blocks,
+            change,
+            r,
+            steps,
+        );
     }
 
     /// Keeps the table under a Yes to the good query `r`, of which `f` is the family that is left.

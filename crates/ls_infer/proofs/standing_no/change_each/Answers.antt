@@ -16,16 +16,16 @@ loop-s-preserved g c =
     let v = c.loop-s.invariant in
     record {
       kept = list_all-set (is_kept n) ys i c.after.result v.kept c.after.ensures.kept;
-      made = λ before nos change e.
+      made = λ before nos change closed e.
           let placed : i < length nos = omega (arith, c.loop-s-test.true, ap length e, length-map nos (standing n before)) in
-          standing-next n before (g.I.Interior.members c.args.f.now) nos ys i (get_or ys i c.s-item.result) c.after.result placed (v.made before nos change e) (ap (get_or ys i) c.s-item.is)
-          (c.after.ensures.value before change);
+          standing-next n before (g.I.Interior.members c.args.f.now) nos ys i (get_or ys i c.s-item.result) c.after.result placed (v.made before nos change closed e) (ap (get_or ys i) c.s-item.is)
+          (c.after.ensures.value before change closed);
       cost = grind (arith, common_steps, v.cost, c.after.ensures.cost);
     }
 
 pub returns-clause-each : goal.returns-clause-each
-returns-clause-each g c = λ before nos change e.
+returns-clause-each g c = λ before nos change closed e.
     let n = g.I.Interior.item_count c.args.f.now in
     let i = c.loop-s.s-index in
     let past : length nos ≤ i = omega (arith, c.loop-s-test.false, ap length e, length-map nos (standing n before)) in
-    c.loop-s.invariant.made before nos change e ∙ images-end (standing n (g.I.Interior.members c.args.f.now)) (standing n before) nos i past
+    c.loop-s.invariant.made before nos change closed e ∙ images-end (standing n (g.I.Interior.members c.args.f.now)) (standing n before) nos i past

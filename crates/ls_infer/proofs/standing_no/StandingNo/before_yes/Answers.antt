@@ -1,34 +1,37 @@
 use Rattle.std.proofs.Common.{◌≡◌, true, sym, refl, ◌∙◌, arith}
 use Rattle.ls_set.specs.ItemSet.{full, has, is_among, IsWithin}
-use Rattle.ls_set.proofs.Sets.{minus-within, empty-within, IsWithin-from}
+use Rattle.ls_set.proofs.Sets.{minus-within, IsWithin-from}
 use Rattle.ls_theory.specs.Families.{closure}
 use Rattle.ls_laws.proofs.ClosureChanges.{closure_holds}
 use Rattle.ls_laws.proofs.Families.{family_sets}
 use Rattle.ls_infer.proofs.Outside.{outside-member}
-use Rattle.ls_infer.proofs.States.{good-item, good-several}
+use Rattle.ls_infer.proofs.States.{good-item, good-several, reached}
 use Rattle.ls_infer.proofs.Standing.{kept-parts, kept-again, before-closed, before-lack, before-among, before-state, standing-from}
 use Rattle.ls_infer.proofs.standing_no.StandingNo.before_yes.Goals as goal
 use Rattle.ls_infer.proofs.standing_no.StandingNo.before_yes.Goals.{then-has_all, else-has_all}
 
 pub returns-then-has-clause-value : goal.returns-then-has-clause-value
-returns-then-has-clause-value g c = λ before change e.
+returns-then-has-clause-value g c = λ before change kept_closures e.
     before-closed _ before _ c.args.r.now c.args.self.now change (g.met.I.Interior.is_family c.args.f.now) c.requires.good c.requires.kept e
     (sym c.is_within-has_all.ensures ∙ c.if-not-has_all.true) (sym c.has.ensures ∙ c.if-has.true)
 
 pub closure-closed-requires : goal.closure-closed-requires
 closure-closed-requires g c = (kept-parts _ c.args.self.now c.requires.kept).good.small
 
+pub reaching-known-requires : goal.reaching-known-requires
+reaching-known-requires g c = let item = (kept-parts _ c.args.self.now c.requires.kept).good.item in omega (arith, item, c.requires.few)
+
 pub enough_between-enough-requires-clause-item : goal.enough_between-enough-requires-clause-item
 enough_between-enough-requires-clause-item g c = (kept-parts _ c.args.self.now c.requires.kept).good.item
 
 pub enough_between-enough-requires-clause-known : goal.enough_between-enough-requires-clause-known
-enough_between-enough-requires-clause-known g c = rw c.empty.ensures (empty-within _)
+enough_between-enough-requires-clause-known g c i h = (kept-parts _ c.args.self.now c.requires.kept).enough i (c.reaching-known.ensures.part i h)
 
 pub enough_between-enough-requires-clause-among : goal.enough_between-enough-requires-clause-among
 enough_between-enough-requires-clause-among g c = (kept-parts _ c.args.self.now c.requires.kept).enough
 
 pub returns-then-is_within-clause-value : goal.returns-then-is_within-clause-value
-returns-then-is_within-clause-value g c = λ before change e.
+returns-then-is_within-clause-value g c = λ before change kept_closures e.
     let n = g.I.Interior.item_count c.args.f.now in
     let after = g.I.Interior.members c.args.f.now in
     let family = g.met.I.Interior.is_family c.args.f.now in
@@ -39,8 +42,10 @@ returns-then-is_within-clause-value g c = λ before change e.
       | then-has_all w ↦ w.closed-is ∙ w.closure-closed.ensures.value
       | else-has_all w ↦ w.closed-is ∙ before-lack n before after r s change family c.requires.good e (sym c.is_within-has_all.ensures ∙ w.if-has_all.false)
     ] in
-    let all = c.enough_between-enough.ensures.value (rw made (outside-member n after s.no.query.a (family_sets n after family))) (rw c.empty.ensures (empty-within _)) (before-among n before after r s closed change e made) in
-    before-state n before after r s closed c.enough_between-enough.result change e made all (IsWithin-from s.enough c.enough_between-enough.result (sym c.is_within.ensures ∙ c.if-is_within.true)) c.if-self.true
+    let small = (kept-parts n s c.requires.kept).enough in
+    let known = reached n after closed s.no.query.q c.reaching-known.result (λ i h. small i (c.reaching-known.ensures.part i h)) (c.reaching-known.ensures.closures n after kept_closures) in
+    let all = c.enough_between-enough.ensures.value (rw made (outside-member n after s.no.query.a (family_sets n after family))) known (before-among n before after r s closed change e made) in
+    before-state n before after r s closed c.enough_between-enough.result change e made all (IsWithin-from s.enough c.enough_between-enough.result (sym c.is_within.ensures ∙ c.if-is_within.true)) (sym c.keeps_state.ensures ∙ c.if-keeps_state.true)
 
 pub returns-then-is_within-clause-kept : goal.returns-then-is_within-clause-kept
 returns-then-is_within-clause-kept g c =
@@ -58,7 +63,7 @@ pub of-requires : goal.of-requires
 of-requires g c = c.enough_between-enough.ensures.within
 
 pub returns-clause-value : goal.returns-clause-value
-returns-clause-value g c = λ before change e.
+returns-clause-value g c = λ before change kept_closures e.
     let n = g.I.Interior.item_count c.args.f.now in
     let after = g.I.Interior.members c.args.f.now in
     let family = g.met.I.Interior.is_family c.args.f.now in
@@ -69,8 +74,10 @@ returns-clause-value g c = λ before change e.
       | then-has_all w ↦ w.closed-is ∙ w.closure-closed.ensures.value
       | else-has_all w ↦ w.closed-is ∙ before-lack n before after r s change family c.requires.good e (sym c.is_within-has_all.ensures ∙ w.if-has_all.false)
     ] in
+    let small = (kept-parts n s c.requires.kept).enough in
+    let known = reached n after closed s.no.query.q c.reaching-known.result (λ i h. small i (c.reaching-known.ensures.part i h)) (c.reaching-known.ensures.closures n after kept_closures) in
     c.of.ensures.value ∙ standing-from n after s.no closed c.enough_between-enough.result _ made
-    (c.enough_between-enough.ensures.value (rw made (outside-member n after s.no.query.a (family_sets n after family))) (rw c.empty.ensures (empty-within _)) (before-among n before after r s closed change e made)) refl
+    (c.enough_between-enough.ensures.value (rw made (outside-member n after s.no.query.a (family_sets n after family))) known (before-among n before after r s closed change e made)) refl
 
 pub returns-clause-kept : goal.returns-clause-kept
 returns-clause-kept g c =
