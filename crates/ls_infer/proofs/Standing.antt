@@ -23,11 +23,11 @@ use Rattle.ls_laws.proofs.ClosureChanges.{closure_holds, closure_grows, closure_
 use Rattle.ls_laws.proofs.Families.{family_sets}
 use Rattle.ls_infer.specs.declared.standing_no.StandingNo.{StandingNo}
 use Rattle.ls_infer.specs.declared.yes_change.YesChange.{YesChange}
-use Rattle.ls_infer.specs.Changes.{IsChange, is_kept}
+use Rattle.ls_infer.specs.Changes.{CanFall, IsAdded, IsChange, is_kept}
 use Rattle.ls_infer.specs.Tables.{enough_for, standing}
 use Rattle.ls_infer.proofs.Kept.{has-enough, with-within}
 use Rattle.ls_infer.proofs.Outside.{with-left, with-cases, outside-member}
-use Rattle.ls_infer.proofs.States.{enough-grows, enough-unbroken, enough-stays, unbroken-among}
+use Rattle.ls_infer.proofs.States.{enough-apart_from, enough-grows, enough-unbroken, enough-stays, unbroken-among}
 
 -- ---- sets
 
@@ -143,7 +143,7 @@ stands-again n f s k = standing-from n f s.no s.closed s.enough s.is_state k.clo
 
 -- ---- a Yes that comes
 
-pub after-closed : (n : ℕ) (before after : List Items) (r : Query) (s : StandingNo) → IsChange YesChange.Added n r before after → is_good n r ≡ true → is_kept n s ≡ true → s ≡ standing n before s.no → has s.closed r.q ≡ true
+pub after-closed : (n : ℕ) (before after : List Items) (r : Query) (s : StandingNo) → IsAdded n r before after → is_good n r ≡ true → is_kept n s ≡ true → s ≡ standing n before s.no → has s.closed r.q ≡ true
     → s ≡ standing n after s.no
 after-closed n before after r s change good kept e h =
     let b = s.no.query.a in
@@ -160,7 +160,7 @@ after-closed n before after r s change good kept e h =
           ∙ enough-unbroken n before (closure (full n) before b) q r (outside-member n before b family) (kept-parts n s kept).good.item good_r here));
     }))
 
-pub after-met : (n : ℕ) (before after : List Items) (r : Query) (s : StandingNo) (i : ℕ) → IsChange YesChange.Added n r before after → is_good n r ≡ true → s ≡ standing n before s.no
+pub after-met : (n : ℕ) (before after : List Items) (r : Query) (s : StandingNo) (i : ℕ) → IsAdded n r before after → is_good n r ≡ true → s ≡ standing n before s.no
     → is_within r.a s.closed ≡ false → has (meet r.a s.enough) i ≡ true → s ≡ standing n after s.no
 after-met n before after r s i change good e lacks h =
     let b = s.no.query.a in
@@ -177,37 +177,50 @@ after-met n before after r s i change good e lacks h =
       is_state = old.is_state ∙ sym (unbroken-among before r s.enough (false_from_ne_true (breaks s.enough r) (λ x. true≢false (sym p.0 ∙ (Breaks-from s.enough r x).apart i p.1))));
     }))
 
-pub after-again : (n : ℕ) (before after : List Items) (r : Query) (s : StandingNo) (closed : Items) → IsChange YesChange.Added n r before after → is_kept n s ≡ true → s ≡ standing n before s.no
+pub after-again : (n : ℕ) (before after : List Items) (r : Query) (s : StandingNo) (closed : Items) → IsAdded n r before after → is_kept n s ≡ true → s ≡ standing n before s.no
     → closed ≡ closure (full n) after s.closed → closed ≡ closure (full n) after s.no.query.a
 after-again n before after r s closed change kept e made =
     made ∙ ap (λ (t : StandingNo). closure (full n) after t.closed) e ∙ closure_from_old (full n) before after s.no.query.a (subst (λ g. IsPart g before) (sym change.1) (left-IsPart before r)) (kept-parts n s kept).good.small
 
-pub after-lack : (n : ℕ) (before after : List Items) (r : Query) (s : StandingNo) → IsChange YesChange.Added n r before after → is_good n r ≡ true → s ≡ standing n before s.no
+pub after-lack : (n : ℕ) (before after : List Items) (r : Query) (s : StandingNo) → IsAdded n r before after → is_good n r ≡ true → s ≡ standing n before s.no
     → is_within r.a s.closed ≡ false → s.closed ≡ closure (full n) after s.no.query.a
 after-lack n before after r s change good e lacks =
     ap (λ (t : StandingNo). t.closed) e
     ∙ sym (ap (λ g. closure (full n) g s.no.query.a) change.1 ∙ lack-stays n before r s.no.query.a (family_sets n before change.0) (good-from n r good) (ap (λ (t : StandingNo). is_within r.a t.closed) (sym e) ∙ lacks))
 
 -- what was enough stays so
-pub after-known : (n : ℕ) (before after : List Items) (r : Query) (s : StandingNo) (closed : Items) → IsChange YesChange.Added n r before after → s ≡ standing n before s.no → closed ≡ closure (full n) after s.no.query.a
+pub after-known : (n : ℕ) (before after : List Items) (r : Query) (s : StandingNo) (closed : Items) → IsAdded n r before after → s ≡ standing n before s.no → closed ≡ closure (full n) after s.no.query.a
     → IsWithin s.enough (enough_for n after closed s.no.query.q)
 after-known n before after r s closed change e made i h =
     subst (λ c. has (enough_for n after c s.no.query.q) i ≡ true) (sym made)
     (enough-grows n before after s.no.query.a s.no.query.q (subst (λ g. IsPart g before) (sym change.1) (left-IsPart before r)) i (ap (λ (t : StandingNo). has t.enough i) (sym e) ∙ h))
 
 -- and where it was a state that does not break the query, it is still one, and all that is enough
-pub after-state : (n : ℕ) (before after : List Items) (r : Query) (s : StandingNo) (closed : Items) → IsChange YesChange.Added n r before after → is_kept n s ≡ true → s ≡ standing n before s.no → closed ≡ closure (full n) after s.no.query.a
-    → s.is_state ≡ true → breaks s.enough r ≡ false → record { no = s.no; closed = closed; enough = s.enough; is_state = s.is_state } ≡ standing n after s.no
-after-state n before after r s closed change kept e made state unbroken =
+pub after-state : (n : ℕ) (before after : List Items) (r : Query) (s : StandingNo) (closed : Items) (is_state : Bool) → IsAdded n r before after → is_kept n s ≡ true → s ≡ standing n before s.no → closed ≡ closure (full n) after s.no.query.a
+    → is_state ≡ (s.is_state && not (breaks s.enough r)) → is_state ≡ true → record { no = s.no; closed = closed; enough = s.enough; is_state = is_state } ≡ standing n after s.no
+after-state n before after r s closed is_state change kept e made state holds =
     let old = stands n before s e in
-    let member : is_among after s.enough ≡ true = ap (λ g. is_among g s.enough) change.1 ∙ unbroken-among before r s.enough unbroken ∙ sym old.is_state ∙ state in
-    standing-from n after s.no closed s.enough s.is_state made
+    let p = and_parts s.is_state (not (breaks s.enough r)) (sym state ∙ holds) in
+    let member : is_among after s.enough ≡ true = ap (λ g. is_among g s.enough) change.1 ∙ unbroken-among before r s.enough (not-true (breaks s.enough r) p.1) ∙ sym old.is_state ∙ p.0 in
+    standing-from n after s.no closed s.enough is_state made
     (enough-stays n before after s.no.query.a closed s.enough s.no.query.q (family_sets n before change.0) (subst (λ g. IsPart g before) (sym change.1) (left-IsPart before r)) (kept-parts n s kept).good.item made old.enough member)
-    (state ∙ sym member)
+    (holds ∙ sym member)
 
 -- and else it is none
-pub after-no_state : (n : ℕ) (before after : List Items) (r : Query) (s : StandingNo) → IsChange YesChange.Added n r before after → s ≡ standing n before s.no → (s.is_state && not (breaks s.enough r)) ≡ false → is_among after s.enough ≡ false
+pub after-no_state : (n : ℕ) (before after : List Items) (r : Query) (s : StandingNo) → IsAdded n r before after → s ≡ standing n before s.no → (s.is_state && not (breaks s.enough r)) ≡ false → is_among after s.enough ≡ false
 after-no_state n before after r s change e h = ap (λ g. is_among g s.enough) change.1 ∙ among-left before r s.enough ∙ ap (λ b. b && not (breaks s.enough r)) (sym (stands n before s e).is_state) ∙ h
+
+-- where p cannot fall, nothing more is enough
+pub after-fall : (n : ℕ) (before after : List Items) (r : Query) (s : StandingNo) (closed fall : Items) (is_state : Bool) → IsAdded n r before after → CanFall before r.q fall → is_kept n s ≡ true → s ≡ standing n before s.no → closed ≡ closure (full n) after s.no.query.a
+    → has fall s.no.query.q ≡ false → is_state ≡ (s.is_state && not (breaks s.enough r)) → record { no = s.no; closed = closed; enough = s.enough; is_state = is_state } ≡ standing n after s.no
+after-fall n before after r s closed fall is_state change can kept e made apart state =
+    let old = stands n before s e in
+    let item = (kept-parts n s kept).good.item in
+    let same : enough_for n after closed s.no.query.q ≡ s.enough =
+    ap (λ c. enough_for n after c s.no.query.q) made ∙ ap (λ g. enough_for n g (closure (full n) g s.no.query.a) s.no.query.q) change.1
+    ∙ enough-apart_from n before s.no.query.a s.no.query.q r fall (family_sets n before change.0) item can.0 can.1 apart ∙ sym old.enough in
+    standing-from n after s.no closed s.enough is_state made (sym same)
+    (state ∙ ap (λ b. b && not (breaks s.enough r)) old.is_state ∙ sym (among-left before r s.enough) ∙ ap (λ g. is_among g s.enough) (sym change.1))
 
 -- ---- a Yes that is taken back
 

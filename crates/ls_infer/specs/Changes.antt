@@ -1,8 +1,10 @@
 -- A Yes that comes or goes: which families come one after the other, and which closures are found anew.
+--     CanFall f i fall      of each member all of these items can be taken out together, and i is one of them
+--     IsAdded n r before after      a Yes to r comes that leaves the family after it of that before
 --     IsChange c n r before after      the family was before the change, and is after it
 --     is_stale c r closed      whether a closure from before the change can be another after it
-use Rattle.std.specs.Prelude.{ℕ, Bool, not, ◌&&◌, ◌≡◌, List}
-use Rattle.ls_set.specs.ItemSet.{Items, has, full, is_within}
+use Rattle.std.specs.Prelude.{ℕ, Bool, true, not, ◌&&◌, ◌≡◌, List}
+use Rattle.ls_set.specs.ItemSet.{Items, has, full, minus, is_within, is_among}
 use Rattle.ls_set.specs.Query.{is_good}
 use Rattle.ls_set.specs.declared.query.Query.{Query}
 use Rattle.ls_laws.specs.Families.{IsFamily}
@@ -10,14 +12,19 @@ use Rattle.ls_laws.specs.Spans.{left_by}
 use Rattle.ls_infer.specs.declared.standing_no.StandingNo.{StandingNo}
 use Rattle.ls_infer.specs.declared.yes_change.YesChange.{YesChange}
 
--- a Yes to r that comes leaves the family after it; one that is taken back had left the family before
+abbrev pub CanFall : List Items → ℕ → Items → Type 0
+CanFall f i fall = (has fall i ≡ true) × ((k : Items) → is_among f k ≡ true → is_among f (minus k fall) ≡ true)
+
+abbrev pub IsAdded : ℕ → Query → List Items → List Items → Type 0
+IsAdded n r before after = IsFamily n before × (after ≡ left_by r before)
+
 abbrev pub IsChange : YesChange → ℕ → Query → List Items → List Items → Type 0
-IsChange YesChange.Added n r before after = IsFamily n before × (after ≡ left_by r before)
+IsChange (YesChange.Added fall) n r before after = IsAdded n r before after × CanFall before r.q fall
 IsChange YesChange.Removed n r before after = before ≡ left_by r after
 
 -- the closure has the items of A; where the Yes comes, it lacks q
 abbrev pub is_stale : YesChange → Query → Items → Bool
-is_stale YesChange.Added r closed = is_within r.a closed && not (has closed r.q)
+is_stale (YesChange.Added fall) r closed = is_within r.a closed && not (has closed r.q)
 is_stale YesChange.Removed r closed = is_within r.a closed
 
 -- what is kept of a No to a good query, whose closure is of items below n, as are those that are enough

@@ -123,19 +123,30 @@ impl StandingNo {
         StandingNo::of(f, self.no, closed, enough, steps)
     }
 
-    // What is kept of it under a Yes to the good query `r` that comes. What was enough stays so,
-    // and where it was a state that does not break `r`, nothing more is.
+    // Whether what was enough is still a state where a Yes to `r` comes.
+    fn stays_state(&self, r: &Query) -> bool
+        requires { r.now.q < PLACES }
+        ensures { result ≡ (self.now.is_state && not (breaks self.now.enough r.now)) }
+    {
+        self.is_state && !breaks(self.enough, r)
+    }
+
+    // What is kept of it under a Yes to the good query `r` that comes, with whose item no items fall
+    // but those of `fall`. What was enough stays so. Nothing more is where p cannot fall, or where
+    // it was a state that does not break `r`.
     fn after_yes<I: Interior, L: Ledger>(
         &self,
         f: &I,
+        fall: ItemSet,
         r: &Query,
         steps: &mut Steps<L>,
     ) -> StandingNo
         requires kept { is_kept (I.item_count f.now) self.now ≡ true }
         requires good { is_good (I.item_count f.now) r.now ≡ true }
         requires item { r.now.q < PLACES }
+        requires few { I.item_count f.now ≤ PLACES }
         ensures value { (before : List Items) → let n = I.item_count f.now in
-            IsChange YesChange.Added n r.now before (I.members f.now) →
+            IsChange (YesChange.Added fall) n r.now before (I.members f.now) →
             self.now ≡ standing n before self.now.no →
             result ≡ standing n (I.members f.now) self.now.no }
         ensures kept { is_kept (I.item_count f.now) result ≡ true }
@@ -153,10 +164,15 @@ impl StandingNo {
         } else {
             self.closed
         };
-        if self.is_state && !breaks(self.enough, r) {
-            return StandingNo { closed, ..*self };
+        let is_state = self.stays_state(r);
+        if !is_state && fall.has(self.no.query.q) {
+            return self.with_closed(f, closed, steps);
         }
-        self.with_closed(f, closed, steps)
+        StandingNo {
+            closed,
+            is_state,
+            ..*self
+        }
     }
 
     // Whether what is enough is a state without a Yes to `r` exactly where it is one with it.
@@ -213,7 +229,7 @@ impl StandingNo {
         f: &I,
         closures: &[ItemSet],
         blocks: Blocks,
-        change: YesChange,
+        change: &YesChange,
         r: &Query,
         steps: &mut Steps<L>,
     ) -> StandingNo
@@ -222,7 +238,7 @@ impl StandingNo {
         requires item { r.now.q < PLACES }
         requires few { I.item_count f.now ≤ PLACES }
         ensures value { (before : List Items) → let n = I.item_count f.now in
-            IsChange change n r.now before (I.members f.now) →
+            IsChange change.now n r.now before (I.members f.now) →
             closures.now ≡ map (closure (full n) (I.members f.now)) (sets_of blocks) →
             self.now ≡ standing n before self.now.no →
             result ≡ standing n (I.members f.now) self.now.no }
@@ -230,7 +246,7 @@ impl StandingNo {
         ensures cost { steps.new ≤ steps.old + I.item_count f.now }
     {
         match change {
-            YesChange::Added => self.after_yes(f, r, steps),
+            YesChange::Added(fall) => self.after_yes(f, *fall, r, steps),
             YesChange::Removed => self.before_yes(f, closures, blocks, r, steps),
         }
     }
@@ -327,7 +343,7 @@ pub fn change_each<I: Interior, L: Ledger>(
     f: &I,
     closures: &[ItemSet],
     blocks: Blocks,
-    change: YesChange,
+    change: &YesChange,
     r: &Query,
     steps: &mut Steps<L>,
 )
@@ -336,7 +352,7 @@ pub fn change_each<I: Interior, L: Ledger>(
     requires item { r.now.q < PLACES }
     requires few { I.item_count f.now ≤ PLACES }
     ensures each { (before : List Items) (nos : List No) → let n = I.item_count f.now in
-        IsChange change n r.now before (I.members f.now) →
+        IsChange change.now n r.now before (I.members f.now) →
         closures.now ≡ map (closure (full n) (I.members f.now)) (sets_of blocks) →
         kept.old ≡ map (standing n before) nos →
         kept.new ≡ map (standing n (I.members f.now)) nos }

@@ -7,50 +7,41 @@ use Rattle.ls_theory.specs.Queries.{breaks}
 use Rattle.ls_laws.proofs.Breaks.{good-from}
 use Rattle.ls_laws.proofs.ClosureChanges.{closure_holds}
 use Rattle.ls_infer.proofs.States.{good-item}
-use Rattle.ls_infer.proofs.Standing.{some-item, kept-parts, kept-again, after-closed, after-met, after-again, after-lack, after-known, after-state, after-no_state}
+use Rattle.ls_infer.proofs.Standing.{some-item, kept-parts, kept-again, after-closed, after-met, after-again, after-lack, after-known, after-state, after-fall, after-no_state}
 use Rattle.ls_infer.proofs.standing_no.StandingNo.after_yes.Goals as goal
-use Rattle.ls_infer.proofs.standing_no.StandingNo.after_yes.Goals.{then-has_all, else-has_all, else-self-via-then-self+else-not-breaks, else-self-via-else-self}
+use Rattle.ls_infer.proofs.standing_no.StandingNo.after_yes.Goals.{then-has_all, else-has_all, else-not-is_state-via-then-not-is_state+else-has-2, else-not-is_state-via-else-not-is_state}
 
 pub returns-then-has-clause-value : goal.returns-then-has-clause-value
-returns-then-has-clause-value g c = λ before change e. after-closed _ before _ c.args.r.now c.args.self.now change c.requires.good c.requires.kept e (sym c.has.ensures ∙ c.if-has.true)
+returns-then-has-clause-value g c = λ before change e. after-closed _ before _ c.args.r.now c.args.self.now change.0 c.requires.good c.requires.kept e (sym c.has.ensures ∙ c.if-has.true)
 
 pub returns-then-is_some-clause-value : goal.returns-then-is_some-clause-value
 returns-then-is_some-clause-value g c = λ before change e.
     let met = some-item _ (ap (λ s. is_some (least s)) (sym c.meet.ensures) ∙ ap is_some (sym c.least.ensures.value) ∙ sym c.is_some.ensures ∙ c.if-is_some.true) in
     let lacks = sym c.is_within-has_all.ensures ∙ c.if-not-has_all.true in
-    after-met _ before _ c.args.r.now c.args.self.now met.0 change c.requires.good e lacks met.1
+    after-met _ before _ c.args.r.now c.args.self.now met.0 change.0 c.requires.good e lacks met.1
 
 pub closure-closed-requires : goal.closure-closed-requires
 closure-closed-requires g c = (kept-parts _ c.args.self.now c.requires.kept).closed
-
-pub returns-then-not-breaks-clause-value : goal.returns-then-not-breaks-clause-value
-returns-then-not-breaks-clause-value g c = λ before change e.
-    let n = g.I.Interior.item_count c.args.f.now in
-    let after = g.I.Interior.members c.args.f.now in
-    let r = c.args.r.now in
-    let s = c.args.self.now in
-    let closed = c.if-has_all.closed in
-    let made : closed ≡ closure (full n) after s.no.query.a = elim c.if-has_all.branch [
-      | then-has_all w ↦ after-again n before after r s closed change c.requires.kept e (w.closed-is ∙ w.closure-closed.ensures.value)
-      | else-has_all w ↦ w.closed-is ∙ after-lack n before after r s change c.requires.good e (sym c.is_within-has_all.ensures ∙ w.if-has_all.false)
-    ] in
-    after-state n before after r s closed change c.requires.kept e made c.if-self.true (sym c.breaks.ensures ∙ c.if-not-breaks.true)
-
-pub returns-then-not-breaks-clause-kept : goal.returns-then-not-breaks-clause-kept
-returns-then-not-breaks-clause-kept g c =
-    let s = c.args.self.now in
-    let k = kept-parts _ s c.requires.kept in
-    let within : IsWithin c.if-has_all.closed (full (g.I.Interior.item_count c.args.f.now)) = elim c.if-has_all.branch [
-      | then-has_all w ↦ rw (w.closed-is, w.closure-closed.ensures.value) (minus-within _ _)
-      | else-has_all w ↦ rw w.closed-is k.closed
-    ] in
-    kept-again _ s c.if-has_all.closed s.enough s.is_state c.requires.kept within k.enough
 
 pub with_closed-requires-clause-within : goal.with_closed-requires-clause-within
 with_closed-requires-clause-within g c = elim c.if-has_all.branch [
   | then-has_all w ↦ rw (w.closed-is, w.closure-closed.ensures.value) (minus-within _ _)
   | else-has_all w ↦ rw w.closed-is (kept-parts _ c.args.self.now c.requires.kept).closed
 ]
+
+pub returns-then-has-2-clause-value : goal.returns-then-has-2-clause-value
+returns-then-has-2-clause-value g c = λ before change e.
+    let n = g.I.Interior.item_count c.args.f.now in
+    let after = g.I.Interior.members c.args.f.now in
+    let r = c.args.r.now in
+    let s = c.args.self.now in
+    let closed = c.if-has_all.closed in
+    let made : closed ≡ closure (full n) after s.no.query.a = elim c.if-has_all.branch [
+      | then-has_all w ↦ after-again n before after r s closed change.0 c.requires.kept e (w.closed-is ∙ w.closure-closed.ensures.value)
+      | else-has_all w ↦ w.closed-is ∙ after-lack n before after r s change.0 c.requires.good e (sym c.is_within-has_all.ensures ∙ w.if-has_all.false)
+    ] in
+    let none : (s.is_state && not (breaks s.enough r)) ≡ false = sym c.stays_state-is_state.ensures ∙ c.if-not-is_state.true in
+    c.with_closed.ensures.value made (after-known n before after r s closed change.0 e made) (after-no_state n before after r s change.0 e none)
 
 pub returns-clause-value : goal.returns-clause-value
 returns-clause-value g c = λ before change e.
@@ -60,17 +51,27 @@ returns-clause-value g c = λ before change e.
     let s = c.args.self.now in
     let closed = c.if-has_all.closed in
     let made : closed ≡ closure (full n) after s.no.query.a = elim c.if-has_all.branch [
-      | then-has_all w ↦ after-again n before after r s closed change c.requires.kept e (w.closed-is ∙ w.closure-closed.ensures.value)
-      | else-has_all w ↦ w.closed-is ∙ after-lack n before after r s change c.requires.good e (sym c.is_within-has_all.ensures ∙ w.if-has_all.false)
+      | then-has_all w ↦ after-again n before after r s closed change.0 c.requires.kept e (w.closed-is ∙ w.closure-closed.ensures.value)
+      | else-has_all w ↦ w.closed-is ∙ after-lack n before after r s change.0 c.requires.good e (sym c.is_within-has_all.ensures ∙ w.if-has_all.false)
     ] in
-    let none : (s.is_state && not (breaks s.enough r)) ≡ false = elim c.else-self.branch [
-      | else-self-via-then-self+else-not-breaks w ↦ ap₂ (λ x y. x && not y) w.if-self.true (sym w.breaks.ensures ∙ w.if-not-breaks.false)
-      | else-self-via-else-self w ↦ ap (λ b. b && not (breaks s.enough r)) w.if-self.false
-    ] in
-    c.with_closed.ensures.value made (after-known n before after r s closed change e made) (after-no_state n before after r s change e none)
+    let is_state = c.stays_state-is_state.result in
+    elim c.else-not-is_state.branch [
+      | else-not-is_state-via-then-not-is_state+else-has-2 w ↦ after-fall n before after r s closed c.args.fall is_state change.0 change.1 c.requires.kept e made (sym w.has-then-not-is_state.ensures ∙ w.if-has-2.false) c.stays_state-is_state.ensures
+      | else-not-is_state-via-else-not-is_state w ↦ after-state n before after r s closed is_state change.0 c.requires.kept e made c.stays_state-is_state.ensures w.if-not-is_state.false
+    ]
 
-pub returns-clause-cost : goal.returns-clause-cost
-returns-clause-cost g c =
+pub returns-clause-kept : goal.returns-clause-kept
+returns-clause-kept g c =
+    let s = c.args.self.now in
+    let k = kept-parts _ s c.requires.kept in
+    let within : IsWithin c.if-has_all.closed (full (g.I.Interior.item_count c.args.f.now)) = elim c.if-has_all.branch [
+      | then-has_all w ↦ rw (w.closed-is, w.closure-closed.ensures.value) (minus-within _ _)
+      | else-has_all w ↦ rw w.closed-is k.closed
+    ] in
+    kept-again _ s c.if-has_all.closed s.enough c.stays_state-is_state.result c.requires.kept within k.enough
+
+pub returns-then-has-2-clause-cost : goal.returns-then-has-2-clause-cost
+returns-then-has-2-clause-cost g c =
     let n = g.I.Interior.item_count c.args.f.now in
     let after = g.I.Interior.members c.args.f.now in
     let s = c.args.self.now in

@@ -1,4 +1,14 @@
+use Rattle.std.proofs.Common.{◌≡◌, lt-ltb, ltb-true, sym, subst, ◌∙◌, ap}
+use Rattle.ls_set.specs.ItemSet.{empty, full, has, is_among, minus}
+use Rattle.ls_set.proofs.Sets.{has-full}
+use Rattle.ls_laws.proofs.Breaks.{good-from}
+use Rattle.ls_infer.specs.Changes.{CanFall}
+use Rattle.ls_infer.proofs.Changes.{all-fall}
 use Rattle.ls_infer.proofs.table.Table.yes_added.Goals as goal
 
 pub returns-clause-kept : goal.returns-clause-kept
-returns-clause-kept g c = λ before nos family left table. c.change.ensures.kept before nos (family, left) table
+returns-clause-kept g c = λ before nos family left table.
+    let n = c.args.self.now.table.blocks.item_count in
+    let all : c.full-all.result ≡ full n = c.full-all.ensures ∙ ap full (c.items.ensures.count ∙ c.requires.items) in
+    c.yes_added_within.ensures.kept before nos family left
+    (subst (CanFall before c.args.r.now.q) (sym all) (all-fall n before c.args.r.now.q family (good-from n c.args.r.now c.requires.good).item)) table
