@@ -1,7 +1,7 @@
 // Families with rules.
 ghost use Rattle.std.specs.Prelude.{◌≡◌, ◌<◌, ◌++◌, ◌∷◌, [], true, length, remove, filter};
 ghost use Rattle.std.specs.Prelude.{OnOk, IfSome};
-ghost use Rattle.ls_set.specs.ItemSet.{full, without, is_among, IsWithin};
+ghost use Rattle.ls_set.specs.ItemSet.{Items, full, has, minus, without, is_among, IsWithin};
 ghost use Rattle.ls_set.specs.Query.{is_good};
 ghost use Rattle.ls_theory.specs.Queries.{breaks_none};
 ghost use Rattle.ls_theory.specs.Families.{interior};
@@ -9,6 +9,7 @@ ghost use Rattle.ls_interior.specs.Keeping.{interior_keeping};
 ghost use Rattle.std.specs.List.{AllByRecursion};
 ghost use Rattle.ls_rules.specs.Waking.{Settling};
 
+use crate::falling::fall_with;
 use crate::heads::Heads;
 use crate::index::Index;
 use crate::parts::{first_of, several};
@@ -129,6 +130,20 @@ impl<F: Inside> Ruled<F> {
         ensures { result.now ≡ self.now.inner }
     {
         &self.inner
+    }
+
+    /// Items that can be taken out of any member together, the given one among them. Each part of a
+    /// member of the inner family is one of its members. It takes no interior.
+    pub fn falling(&self, item: u32) -> ItemSet
+        requires item { item < PLACES }
+        requires parts { (k part : Items) → is_among (F.members self.now.inner) k ≡ true →
+            IsWithin part k → is_among (F.members self.now.inner) part ≡ true }
+        ensures item { has result item ≡ true }
+        ensures members { let f = filter (breaks_none self.now.rules) (F.members self.now.inner) in
+            (k : Items) → is_among f k ≡ true → is_among f (minus k result) ≡ true }
+    {
+        let n = self.inner.items();
+        fall_with(&self.rules, n, ItemSet::empty().with(item))
     }
 
     // The items that wake a rule where they fall out, and maybe more.
