@@ -32,6 +32,7 @@ use Rattle.ls_laws.proofs.Answering.{not_both, forced_yes_unbroken}
 use Rattle.ls_theory.specs.Queries.{breaks, some_breaks}
 use Rattle.ls_lists.proofs.Filters.{filter-all}
 use Rattle.ls_laws.proofs.Numbered.{accepted-numbered}
+use Rattle.ls_infer.specs.Changes.{CanFall}
 use Rattle.ls_infer.specs.Tables.{TableState, table_of}
 use Rattle.ls_expert.specs.Held.{single_items, closures_of, IsHeld}
 use Rattle.ls_expert.proofs.AnswerLists.{yes_queries-yes, yes_queries-no, nos-yes, nos-no}
@@ -158,12 +159,12 @@ module _ (i : Interview) (r : Query) (old new : TableState) (f : List Items) (h 
       ∙ ap₂ (λ (k : List Items) (l : List No). table_of (single_items i.count) k l) (family ∙ sym (compatible-no i r)) (ap (λ y. nos i.answers ++ y ∷ []) e ∙ sym (nos-no i r))
 
   -- the table after a Yes
-  pub tabled-yes : f ≡ compat i.count i.start (yes_queries i.answers ++ r ∷ [])
-      → ((before : List Items) (ns : List No) → IsFamily old.blocks.item_count before → f ≡ left_by r before → old ≡ table_of old.blocks before ns → new ≡ table_of old.blocks f ns) → new ≡ closures_of (accepted i r true)
-  tabled-yes family kept =
+  pub tabled-yes : (fall : Items) → CanFall (compatible_sets i) r.q fall → f ≡ compat i.count i.start (yes_queries i.answers ++ r ∷ [])
+      → ((before : List Items) (ns : List No) → IsFamily old.blocks.item_count before → f ≡ left_by r before → CanFall before r.q fall → old ≡ table_of old.blocks before ns → new ≡ table_of old.blocks f ns) → new ≡ closures_of (accepted i r true)
+  tabled-yes fall can family kept =
       let left : f ≡ left_by r (compatible_sets i) = family ∙ compat-more i.count i.start (yes_queries i.answers) r in
       kept (compatible_sets i) (nos i.answers)
-      (subst (λ n. IsFamily n (compatible_sets i)) (ap (λ (t : TableState). t.blocks.item_count) (sym h)) (compat-IsFamily i.count i.start (yes_queries i.answers))) left (own (nos i.answers) (compatible_sets i) refl refl)
+      (subst (λ n. IsFamily n (compatible_sets i)) (ap (λ (t : TableState). t.blocks.item_count) (sym h)) (compat-IsFamily i.count i.start (yes_queries i.answers))) left can (own (nos i.answers) (compatible_sets i) refl refl)
       ∙ ap (λ (b : BlockRange). table_of b f (nos i.answers)) (ap (λ (t : TableState). t.blocks) h)
       ∙ ap₂ (λ (k : List Items) (l : List No). table_of (single_items i.count) k l) (left ∙ sym (compatible-yes i r)) (sym (nos-yes i r))
 

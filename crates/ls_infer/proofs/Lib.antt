@@ -5,7 +5,7 @@ mod Told
 mod Questions
 mod Sharing
 mod States
-mod Changes
+pub mod Changes
 mod Standing
 mod Closing
 mod Searching

@@ -4,15 +4,19 @@ use Rattle.ls_theory.specs.Interviews.{Interview, accepted}
 use Rattle.ls_theory.specs.Compatible.{compat}
 use Rattle.ls_theory.specs.Forced.{known}
 use Rattle.ls_theory.specs.Answering.{refusal}
+use Rattle.ls_laws.proofs.Breaks.{good-from}
 use Rattle.ls_infer.specs.Tables.{TableState}
 use Rattle.ls_expert.specs.Starts.{StartOn}
 use Rattle.ls_expert.specs.Held.{interview_of, closures_of}
 use Rattle.ls_expert.proofs.Ruling.{ruled-compat}
 use Rattle.ls_expert.proofs.Asking.{still-asking}
 use Rattle.ls_expert.proofs.Retracting.{steps-over}
-use Rattle.ls_expert.proofs.Taking.{held-yes, tabled-yes, tabled-forced}
+use Rattle.ls_expert.proofs.Taking.{passes-from, held-yes, tabled-yes, tabled-forced}
 use Rattle.ls_expert.proofs.inquiry.Inquiry.take_yes.Goals as goal
 use Rattle.ls_expert.proofs.inquiry.Inquiry.take_yes.Goals.{then-not-is_yes, else-not-is_yes}
+
+pub falling-fall-requires : goal.falling-fall-requires
+falling-fall-requires g c = (good-from c.args.self.now.count c.args.query.now (passes-from c.args.self.now c.args.query.now true c.requires.passes).good).item
 
 pub invariant_of-self-2 : goal.invariant_of-self-2
 invariant_of-self-2 g c =
@@ -30,7 +34,7 @@ invariant_of-self-2 g c =
     let kept = λ (new : TableState) (e : new ≡ closures_of (accepted i r true)). still-asking i r true c.self.inside.blocks c.self.inside.family.rules c.push_reserved.new.self.rules c.self.inside.table.table new c.self.inside.from c.self.inside.is_found c.self.invariant (held new e) in
     elim c.if-not-is_yes.branch [
       | then-not-is_yes w ↦ rw (c.put_last.ensures.last, c.put_last.ensures.next, w.self-inside-is, c.reserve.ensures.items, inner)
-          (kept w.yes_added.new.self.table (tabled-yes i r c.self.inside.table.table w.yes_added.new.self.table _ h.tabled (rw w.new.ensures family) w.yes_added.ensures.kept))
+          (kept w.yes_added_within.new.self.table (tabled-yes i r c.self.inside.table.table w.yes_added_within.new.self.table _ h.tabled c.falling-fall.result (rw (← c.self.view_is) at c.falling-fall.ensures) (rw w.new.ensures family) w.yes_added_within.ensures.kept))
       | else-not-is_yes w ↦ rw (c.put_last.ensures.last, c.put_last.ensures.next, w.self-inside-is, c.reserve.ensures.items, inner)
           (kept c.self.inside.table.table (tabled-forced i r c.self.inside.table.table h.standing.sound.some_fits (ap (λ (j : Interview). known j r) c.self.view_is ∙ sym c.requires.known ∙ c.is_yes.ensures w.if-not-is_yes.false) h.tabled))
     ]
@@ -40,6 +44,6 @@ returns-clause-cost g c =
     let i = interview_of c.self.inside.family.inner c.self.inside.block c.self.inside.answers.items c.self.inside.next in
     let most = steps-over i c.self.inside.table.table c.args.query.now.a c.self.invariant.held.tabled c.self.invariant.some_sizes in
     rw (← c.self.view_is) (elim c.if-not-is_yes.branch [
-      | then-not-is_yes w ↦ rw w.steps-is (omega (arith, w.yes_added.ensures.cost, most))
+      | then-not-is_yes w ↦ rw w.steps-is (omega (arith, w.yes_added_within.ensures.cost, most))
       | else-not-is_yes w ↦ rw w.steps-is (omega arith)
     ])
