@@ -98,10 +98,13 @@ yes-given n f r family good h = unbroken-stays f r (not-true (some_breaks f r) (
 
 -- all items can: what is left of a member is the empty set
 pub all-fall : (n : ℕ) (f : List Items) (i : ℕ) → IsFamily n f → i < n → CanFall f i (full n)
-all-fall n f i family l = (has-full n i ∙ lt-ltb i n l, λ k member.
-    let none : minus k (full n) ≡ empty = same_set (minus k (full n)) empty (λ j.
-    has-minus k (full n) j ∙ elim (has k j) as (λ b. has k j ≡ b → (b && not (has (full n) j)) ≡ has empty j) [
-      | true ↦ λ h. ap not (family.small k member j h) ∙ sym (has-empty j)
-      | false ↦ λ _. sym (has-empty j)
-    ] refl) in
-    subst (λ s. is_among f s ≡ true) (sym none) family.holds_empty)
+all-fall n f i family l = (
+  has-full n i ∙ lt-ltb i n l,
+  λ k member.
+      let none : minus k (full n) ≡ empty = same_set (minus k (full n)) empty (λ j.
+      has-minus k (full n) j ∙ elim (has k j) as (λ b. has k j ≡ b → (b && not (has (full n) j)) ≡ has empty j) [
+        | true ↦ λ h. ap not (family.small k member j h) ∙ sym (has-empty j)
+        | false ↦ λ _. sym (has-empty j)
+      ] refl) in
+      subst (λ s. is_among f s ≡ true) (sym none) family.holds_empty,
+)

@@ -1,5 +1,5 @@
 -- What falls with an item under rules, and that it can be taken out of any set that breaks none.
-use Rattle.std.proofs.Common.{ℕ, ◌+◌, ◌<◌, ◌≡◌, Bool, true, false, cond, not, eqb, eq-eqb, List, [], ◌∷◌, filter, fold, drop, drop-cons, get_or, length, refl, sym, ap, ap₂, ◌∙◌, subst, true≢false, add-one}
+use Rattle.std.proofs.Common.{ℕ, ◌+◌, ◌<◌, ◌≡◌, true, false, cond, not, eqb, eq-eqb, List, [], ◌∷◌, filter, fold, drop, drop-cons, get_or, length, refl, sym, ap, ap₂, ◌∙◌, subst, true≢false, add-one}
 use Rattle.std.specs.List.{AllByRecursion}
 use Rattle.std.proofs.lemmas.Bool.{and_parts, and_from, or_left, or_right, not-true, not_from_false, false_from_ne_true}
 use Rattle.ls_set.specs.ItemSet.{Items, has, empty, meet, minus, with, is_same, is_among, IsWithin}

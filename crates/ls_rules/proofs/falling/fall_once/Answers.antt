@@ -1,8 +1,6 @@
-use Rattle.std.proofs.Common.{◌≡◌, true, false, not, fold, sym, ap, ◌∙◌}
+use Rattle.std.proofs.Common.{fold, sym, ap, ◌∙◌}
 use Rattle.std.proofs.lemmas.List.{drop_all}
-use Rattle.ls_set.specs.ItemSet.{empty, is_same, meet}
 use Rattle.ls_rules.specs.Falling.{fall}
-use Rattle.ls_rules.proofs.Together.{fall-step}
 use Rattle.ls_rules.proofs.falling.fall_once.Goals as goal
 
 pub returns : goal.returns

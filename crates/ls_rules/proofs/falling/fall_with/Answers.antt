@@ -1,7 +1,7 @@
 use Rattle.std.proofs.Common.{ℕ, ◌≡◌, ◌<◌, true, false, Option, None, Some, refl, sym, ap, ◌∙◌, true≢false, lt-ltb}
 use Rattle.std.specs.Option.{is_some, IfSome}
 use Rattle.std.proofs.lemmas.Bool.{false_from_ne_true, true_from_ne_false}
-use Rattle.ls_set.specs.ItemSet.{Items, has, full, least, minus, len, IsWithin}
+use Rattle.ls_set.specs.ItemSet.{Items, has, full, minus, len, IsWithin}
 use Rattle.ls_set.specs.declared.item_set.TheConstants.{PLACES}
 use Rattle.ls_set.proofs.Sets.{has-full, minus-within}
 use Rattle.ls_set.proofs.Sizes.{len-less}

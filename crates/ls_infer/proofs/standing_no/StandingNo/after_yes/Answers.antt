@@ -1,4 +1,4 @@
-use Rattle.std.proofs.Common.{◌≡◌, ◌&&◌, not, true, false, sym, ap, ap₂, ◌∙◌, arith}
+use Rattle.std.proofs.Common.{◌≡◌, ◌&&◌, not, true, false, sym, ap, ◌∙◌, arith}
 use Rattle.std.specs.Option.{is_some}
 use Rattle.ls_set.specs.ItemSet.{full, has, least, IsWithin}
 use Rattle.ls_set.proofs.Sets.{minus-within, IsWithin-from}

@@ -1,6 +1,5 @@
-use Rattle.std.proofs.Common.{◌≡◌, lt-ltb, ltb-true, sym, subst, ◌∙◌, ap}
-use Rattle.ls_set.specs.ItemSet.{empty, full, has, is_among, minus}
-use Rattle.ls_set.proofs.Sets.{has-full}
+use Rattle.std.proofs.Common.{◌≡◌, sym, subst, ◌∙◌, ap}
+use Rattle.ls_set.specs.ItemSet.{full}
 use Rattle.ls_laws.proofs.Breaks.{good-from}
 use Rattle.ls_infer.specs.Changes.{CanFall}
 use Rattle.ls_infer.proofs.Changes.{all-fall}
