@@ -1,8 +1,7 @@
-use Rattle.std.proofs.Common.{◌≡◌, List, [], filter, sym, ap, ◌∙◌, subst}
-use Rattle.ls_set.specs.ItemSet.{Items, full}
+use Rattle.std.proofs.Common.{◌≡◌, [], filter, sym, ap, ◌∙◌, subst}
+use Rattle.ls_set.specs.ItemSet.{full}
 use Rattle.ls_theory.specs.Starts as theory
 use Rattle.ls_theory.specs.Queries.{breaks_none}
-use Rattle.ls_theory.specs.Interviews.{Interview}
 use Rattle.ls_theory.specs.Compatible.{compat, compatible_sets}
 use Rattle.ls_laws.proofs.Families.{compat-IsFamily}
 use Rattle.ls_infer.specs.Changes.{CanFall}

@@ -1,17 +1,14 @@
-use Rattle.std.proofs.Common.{ℕ, ◌≡◌, ◌∙◌, List, Ok, true, refl, sym, ap, ap₂, true≢false}
+use Rattle.std.proofs.Common.{◌≡◌, ◌∙◌, Ok, true, refl, sym, ap, true≢false}
 use Rattle.std.specs.Bool.{Decides}
 use Rattle.std.specs.List.{list_all}
 use Rattle.ls_set.specs.Query.{is_good}
-use Rattle.ls_set.specs.declared.query.Query.{Query}
 use Rattle.ls_theory.specs.declared.answer.Answer.{Answer}
 use Rattle.ls_theory.specs.Interviews.{Interview, yes_queries}
 use Rattle.ls_theory.specs.Blocks.{made}
 use Rattle.ls_laws.specs.Forced.{IsSound}
-use Rattle.ls_rules.specs.Ruled.{RuledState}
 use Rattle.ls_expert.specs.Starts.{StartOn, start_of}
 use Rattle.ls_expert.specs.Held.{blocks_of, interview_on, IsHeld}
 use Rattle.ls_expert.specs.Saved.{are_broken}
-use Rattle.ls_expert.proofs.AnswerLists.{all-told}
 use Rattle.ls_expert.proofs.Asking.{asking}
 use Rattle.ls_expert.proofs.Holding.{range-of, some-made, tabled-by}
 use Rattle.ls_expert.proofs.Saving.{made-as, ran_out, no_table, fit-decides}
