@@ -1,5 +1,5 @@
 -- Whether answers from which an interview is to go on stand.
-use Rattle.std.proofs.Common.{ℕ, ◌+◌, ◌-◌, ◌<◌, ◌≤◌, ◌≡◌, ◌⊎◌, inl, inr, Bool, true, false, not, ◌&&◌, ◌||◌, ltb, length, get_or, take, drop, List, [], ◌∷◌, map, filter, Result, Ok, IfErr, refl, sym, ap, ap₂, ◌∙◌, arith, ltb-true, lt-ltb, le-ltb}
+use Rattle.std.proofs.Common.{ℕ, ◌+◌, ◌-◌, ◌<◌, ◌≤◌, ◌≡◌, ◌⊎◌, inl, inr, Bool, true, false, not, ◌&&◌, ◌||◌, ltb, length, get_or, take, drop, List, [], ◌∷◌, map, filter, Result, Ok, IfErr, refl, sym, ap, ap₂, ◌∙◌, arith, ltb-true, lt-ltb, le-ltb, true≢false}
 use Rattle.std.specs.Bool.{Decides}
 use Rattle.std.specs.Cmp.{nat_cmp_is}
 use Rattle.std.specs.Ordering.{nat_cmp}
@@ -39,10 +39,10 @@ use Rattle.ls_laws.proofs.Answering.{compatible_fit}
 use Rattle.ls_clauses.specs.Starts.{IsStart}
 use Rattle.ls_clauses.proofs.Covers.{start-space}
 use Rattle.ls_expert.specs.declared.standing_fault.StandingFault.{StandingFault}
-use Rattle.ls_expert.specs.declared.standing_fault.StandingFault.TheVariants.{Memory}
+use Rattle.ls_expert.specs.declared.standing_fault.StandingFault.TheVariants.{Memory, BadBlock, TooWide, BadAnswers}
 use Rattle.ls_expert.specs.Starts.{StartOn}
 use Rattle.ls_expert.specs.Held.{blocks_of}
-use Rattle.ls_expert.specs.Saved.{IsStandingFault}
+use Rattle.ls_expert.specs.Saved.{IsStandingFault, IsTableFault}
 use Rattle.ls_expert.proofs.AnswerLists.{all-told}
 use Rattle.ls_expert.proofs.Ruling.{ruled-compat}
 use Rattle.ls_expert.proofs.Holding.{range-of}
@@ -176,6 +176,15 @@ made-as n k r b e f = let is = sym e ∙ f in is ∙ ap Ok (range-of n k b is)
 -- where memory runs out, the blocks were made
 pub ran_out : {X : Type 0} (i : Interview) (r : Result X StandingFault) (e : AllocError) → made i.count i.block ≡ Ok (blocks_of i) → IsErrAnd r (λ f. f ≡ Memory e) → IfErr r (IsStandingFault i)
 ran_out i r e made out = let p = err_from_is_err_and r out in rw (p.1, p.2) made
+
+-- where there is no table, the blocks were made
+pub no_table : {X : Type 0} (i : Interview) (broken : Bool) (r : Result X StandingFault) (e : StandingFault) → made i.count i.block ≡ Ok (blocks_of i) → Decides broken (IsSound i)
+    → IsTableFault broken e → IsErrAnd r (λ f. f ≡ e) → IfErr r (IsStandingFault i)
+no_table i broken r BadAnswers made decides h out =
+    let p = err_from_is_err_and r out in rw (p.1, p.2) (made, λ stands. true≢false (sym (decides.1 stands.sound) ∙ h))
+no_table i broken r (Memory e) made decides h out = let p = err_from_is_err_and r out in rw (p.1, p.2) made
+no_table i broken r BadBlock made decides h out = absurd h
+no_table i broken r (TooWide size) made decides h out = absurd h
 
 -- some space fits good answers exactly where each No is broken by some set of the start that breaks no Yes
 pub fit-decides : (i : Interview) (b : Bool) (s : StartOn) (rules : List Query) → IsStart i.count i.start → list_all (λ a. is_good i.count a.query) i.answers ≡ true

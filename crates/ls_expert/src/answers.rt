@@ -12,25 +12,29 @@ use std::alloc::{AllocError, Global};
 pub fn nos(alloc: Global, answers: &[Answer]) -> Result<Vec<No>, AllocError>
     ensures { IfOk result (λ v. v.items ≡ nos answers.now) }
 {
-    answers
-        .iter()
-        .filter(|a| !a.yes)
-        .map(|a| No {
-            number: a.number,
-            query: a.query,
-        })
-        .collect(alloc)
+    let mut found = Vec::new(alloc);
+    for answer in answers {
+        if !answer.yes {
+            found.push(No {
+                number: answer.number,
+                query: answer.query,
+            })?;
+        }
+    }
+    Ok(found)
 }
 
 /// The queries that were answered Yes.
 pub fn yes_queries(alloc: Global, answers: &[Answer]) -> Result<Vec<Query>, AllocError>
     ensures { IfOk result (λ v. v.items ≡ yes_queries answers.now) }
 {
-    answers
-        .iter()
-        .filter(|a| a.yes)
-        .map(|a| a.query)
-        .collect(alloc)
+    let mut found = Vec::new(alloc);
+    for answer in answers {
+        if answer.yes {
+            found.push(answer.query)?;
+        }
+    }
+    Ok(found)
 }
 
 /// The queries that were answered Yes but for the answer with the number.
@@ -38,12 +42,13 @@ pub fn yes_others(alloc: Global, answers: &[Answer], number: u64) -> Result<Vec<
     ensures { IfOk result (λ v.
         v.items ≡ yes_queries (filter (λ a. not (a.number == number)) answers.now)) }
 {
-    answers
-        .iter()
-        .filter(|a| a.number != number)
-        .filter(|a| a.yes)
-        .map(|a| a.query)
-        .collect(alloc)
+    let mut found = Vec::new(alloc);
+    for answer in answers {
+        if answer.number != number && answer.yes {
+            found.push(answer.query)?;
+        }
+    }
+    Ok(found)
 }
 
 /// Why the answer is not taken by what is known of its query, if it isn't.

@@ -51,6 +51,14 @@ impl Model for Interview {
         s.inquiry.count s.inquiry.start (yes_queries s.inquiry.answers) s.followed };
 }
 
+// The base of the inquiry, followed over the Yes answers.
+fn follow(inquiry: &Inquiry) -> Result<Followed, AllocError>
+    ensures { IfOk result (IsFollowed
+        inquiry.now.count inquiry.now.start (yes_queries inquiry.now.answers)) }
+{
+    Followed::over(inquiry.first_base()?, inquiry.yes_queries())
+}
+
 impl Interview {
     ghost use Rattle.ls_expert.specs.Starts.{start_of, IsStartOn};
 
@@ -67,8 +75,8 @@ impl Interview {
         requires start { IsStartOn n start }
         ensures { IfOk result (λ i. i ≡ begun n (start_of start)) }
     {
+        let followed = Followed::begin(start.base(alloc, n)?);
         let inquiry = Inquiry::new(alloc, n, start, steps)?;
-        let followed = Followed::begin(inquiry.first_base()?);
         Ok(Interview { inquiry, followed })
     }
 
@@ -102,7 +110,7 @@ impl Interview {
     pub fn of(inquiry: Inquiry) -> Result<Interview, AllocError>
         ensures { IfOk result (λ i. i ≡ inquiry) }
     {
-        let followed = Followed::over(inquiry.first_base()?, inquiry.yes_queries())?;
+        let followed = follow(&inquiry)?;
         Ok(Interview { inquiry, followed })
     }
 

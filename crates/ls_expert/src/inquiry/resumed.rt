@@ -1,9 +1,14 @@
 // Inquiries that go on from answers.
-ghost use Rattle.std.specs.Prelude.{◌≡◌, ◌<◌, ◌≤◌, Ok, IfOk, IfErr};
+ghost use Rattle.std.specs.Prelude.{◌≡◌, ◌<◌, ◌≤◌, true, Ok, IfOk, IfErr, OnOk};
+ghost use Rattle.std.specs.List.{list_all};
+ghost use Rattle.ls_set.specs.Query.{is_good};
+ghost use Rattle.ls_theory.specs.Interviews.{nos, yes_queries};
+ghost use Rattle.ls_theory.specs.Compatible.{compat};
 ghost use Rattle.ls_theory.specs.Blocks.{made};
 ghost use Rattle.ls_expert.specs.Starts.{start_of, IsStartOn};
-ghost use Rattle.ls_expert.specs.Held.{blocks_of, interview_on, IsStanding};
-ghost use Rattle.ls_expert.specs.Saved.{IsStandingFault};
+ghost use Rattle.ls_infer.specs.Tables.{table_of};
+ghost use Rattle.ls_expert.specs.Held.{blocks_of, interview_on, single_items, IsStanding};
+ghost use Rattle.ls_expert.specs.Saved.{are_broken, IsStandingFault, IsTableFault};
 
 use crate::answers::yes_queries;
 use crate::inquiry::{Inquiry, build};
@@ -11,12 +16,55 @@ use crate::on_items::OnItems;
 use crate::saved::{can_stand, each_no_broken, with_rules};
 use crate::standing_fault::StandingFault;
 use crate::start::Start;
+use ls_infer::Table;
 use ls_interior::{Counted, Steps};
 use ls_query::Blocks;
+use ls_rules::Ruled;
 use ls_set::PLACES;
 use ls_theory::Answer;
-use std::alloc::Global;
+use std::alloc::{AllocError, Global};
 use std::sync::ledger::Ledger;
+
+// The sets that meet the start, with the Yes answers as rules.
+fn family_with(
+    alloc: Global,
+    n: u32,
+    start: Start,
+    answers: &[Answer],
+) -> Result<Ruled<OnItems>, AllocError>
+    requires few { n ≤ PLACES }
+    requires start { IsStartOn n start }
+    requires good { list_all (λ a. is_good n a.query) answers.now ≡ true }
+    ensures inner { IfOk result (λ f.
+        f.inner ≡ record { item_count = n; start = start_of start }) }
+    ensures rules { IfOk result (λ f. f.rules ≡ yes_queries answers.now) }
+{
+    let yeses = yes_queries(alloc, answers)?;
+    with_rules(alloc, OnItems::new(n, start), &yeses)
+}
+
+// The table of a family for the answers, where some space fits them.
+fn table_with<L: Ledger>(
+    alloc: Global,
+    family: &Ruled<OnItems>,
+    answers: &[Answer],
+    steps: &mut Steps<L>,
+) -> Result<Table, StandingFault>
+    requires some { 0 < family.now.inner.item_count }
+    requires few { family.now.inner.item_count ≤ PLACES }
+    requires good { list_all (λ a. is_good family.now.inner.item_count a.query) answers.now
+        ≡ true }
+    ensures broken { OnOk result (are_broken family.now answers.now ≡ true) }
+    ensures table { let n = family.now.inner.item_count in
+        IfOk result (λ t. t.table ≡ table_of (single_items n)
+        (compat n family.now.inner.start family.now.rules) (nos answers.now)) }
+    ensures fault { IfErr result (IsTableFault (are_broken family.now answers.now)) }
+{
+    if !each_no_broken(&Counted::new(family), answers, steps) {
+        return Err(StandingFault::BadAnswers);
+    }
+    Ok(build(alloc, family, answers, steps)?)
+}
 
 impl Inquiry {
     /// The inquiry on `n` items that began with the start and goes on from answers that stand, as
@@ -45,16 +93,13 @@ impl Inquiry {
         if !can_stand(n, answers, next) {
             return Err(StandingFault::BadAnswers);
         }
-        let yeses = yes_queries(alloc, answers)?;
-        let family = with_rules(alloc, OnItems::new(n, start), &yeses)?;
-        if !each_no_broken(&Counted::new(&family), answers, steps) {
-            return Err(StandingFault::BadAnswers);
-        }
-        let table = build(alloc, &family, answers, steps)?;
+        let copied = Vec::from_slice(alloc, answers)?;
+        let family = family_with(alloc, n, start, answers)?;
+        let table = table_with(alloc, &family, answers, steps)?;
         Ok(Inquiry {
             alloc,
             family,
-            answers: Vec::from_slice(alloc, answers)?,
+            answers: copied,
             next,
             block: k,
             blocks,

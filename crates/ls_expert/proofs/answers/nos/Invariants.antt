@@ -1,0 +1,7 @@
+use Rattle.std.proofs.Common.{◌≡◌, take}
+use Rattle.ls_theory.specs.Interviews.{nos}
+use Rattle.ls_expert.proofs.answers.nos.Given as goal
+
+-- the Nos so far
+abbrev pub invariant-loop-answer : goal.invariant-loop-answer
+invariant-loop-answer l = l.found.items ≡ nos (take l.answer-index l.answers)
