@@ -1,16 +1,14 @@
 -- The script of a named file, by what was fetched; and a run over a script that is there whole.
-use Rattle.std.proofs.Common.{◌≡◌, ℕ, ◌+◌, ◌<◌, ◌≤◌, inl, inr, Bool, true, false, cond, ltb, List, [], ◌∷◌, ◌++◌, length, Option, Some, None, Result, Ok, Err, IsErrOf, IsErrAnd, Vec, MatchResult, refl, sym, ap, ◌∙◌, subst, append-nil, arith, le-ltb}
+use Rattle.std.proofs.Common.{◌≡◌, ℕ, ◌≤◌, Bool, true, false, cond, ltb, List, [], ◌∷◌, ◌++◌, length, Option, Some, None, Result, Ok, Err, IsErrOf, IsErrAnd, Vec, MatchResult, refl, sym, ap, ◌∙◌, subst, arith, le-ltb}
 use Rattle.std.specs.declared.alloc.AllocError.{AllocError}
 use Rattle.std.specs.declared.alloc.Global.{Global}
 use Rattle.std.specs.FinMap as map
-use Rattle.std.specs.Io.KnownBytes.{Keeps}
-use Rattle.std.proofs.KnownBytes.{Keeps-refl}
 use Rattle.ls_edge.specs.Causes.{Rose}
 use Rattle.ls_edge.specs.Files.{Folder, longest_file, given, Fetches, FetchedFrom, GivesBytes, Stays}
 use Rattle.ls_edge.specs.declared.traits.FetchFault.{FetchFault}
 use Rattle.ls_edge.specs.declared.traits.FetchFault.TheVariants as fetch
 use Rattle.ls_lines.specs.Lines.{Text, lines}
-use Rattle.ls_reply.specs.Transcripts.{Marked, count_marks}
+use Rattle.ls_reply.specs.Transcripts.{Marked}
 use Rattle.ls_shell.specs.Progress.{FewMarks, HasAnswered, StopsAt}
 use Rattle.ls_shell.specs.Runs.{AnswersWhole}
 use Rattle.ls_shell.specs.Named.{LeavesAll, AnswersFile, AnswersGiven, AnswersNamed}

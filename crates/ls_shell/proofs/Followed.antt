@@ -2,7 +2,8 @@
 use Rattle.std.proofs.Common.{◌≡◌, ℕ, ◌⊎◌, inl, inr, ◌||◌, Bool, true, false, cond, List, [], length, Result, Ok, Err, OnOk, OnErr, IsErr, IsErrOf, Some, refl, sym, ap, ◌∙◌, subst}
 use Rattle.std.proofs.Math.Path.{fun_ext}
 use Rattle.std.specs.declared.option.Option.{Option}
-use Rattle.std.specs.Io.KnownBytes.{Keeps}
+use Rattle.std.specs.Io.KnownBytes.{Appends, Keeps}
+use Rattle.std.proofs.KnownBytes.{Appends-nil, Appends-kept}
 use Rattle.ls_edge.specs.Causes.{AppendsFront}
 use Rattle.ls_edge.specs.Files.{Folder}
 use Rattle.ls_lines.specs.Lines.{Text, is_long}
@@ -14,7 +15,7 @@ use Rattle.ls_reply.specs.Scenes.{Fetched, Calls, calls_of}
 use Rattle.ls_reply.specs.Effects.{Effect}
 use Rattle.ls_reply.specs.Replies.{line_effect, reply_of}
 use Rattle.ls_reply.specs.Transcripts.{World, Marked, folder_with, effect_at}
-use Rattle.ls_session.specs.Follows.{Said, Sees, IsUndone, IsDecided, Gives, Follows}
+use Rattle.ls_session.specs.Follows.{Said, Sees, IsUndone, IsDecided, Gives, Follows, MovesSink}
 use Rattle.ls_shell.specs.declared.run.Run.{Run}
 use Rattle.ls_shell.specs.Progress.{AnswersLine}
 
@@ -29,6 +30,17 @@ OnErr_from (Err e) h = h
 OnOk_never : {T E : Type 0} (r : Result T E) (P : Type 0) → IsErr r → OnOk r P
 OnOk_never (Ok x) P h = absurd (cc h)
 OnOk_never (Err e) P h = tt
+
+-- whatever a line gives, bytes were appended, or none
+gives_bytes : {E : Type 0} (write : E) (effect : Effect) (old new : Session) (folder left : Option Folder) (a b : Option (List ℕ)) (r : Result Bool E) → Gives write effect old new folder left a b r → (bytes : List ℕ) × Appends a b bytes
+gives_bytes write effect old new folder left a b (Ok refused) h = (_, h.1.written)
+gives_bytes write effect old new folder left a b (Err e) (inl h) = (_, Appends-kept a a b [] (Appends-nil a) h.0.written)
+gives_bytes write effect old new folder left a b (Err e) (inr h) = (_, h.1.2)
+
+-- a line that was followed moves the sink
+pub follows_moves : {E : Type 0} {write : E} {effect : Calls → Effect} {old new : Session} {folder left : Option Folder} {i j : ℕ} {a b : Option (List ℕ)} {k l : ℕ} {r : Result Bool E} → Follows write effect old new folder left i j a b k l r → MovesSink write a b k l r
+follows_moves {E} {write} {effect} {old} {new} {folder} {left} {i} {j} {a} {b} {k} {l} {r} h =
+    record { kept = gives_bytes write (effect h.calls) old new folder left a b r h.gives; later = h.later; cause = h.cause }
 
 module _ {E : Type 0} (write : E) (line : List ℕ) (old new : Run) (next : Session) (folder left : Option Folder) (shelf_before shelf_now : ℕ) (a b : Option (List ℕ)) (faults_before faults_now : ℕ) (q : Result Bool E) (m : Folder) where
   abbrev FollowsIt : Type 0

@@ -7,7 +7,9 @@ pub mod Answered
 pub mod Taken
 pub mod Pieces
 pub mod Scripts
+pub mod Taking
+pub mod Input
 mod Numbers
-mod Faulting
 pub mod Fetched
+pub mod Whole
 pub mod Asked

@@ -28,7 +28,7 @@ module _ (script : List ℕ) where
   taken_part None bytes follows h e = absurd h
   taken_part (Some rest) bytes follows h e = ap (λ r. bytes ++ r) (sym e) ∙ sym h
 
-  taken_more : (new : Option (List ℕ)) (bytes : List ℕ) → Consumes (Some script) new bytes → longest_script < length bytes → TakesFew script new → ⊥
+  pub taken_more : (new : Option (List ℕ)) (bytes : List ℕ) → Consumes (Some script) new bytes → longest_script < length bytes → TakesFew script new → ⊥
   taken_more None bytes h many few = absurd h
   taken_more (Some rest) bytes h many few = let all : script ≡ bytes ++ rest = h in omega (arith, few rest refl, ap length all, length-append bytes rest)
 

@@ -1,10 +1,17 @@
 -- What a run over a script leaves, status by status.
 use Rattle.std.specs.Prelude.{ℕ, ◌≡◌, ◌<◌, ◌≤◌, List, [], ◌∷◌, ◌++◌, Bool, length, IfSome, Some}
+use Rattle.std.specs.Prelude.{Result, IfOk, IsErrOf}
 use Rattle.std.specs.declared.option.Option.{Option}
 use Rattle.std.specs.Io.KnownBytes.{Appends, Consumes, IsAtEnd}
+use Rattle.ls_edge.specs.Causes.{Rose}
 use Rattle.ls_edge.specs.Files.{Folder}
 use Rattle.ls_lines.specs.Lines.{lines}
 use Rattle.ls_reply.specs.Transcripts.{Marked, begun_over, bare_lines, refuses}
+use Rattle.ls_session.specs.declared.step_fault.StepFault.{StepFault}
+use Rattle.ls_session.specs.declared.step_fault.StepFault.TheVariants as step
+use Rattle.ls_shell.specs.declared.run_fault.RunFault.{RunFault}
+use Rattle.ls_shell.specs.declared.run_fault.RunFault.TheVariants.{Long, Read, Write}
+use Rattle.ls_shell.specs.Faults.{run_fault}
 use Rattle.ls_shell.specs.Progress.{HasAnswered, StopsAt}
 
 -- the most bytes that a script has
@@ -68,3 +75,21 @@ pub record TakesAndStops (write_failed : Type 0) (source source_left : Option (L
   pub follows_is : IfSome source_left (λ rest. rest ≡ follows)
   pub stops : (m : Folder) → folder ≡ Some m
       → StopsAt write_failed m (lines (counted ++ follows)) left shelf_before shelf_now before after
+
+-- What a run over the script of a source does, by how it ended: the script was answered whole; or
+-- the read failed, or the script is too long, and the lines that ended within the bytes that were
+-- taken are answered, and no others; or the run stopped before one of its lines. What was written
+-- stays.
+pub record TakesScript (source source_left : Option (List ℕ)) (source_before source_now : ℕ)
+    (folder left : Option Folder) (shelf_before shelf_now : ℕ) (before after : Option (List ℕ))
+    (sink_before sink_now : ℕ) (result : Result Bool RunFault) : Type 0 where
+  pub done : IfOk result
+      (TakesWhole source source_left folder left shelf_before shelf_now before after)
+  pub read : IsErrOf result Read → Rose source_before source_now
+      × TakesAndAnswers 0 source source_left folder left shelf_before shelf_now before after
+  pub long : IsErrOf result Long
+      → TakesAndAnswers 1 source source_left folder left shelf_before shelf_now before after
+  pub write : IsErrOf result Write → Rose sink_before sink_now
+  pub stopped : (e : StepFault) → IsErrOf result (run_fault e) → TakesAndStops (e ≡ step.Write)
+      source source_left folder left shelf_before shelf_now before after
+  pub kept : IsExtended before after

@@ -7,6 +7,7 @@ ghost use Rattle.ls_lines.specs.Lines.{lines};
 ghost use Rattle.ls_shell.specs.Progress.{IsFresh, StopsAt};
 ghost use Rattle.ls_shell.specs.Runs.{IsExtended, AnswersWhole};
 ghost use Rattle.ls_shell.specs.Named.{AnswersNamed};
+ghost use Rattle.ls_shell.specs.Statuses.{whole_status, unread_status};
 ghost use Rattle.ls_session.specs.Follows.{MovesSink};
 
 use crate::Status;
@@ -16,6 +17,30 @@ use ls_lines::Word;
 use ls_session::StepFault;
 use std::alloc::Global;
 use std::thread::Threads;
+
+// The status of a run over a script that was there whole.
+fn status_after(ended: Result<bool, StepFault>) -> Status
+    ensures { result ≡ whole_status ended }
+{
+    match ended {
+        Ok(false) => Status::Done,
+        Ok(true) => Status::Refused,
+        Err(StepFault::Write) => Status::WriteFault,
+        Err(StepFault::Memory(_)) => Status::NoMemory,
+    }
+}
+
+// The status where the script was not fetched.
+fn status_unread(fault: FetchFault) -> Status
+    ensures { result ≡ unread_status fault }
+{
+    match fault {
+        FetchFault::Missing => Status::NoScript,
+        FetchFault::TooLarge { .. } => Status::InputLong,
+        FetchFault::Failed => Status::ReadFault,
+        FetchFault::Memory(_) => Status::NoMemory,
+    }
+}
 
 /// Answers the script that the file of the name has. Where there is none, it is too long or could
 /// not be fetched, nothing is written.
@@ -42,16 +67,8 @@ pub fn answer_named<R: Threads + Sync, K: Sink, H: Shelf>(
     ensures kept { IsExtended (K.written out.old) (K.written out.new) }
 {
     match shelf.fetch(name.as_str()) {
-        Ok(script) => match answer_whole(rt, alloc, &script, out, shelf) {
-            Ok(false) => Status::Done,
-            Ok(true) => Status::Refused,
-            Err(StepFault::Write) => Status::WriteFault,
-            Err(StepFault::Memory(_)) => Status::NoMemory,
-        },
-        Err(FetchFault::Missing) => Status::NoScript,
-        Err(FetchFault::TooLarge { .. }) => Status::InputLong,
-        Err(FetchFault::Failed) => Status::ReadFault,
-        Err(FetchFault::Memory(_)) => Status::NoMemory,
+        Ok(script) => status_after(answer_whole(rt, alloc, &script, out, shelf)),
+        Err(fault) => status_unread(fault),
     }
 }
 

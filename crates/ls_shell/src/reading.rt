@@ -1,15 +1,11 @@
 // Reading a script and answering it as it comes.
-ghost use Rattle.std.specs.Prelude.{◌≡◌, ◌≤◌, IfOk, IsErrOf};
-ghost use Rattle.ls_edge.specs.Causes.{Rose};
+ghost use Rattle.std.specs.Prelude.{◌≤◌};
 ghost use Rattle.ls_shell.specs.Progress.{IsFresh};
-ghost use Rattle.ls_shell.specs.Runs.{IsExtended, TakesWhole, TakesAndAnswers, TakesAndStops};
-ghost use Rattle.ls_shell.specs.Faults.{run_fault};
-ghost use Rattle.ls_session.specs.declared.step_fault.StepFault.{StepFault as Fault};
+ghost use Rattle.ls_shell.specs.Runs.{TakesScript};
 
 use crate::run::Run;
 use crate::run_fault::RunFault;
 use ls_edge::{Failed, Shelf, Sink, Source};
-use ls_session::StepFault;
 use std::alloc::Global;
 use std::thread::Threads;
 
@@ -28,29 +24,9 @@ pub fn answer_source<R: Threads + Sync, S: Source, K: Sink, H: Shelf>(
     out: &mut K,
     shelf: &mut H,
 ) -> Result<bool, RunFault>
-    ensures done { IfOk result (TakesWhole (S.left src.old) (S.left src.new)
+    ensures { TakesScript (S.left src.old) (S.left src.new) (S.faults src.old) (S.faults src.new)
         (H.files shelf.old) (H.files shelf.new) (H.faults shelf.old) (H.faults shelf.new)
-        (K.written out.old) (K.written out.new)) }
-
-    // The lines that ended within the bytes that were taken are answered, and no others.
-    ensures read { IsErrOf result RunFault.Read → Rose (S.faults src.old) (S.faults src.new)
-        × TakesAndAnswers 0 (S.left src.old) (S.left src.new)
-        (H.files shelf.old) (H.files shelf.new) (H.faults shelf.old) (H.faults shelf.new)
-        (K.written out.old) (K.written out.new) }
-    ensures long { IsErrOf result RunFault.Long
-        → TakesAndAnswers 1 (S.left src.old) (S.left src.new)
-        (H.files shelf.old) (H.files shelf.new) (H.faults shelf.old) (H.faults shelf.new)
-        (K.written out.old) (K.written out.new) }
-
-    // The run stopped before one of its lines.
-    ensures write { IsErrOf result RunFault.Write → Rose (K.faults out.old) (K.faults out.new) }
-    ensures stopped { (e : Fault) → IsErrOf result (run_fault e)
-        → TakesAndStops (e ≡ StepFault.Write) (S.left src.old) (S.left src.new)
-        (H.files shelf.old) (H.files shelf.new) (H.faults shelf.old) (H.faults shelf.new)
-        (K.written out.old) (K.written out.new) }
-
-    // What was written stays.
-    ensures kept { IsExtended (K.written out.old) (K.written out.new) }
+        (K.written out.old) (K.written out.new) (K.faults out.old) (K.faults out.new) result }
 {
     let mut run = Run::new(alloc)?;
     answer_pieces(rt, &mut run, src, out, shelf)
@@ -67,29 +43,12 @@ fn answer_pieces<R: Threads + Sync, S: Source, K: Sink, H: Shelf>(
     shelf: &mut H,
 ) -> Result<bool, RunFault>
     requires { IsFresh run.old }
-    ensures done { IfOk result (TakesWhole (S.left src.old) (S.left src.new)
+    ensures takes { TakesScript
+        (S.left src.old) (S.left src.new) (S.faults src.old) (S.faults src.new)
         (H.files shelf.old) (H.files shelf.new) (H.faults shelf.old) (H.faults shelf.new)
-        (K.written out.old) (K.written out.new)) }
+        (K.written out.old) (K.written out.new) (K.faults out.old) (K.faults out.new) result }
 
-    // The lines that ended within the bytes that were taken are answered, and no others.
-    ensures read { IsErrOf result RunFault.Read → Rose (S.faults src.old) (S.faults src.new)
-        × TakesAndAnswers 0 (S.left src.old) (S.left src.new)
-        (H.files shelf.old) (H.files shelf.new) (H.faults shelf.old) (H.faults shelf.new)
-        (K.written out.old) (K.written out.new) }
-    ensures long { IsErrOf result RunFault.Long
-        → TakesAndAnswers 1 (S.left src.old) (S.left src.new)
-        (H.files shelf.old) (H.files shelf.new) (H.faults shelf.old) (H.faults shelf.new)
-        (K.written out.old) (K.written out.new) }
-
-    // The run stopped before one of its lines.
-    ensures write { IsErrOf result RunFault.Write → Rose (K.faults out.old) (K.faults out.new) }
-    ensures stopped { (e : Fault) → IsErrOf result (run_fault e)
-        → TakesAndStops (e ≡ StepFault.Write) (S.left src.old) (S.left src.new)
-        (H.files shelf.old) (H.files shelf.new) (H.faults shelf.old) (H.faults shelf.new)
-        (K.written out.old) (K.written out.new) }
-
-    // What was written stays, and no count falls.
-    ensures kept { IsExtended (K.written out.old) (K.written out.new) }
+    // No count falls.
     ensures source_later { S.faults src.old ≤ S.faults src.new }
     ensures sink_later { K.faults out.old ≤ K.faults out.new }
     ensures shelf_later { H.faults shelf.old ≤ H.faults shelf.new }

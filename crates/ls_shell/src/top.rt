@@ -13,6 +13,7 @@ ghost use Rattle.ls_shell.specs.Runs.{TakesAndAnswers, TakesAndStops};
 ghost use Rattle.ls_shell.specs.Scripts.{TakesFew, AnswersScript, MarksScript};
 ghost use Rattle.ls_shell.specs.Scripts.{WritesUsage};
 ghost use Rattle.ls_shell.specs.Named.{AnswersNamed, WritesDrill, HasNoScript, IsFile};
+ghost use Rattle.ls_shell.specs.Statuses.{input_status};
 
 use crate::Status;
 use crate::drilling::drill;
@@ -37,6 +38,20 @@ fn usage<K: Sink>(out: &mut K) -> Status
         Ok(()) => Status::Usage,
         Err(SinkFault::Failed) => Status::WriteFault,
         Err(SinkFault::Memory(_)) => Status::NoMemory,
+    }
+}
+
+// The status of a run over the input.
+fn status_after(ended: Result<bool, RunFault>) -> Status
+    ensures { result ≡ input_status ended }
+{
+    match ended {
+        Ok(false) => Status::Done,
+        Ok(true) => Status::Refused,
+        Err(RunFault::Long) => Status::InputLong,
+        Err(RunFault::Read) => Status::ReadFault,
+        Err(RunFault::Write) => Status::WriteFault,
+        Err(RunFault::Memory(_)) => Status::NoMemory,
     }
 }
 
@@ -153,14 +168,7 @@ pub fn lspace<R: Threads + Sync, S: Source, K: Sink, H: Shelf>(
     ensures kept { IsExtended (K.written out.old) (K.written out.new) }
 {
     match read_words(alloc, words) {
-        Ok(Mode::Input) => match answer_source(rt, alloc, src, out, shelf) {
-            Ok(false) => Status::Done,
-            Ok(true) => Status::Refused,
-            Err(RunFault::Long) => Status::InputLong,
-            Err(RunFault::Read) => Status::ReadFault,
-            Err(RunFault::Write) => Status::WriteFault,
-            Err(RunFault::Memory(_)) => Status::NoMemory,
-        },
+        Ok(Mode::Input) => status_after(answer_source(rt, alloc, src, out, shelf)),
         Ok(Mode::File { name }) => answer_named(rt, alloc, &name, out, shelf),
         Ok(Mode::Drill { n, number }) => drill(alloc, n, number, out),
         Err(WordsFault::Usage) => usage(out),

@@ -6,7 +6,7 @@ use Rattle.ls_lines.specs.Lines.{lines}
 use Rattle.ls_session.specs.declared.step_fault.StepFault.TheVariants.{Write}
 use Rattle.ls_shell.specs.Progress.{Answers, StopsAt}
 use Rattle.ls_shell.proofs.Followed.{OnErr_from}
-use Rattle.ls_shell.proofs.Moves.{moves_more}
+use Rattle.ls_shell.proofs.Moves.{moves_more, moves_same}
 use Rattle.ls_shell.proofs.Answered.{stops_if}
 use Rattle.ls_shell.proofs.Fetched.{told_same}
 use Rattle.ls_shell.proofs.named.answer_by.Goals as goal
@@ -23,6 +23,10 @@ returns-in_err-take-clause-stopped g c =
     let stops = c.in_err-take.ensures.stopped m [] [] faults written c.requires.short fresh in
     stops_if W (IsErrOf c.from_residual.result Write) m _ _ _ _ _ _ (told_same c.from_residual.result (Err e) e refl c.from_residual.ensures.1)
     (subst (λ (bytes : List ℕ). StopsAt W m (lines bytes) (g.H.Shelf.files c.take.new.shelf) faults (g.H.Shelf.faults c.take.new.shelf) written (g.K.Sink.written c.take.new.out)) (append-nil script) stops))
+
+pub returns-in_err-take-clause-sink : goal.returns-in_err-take-clause-sink
+returns-in_err-take-clause-sink g c =
+    moves_same Write _ _ _ _ c.take.result c.from_residual.result (told_same c.from_residual.result c.take.result c.in_err-take.field-0.0 c.in_err-take.was c.from_residual.ensures.1) c.take.ensures.sink
 
 pub returns-clause-answered : goal.returns-clause-answered
 returns-clause-answered g c =

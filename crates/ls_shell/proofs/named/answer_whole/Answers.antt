@@ -1,4 +1,4 @@
-use Rattle.std.proofs.Common.{IsErrOf, Some, sym, subst}
+use Rattle.std.proofs.Common.{IsErrOf, sym, subst}
 use Rattle.std.specs.declared.option.Option.{Option}
 use Rattle.ls_edge.specs.Files.{Folder}
 use Rattle.ls_lines.specs.Lines.{lines}

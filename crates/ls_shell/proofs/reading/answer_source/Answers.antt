@@ -1,10 +1,11 @@
-use Rattle.std.proofs.Common.{subst, arith, IsErrOf}
-use Rattle.std.proofs.lemmas.Grind.{common_steps}
-use Rattle.ls_shell.specs.Faults.{run_fault}
-use Rattle.ls_shell.specs.declared.run_fault.RunFault.TheVariants as run
+use Rattle.std.proofs.Common.{[]}
+use Rattle.ls_edge.proofs.Known.{appends_none}
+use Rattle.ls_session.specs.declared.step_fault.StepFault.TheVariants as fault
 use Rattle.ls_shell.proofs.Pieces.{stops_none}
+use Rattle.ls_shell.proofs.Taking.{takes_stopped}
 use Rattle.ls_shell.proofs.reading.answer_source.Goals as goal
 
-pub returns-in_err-run-clause-stopped : goal.returns-in_err-run-clause-stopped
-returns-in_err-run-clause-stopped g c = λ e err. stops_none (g.S.Source.left c.args.src.now) (g.H.Shelf.files c.args.shelf.now) (g.H.Shelf.faults c.args.shelf.now) (g.K.Sink.written c.args.out.now) _
-    (λ w. let failed : IsErrOf c.from_residual.result run.Write = subst (λ k. IsErrOf c.from_residual.result (run_fault k)) w err in grind (arith, common_steps))
+pub returns-in_err-run : goal.returns-in_err-run
+returns-in_err-run g c = takes_stopped {W = ⊥} c.from_residual.result (fault.Memory c.in_err-run.field-0.0) c.from_residual.ensures.1 (λ w. cc w) (λ w. absurd (cc w))
+    (stops_none (g.S.Source.left c.args.src.now) (g.H.Shelf.files c.args.shelf.now) (g.H.Shelf.faults c.args.shelf.now) (g.K.Sink.written c.args.out.now) ⊥ (λ e. e))
+    ([], appends_none (g.K.Sink.written c.args.out.now))

@@ -1,4 +1,4 @@
-use Rattle.std.proofs.Common.{◌≡◌, [], ◌++◌, Some, Err, ap, sym, ◌∙◌, false, true, arith, length-append, subst, refl}
+use Rattle.std.proofs.Common.{◌≡◌, [], Some, ap, sym, ◌∙◌, arith, subst}
 use Rattle.std.specs.declared.option.Option.{Option}
 use Rattle.std.specs.FinMap as map
 use Rattle.std.proofs.KnownBytes.{Consumes-nil, Keeps-refl}
@@ -7,16 +7,67 @@ use Rattle.ls_lines.specs.Lines.{Text, lines}
 use Rattle.ls_words.specs.declared.mode.Mode.{Mode}
 use Rattle.ls_words.specs.declared.mode.Mode.TheVariants.{File, Drill}
 use Rattle.ls_drill.specs.Summaries.{drill_text}
+use Rattle.ls_shell.specs.declared.status.Status.{Status}
+use Rattle.ls_shell.specs.declared.status.Status.TheVariants.{WriteFault}
 use Rattle.ls_shell.specs.Progress.{StopsAt}
+use Rattle.ls_shell.specs.Runs.{longest_script, TakesAndStops}
+use Rattle.ls_shell.specs.Scripts.{AnswersScript, MarksScript}
 use Rattle.ls_shell.specs.Named.{AnswersNamed, WritesDrill}
 use Rattle.ls_shell.proofs.Pieces.{stops_first}
 use Rattle.ls_shell.proofs.Asked.{input-none, none-mapped}
 use Rattle.ls_shell.proofs.Fetched.{script-answered, named-script, found-none}
-use Rattle.ls_session.specs.declared.step_fault.StepFault.TheVariants as fault
-use Rattle.ls_shell.specs.Runs.{longest_script, AnswersWhole}
-use Rattle.ls_shell.proofs.Answered.{stops_if, takes_if}
-use Rattle.ls_shell.proofs.Scripts.{took_few, whole_script, stops_script, whole_unmarked}
+use Rattle.ls_shell.proofs.Input.{input_done, input_refused, input_answered, input_marked, input_read, input_long, input_write, input_memory, input_many, never_usage, never_missing}
+use Rattle.ls_shell.proofs.Scripts.{took_few}
 use Rattle.ls_shell.proofs.top.lspace.Goals as goal
+
+pub returns-in-Ok-Input-clause-headline : goal.returns-in-Ok-Input-clause-headline
+returns-in-Ok-Input-clause-headline g c = λ none script folder told files few read written quiet.
+    subst (λ (s : Status). AnswersScript folder script (g.H.Shelf.files c.answer_source.new.shelf) (g.K.Sink.written c.args.out.now) (g.K.Sink.written c.answer_source.new.out) s) (sym c.status_after.ensures) (input_answered script folder told files few read written c.answer_source.result c.answer_source.ensures quiet)
+
+pub returns-in-Ok-Input-clause-complete : goal.returns-in-Ok-Input-clause-complete
+returns-in-Ok-Input-clause-complete g c = λ none script folder told files few read written.
+    subst (λ (s : Status). MarksScript folder script (g.H.Shelf.files c.answer_source.new.shelf) (g.H.Shelf.faults c.args.shelf.now) (g.H.Shelf.faults c.answer_source.new.shelf) (g.K.Sink.written c.args.out.now) (g.K.Sink.written c.answer_source.new.out) s) (sym c.status_after.ensures) (input_marked script folder told files few read written c.answer_source.result c.answer_source.ensures)
+
+pub returns-in-Ok-Input-clause-done : goal.returns-in-Ok-Input-clause-done
+returns-in-Ok-Input-clause-done g c = λ e none. input_done c.answer_source.result c.answer_source.ensures (sym c.status_after.ensures ∙ e)
+
+pub returns-in-Ok-Input-clause-refused : goal.returns-in-Ok-Input-clause-refused
+returns-in-Ok-Input-clause-refused g c = λ e none. input_refused c.answer_source.result c.answer_source.ensures (sym c.status_after.ensures ∙ e)
+
+pub returns-in-Ok-Input-clause-usage : goal.returns-in-Ok-Input-clause-usage
+returns-in-Ok-Input-clause-usage g c = λ e. absurd (never_usage c.answer_source.result (sym c.status_after.ensures ∙ e))
+
+pub returns-in-Ok-Input-clause-unread : goal.returns-in-Ok-Input-clause-unread
+returns-in-Ok-Input-clause-unread g c = λ some. absurd (some (none-mapped _ c.args.words.now (input-none _ (c.in-Ok-Input.ensures.read ∙ ap (λ (m : Mode). Some m) c.in-Ok-Input.field-0-is))))
+
+pub returns-in-Ok-Input-clause-read_fault : goal.returns-in-Ok-Input-clause-read_fault
+returns-in-Ok-Input-clause-read_fault g c = λ e none. input_read c.answer_source.result c.answer_source.ensures (sym c.status_after.ensures ∙ e)
+
+pub returns-in-Ok-Input-clause-fetch_fault : goal.returns-in-Ok-Input-clause-fetch_fault
+returns-in-Ok-Input-clause-fetch_fault g c = λ e some. absurd (some (none-mapped _ c.args.words.now (input-none _ (c.in-Ok-Input.ensures.read ∙ ap (λ (m : Mode). Some m) c.in-Ok-Input.field-0-is))))
+
+pub returns-in-Ok-Input-clause-write_fault : goal.returns-in-Ok-Input-clause-write_fault
+returns-in-Ok-Input-clause-write_fault g c = λ e. (input_write c.answer_source.result c.answer_source.ensures (sym c.status_after.ensures ∙ e)).0
+
+pub returns-in-Ok-Input-clause-write_stops : goal.returns-in-Ok-Input-clause-write_stops
+returns-in-Ok-Input-clause-write_stops g c = λ e none. (input_write c.answer_source.result c.answer_source.ensures (sym c.status_after.ensures ∙ e)).1 _
+
+pub returns-in-Ok-Input-clause-memory : goal.returns-in-Ok-Input-clause-memory
+returns-in-Ok-Input-clause-memory g c = λ e none.
+    subst (λ (s : Status). TakesAndStops (s ≡ WriteFault) (g.S.Source.left c.args.src.now) (g.S.Source.left c.answer_source.new.src) (g.H.Shelf.files c.args.shelf.now) (g.H.Shelf.files c.answer_source.new.shelf) (g.H.Shelf.faults c.args.shelf.now) (g.H.Shelf.faults c.answer_source.new.shelf) (g.K.Sink.written c.args.out.now) (g.K.Sink.written c.answer_source.new.out)) (sym c.status_after.ensures)
+    (input_memory c.answer_source.result c.answer_source.ensures (sym c.status_after.ensures ∙ e))
+
+pub returns-in-Ok-Input-clause-long : goal.returns-in-Ok-Input-clause-long
+returns-in-Ok-Input-clause-long g c = λ e none. input_long c.answer_source.result c.answer_source.ensures (sym c.status_after.ensures ∙ e)
+
+pub returns-in-Ok-Input-clause-too_long : goal.returns-in-Ok-Input-clause-too_long
+returns-in-Ok-Input-clause-too_long g c = λ taken rest first then many. c.status_after.ensures ∙ input_many c.answer_source.result c.answer_source.ensures taken rest first then many
+
+pub returns-in-Ok-Input-clause-no_script : goal.returns-in-Ok-Input-clause-no_script
+returns-in-Ok-Input-clause-no_script g c = λ e. absurd (never_missing c.answer_source.result (sym c.status_after.ensures ∙ e))
+
+pub returns-in-Ok-Input-clause-kept : goal.returns-in-Ok-Input-clause-kept
+returns-in-Ok-Input-clause-kept g c = c.answer_source.ensures.kept
 
 pub returns-in-Ok-File-clause-too_long : goal.returns-in-Ok-File-clause-too_long
 returns-in-Ok-File-clause-too_long g c = λ taken rest before after many.
@@ -33,65 +84,6 @@ returns-in-Err-Usage-clause-too_long g c = λ taken rest before after many.
 pub returns-in-Err-Memory-clause-too_long : goal.returns-in-Err-Memory-clause-too_long
 returns-in-Err-Memory-clause-too_long g c = λ taken rest before after many.
     absurd (took_few (g.S.Source.left c.args.src.now) (g.S.Source.left c.args.src.now) [] taken rest longest_script (Consumes-nil (g.S.Source.left c.args.src.now)) (omega arith) before after many)
-
-pub returns-in-Ok-true-clause-headline : goal.returns-in-Ok-true-clause-headline
-returns-in-Ok-true-clause-headline g c = λ none script folder told files few source sink shelf.
-    let w = whole_script (g.S.Source.left c.args.src.now) (g.S.Source.left c.answer_source.new.src) (g.H.Shelf.files c.args.shelf.now) (g.H.Shelf.files c.answer_source.new.shelf) (g.H.Shelf.faults c.args.shelf.now) (g.H.Shelf.faults c.answer_source.new.shelf)
-    (g.K.Sink.written c.args.out.now) (g.K.Sink.written c.answer_source.new.out) script c.in-Ok-true.field-0 c.in-Ok-true.ensures.done told in
-    whole_unmarked folder script _ _ _ _ _ true (subst (AnswersWhole folder script (g.H.Shelf.files c.answer_source.new.shelf) (g.H.Shelf.faults c.args.shelf.now) (g.H.Shelf.faults c.answer_source.new.shelf) (g.K.Sink.written c.args.out.now) (g.K.Sink.written c.answer_source.new.out)) c.in-Ok-true.field-0-test (w.1 folder files)) shelf
-
-pub returns-in-Ok-false-clause-headline : goal.returns-in-Ok-false-clause-headline
-returns-in-Ok-false-clause-headline g c = λ none script folder told files few source sink shelf.
-    let w = whole_script (g.S.Source.left c.args.src.now) (g.S.Source.left c.answer_source.new.src) (g.H.Shelf.files c.args.shelf.now) (g.H.Shelf.files c.answer_source.new.shelf) (g.H.Shelf.faults c.args.shelf.now) (g.H.Shelf.faults c.answer_source.new.shelf)
-    (g.K.Sink.written c.args.out.now) (g.K.Sink.written c.answer_source.new.out) script c.in-Ok-false.field-0 c.in-Ok-false.ensures.done told in
-    whole_unmarked folder script _ _ _ _ _ false (subst (AnswersWhole folder script (g.H.Shelf.files c.answer_source.new.shelf) (g.H.Shelf.faults c.args.shelf.now) (g.H.Shelf.faults c.answer_source.new.shelf) (g.K.Sink.written c.args.out.now) (g.K.Sink.written c.answer_source.new.out)) c.in-Ok-false.field-0-test (w.1 folder files)) shelf
-
-pub returns-in-Err-Read-clause-too_long : goal.returns-in-Err-Read-clause-too_long
-returns-in-Err-Read-clause-too_long g c = λ taken rest before after many.
-    let t = (c.in-Err-Read.ensures.read (ap Err c.in-Err-Read.field-0-is)).1 in
-    absurd (took_few (g.S.Source.left c.args.src.now) (g.S.Source.left c.answer_source.new.src) (t.counted ++ t.past) taken rest longest_script t.taken (omega (arith, length-append t.counted t.past, t.past_is, t.few)) before after many)
-
-pub returns-in-Err-Write-clause-write_stops : goal.returns-in-Err-Write-clause-write_stops
-returns-in-Err-Write-clause-write_stops g c = λ e none. takes_if _ _ _ _ _ _ _ _ _ _ (λ w. refl) (c.in-Err-Write.ensures.stopped fault.Write (ap Err c.in-Err-Write.field-0-is))
-
-pub returns-in-Err-Write-clause-too_long : goal.returns-in-Err-Write-clause-too_long
-returns-in-Err-Write-clause-too_long g c = λ taken rest before after many.
-    let t = c.in-Err-Write.ensures.stopped fault.Write (ap Err c.in-Err-Write.field-0-is) in
-    absurd (took_few (g.S.Source.left c.args.src.now) (g.S.Source.left c.answer_source.new.src) t.counted taken rest longest_script t.taken t.few before after many)
-
-pub returns-in-Err-Memory-answer_source-clause-complete : goal.returns-in-Err-Memory-answer_source-clause-complete
-returns-in-Err-Memory-answer_source-clause-complete g c = λ none script folder told files few source sink.
-    let t = c.in-Err-Memory-answer_source.ensures.stopped (fault.Memory c.in-Err-Memory-answer_source.field-0-0) (ap Err c.in-Err-Memory-answer_source.field-0-is) in
-    stops_if _ _ folder _ _ _ _ _ _ (λ b. absurd b) (stops_script (g.S.Source.left c.args.src.now) (g.S.Source.left c.answer_source.new.src) _ _ _ _ _ _ _ script folder t told files)
-
-pub returns-in-Err-Memory-answer_source-clause-memory : goal.returns-in-Err-Memory-answer_source-clause-memory
-returns-in-Err-Memory-answer_source-clause-memory g c = λ e none. takes_if _ _ _ _ _ _ _ _ _ _ (λ w. absurd (cc w)) (c.in-Err-Memory-answer_source.ensures.stopped (fault.Memory c.in-Err-Memory-answer_source.field-0-0) (ap Err c.in-Err-Memory-answer_source.field-0-is))
-
-pub returns-in-Err-Memory-answer_source-clause-too_long : goal.returns-in-Err-Memory-answer_source-clause-too_long
-returns-in-Err-Memory-answer_source-clause-too_long g c = λ taken rest before after many.
-    let t = c.in-Err-Memory-answer_source.ensures.stopped (fault.Memory c.in-Err-Memory-answer_source.field-0-0) (ap Err c.in-Err-Memory-answer_source.field-0-is) in
-    absurd (took_few (g.S.Source.left c.args.src.now) (g.S.Source.left c.answer_source.new.src) t.counted taken rest longest_script t.taken t.few before after many)
-
-pub returns-in-Ok-true-clause-unread : goal.returns-in-Ok-true-clause-unread
-returns-in-Ok-true-clause-unread g c = λ some. absurd (some (none-mapped _ c.args.words.now (input-none _ (c.in-Ok-Input.ensures.read ∙ ap (λ (m : Mode). Some m) c.in-Ok-Input.field-0-is))))
-
-pub returns-in-Ok-false-clause-unread : goal.returns-in-Ok-false-clause-unread
-returns-in-Ok-false-clause-unread g c = λ some. absurd (some (none-mapped _ c.args.words.now (input-none _ (c.in-Ok-Input.ensures.read ∙ ap (λ (m : Mode). Some m) c.in-Ok-Input.field-0-is))))
-
-pub returns-in-Err-Long-clause-unread : goal.returns-in-Err-Long-clause-unread
-returns-in-Err-Long-clause-unread g c = λ some. absurd (some (none-mapped _ c.args.words.now (input-none _ (c.in-Ok-Input.ensures.read ∙ ap (λ (m : Mode). Some m) c.in-Ok-Input.field-0-is))))
-
-pub returns-in-Err-Read-clause-unread : goal.returns-in-Err-Read-clause-unread
-returns-in-Err-Read-clause-unread g c = λ some. absurd (some (none-mapped _ c.args.words.now (input-none _ (c.in-Ok-Input.ensures.read ∙ ap (λ (m : Mode). Some m) c.in-Ok-Input.field-0-is))))
-
-pub returns-in-Err-Write-clause-unread : goal.returns-in-Err-Write-clause-unread
-returns-in-Err-Write-clause-unread g c = λ some. absurd (some (none-mapped _ c.args.words.now (input-none _ (c.in-Ok-Input.ensures.read ∙ ap (λ (m : Mode). Some m) c.in-Ok-Input.field-0-is))))
-
-pub returns-in-Err-Memory-answer_source-clause-unread : goal.returns-in-Err-Memory-answer_source-clause-unread
-returns-in-Err-Memory-answer_source-clause-unread g c = λ some. absurd (some (none-mapped _ c.args.words.now (input-none _ (c.in-Ok-Input.ensures.read ∙ ap (λ (m : Mode). Some m) c.in-Ok-Input.field-0-is))))
-
-pub returns-in-Err-Read-clause-fetch_fault : goal.returns-in-Err-Read-clause-fetch_fault
-returns-in-Err-Read-clause-fetch_fault g c = λ e some. absurd (some (none-mapped _ c.args.words.now (input-none _ (c.in-Ok-Input.ensures.read ∙ ap (λ (m : Mode). Some m) c.in-Ok-Input.field-0-is))))
 
 pub returns-in-Ok-File-clause-named : goal.returns-in-Ok-File-clause-named
 returns-in-Ok-File-clause-named g c = λ name mode script folder told got short sink shelf.

@@ -2,7 +2,7 @@ use Rattle.std.proofs.Common.{◌∙◌, List, ℕ, subst}
 use Rattle.ls_reply.specs.Replies.{line_effect}
 use Rattle.ls_session.specs.Follows.{Follows}
 use Rattle.ls_session.specs.declared.step_fault.StepFault.TheVariants as fault
-use Rattle.ls_shell.proofs.Followed.{whole_line, long_line}
+use Rattle.ls_shell.proofs.Followed.{whole_line, long_line, follows_moves}
 use Rattle.ls_shell.proofs.run.Run.step.Goals as goal
 
 pub returns-in-Whole-clause-answered : goal.returns-in-Whole-clause-answered
@@ -17,3 +17,6 @@ pub returns-in-Long-clause-answered : goal.returns-in-Long-clause-answered
 returns-in-Long-clause-answered g c = λ line ended bytes.
     let long = long_line c.args.ended line c.in-Long.bytes c.in-Long.is ended in
     c.refuse_long.ensures.follows line long.0 long.1 (g.H.Shelf.files c.args.shelf.now) (g.H.Shelf.faults c.args.shelf.now)
+
+pub returns-in-Whole-clause-sink : goal.returns-in-Whole-clause-sink
+returns-in-Whole-clause-sink g c = follows_moves c.step.ensures.follows
