@@ -45,21 +45,25 @@ pub fn closures_of<I: Interior, L: Ledger>(
 }
 
 /// What is kept of each of the answers, in their order, in a step at most for each item and one
-/// more for each answer.
+/// more for each answer. `closures` are those of the sets of the blocks.
 pub fn standing_of<I: Interior, L: Ledger>(
     alloc: Global,
     f: &I,
+    closures: &[ItemSet],
+    blocks: Blocks,
     answers: &[No],
     steps: &mut Steps<L>,
 ) -> Result<Vec<StandingNo>, AllocError>
-    requires { list_all (λ a. is_good (I.item_count f.now) a.query) answers.now ≡ true }
+    requires closures { closures.now
+        ≡ map (closure (full (I.item_count f.now)) (I.members f.now)) (sets_of blocks) }
+    requires good { list_all (λ a. is_good (I.item_count f.now) a.query) answers.now ≡ true }
     ensures list { IfOk result (λ v. v.items
         ≡ map (standing (I.item_count f.now) (I.members f.now)) answers.now) }
     ensures cost { steps.new ≤ steps.old + (I.item_count f.now + 1) * length answers.now }
 {
     let mut kept = Vec::new(alloc);
     for answer in answers {
-        kept.push(StandingNo::shared(f, answer, steps))?;
+        kept.push(StandingNo::shared(f, closures, blocks, answer, steps))?;
     }
     Ok(kept)
 }

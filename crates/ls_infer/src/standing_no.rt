@@ -78,17 +78,28 @@ impl StandingNo {
         StandingNo::of(f, *answer, closed, enough, steps)
     }
 
-    /// What is kept of the answer, in a step at most for each item and one more. What is not enough
-    /// is shared, so that it mostly takes fewer steps than `new`, which takes all of them.
-    pub fn shared<I: Interior, L: Ledger>(f: &I, answer: &No, steps: &mut Steps<L>) -> StandingNo
+    /// What is kept of the answer, in a step at most for each item and one more. Items whose
+    /// closures, by those that are kept of the block sets, have p are enough without a step, and
+    /// what is not enough is shared. So it mostly takes fewer steps than `new`, which takes all.
+    pub fn shared<I: Interior, L: Ledger>(
+        f: &I,
+        closures: &[ItemSet],
+        blocks: Blocks,
+        answer: &No,
+        steps: &mut Steps<L>,
+    ) -> StandingNo
         requires { is_good (I.item_count f.now) answer.now.query ≡ true }
-        ensures value { result ≡ standing (I.item_count f.now) (I.members f.now) answer.now }
+        ensures value { let n = I.item_count f.now in
+            closures.now ≡ map (closure (full n) (I.members f.now)) (sets_of blocks) →
+            result ≡ standing n (I.members f.now) answer.now }
+        ensures kept { is_kept (I.item_count f.now) result ≡ true }
         ensures cost { steps.new ≤ steps.old + (I.item_count f.now + 1) }
     {
         let closed = closure(f, answer.query.a, steps);
         let q = answer.query.q;
         let all = ItemSet::full(f.items());
-        let enough = enough_between(f, closed, q, ItemSet::empty(), all, steps);
+        let known = reaching(closures, blocks, all, q);
+        let enough = enough_between(f, closed, q, known, all, steps);
         StandingNo::of(f, *answer, closed, enough, steps)
     }
 

@@ -88,7 +88,7 @@ impl Table {
             + (length (sets_of blocks) + (I.item_count f.now + 1) * length answers.now) }
     {
         let closures = closures_of(alloc, blocks, f, steps)?;
-        let standing = standing_of(alloc, f, answers, steps)?;
+        let standing = standing_of(alloc, f, &closures, blocks, answers, steps)?;
         Ok(Table {
             n: f.items(),
             blocks,
@@ -235,6 +235,23 @@ impl Table {
         ensures cost { steps.new ≡ steps.old + (self.old.table.blocks.item_count + 1) }
     {
         self.standing.push_reserved(StandingNo::new(f, &x, steps));
+    }
+
+    /// As `no_added`, in at most as many steps: items whose closures, by those of the block sets,
+    /// have the item of the query need none, and what is not enough is shared.
+    pub fn no_added_shared<I: Interior, L: Ledger>(&mut self, f: &I, x: No, steps: &mut Steps<L>)
+        requires items { I.item_count f.now ≡ self.old.table.blocks.item_count }
+        requires room { 0 < self.old.spare }
+        requires good { is_good self.old.table.blocks.item_count x.query ≡ true }
+        ensures kept { (nos : List No) →
+            self.old.table ≡ table_of self.old.table.blocks (I.members f.now) nos →
+            self.new.table ≡ table_of self.old.table.blocks (I.members f.now) (nos ++ x ∷ []) }
+        ensures closures { self.new.table.closures ≡ self.old.table.closures }
+        ensures blocks { self.new.table.blocks ≡ self.old.table.blocks }
+        ensures cost { steps.new ≤ steps.old + (self.old.table.blocks.item_count + 1) }
+    {
+        let kept = StandingNo::shared(f, &self.closures, self.blocks, &x, steps);
+        self.standing.push_reserved(kept);
     }
 
     /// Lets go of the standing No with the number. It takes no memory and no step.

@@ -17,7 +17,7 @@ use Rattle.ls_rules.specs.Places.{PlaceList, places_at, IsIndexOf}
 use Rattle.ls_rules.proofs.Alone.{first_of-is, several-is, asked-has, asked-out}
 use Rattle.ls_rules.specs.Parts.{first_of, several}
 use Rattle.ls_rules.specs.Sets.{set_at}
-use Rattle.ls_rules.specs.Heads.{has_head, IsHeaded}
+use Rattle.ls_rules.specs.Followers.{Follows, AreFollowed}
 use Rattle.ls_rules.specs.Singles.{asked_alone, AreSingles, CoversSets}
 use Rattle.ls_rules.specs.Waking.{look, look_at, lose_all, IsAwake, Settling}
 use Rattle.ls_rules.specs.declared.round.Round.{Round}
@@ -136,9 +136,9 @@ whole k s a e = same_within s.kept k a.within (λ i h. elim (cases_Bool (has s.k
 -- ---- an item whose rules are passed over
 
 -- where the set of the item has no item that is kept, the item of a rule that begins with it is not kept
-head_gone : (heads : List Items) (r : Query) (i : ℕ) (k : Items) → meet (set_at heads i) k ≡ empty → has_head heads r ≡ true → has (first_of (several r.a)) i ≡ true → has k r.q ≡ false
+head_gone : (heads : List Items) (r : Query) (i : ℕ) (k : Items) → meet (set_at heads i) k ≡ empty → Follows heads (first_of (several r.a)) r.q → has (first_of (several r.a)) i ≡ true → has k r.q ≡ false
 head_gone heads r i k e h f =
-    let here = subst (λ (o : Option ℕ). option_map_or (λ i. has (set_at heads i) r.q) o true ≡ true) (first_of-is (several r.a) i f) h in
+    let here = h i f in
     false_from_ne_true (has k r.q) (λ x.
     true≢false (sym (has-meet (set_at heads i) k r.q ∙ and_from (has (set_at heads i) r.q) (has k r.q) here x) ∙ ap (λ s. has s r.q) e ∙ has-empty r.q))
 
@@ -149,10 +149,10 @@ looks-none s (r ∷ rs) h =
     ap (λ t. fold look t rs) (sym same) ∙ looks-none s rs h.1
 
 -- the round is as if they had been looked at
-pub passed : (rules : List Query) (starts : List PlaceList) (heads : List Items) (i : ℕ) (s : Round) → IsIndexOf starts (map (λ r. first_of (several r.a)) rules) → IsHeaded heads rules
+pub passed : (rules : List Query) (starts : List PlaceList) (heads : List Items) (i : ℕ) (s : Round) → IsIndexOf starts (map (λ r. first_of (several r.a)) rules) → AreFollowed heads (λ r. first_of (several r.a)) rules
     → is_same (meet (set_at heads i) s.kept) empty ≡ true → s ≡ look_at rules (places_at starts i) s
 passed rules starts heads i s index headed e =
     let none = (Decides-is_same (meet (set_at heads i) s.kept) empty).0 e in
     let p = λ (r : Query). has (first_of (several r.a)) i in
-    let gone = each {P = λ r. has_head heads r ≡ true} {Q = λ r. p r ≡ true → has s.kept r.q ≡ false} (λ r h f. head_gone heads r i s.kept none h f) rules (list_all-All (has_head heads) rules headed) in
+    let gone = each {P = λ r. Follows heads (first_of (several r.a)) r.q} {Q = λ r. p r ≡ true → has s.kept r.q ≡ false} (λ r h f. head_gone heads r i s.kept none h f) rules headed in
     sym (turned rules (λ r. first_of (several r.a)) starts i (places_at starts i) s (look_at rules (places_at starts i) s) index refl refl ∙ looks-none s (filter p rules) (All-kept (λ r. has s.kept r.q ≡ false) p rules gone))

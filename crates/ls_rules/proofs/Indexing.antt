@@ -7,7 +7,7 @@ use Rattle.std.proofs.lemmas.List.Elements.{All-cons, All-nil}
 use Rattle.std.proofs.lemmas.List.Folds.{list_all-append}
 use Rattle.std.proofs.lemmas.Bool.{and_from, and_parts, cases_Bool, cases_lt, cases_eq}
 use Rattle.std.proofs.lemmas.Bool.Decides.{nat_tests}
-use Rattle.ls_lists.proofs.Every.{list_all-remove, list_all-All, All-to}
+use Rattle.ls_lists.proofs.Every.{list_all-remove, each, All-append}
 use Rattle.ls_lists.proofs.Places.{map-remove, at_place}
 use Rattle.ls_set.specs.ItemSet.{Items, most_items, has, empty, union, single, with, without, least, is_same, IsWithin}
 use Rattle.ls_set.proofs.Sets.{members, has-empty, has-without, without-within, and-true, and-false}
@@ -17,7 +17,7 @@ use Rattle.ls_rules.specs.Places.{PlaceList, no_places, places_at, Covers, spare
 use Rattle.ls_set.specs.Query.{is_good}
 use Rattle.ls_rules.specs.Parts.{first_of, several}
 use Rattle.ls_rules.specs.Sets.{set_at}
-use Rattle.ls_rules.specs.Heads.{has_head, IsHeaded, Grows}
+use Rattle.ls_rules.specs.Followers.{Follows, AreFollowed, Grows}
 use Rattle.ls_rules.specs.Singles.{asked_alone}
 use Rattle.ls_rules.specs.Waking.{rules_at, IsIndexed}
 use Rattle.ls_rules.proofs.Alone.{AreSingles-push, AreSingles-remove}
@@ -135,78 +135,91 @@ fewer_places rules key m ls fewer l index h i =
     h i ∙ ap (lowered m) (index i) ∙ ap (λ n. lowered n (places_from 0 (map key rules) i)) (sym (zero-add m))
     ∙ sym (places_from-remove 0 (map key rules) m i (omega (arith, length-map rules key))) ∙ ap (λ ks. places_from 0 ks i) (sym (map-remove key rules m))
 
--- ---- the items of the rules by the least items of their sets A
+-- ---- the items of the rules by items of theirs
 
-pub IsHeaded-grows : (old new : List Items) (rules : List Query) → Grows old new → IsHeaded old rules → IsHeaded new rules
-IsHeaded-grows old new rules g h = All-to (λ r. has_head old r ≡ true) (has_head new) rules (list_all-All (has_head old) rules h) (λ r a. grown r (least (several r.a)) a)
-  where
-    grown : (r : Query) (o : Option ℕ) → option_map_or (λ i. has (set_at old i) r.q) o true ≡ true → option_map_or (λ i. has (set_at new i) r.q) o true ≡ true
-    grown r None a = refl
-    grown r (Some i) a = g i r.q a
-
-pub Grows-put : (heads : List Items) (i q : ℕ) → i < length heads → Grows heads (set heads i (with (set_at heads i) q))
-Grows-put heads i q l j k h = elim (cases_eq j i) [
-  | inl e ↦ rw (e, get_or-set_same heads i (with (set_at heads i) q) empty l) (let here : has (set_at heads i) k ≡ true = rw e at h in grind (arith, members, nat_tests))
-  | inr n ↦ rw (get_or-set_other heads i j (with (set_at heads i) q) empty n) h
+pub Grows-put : (sets : List Items) (i q : ℕ) → i < length sets → Grows sets (set sets i (with (set_at sets i) q))
+Grows-put sets i q l j k h = elim (cases_eq j i) [
+  | inl e ↦ rw (e, get_or-set_same sets i (with (set_at sets i) q) empty l) (let here : has (set_at sets i) k ≡ true = rw e at h in grind (arith, members, nat_tests))
+  | inr n ↦ rw (get_or-set_other sets i j (with (set_at sets i) q) empty n) h
 ]
 
-pub has_head-put : (heads : List Items) (r : Query) (i : ℕ) → i < length heads → least (several r.a) ≡ Some i → has_head (set heads i (with (set_at heads i) r.q)) r ≡ true
-has_head-put heads r i l e = rw (e, get_or-set_same heads i (with (set_at heads i) r.q) empty l) (grind (arith, members, nat_tests))
+pub followed-put : (sets : List Items) (i q : ℕ) → i < length sets → has (set_at (set sets i (with (set_at sets i) q)) i) q ≡ true
+followed-put sets i q l = rw (get_or-set_same sets i (with (set_at sets i) q) empty l) (grind (arith, members, nat_tests))
+
+followed-grows : (part : Query → Items) (old new : List Items) (rules : List Query) → Grows old new → AreFollowed old part rules → AreFollowed new part rules
+followed-grows part old new rules g h = each (λ r f i a. g i r.q (f i a)) rules h
+
+followed-push : (part : Query → Items) (old new : List Items) (rules : List Query) (r : Query) → Grows old new → AreFollowed old part rules → Follows new (part r) r.q → AreFollowed new part (rules ++ r ∷ [])
+followed-push part old new rules r g h f = All-append (λ (r : Query). Follows new (part r) r.q) rules (r ∷ []) (followed-grows part old new rules g h) (f, tt)
+
+followed-remove : (part : Query → Items) (sets : List Items) (rules : List Query) (m : ℕ) → AreFollowed sets part rules → AreFollowed sets part (remove rules m)
+followed-remove part sets [] zero h = tt
+followed-remove part sets [] (suc m) h = tt
+followed-remove part sets (r ∷ rules) zero h = h.1
+followed-remove part sets (r ∷ rules) (suc m) h = (h.0, followed-remove part sets rules m h.1)
 
 -- ---- the rules and all that is kept of them after a change
 
-pub IsIndexed-push : (n : ℕ) (rules : List Query) (r : Query) (rest first : Items) (place : ℕ) (wakes starts wakes' starts' : List PlaceList) (singles singles' heads heads' : List Items)
-    → IsIndexed n rules singles wakes starts heads → is_good n r ≡ true → rest ≡ several r.a → first ≡ first_of rest → place ≡ length rules
+pub IsIndexed-push : (n : ℕ) (rules : List Query) (r : Query) (rest first : Items) (place : ℕ) (wakes starts wakes' starts' : List PlaceList) (singles singles' heads heads' followers followers' : List Items)
+    → IsIndexed n rules singles wakes starts heads followers → is_good n r ≡ true → rest ≡ several r.a → first ≡ first_of rest → place ≡ length rules
     → ((i : ℕ) → set_at singles' i ≡ cond (is_same r.a (single i)) (with (set_at singles i) r.q) (set_at singles i)) → length singles' ≡ length singles
     → ((i : ℕ) → places_at wakes' i ≡ cond (has rest i) (places_at wakes i ++ place ∷ []) (places_at wakes i)) → length wakes' ≡ length wakes
     → ((i : ℕ) → places_at starts' i ≡ cond (has first i) (places_at starts i ++ place ∷ []) (places_at starts i)) → length starts' ≡ length starts
-    → has_head heads' r ≡ true → Grows heads heads' → length heads' ≡ length heads
-    → IsIndexed n (rules ++ r ∷ []) singles' wakes' starts' heads'
-IsIndexed-push n rules r rest first place wakes starts wakes' starts' singles singles' heads heads' a good m f p t tl w wl s sl held grows hl = record {
+    → Follows heads' first r.q → Grows heads heads' → length heads' ≡ length heads
+    → Follows followers' r.a r.q → Grows followers followers' → length followers' ≡ length followers
+    → IsIndexed n (rules ++ r ∷ []) singles' wakes' starts' heads' followers'
+IsIndexed-push n rules r rest first place wakes starts wakes' starts' singles singles' heads heads' followers followers' a good m f p t tl w wl s sl led grows hl after more al = record {
   good = list_all-append (is_good n) rules (r ∷ []) ∙ and_from (list_all (is_good n) rules) (is_good n r && true) a.good (and-true (is_good n r) ∙ good);
   singles_are = AreSingles-push rules r singles singles' a.singles_are t;
   wakes_are = more_places rules (λ r. several r.a) r wakes wakes' a.wakes_are (λ i. w i ∙ ap₂ (λ (k : Items) q. cond (has k i) (places_at wakes i ++ q ∷ []) (places_at wakes i)) m p);
   starts_are = more_places rules (λ r. first_of (several r.a)) r starts starts' a.starts_are (λ i. s i ∙ ap₂ (λ (k : Items) q. cond (has k i) (places_at starts i ++ q ∷ []) (places_at starts i)) (f ∙ ap first_of m) p);
-  headed = list_all-append (has_head heads') rules (r ∷ []) ∙ and_from (list_all (has_head heads') rules) (has_head heads' r && true) (IsHeaded-grows heads heads' rules grows a.headed) (and-true (has_head heads' r) ∙ held);
+  headed = followed-push (λ r. first_of (several r.a)) heads heads' rules r grows a.headed (subst (λ k. Follows heads' k r.q) (f ∙ ap first_of m) led);
+  followed = followed-push (λ r. r.a) followers followers' rules r more a.followed after;
   few_wakes = rw wl a.few_wakes;
   few_starts = rw sl a.few_starts;
   singles_reach = rw (sl, tl) a.singles_reach;
   heads_reach = rw (sl, hl) a.heads_reach;
+  followers_reach = rw (sl, al) a.followers_reach;
   few_heads = rw hl a.few_heads;
 }
 
-pub IsIndexed-remove : (n : ℕ) (rules : List Query) (m : ℕ) (r : Query) (wakes starts wakes' starts' : List PlaceList) (singles singles' heads : List Items) → IsIndexed n rules singles wakes starts heads → m < length rules
+pub IsIndexed-remove : (n : ℕ) (rules : List Query) (m : ℕ) (r : Query) (wakes starts wakes' starts' : List PlaceList) (singles singles' heads followers : List Items) → IsIndexed n rules singles wakes starts heads followers → m < length rules
     → r ≡ get_or rules m r → ((i : ℕ) → set_at singles' i ≡ cond (is_same r.a (single i)) (asked_alone (remove rules m) i) (set_at singles i)) → length singles' ≡ length singles
     → ((i : ℕ) → places_at wakes' i ≡ lowered m (places_at wakes i)) → length wakes' ≡ length wakes → ((i : ℕ) → places_at starts' i ≡ lowered m (places_at starts i)) → length starts' ≡ length starts
-    → IsIndexed n (remove rules m) singles' wakes' starts' heads
-IsIndexed-remove n rules m r wakes starts wakes' starts' singles singles' heads a l e t tl w wl s sl = record {
+    → IsIndexed n (remove rules m) singles' wakes' starts' heads followers
+IsIndexed-remove n rules m r wakes starts wakes' starts' singles singles' heads followers a l e t tl w wl s sl = record {
   good = list_all-remove (is_good n) rules m a.good;
   singles_are = AreSingles-remove rules m r singles singles' l a.singles_are (λ i. t i ∙ ap (λ (x : Query). cond (is_same x.a (single i)) (asked_alone (remove rules m) i) (set_at singles i)) e);
   wakes_are = fewer_places rules (λ r. several r.a) m wakes wakes' l a.wakes_are w;
   starts_are = fewer_places rules (λ r. first_of (several r.a)) m starts starts' l a.starts_are s;
-  headed = list_all-remove (has_head heads) rules m a.headed;
+  headed = followed-remove (λ r. first_of (several r.a)) heads rules m a.headed;
+  followed = followed-remove (λ r. r.a) followers rules m a.followed;
   few_wakes = rw wl a.few_wakes;
   few_starts = rw sl a.few_starts;
   singles_reach = rw (sl, tl) a.singles_reach;
   heads_reach = rw sl a.heads_reach;
+  followers_reach = rw sl a.followers_reach;
   few_heads = a.few_heads;
 }
 
-pub IsIndexed-reserve : (n : ℕ) (rules : List Query) (wakes starts wakes' starts' : List PlaceList) (singles singles' heads heads' : List Items) → IsIndexed n rules singles wakes starts heads
+pub IsIndexed-reserve : (n : ℕ) (rules : List Query) (wakes starts wakes' starts' : List PlaceList) (singles singles' heads heads' followers followers' : List Items) → IsIndexed n rules singles wakes starts heads followers
     → ((i : ℕ) → places_at wakes' i ≡ places_at wakes i) → length wakes' ≤ n → ((i : ℕ) → places_at starts' i ≡ places_at starts i) → length starts' ≤ n
     → ((i : ℕ) → set_at singles' i ≡ set_at singles i) → length starts' ≤ length singles'
     → ((i : ℕ) → set_at heads' i ≡ set_at heads i) → length starts' ≤ length heads' → length heads' ≤ most_items
-    → IsIndexed n rules singles' wakes' starts' heads'
-IsIndexed-reserve n rules wakes starts wakes' starts' singles singles' heads heads' a w wl s sl t reach same heads_reach few = record {
+    → ((i : ℕ) → set_at followers' i ≡ set_at followers i) → length starts' ≤ length followers'
+    → IsIndexed n rules singles' wakes' starts' heads' followers'
+IsIndexed-reserve n rules wakes starts wakes' starts' singles singles' heads heads' followers followers' a w wl s sl t reach same heads_reach few kept followers_reach = record {
   good = a.good;
   singles_are = λ i. t i ∙ a.singles_are i;
   wakes_are = λ i. w i ∙ a.wakes_are i;
   starts_are = λ i. s i ∙ a.starts_are i;
-  headed = IsHeaded-grows heads heads' rules (λ i j h. rw (same i) h) a.headed;
+  headed = followed-grows (λ r. first_of (several r.a)) heads heads' rules (λ i j h. rw (same i) h) a.headed;
+  followed = followed-grows (λ r. r.a) followers followers' rules (λ i j h. rw (kept i) h) a.followed;
   few_wakes = wl;
   few_starts = sl;
   singles_reach = reach;
   heads_reach = heads_reach;
+  followers_reach = followers_reach;
   few_heads = few;
 }
 

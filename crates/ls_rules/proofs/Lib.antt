@@ -3,4 +3,4 @@ pub mod Indexing
 pub mod Rounds
 pub mod Begun
 pub mod Reaching
-pub mod Together
+pub mod Following

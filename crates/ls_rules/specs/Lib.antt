@@ -2,7 +2,6 @@ pub mod Ruled
 pub mod Parts
 pub mod Places
 pub mod Sets
-pub mod Heads
+pub mod Followers
 pub mod Singles
 pub mod Waking
-pub mod Falling

@@ -1,8 +1,7 @@
 //! Families cut down by rules: the members of an inner family that break no query of a list.
 #![tactic(auto)]
 
-mod falling;
-mod heads;
+mod followers;
 mod index;
 mod parts;
 mod places;

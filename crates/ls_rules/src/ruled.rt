@@ -9,8 +9,7 @@ ghost use Rattle.ls_interior.specs.Keeping.{interior_keeping};
 ghost use Rattle.std.specs.List.{AllByRecursion};
 ghost use Rattle.ls_rules.specs.Waking.{Settling};
 
-use crate::falling::fall_with;
-use crate::heads::Heads;
+use crate::followers::Followers;
 use crate::index::Index;
 use crate::parts::{first_of, several};
 use crate::round::Round;
@@ -34,7 +33,9 @@ pub struct Ruled<F: Inside> {
     wakes: Index,
     starts: Index,
     // the items q of these, and maybe more, by these least items
-    heads: Heads,
+    heads: Followers,
+    // the items q of all rules, and maybe more, by each item of their sets A
+    followers: Followers,
     alloc: Global,
 }
 
@@ -55,7 +56,8 @@ impl<F: Inside> Model for Ruled<F> {
     } };
 
     ghost invariant = { λ r.
-        IsIndexed (F.item_count r.inner) r.rules.items r.singles r.wakes r.starts r.heads };
+        IsIndexed (F.item_count r.inner) r.rules.items r.singles r.wakes r.starts r.heads
+            r.followers };
 }
 
 impl<F: Inside> Ruled<F> {
@@ -70,7 +72,8 @@ impl<F: Inside> Ruled<F> {
             singles: Singles::new(alloc),
             wakes: Index::new(alloc),
             starts: Index::new(alloc),
-            heads: Heads::new(alloc),
+            heads: Followers::new(alloc),
+            followers: Followers::new(alloc),
             alloc,
         }
     }
@@ -84,6 +87,7 @@ impl<F: Inside> Ruled<F> {
         let n = self.inner.items();
         self.wakes.reserve(self.alloc, n)?;
         self.heads.reserve(n)?;
+        self.followers.reserve(n)?;
         self.singles.reserve(n)?;
         self.starts.reserve(self.alloc, n)?;
         self.rules.reserve(1)
@@ -100,8 +104,10 @@ impl<F: Inside> Ruled<F> {
         let several = several(r.a);
         self.singles.push(&r);
         self.wakes.push(several, place);
-        self.starts.push(first_of(several), place);
-        self.heads.push(&r);
+        let first = first_of(several);
+        self.starts.push(first, place);
+        self.heads.push(first, r.q);
+        self.followers.push(r.a, r.q);
         self.rules.push(r).unwrap()
     }
 
@@ -142,8 +148,7 @@ impl<F: Inside> Ruled<F> {
         ensures members { let f = filter (breaks_none self.now.rules) (F.members self.now.inner) in
             (k : Items) → is_among f k ≡ true → is_among f (minus k result) ≡ true }
     {
-        let n = self.inner.items();
-        fall_with(&self.rules, n, ItemSet::empty().with(item))
+        self.followers.all_with(ItemSet::empty().with(item))
     }
 
     // The items that wake a rule where they fall out, and maybe more.

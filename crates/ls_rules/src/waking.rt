@@ -3,7 +3,7 @@ ghost use Rattle.std.specs.Prelude.{◌≡◌, ℕ, ◌<◌, ◌≤◌, map, All
 ghost use Rattle.std.specs.List.{list_all};
 ghost use Rattle.ls_set.specs.ItemSet.{Items, has, empty, IsWithin};
 ghost use Rattle.ls_set.specs.Query.{is_good};
-ghost use Rattle.ls_rules.specs.Heads.{IsHeaded};
+ghost use Rattle.ls_rules.specs.Followers.{AreFollowed};
 ghost use Rattle.ls_rules.specs.Parts.{first_of, several};
 ghost use Rattle.ls_rules.specs.Places.{IsIndexOf, places_at};
 ghost use Rattle.ls_rules.specs.Sets.{set_at};
@@ -11,7 +11,7 @@ ghost use Rattle.ls_rules.specs.Singles.{AreSingles};
 ghost use Rattle.ls_rules.specs.Waking.{look_at, lose_all, lost_with, wake, Settling};
 ghost use Rattle.ls_rules.specs.Waking.{IsKeeping, SettlesKeeping};
 
-use crate::heads::Heads;
+use crate::followers::Followers;
 use crate::index::Index;
 use crate::round::Round;
 use crate::singles::Singles;
@@ -109,10 +109,10 @@ fn lost_outside(singles: &Singles, set: ItemSet) -> ItemSet
 
 // Looks at the rules whose sets A begin with the item. Where no item q of theirs is kept, none of
 // them is broken, and they need no look.
-fn look_from(rules: &[Query], starts: &Index, heads: &Heads, i: u32, round: &mut Round)
+fn look_from(rules: &[Query], starts: &Index, heads: &Followers, i: u32, round: &mut Round)
     requires items { All (λ r. r.q < PLACES) rules.now }
     requires starts { IsIndexOf starts.now (map (λ r. first_of (several r.a)) rules.now) }
-    requires heads { IsHeaded heads.now rules.now }
+    requires heads { AreFollowed heads.now (λ r. first_of (several r.a)) rules.now }
     ensures { round.new ≡ look_at rules.now (places_at starts.now i) round.old }
 {
     if heads.meets(i, round.kept) {
@@ -126,7 +126,7 @@ pub fn begin(
     rules: &[Query],
     singles: &Singles,
     starts: &Index,
-    heads: &Heads,
+    heads: &Followers,
     n: u32,
     set: ItemSet,
 ) -> Round
@@ -134,7 +134,7 @@ pub fn begin(
     requires good { list_all (is_good n) rules.now ≡ true }
     requires singles { AreSingles singles.now rules.now }
     requires starts { IsIndexOf starts.now (map (λ r. first_of (several r.a)) rules.now) }
-    requires heads { IsHeaded heads.now rules.now }
+    requires heads { AreFollowed heads.now (λ r. first_of (several r.a)) rules.now }
     ensures settling { Settling rules.now set result }
     ensures whole { result.fallen ≡ empty → result.kept ≡ set }
 {

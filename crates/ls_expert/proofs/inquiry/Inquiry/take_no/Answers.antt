@@ -14,9 +14,9 @@ invariant_of-self-2 g c =
     let i = interview_of s c.self.inside.block c.self.inside.answers.items c.self.inside.next in
     let r = c.args.query.now in
     let h = c.self.invariant.held in
-    let held = held-no i r c.self.inside.family.rules c.self.inside.table.table c.no_added.new.self.table h
+    let held = held-no i r c.self.inside.family.rules c.self.inside.table.table c.no_added_shared.new.self.table h
     (ap (λ (j : Interview). refusal j r false) c.self.view_is ∙ c.requires)
-    (tabled-no i r c.reserve_no.new.self.table c.no_added.new.self.table _ (c.reserve_no.ensures.table ∙ h.tabled) (record { number = c.self.inside.next; query = r })
-    (rw c.new.ensures (ruled-compat s.item_count s.start c.self.inside.family.rules ∙ ap (compat s.item_count s.start) h.ruled)) refl c.no_added.ensures.kept) in
-    let kept = still-asking i r false c.self.inside.blocks c.self.inside.family.rules c.self.inside.family.rules c.self.inside.table.table c.no_added.new.self.table c.self.inside.from c.self.inside.is_found c.self.invariant held in
+    (tabled-no i r c.reserve_no.new.self.table c.no_added_shared.new.self.table _ (c.reserve_no.ensures.table ∙ h.tabled) (record { number = c.self.inside.next; query = r })
+    (rw c.new.ensures (ruled-compat s.item_count s.start c.self.inside.family.rules ∙ ap (compat s.item_count s.start) h.ruled)) refl c.no_added_shared.ensures.kept) in
+    let kept = still-asking i r false c.self.inside.blocks c.self.inside.family.rules c.self.inside.family.rules c.self.inside.table.table c.no_added_shared.new.self.table c.self.inside.from c.self.inside.is_found c.self.invariant held in
     rw (c.put_last.ensures.last, c.put_last.ensures.next, c.reserve.ensures.items) kept

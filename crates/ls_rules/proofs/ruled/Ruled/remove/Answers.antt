@@ -24,5 +24,5 @@ invariant_of-self g c =
     let s = c.self.inside in
     let sets = rw (c.deref.ensures.value, c.remove-r.ensures.items) at c.remove-3.ensures.sets in
     rw c.remove-r.ensures.items
-    (IsIndexed-remove n s.rules.items c.args.place c.remove-r.result s.wakes s.starts c.remove.new.self c.remove-2.new.self s.singles c.remove-3.new.self s.heads c.self.invariant place
+    (IsIndexed-remove n s.rules.items c.args.place c.remove-r.result s.wakes s.starts c.remove.new.self c.remove-2.new.self s.singles c.remove-3.new.self s.heads s.followers c.self.invariant place
     c.remove-r.ensures.value sets c.remove-3.ensures.len c.remove.ensures.places c.remove.ensures.len c.remove-2.ensures.places c.remove-2.ensures.len)

@@ -1,0 +1,1 @@
+use Rattle.ls_infer.proofs.table.Table.no_added_shared.Goals as goal
