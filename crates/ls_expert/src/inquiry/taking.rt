@@ -121,11 +121,16 @@ impl Inquiry {
         ensures cost { steps.new + 1 ≤ steps.old + most_steps self.old query.now true }
         ensures refused { OnErr result (steps.new ≡ steps.old) }
     {
-        let fall = self.falling(query.q);
+        let forced = is_yes(told);
+        let fall = if forced {
+            ItemSet::empty()
+        } else {
+            self.falling(query.q)
+        };
         self.answers.reserve(1)?;
         self.family.reserve()?;
         self.family.push_reserved(*query);
-        if !is_yes(told) {
+        if !forced {
             self.table
                 .yes_added_within(&Counted::new(&self.family), fall, query, steps);
         }

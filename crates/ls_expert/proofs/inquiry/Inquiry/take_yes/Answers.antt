@@ -1,10 +1,11 @@
-use Rattle.std.proofs.Common.{◌≡◌, ◌∷◌, ◌++◌, [], List, true, arith, sym, ap, ap₂, ◌∙◌}
+use Rattle.std.proofs.Common.{◌≡◌, ◌∷◌, ◌++◌, [], List, true, false, true≢false, arith, sym, ap, ap₂, ◌∙◌}
 use Rattle.ls_set.specs.declared.query.Query.{Query}
 use Rattle.ls_theory.specs.Interviews.{Interview, accepted}
-use Rattle.ls_theory.specs.Compatible.{compat}
+use Rattle.ls_theory.specs.Compatible.{compat, compatible_sets}
 use Rattle.ls_theory.specs.Forced.{known}
 use Rattle.ls_theory.specs.Answering.{refusal}
 use Rattle.ls_laws.proofs.Breaks.{good-from}
+use Rattle.ls_infer.specs.Changes.{CanFall}
 use Rattle.ls_infer.specs.Tables.{TableState}
 use Rattle.ls_expert.specs.Starts.{StartOn}
 use Rattle.ls_expert.specs.Held.{interview_of, closures_of}
@@ -13,37 +14,38 @@ use Rattle.ls_expert.proofs.Asking.{still-asking}
 use Rattle.ls_expert.proofs.Retracting.{steps-over}
 use Rattle.ls_expert.proofs.Taking.{passes-from, held-yes, tabled-yes, tabled-forced}
 use Rattle.ls_expert.proofs.inquiry.Inquiry.take_yes.Goals as goal
-use Rattle.ls_expert.proofs.inquiry.Inquiry.take_yes.Goals.{then-not-is_yes, else-not-is_yes}
-
-pub falling-fall-requires : goal.falling-fall-requires
-falling-fall-requires g c = (good-from c.args.self.now.count c.args.query.now (passes-from c.args.self.now c.args.query.now true c.requires.passes).good).item
+use Rattle.ls_expert.proofs.inquiry.Inquiry.take_yes.Goals.{then-forced, else-forced, then-not-forced, else-not-forced}
 
 pub invariant_of-self-2 : goal.invariant_of-self-2
 invariant_of-self-2 g c =
-    let s = c.self.inside.family.inner in
-    let i = interview_of s c.self.inside.block c.self.inside.answers.items c.self.inside.next in
+    let s = c.self-2.inside.family.inner in
+    let i = interview_of s c.self-2.inside.block c.self-2.inside.answers.items c.self-2.inside.next in
     let r = c.args.query.now in
-    let h = c.self.invariant.held in
+    let h = c.self-2.invariant.held in
     let inner : c.push_reserved.new.self.inner ≡ s = c.push_reserved.ensures.inner ∙ c.reserve-2.ensures.inner in
-    let ruled : c.push_reserved.new.self.rules ≡ c.self.inside.family.rules ++ r ∷ [] = c.push_reserved.ensures.rules ∙ ap (λ (l : List Query). l ++ r ∷ []) c.reserve-2.ensures.rules in
+    let ruled : c.push_reserved.new.self.rules ≡ c.self-2.inside.family.rules ++ r ∷ [] = c.push_reserved.ensures.rules ∙ ap (λ (l : List Query). l ++ r ∷ []) c.reserve-2.ensures.rules in
     let family =
     ruled-compat c.push_reserved.new.self.inner.item_count c.push_reserved.new.self.inner.start c.push_reserved.new.self.rules
     ∙ ap₂ (λ (u : StartOn) (l : List Query). compat u.item_count u.start l) inner (ruled ∙ ap (λ (l : List Query). l ++ r ∷ []) h.ruled) in
-    let held = λ (new : TableState). held-yes i r c.self.inside.family.rules c.self.inside.table.table new h c.push_reserved.new.self.rules
-    (ap (λ (j : Interview). refusal j r true) c.self.view_is ∙ c.requires.passes) ruled in
-    let kept = λ (new : TableState) (e : new ≡ closures_of (accepted i r true)). still-asking i r true c.self.inside.blocks c.self.inside.family.rules c.push_reserved.new.self.rules c.self.inside.table.table new c.self.inside.from c.self.inside.is_found c.self.invariant (held new e) in
-    elim c.if-not-is_yes.branch [
-      | then-not-is_yes w ↦ rw (c.put_last.ensures.last, c.put_last.ensures.next, w.self-inside-is, c.reserve.ensures.items, inner)
-          (kept w.yes_added_within.new.self.table (tabled-yes i r c.self.inside.table.table w.yes_added_within.new.self.table _ h.tabled c.falling-fall.result (rw (← c.self.view_is) at c.falling-fall.ensures) (rw w.new.ensures family) w.yes_added_within.ensures.kept))
-      | else-not-is_yes w ↦ rw (c.put_last.ensures.last, c.put_last.ensures.next, w.self-inside-is, c.reserve.ensures.items, inner)
-          (kept c.self.inside.table.table (tabled-forced i r c.self.inside.table.table h.standing.sound.some_fits (ap (λ (j : Interview). known j r) c.self.view_is ∙ sym c.requires.known ∙ c.is_yes.ensures w.if-not-is_yes.false) h.tabled))
+    let held = λ (new : TableState). held-yes i r c.self-2.inside.family.rules c.self-2.inside.table.table new h c.push_reserved.new.self.rules
+    (ap (λ (j : Interview). refusal j r true) c.self-2.view_is ∙ c.requires.passes) ruled in
+    let kept = λ (new : TableState) (e : new ≡ closures_of (accepted i r true)). still-asking i r true c.self-2.inside.blocks c.self-2.inside.family.rules c.push_reserved.new.self.rules c.self-2.inside.table.table new c.self-2.inside.from c.self-2.inside.is_found c.self-2.invariant (held new e) in
+    let can : c.is_yes-forced.result ≡ false → CanFall (compatible_sets i) r.q c.if-forced.fall = λ free. elim c.if-forced.branch [
+      | then-forced f ↦ absurd (true≢false (sym f.if-forced.true ∙ free))
+      | else-forced f ↦ rw f.fall-is (rw (← c.self-2.view_is) at f.falling-fall.ensures)
+    ] in
+    elim c.if-not-forced.branch [
+      | then-not-forced w ↦ rw (c.put_last.ensures.last, c.put_last.ensures.next, w.self-inside-is, c.reserve.ensures.items, inner)
+          (kept w.yes_added_within.new.self.table (tabled-yes i r c.self-2.inside.table.table w.yes_added_within.new.self.table _ h.tabled c.if-forced.fall (can w.if-not-forced.true) (rw w.new.ensures family) w.yes_added_within.ensures.kept))
+      | else-not-forced w ↦ rw (c.put_last.ensures.last, c.put_last.ensures.next, w.self-inside-is, c.reserve.ensures.items, inner)
+          (kept c.self-2.inside.table.table (tabled-forced i r c.self-2.inside.table.table h.standing.sound.some_fits (ap (λ (j : Interview). known j r) c.self-2.view_is ∙ sym c.requires.known ∙ c.is_yes-forced.ensures w.if-not-forced.false) h.tabled))
     ]
 
 pub returns-clause-cost : goal.returns-clause-cost
 returns-clause-cost g c =
-    let i = interview_of c.self.inside.family.inner c.self.inside.block c.self.inside.answers.items c.self.inside.next in
-    let most = steps-over i c.self.inside.table.table c.args.query.now.a c.self.invariant.held.tabled c.self.invariant.some_sizes in
-    rw (← c.self.view_is) (elim c.if-not-is_yes.branch [
-      | then-not-is_yes w ↦ rw w.steps-is (omega (arith, w.yes_added_within.ensures.cost, most))
-      | else-not-is_yes w ↦ rw w.steps-is (omega arith)
+    let i = interview_of c.self-2.inside.family.inner c.self-2.inside.block c.self-2.inside.answers.items c.self-2.inside.next in
+    let most = steps-over i c.self-2.inside.table.table c.args.query.now.a c.self-2.invariant.held.tabled c.self-2.invariant.some_sizes in
+    rw (← c.self-2.view_is) (elim c.if-not-forced.branch [
+      | then-not-forced w ↦ rw w.steps-is (omega (arith, w.yes_added_within.ensures.cost, most))
+      | else-not-forced w ↦ rw w.steps-is (omega arith)
     ])
