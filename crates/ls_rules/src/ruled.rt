@@ -57,7 +57,7 @@ impl<F: Inside> Model for Ruled<F> {
 
     ghost invariant = { λ r.
         IsIndexed (F.item_count r.inner) r.rules.items r.singles r.wakes r.starts r.heads
-            r.followers };
+        r.followers };
 }
 
 impl<F: Inside> Ruled<F> {

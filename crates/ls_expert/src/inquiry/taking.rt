@@ -153,7 +153,8 @@ impl Inquiry {
             number: self.next,
             query: *query,
         };
-        self.table.no_added_shared(&Counted::new(&self.family), no, steps);
+        self.table
+            .no_added_shared(&Counted::new(&self.family), no, steps);
         self.is_found = false;
         Ok(put_last(&mut self.answers, &mut self.next, query, false))
     }
