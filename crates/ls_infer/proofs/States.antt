@@ -11,7 +11,7 @@ use Rattle.ls_theory.specs.Queries.{breaks}
 use Rattle.ls_laws.specs.Spans.{IsPart, left_by}
 use Rattle.ls_laws.proofs.Interiors.{IsUnionFamily, interior-is, interior-within, interior-greatest, interior-member, interior_grows}
 use Rattle.ls_laws.proofs.Breaks.{IsGood, Breaks-from, full-unbroken, among-left}
-use Rattle.ls_laws.proofs.ClosureChanges.{closure_grows, closure_widens, closure_again, left-IsPart}
+use Rattle.ls_laws.proofs.ClosureChanges.{closure_grows, closure_widens, left-IsPart}
 use Rattle.ls_infer.specs.Tables.{enough_for}
 use Rattle.ls_infer.proofs.Kept.{has-enough, with-within}
 use Rattle.ls_infer.proofs.Outside.{out-parts, out-from, with-left, with-here, with-cases, outside-member}
@@ -19,7 +19,7 @@ use Rattle.ls_infer.proofs.Sharing.{len-few}
 
 -- ---- sets
 
-pub with-grows : (s t : Items) (i : ℕ) → IsWithin s t → IsWithin (with s i) (with t i)
+with-grows : (s t : Items) (i : ℕ) → IsWithin s t → IsWithin (with s i) (with t i)
 with-grows s t i w j h = has-with t i j ∙ elim (with-cases s i j h) [
   | inl a ↦ or_left (has t j) (eqb j i) (w j a)
   | inr e ↦ subst (λ k. (has t j || eqb j k) ≡ true) e (or_right (has t j) (eqb j j) (eq-eqb j j refl))
@@ -89,23 +89,11 @@ enough-grows n f g b p part i h =
     (closure_grows (full n) g (with closed i) (with wide i) (with-grows closed wide i (closure_widens (full n) f g b part)) p
     (closure_widens (full n) f g (with closed i) part p e.1))
 
--- items with which p is in the closure of a part of the closed set
-pub reached : (n : ℕ) (f : List Items) (b closed : Items) (p : ℕ) (known : Items) → IsWithin b closed → IsWithin known (full n) → ((i : ℕ) → has known i ≡ true → has (closure (full n) f (with b i)) p ≡ true) → IsWithin known (enough_for n f closed p)
-reached n f b closed p known part small reach i h =
-    enough-from n f closed p i (ltb-true i n (sym (has-full n i) ∙ small i h)) (closure_grows (full n) f (with b i) (with closed i) (with-grows b closed i part) p (reach i h))
-
--- items with which it isn't in that of a set are not enough with the closure of the set
-pub without-missed : (n : ℕ) (f : List Items) (b : Items) (p : ℕ) (among missed : Items) → IsWithin b (full n) → ((i : ℕ) → has missed i ≡ true → has (closure (full n) f (with b i)) p ≡ false)
-    → IsWithin (enough_for n f (closure (full n) f b) p) among → IsWithin (enough_for n f (closure (full n) f b) p) (minus among missed)
-without-missed n f b p among missed small miss within i h =
-    let closed = closure (full n) f b in
-    let e = enough-parts n f closed p i h in
-    let wide = closure (full n) f (with b i) in
-    out-from among missed i (within i h) (false_from_ne_true (has missed i) (λ x.
-    true≢false (sym (subst (λ c. has c p ≡ true) (closure_again (full n) f (with b i)) (closure_grows (full n) f (with closed i) wide (λ j a. elim (with-cases closed i j a) [
-      | inl y ↦ closure_grows (full n) f b (with b i) (with-left b i) j y
-      | inr y ↦ subst (λ k. has wide k ≡ true) (sym y) (held n f (with b i) i (ltb-true i n e.0) (with-here b i))
-    ]) p e.1)) ∙ miss i x)))
+-- items of whose closures p is
+pub reached : (n : ℕ) (f : List Items) (closed : Items) (p : ℕ) (known : Items) → IsWithin known (full n) → ((i : ℕ) → has known i ≡ true → has (closure (full n) f (single i)) p ≡ true) → IsWithin known (enough_for n f closed p)
+reached n f closed p known small reach i h =
+    enough-from n f closed p i (ltb-true i n (sym (has-full n i) ∙ small i h))
+    (closure_grows (full n) f (single i) (with closed i) (λ j a. subst (λ k. has (with closed i) k ≡ true) (sym (single-only i j a)) (with-here closed i)) p (reach i h))
 
 -- where p is in the interior of some items that are enough, and that the closed set lacks, no other is
 pub enough-only : (n : ℕ) (f : List Items) (closed : Items) (p : ℕ) (known : Items) → IsWithin known (enough_for n f closed p) → ((i : ℕ) → has known i ≡ true → has closed i ≡ false) → has (interior f known) p ≡ true

@@ -78,9 +78,9 @@ impl StandingNo {
         StandingNo::of(f, *answer, closed, enough, steps)
     }
 
-    /// What is kept of the answer, in a step at most for each item and one more. Items of which the
-    /// closures of block sets tell take none, and what is not enough is shared. So it mostly takes
-    /// fewer steps than `new`, which takes all of them.
+    /// What is kept of the answer, in a step at most for each item and one more. Items whose
+    /// closures, by those that are kept of the block sets, have p are enough without a step, and
+    /// what is not enough is shared. So it mostly takes fewer steps than `new`, which takes all.
     pub fn shared<I: Interior, L: Ledger>(
         f: &I,
         closures: &[ItemSet],
@@ -96,27 +96,23 @@ impl StandingNo {
         ensures cost { steps.new ≤ steps.old + (I.item_count f.now + 1) }
     {
         let closed = closure(f, answer.query.a, steps);
+        let q = answer.query.q;
         let all = ItemSet::full(f.items());
-        let told = reaching(closures, blocks, all, &answer.query);
-        let among = all.minus(told.missed);
-        let enough = enough_between(f, closed, answer.query.q, told.enough, among, steps);
+        let known = reaching(closures, blocks, all, q);
+        let enough = enough_between(f, closed, q, known, all, steps);
         StandingNo::of(f, *answer, closed, enough, steps)
     }
 
-    // What is kept of it with its closure, where what was enough stays so, but is no state. Of some
-    // other items the kept closures tell whether they are enough.
+    // What is kept of it with its closure, where what was enough stays so, but is no state.
     fn with_closed<I: Interior, L: Ledger>(
         &self,
         f: &I,
-        closures: &[ItemSet],
-        blocks: Blocks,
         closed: ItemSet,
         steps: &mut Steps<L>,
     ) -> StandingNo
         requires kept { is_kept (I.item_count f.now) self.now ≡ true }
         requires within { IsWithin closed (full (I.item_count f.now)) }
         ensures value { let n = I.item_count f.now in
-            closures.now ≡ map (closure (full n) (I.members f.now)) (sets_of blocks) →
             closed ≡ closure (full n) (I.members f.now) self.now.no.query.a →
             IsWithin self.now.enough (enough_for n (I.members f.now) closed self.now.no.query.q) →
             is_among (I.members f.now) self.now.enough ≡ false →
@@ -127,10 +123,7 @@ impl StandingNo {
             steps.new + 1 ≤ steps.old + I.item_count f.now }
     {
         let all = ItemSet::full(f.items());
-        let told = reaching(closures, blocks, all.minus(self.enough), &self.no.query);
-        let known = self.enough.union(told.enough);
-        let among = all.minus(told.missed);
-        let enough = enough_between(f, closed, self.no.query.q, known, among, steps);
+        let enough = enough_between(f, closed, self.no.query.q, self.enough, all, steps);
         if enough.is_within(self.enough) {
             return StandingNo {
                 closed,
@@ -155,8 +148,6 @@ impl StandingNo {
     fn after_yes<I: Interior, L: Ledger>(
         &self,
         f: &I,
-        closures: &[ItemSet],
-        blocks: Blocks,
         fall: ItemSet,
         r: &Query,
         steps: &mut Steps<L>,
@@ -167,7 +158,6 @@ impl StandingNo {
         requires few { I.item_count f.now ≤ PLACES }
         ensures value { (before : List Items) → let n = I.item_count f.now in
             IsChange (YesChange.Added fall) n r.now before (I.members f.now) →
-            closures.now ≡ map (closure (full n) (I.members f.now)) (sets_of blocks) →
             self.now ≡ standing n before self.now.no →
             result ≡ standing n (I.members f.now) self.now.no }
         ensures kept { is_kept (I.item_count f.now) result ≡ true }
@@ -187,7 +177,7 @@ impl StandingNo {
         };
         let is_state = self.stays_state(r);
         if !is_state && fall.has(self.no.query.q) {
-            return self.with_closed(f, closures, blocks, closed, steps);
+            return self.with_closed(f, closed, steps);
         }
         StandingNo {
             closed,
@@ -204,8 +194,8 @@ impl StandingNo {
         self.is_state || !breaks(self.enough, r)
     }
 
-    // What is kept of it where a Yes to the good query `r` is taken back. Nothing more is enough,
-    // and of some items the kept closures tell whether they still are.
+    // What is kept of it where a Yes to the good query `r` is taken back. Nothing more is enough.
+    // Items whose closures have p, by those that are kept of single items, still are.
     fn before_yes<I: Interior, L: Ledger>(
         &self,
         f: &I,
@@ -235,9 +225,9 @@ impl StandingNo {
         } else {
             self.closed
         };
-        let told = reaching(closures, blocks, self.enough, &self.no.query);
-        let among = self.enough.minus(told.missed);
-        let enough = enough_between(f, closed, self.no.query.q, told.enough, among, steps);
+        let q = self.no.query.q;
+        let known = reaching(closures, blocks, self.enough, q);
+        let enough = enough_between(f, closed, q, known, self.enough, steps);
         if self.keeps_state(r) && self.enough.is_within(enough) {
             return StandingNo { closed, ..*self };
         }
@@ -267,7 +257,7 @@ impl StandingNo {
         ensures cost { steps.new ≤ steps.old + I.item_count f.now }
     {
         match change {
-            YesChange::Added(fall) => self.after_yes(f, closures, blocks, *fall, r, steps),
+            YesChange::Added(fall) => self.after_yes(f, *fall, r, steps),
             YesChange::Removed => self.before_yes(f, closures, blocks, r, steps),
         }
     }

@@ -12,10 +12,10 @@ use Rattle.ls_infer.proofs.standing_no.StandingNo.after_yes.Goals as goal
 use Rattle.ls_infer.proofs.standing_no.StandingNo.after_yes.Goals.{then-has_all, else-has_all, else-not-is_state-via-then-not-is_state+else-has-2, else-not-is_state-via-else-not-is_state}
 
 pub returns-then-has-clause-value : goal.returns-then-has-clause-value
-returns-then-has-clause-value g c = λ before change kept_closures e. after-closed _ before _ c.args.r.now c.args.self.now change.0 c.requires.good c.requires.kept e (sym c.has.ensures ∙ c.if-has.true)
+returns-then-has-clause-value g c = λ before change e. after-closed _ before _ c.args.r.now c.args.self.now change.0 c.requires.good c.requires.kept e (sym c.has.ensures ∙ c.if-has.true)
 
 pub returns-then-is_some-clause-value : goal.returns-then-is_some-clause-value
-returns-then-is_some-clause-value g c = λ before change kept_closures e.
+returns-then-is_some-clause-value g c = λ before change e.
     let met = some-item _ (ap (λ s. is_some (least s)) (sym c.meet.ensures) ∙ ap is_some (sym c.least.ensures.value) ∙ sym c.is_some.ensures ∙ c.if-is_some.true) in
     let lacks = sym c.is_within-has_all.ensures ∙ c.if-not-has_all.true in
     after-met _ before _ c.args.r.now c.args.self.now met.0 change.0 c.requires.good e lacks met.1
@@ -30,7 +30,7 @@ with_closed-requires-clause-within g c = elim c.if-has_all.branch [
 ]
 
 pub returns-then-has-2-clause-value : goal.returns-then-has-2-clause-value
-returns-then-has-2-clause-value g c = λ before change kept_closures e.
+returns-then-has-2-clause-value g c = λ before change e.
     let n = g.I.Interior.item_count c.args.f.now in
     let after = g.I.Interior.members c.args.f.now in
     let r = c.args.r.now in
@@ -41,10 +41,10 @@ returns-then-has-2-clause-value g c = λ before change kept_closures e.
       | else-has_all w ↦ w.closed-is ∙ after-lack n before after r s change.0 c.requires.good e (sym c.is_within-has_all.ensures ∙ w.if-has_all.false)
     ] in
     let none : (s.is_state && not (breaks s.enough r)) ≡ false = sym c.stays_state-is_state.ensures ∙ c.if-not-is_state.true in
-    c.with_closed.ensures.value kept_closures made (after-known n before after r s closed change.0 e made) (after-no_state n before after r s change.0 e none)
+    c.with_closed.ensures.value made (after-known n before after r s closed change.0 e made) (after-no_state n before after r s change.0 e none)
 
 pub returns-clause-value : goal.returns-clause-value
-returns-clause-value g c = λ before change kept_closures e.
+returns-clause-value g c = λ before change e.
     let n = g.I.Interior.item_count c.args.f.now in
     let after = g.I.Interior.members c.args.f.now in
     let r = c.args.r.now in

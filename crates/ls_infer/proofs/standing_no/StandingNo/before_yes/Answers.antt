@@ -5,7 +5,7 @@ use Rattle.ls_theory.specs.Families.{closure}
 use Rattle.ls_laws.proofs.ClosureChanges.{closure_holds}
 use Rattle.ls_laws.proofs.Families.{family_sets}
 use Rattle.ls_infer.proofs.Outside.{outside-member}
-use Rattle.ls_infer.proofs.States.{good-item, good-several, reached, without-missed}
+use Rattle.ls_infer.proofs.States.{good-item, good-several, reached}
 use Rattle.ls_infer.proofs.Standing.{kept-parts, kept-again, before-closed, before-lack, before-among, before-state, standing-from}
 use Rattle.ls_infer.proofs.standing_no.StandingNo.before_yes.Goals as goal
 use Rattle.ls_infer.proofs.standing_no.StandingNo.before_yes.Goals.{then-has_all, else-has_all}
@@ -18,17 +18,17 @@ returns-then-has-clause-value g c = λ before change kept_closures e.
 pub closure-closed-requires : goal.closure-closed-requires
 closure-closed-requires g c = (kept-parts _ c.args.self.now c.requires.kept).good.small
 
-pub reaching-told-requires : goal.reaching-told-requires
-reaching-told-requires g c = let item = (kept-parts _ c.args.self.now c.requires.kept).good.item in omega (arith, item, c.requires.few)
+pub reaching-known-requires : goal.reaching-known-requires
+reaching-known-requires g c = let item = (kept-parts _ c.args.self.now c.requires.kept).good.item in omega (arith, item, c.requires.few)
 
 pub enough_between-enough-requires-clause-item : goal.enough_between-enough-requires-clause-item
 enough_between-enough-requires-clause-item g c = (kept-parts _ c.args.self.now c.requires.kept).good.item
 
 pub enough_between-enough-requires-clause-known : goal.enough_between-enough-requires-clause-known
-enough_between-enough-requires-clause-known g c i h = (kept-parts _ c.args.self.now c.requires.kept).enough i (c.reaching-told.ensures.part i h)
+enough_between-enough-requires-clause-known g c i h = (kept-parts _ c.args.self.now c.requires.kept).enough i (c.reaching-known.ensures.part i h)
 
 pub enough_between-enough-requires-clause-among : goal.enough_between-enough-requires-clause-among
-enough_between-enough-requires-clause-among g c = rw c.minus-among.ensures (λ i h. (kept-parts _ c.args.self.now c.requires.kept).enough i (minus-within c.args.self.now.enough c.reaching-told.result.missed i h))
+enough_between-enough-requires-clause-among g c = (kept-parts _ c.args.self.now c.requires.kept).enough
 
 pub returns-then-is_within-clause-value : goal.returns-then-is_within-clause-value
 returns-then-is_within-clause-value g c = λ before change kept_closures e.
@@ -43,11 +43,8 @@ returns-then-is_within-clause-value g c = λ before change kept_closures e.
       | else-has_all w ↦ w.closed-is ∙ before-lack n before after r s change family c.requires.good e (sym c.is_within-has_all.ensures ∙ w.if-has_all.false)
     ] in
     let small = (kept-parts n s c.requires.kept).enough in
-    let b = s.no.query.a in
-    let good = (kept-parts n s c.requires.kept).good.small in
-    let known = reached n after b closed s.no.query.q c.reaching-told.result.enough (rw made (closure_holds (full n) after b good)) (λ i h. small i (c.reaching-told.ensures.part i h)) (c.reaching-told.ensures.enough n after kept_closures) in
-    let among = without-missed n after b s.no.query.q s.enough c.reaching-told.result.missed good (c.reaching-told.ensures.missed n after kept_closures) (rw made at (before-among n before after r s closed change e made)) in
-    let all = c.enough_between-enough.ensures.value (rw made (outside-member n after s.no.query.a (family_sets n after family))) known (rw (c.minus-among.ensures, made) among) in
+    let known = reached n after closed s.no.query.q c.reaching-known.result (λ i h. small i (c.reaching-known.ensures.part i h)) (c.reaching-known.ensures.closures n after kept_closures) in
+    let all = c.enough_between-enough.ensures.value (rw made (outside-member n after s.no.query.a (family_sets n after family))) known (before-among n before after r s closed change e made) in
     before-state n before after r s closed c.enough_between-enough.result change e made all (IsWithin-from s.enough c.enough_between-enough.result (sym c.is_within.ensures ∙ c.if-is_within.true)) (sym c.keeps_state.ensures ∙ c.if-keeps_state.true)
 
 pub returns-then-is_within-clause-kept : goal.returns-then-is_within-clause-kept
@@ -78,12 +75,9 @@ returns-clause-value g c = λ before change kept_closures e.
       | else-has_all w ↦ w.closed-is ∙ before-lack n before after r s change family c.requires.good e (sym c.is_within-has_all.ensures ∙ w.if-has_all.false)
     ] in
     let small = (kept-parts n s c.requires.kept).enough in
-    let b = s.no.query.a in
-    let good = (kept-parts n s c.requires.kept).good.small in
-    let known = reached n after b closed s.no.query.q c.reaching-told.result.enough (rw made (closure_holds (full n) after b good)) (λ i h. small i (c.reaching-told.ensures.part i h)) (c.reaching-told.ensures.enough n after kept_closures) in
-    let among = without-missed n after b s.no.query.q s.enough c.reaching-told.result.missed good (c.reaching-told.ensures.missed n after kept_closures) (rw made at (before-among n before after r s closed change e made)) in
+    let known = reached n after closed s.no.query.q c.reaching-known.result (λ i h. small i (c.reaching-known.ensures.part i h)) (c.reaching-known.ensures.closures n after kept_closures) in
     c.of.ensures.value ∙ standing-from n after s.no closed c.enough_between-enough.result _ made
-    (c.enough_between-enough.ensures.value (rw made (outside-member n after s.no.query.a (family_sets n after family))) known (rw (c.minus-among.ensures, made) among)) refl
+    (c.enough_between-enough.ensures.value (rw made (outside-member n after s.no.query.a (family_sets n after family))) known (before-among n before after r s closed change e made)) refl
 
 pub returns-clause-kept : goal.returns-clause-kept
 returns-clause-kept g c =

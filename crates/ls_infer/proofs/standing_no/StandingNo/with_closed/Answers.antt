@@ -1,47 +1,30 @@
 use Rattle.std.proofs.Common.{◌≡◌, false, ◌∙◌, ap, refl, sym, arith}
 use Rattle.ls_set.specs.ItemSet.{full, is_among}
-use Rattle.ls_set.proofs.Sets.{IsWithin-from, minus-within, union-within, same_within}
-use Rattle.ls_laws.proofs.ClosureChanges.{closure_holds}
+use Rattle.ls_set.proofs.Sets.{IsWithin-from, same_within}
 use Rattle.ls_laws.proofs.Families.{family_sets}
 use Rattle.ls_infer.specs.Tables.{enough_for}
 use Rattle.ls_infer.proofs.Outside.{outside-member}
-use Rattle.ls_infer.proofs.States.{enough-within, good-several, reached, without-missed}
+use Rattle.ls_infer.proofs.States.{enough-within, good-several}
 use Rattle.ls_infer.proofs.Standing.{kept-parts, kept-again, standing-from}
 use Rattle.ls_infer.proofs.standing_no.StandingNo.with_closed.Goals as goal
-
-pub reaching-told-requires : goal.reaching-told-requires
-reaching-told-requires g c = let item = (kept-parts _ c.args.self.now c.requires.kept).good.item in omega (arith, item, c.items.ensures.count, c.items.ensures.few)
 
 pub enough_between-enough-requires-clause-item : goal.enough_between-enough-requires-clause-item
 enough_between-enough-requires-clause-item g c = (kept-parts _ c.args.self.now c.requires.kept).good.item
 
 pub enough_between-enough-requires-clause-known : goal.enough_between-enough-requires-clause-known
-enough_between-enough-requires-clause-known g c =
-    let n = g.I.Interior.item_count c.args.f.now in
-    let s = c.args.self.now in
-    let all : c.full-all.result ≡ full n = c.full-all.ensures ∙ ap full c.items.ensures.count in
-    rw c.union-known.ensures (union-within s.enough c.reaching-told.result.enough (full n) (kept-parts n s c.requires.kept).enough
-    (λ i h. minus-within (full n) s.enough i (rw (c.minus.ensures, all) at c.reaching-told.ensures.part i h)))
+enough_between-enough-requires-clause-known g c = (kept-parts _ c.args.self.now c.requires.kept).enough
 
 pub enough_between-enough-requires-clause-among : goal.enough_between-enough-requires-clause-among
-enough_between-enough-requires-clause-among g c = rw (c.minus-among.ensures, c.full-all.ensures, c.items.ensures.count) (minus-within (full _) c.reaching-told.result.missed)
+enough_between-enough-requires-clause-among g c = rw (c.full-all.ensures, c.items.ensures.count) (λ i h. h)
 
 pub returns-then-is_within-clause-value : goal.returns-then-is_within-clause-value
-returns-then-is_within-clause-value g c = λ kept_closures made known none.
+returns-then-is_within-clause-value g c = λ made known none.
     let n = g.I.Interior.item_count c.args.f.now in
     let f = g.I.Interior.members c.args.f.now in
     let s = c.args.self.now in
-    let b = s.no.query.a in
-    let q = s.no.query.q in
-    let told = c.reaching-told.result in
     let all : c.full-all.result ≡ full n = c.full-all.ensures ∙ ap full c.items.ensures.count in
-    let good = (kept-parts n s c.requires.kept).good.small in
-    let reach = reached n f b c.args.closed q told.enough (rw made (closure_holds (full n) f b good))
-    (λ i h. minus-within (full n) s.enough i (rw (c.minus.ensures, all) at c.reaching-told.ensures.part i h)) (c.reaching-told.ensures.enough n f kept_closures) in
-    let within = without-missed n f b q (full n) told.missed good (c.reaching-told.ensures.missed n f kept_closures) (enough-within n f _ _) in
-    let found : c.enough_between-enough.result ≡ enough_for n f c.args.closed q =
-    c.enough_between-enough.ensures.value (rw made (outside-member n f b (family_sets n f (g.met.I.Interior.is_family c.args.f.now))))
-    (rw c.union-known.ensures (union-within s.enough told.enough (enough_for n f c.args.closed q) known reach)) (rw (c.minus-among.ensures, all, made) within) in
+    let found : c.enough_between-enough.result ≡ enough_for n f c.args.closed s.no.query.q =
+    c.enough_between-enough.ensures.value (rw made (outside-member n f s.no.query.a (family_sets n f (g.met.I.Interior.is_family c.args.f.now)))) known (rw all (enough-within n f _ _)) in
     standing-from n f s.no c.args.closed s.enough _ made
     (same_within s.enough (enough_for n f c.args.closed s.no.query.q) known (rw found at (IsWithin-from c.enough_between-enough.result s.enough (sym c.is_within.ensures ∙ c.if-is_within.true)))) (sym none)
 
@@ -55,22 +38,13 @@ pub of-requires : goal.of-requires
 of-requires g c = c.enough_between-enough.ensures.within
 
 pub returns-clause-value : goal.returns-clause-value
-returns-clause-value g c = λ kept_closures made known none.
+returns-clause-value g c = λ made known none.
     let n = g.I.Interior.item_count c.args.f.now in
     let f = g.I.Interior.members c.args.f.now in
     let s = c.args.self.now in
-    let b = s.no.query.a in
-    let q = s.no.query.q in
-    let told = c.reaching-told.result in
     let all : c.full-all.result ≡ full n = c.full-all.ensures ∙ ap full c.items.ensures.count in
-    let good = (kept-parts n s c.requires.kept).good.small in
-    let reach = reached n f b c.args.closed q told.enough (rw made (closure_holds (full n) f b good))
-    (λ i h. minus-within (full n) s.enough i (rw (c.minus.ensures, all) at c.reaching-told.ensures.part i h)) (c.reaching-told.ensures.enough n f kept_closures) in
-    let within = without-missed n f b q (full n) told.missed good (c.reaching-told.ensures.missed n f kept_closures) (enough-within n f _ _) in
-    let found : c.enough_between-enough.result ≡ enough_for n f c.args.closed q =
-    c.enough_between-enough.ensures.value (rw made (outside-member n f b (family_sets n f (g.met.I.Interior.is_family c.args.f.now))))
-    (rw c.union-known.ensures (union-within s.enough told.enough (enough_for n f c.args.closed q) known reach)) (rw (c.minus-among.ensures, all, made) within) in
-    c.of.ensures.value ∙ standing-from n f s.no c.args.closed c.enough_between-enough.result _ made found refl
+    c.of.ensures.value ∙ standing-from n f s.no c.args.closed c.enough_between-enough.result _ made
+    (c.enough_between-enough.ensures.value (rw made (outside-member n f s.no.query.a (family_sets n f (g.met.I.Interior.is_family c.args.f.now)))) known (rw all (enough-within n f _ _))) refl
 
 pub returns-clause-kept : goal.returns-clause-kept
 returns-clause-kept g c =
