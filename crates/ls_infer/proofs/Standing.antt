@@ -1,16 +1,15 @@
 -- What a Yes that comes or goes changes of what is kept of a standing No.
 use Rattle.std.proofs.Common.{ℕ, ◌+◌, ◌<◌, ◌≡◌, inl, inr, Bool, true, false, not, ◌&&◌, ◌||◌, ltb, List, length, get_or, slice_get, Some, None, refl, sym, ap, ap₂, ◌∙◌, subst, true≢false, ltb-true}
-use Rattle.std.specs.Option.{is_some}
-use Rattle.std.proofs.lemmas.Bool.{and_parts, and_from, false_from_ne_true, not-true}
+use Rattle.std.proofs.lemmas.Bool.{and_parts, and_from, or_parts, cases_Bool, false_from_ne_true, not-true, not-false}
 use Rattle.std.proofs.Math.ListN.{set}
 use Rattle.std.proofs.lemmas.Option.{slice_get-get_or}
 use Rattle.ls_lists.specs.Lists.{images}
 use Rattle.ls_lists.proofs.Overwriting.{images-at, images-next}
-use Rattle.ls_set.specs.ItemSet.{Items, has, full, with, least, meet, is_within, is_among, IsWithin}
+use Rattle.ls_set.specs.ItemSet.{Items, has, empty, full, with, meet, is_same, is_within, is_among, IsWithin}
 use Rattle.ls_set.specs.Query.{is_good}
 use Rattle.ls_set.specs.declared.query.Query.{Query}
-use Rattle.ls_set.proofs.Sets.{has-meet, same_set, same_within, IsWithin-from, is_within-from, minus-within}
-use Rattle.ls_set.proofs.Ascending.{least-cases}
+use Rattle.ls_laws.proofs.Counts.{some_item}
+use Rattle.ls_set.proofs.Sets.{Decides-is_same, has-meet, same_set, same_within, IsWithin-from, is_within-from, minus-within}
 use Rattle.ls_theory.specs.declared.no.No.{No}
 use Rattle.ls_theory.specs.Families.{closure}
 use Rattle.ls_theory.specs.Queries.{breaks}
@@ -23,16 +22,11 @@ use Rattle.ls_laws.proofs.ClosureChanges.{closure_holds, closure_grows, closure_
 use Rattle.ls_laws.proofs.Families.{family_sets}
 use Rattle.ls_infer.specs.declared.standing_no.StandingNo.{StandingNo}
 use Rattle.ls_infer.specs.declared.yes_change.YesChange.{YesChange}
-use Rattle.ls_infer.specs.Changes.{CanFall, IsAdded, IsChange, is_kept}
+use Rattle.ls_infer.specs.Changes.{CanFall, IsAdded, IsChange, is_kept, is_reached}
 use Rattle.ls_infer.specs.Tables.{enough_for, standing}
 use Rattle.ls_infer.proofs.Kept.{has-enough, with-within}
 use Rattle.ls_infer.proofs.Outside.{with-left, with-cases, outside-member}
 use Rattle.ls_infer.proofs.States.{enough-apart_from, enough-grows, enough-unbroken, enough-stays, unbroken-among}
-
--- ---- sets
-
-pub some-item : (s : Items) → is_some (least s) ≡ true → (i : ℕ) × (has s i ≡ true)
-some-item s h = elim (least s) as (λ o. least s ≡ o → is_some o ≡ true → (i : ℕ) × (has s i ≡ true)) [ None ↦ λ _ n. absurd (true≢false (sym n)) | Some i ↦ λ e _. (i, (least-cases s i e).0) ] refl h
 
 -- ---- closures that stay
 
@@ -278,3 +272,20 @@ standing-next n before after nos ys i x y l made here next =
     let old : x ≡ standing n before a = here ∙ ap (λ zs. get_or zs i x) made ∙ images-at (standing n after) (standing n before) nos i a x at in
     let no : x.no ≡ a = ap (λ (s : StandingNo). s.no) old in
     images-next (standing n after) (standing n before) nos ys i a y at made (next (old ∙ ap (standing n before) (sym no)) ∙ ap (standing n after) no)
+
+-- ---- what no Yes reaches stays
+
+pub unreached : (n : ℕ) (before after : List Items) (r : Query) (s : StandingNo) (change : YesChange) → IsChange change n r before after → IsFamily n after → is_good n r ≡ true → is_kept n s ≡ true → s ≡ standing n before s.no
+    → is_reached change r s ≡ false → s ≡ standing n after s.no
+unreached n before after r s (YesChange.Added fall) change family good kept e h = elim (cases_Bool (has s.closed r.q)) [
+  | inl here ↦ after-closed n before after r s change.0 good kept e here
+  | inr out ↦
+      let p = or_parts (is_within r.a s.closed) (is_same (meet r.a s.enough) empty) (rw out at h) in
+      elim (some_item (meet r.a s.enough)) [
+        | inl none ↦ absurd (true≢false (sym ((Decides-is_same (meet r.a s.enough) empty).1 none) ∙ p.1))
+        | inr some ↦ after-met n before after r s some.0 change.0 good e p.0 some.1
+      ]
+]
+unreached n before after r s YesChange.Removed change family good kept e h =
+    let p = or_parts (is_within r.a s.closed) (not (has s.closed r.q)) h in
+    before-closed n before after r s change family good kept e p.0 (not-false (has s.closed r.q) p.1)

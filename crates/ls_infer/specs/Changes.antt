@@ -3,8 +3,9 @@
 --     IsAdded n r before after      a Yes to r comes that leaves the family after it of that before
 --     IsChange c n r before after      the family was before the change, and is after it
 --     is_stale c r closed      whether a closure from before the change can be another after it
-use Rattle.std.specs.Prelude.{ℕ, Bool, true, not, ◌&&◌, ◌≡◌, List}
-use Rattle.ls_set.specs.ItemSet.{Items, has, full, minus, is_within, is_among}
+--     is_reached c r s      whether what is kept of a standing No can be another after it
+use Rattle.std.specs.Prelude.{ℕ, Bool, true, not, ◌&&◌, ◌||◌, ◌≡◌, List}
+use Rattle.ls_set.specs.ItemSet.{Items, has, empty, full, meet, minus, is_same, is_within, is_among}
 use Rattle.ls_set.specs.Query.{is_good}
 use Rattle.ls_set.specs.declared.query.Query.{Query}
 use Rattle.ls_laws.specs.Families.{IsFamily}
@@ -26,6 +27,11 @@ IsChange YesChange.Removed n r before after = before ≡ left_by r after
 abbrev pub is_stale : YesChange → Query → Items → Bool
 is_stale (YesChange.Added fall) r closed = is_within r.a closed && not (has closed r.q)
 is_stale YesChange.Removed r closed = is_within r.a closed
+
+-- the closure has the items of A, or, where the Yes comes, no item of A is enough; and it lacks q. Where the Yes is taken back it has the items of A, or lacks q
+abbrev pub is_reached : YesChange → Query → StandingNo → Bool
+is_reached (YesChange.Added fall) r s = not (has s.closed r.q) && (is_within r.a s.closed || is_same (meet r.a s.enough) empty)
+is_reached YesChange.Removed r s = is_within r.a s.closed || not (has s.closed r.q)
 
 -- what is kept of a No to a good query, whose closure is of items below n, as are those that are enough
 abbrev pub is_kept : ℕ → StandingNo → Bool

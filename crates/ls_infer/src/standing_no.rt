@@ -10,7 +10,7 @@ ghost use Rattle.ls_theory.specs.Families.{closure};
 ghost use Rattle.ls_theory.specs.Queries.{breaks};
 ghost use Rattle.ls_theory.specs.declared.no.No.{No};
 ghost use Rattle.ls_query.specs.Blocks.{sets_of};
-ghost use Rattle.ls_infer.specs.Changes.{IsChange, is_kept};
+ghost use Rattle.ls_infer.specs.Changes.{IsChange, is_kept, is_reached};
 ghost use Rattle.ls_infer.specs.Tables.{enough_for, standing, forces};
 ghost use Rattle.ls_infer.specs.declared.yes_change.YesChange.TheVariants as YesChange;
 
@@ -163,14 +163,7 @@ impl StandingNo {
         ensures kept { is_kept (I.item_count f.now) result ≡ true }
         ensures cost { steps.new ≤ steps.old + I.item_count f.now }
     {
-        if self.closed.has(r.q) {
-            return *self;
-        }
-        let has_all = r.a.is_within(self.closed);
-        if !has_all && r.a.meet(self.enough).least().is_some() {
-            return *self;
-        }
-        let closed = if has_all {
+        let closed = if r.a.is_within(self.closed) {
             closure(f, self.closed, steps)
         } else {
             self.closed
@@ -216,11 +209,7 @@ impl StandingNo {
         ensures kept { is_kept (I.item_count f.now) result ≡ true }
         ensures cost { steps.new ≤ steps.old + I.item_count f.now }
     {
-        let has_all = r.a.is_within(self.closed);
-        if !has_all && self.closed.has(r.q) {
-            return *self;
-        }
-        let closed = if has_all {
+        let closed = if r.a.is_within(self.closed) {
             closure(f, self.no.query.a, steps)
         } else {
             self.closed
@@ -232,6 +221,21 @@ impl StandingNo {
             return StandingNo { closed, ..*self };
         }
         StandingNo::of(f, self.no, closed, enough, steps)
+    }
+
+    // Whether a Yes to `r` that came or was taken back can change what is kept of it.
+    #[tactic(auto, unfolding(ls_set::specs::ItemSet::is_same))]
+    fn is_reached(&self, change: &YesChange, r: &Query) -> bool
+        requires { r.now.q < PLACES }
+        ensures { result ≡ is_reached change.now r.now self.now }
+    {
+        match change {
+            YesChange::Added(_) => {
+                !self.closed.has(r.q)
+                    && (r.a.is_within(self.closed) || r.a.meet(self.enough) == ItemSet::empty())
+            }
+            YesChange::Removed => r.a.is_within(self.closed) || !self.closed.has(r.q),
+        }
     }
 
     // What is kept of it after a Yes to the good query `r` came or was taken back.
@@ -371,7 +375,9 @@ pub fn change_each<I: Interior, L: Ledger>(
     ensures cost { steps.new ≤ steps.old + I.item_count f.now * length kept.old }
 {
     for s in kept.iter_mut() {
-        *s = s.after(f, closures, blocks, change, r, steps);
+        if s.is_reached(change, r) {
+            *s = s.after(f, closures, blocks, change, r, steps);
+        }
     }
 }
 

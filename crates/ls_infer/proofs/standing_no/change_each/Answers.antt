@@ -1,27 +1,45 @@
-use Rattle.std.proofs.Common.{◌<◌, ◌≤◌, length, get_or, ap, ◌∙◌, arith}
+use Rattle.std.proofs.Common.{◌≡◌, ◌<◌, ◌≤◌, true, true≢false, List, length, map, get_or, sym, ap, ◌∙◌, arith}
 use Rattle.std.proofs.lemmas.Grind.{common_steps}
 use Rattle.std.proofs.lemmas.List.{length-map}
+use Rattle.std.proofs.lemmas.List.Folds.{list_all_at}
+use Rattle.std.proofs.lemmas.Bool.{true_from_ne_false}
 use Rattle.ls_lists.proofs.Every.{list_all-set}
 use Rattle.ls_lists.proofs.Overwriting.{images-end}
+use Rattle.ls_set.specs.ItemSet.{Items}
+use Rattle.ls_theory.specs.declared.no.No.{No}
 use Rattle.ls_infer.specs.Changes.{is_kept}
 use Rattle.ls_infer.specs.Tables.{standing}
-use Rattle.ls_infer.proofs.Standing.{standing-next}
+use Rattle.ls_infer.proofs.Standing.{standing-next, unreached}
 use Rattle.ls_infer.proofs.standing_no.change_each.Goals as goal
+use Rattle.ls_infer.proofs.standing_no.change_each.Goals.{then-is_reached, else-is_reached}
 
 pub loop-s-preserved : goal.loop-s-preserved
 loop-s-preserved g c =
     let n = g.I.Interior.item_count c.args.f.now in
+    let after = g.I.Interior.members c.args.f.now in
     let ys = c.loop-s.kept in
     let i = c.loop-s.s-index in
+    let x = get_or ys i c.s-item.result in
     let v = c.loop-s.invariant in
-    record {
-      kept = list_all-set (is_kept n) ys i c.after.result v.kept c.after.ensures.kept;
-      made = λ before nos change closed e.
-          let placed : i < length nos = omega (arith, c.loop-s-test.true, ap length e, length-map nos (standing n before)) in
-          standing-next n before (g.I.Interior.members c.args.f.now) nos ys i (get_or ys i c.s-item.result) c.after.result placed (v.made before nos change closed e) (ap (get_or ys i) c.s-item.is)
-          (c.after.ensures.value before change closed);
-      cost = grind (arith, common_steps, v.cost, c.after.ensures.cost);
-    }
+    let placed = λ (before : List Items) (nos : List No) (e : c.args.kept.now ≡ map (standing n before) nos).
+    let l : i < length nos = omega (arith, c.loop-s-test.true, ap length e, length-map nos (standing n before)) in l in
+    let is_one_kept : is_kept n x ≡ true = true_from_ne_false (is_kept n x) (λ h. true≢false (sym v.kept ∙ list_all_at (is_kept n) ys i c.s-item.result (omega (arith, c.loop-s-test.true, c.loop-s.auto.kept)) h)) in
+    elim c.if-is_reached.branch [
+      | then-is_reached w ↦ rw (w.kept-is, w.steps-is) (record {
+        kept = list_all-set (is_kept n) ys i w.after.result v.kept w.after.ensures.kept;
+        made = λ before nos change closed e.
+            standing-next n before after nos ys i x w.after.result (placed before nos e) (v.made before nos change closed e) (ap (get_or ys i) c.s-item.is)
+            (w.after.ensures.value before change closed);
+        cost = grind (arith, common_steps, v.cost, w.after.ensures.cost);
+      })
+      | else-is_reached w ↦ rw (w.kept-is, w.steps-is) (record {
+        kept = list_all-set (is_kept n) ys i x v.kept is_one_kept;
+        made = λ before nos change closed e.
+            standing-next n before after nos ys i x x (placed before nos e) (v.made before nos change closed e) (ap (get_or ys i) c.s-item.is)
+            (λ old. unreached n before after c.args.r.now x c.args.change.now change (g.met.I.Interior.is_family c.args.f.now) c.requires.good is_one_kept old (sym c.is_reached.ensures ∙ w.if-is_reached.false));
+        cost = grind (arith, common_steps, v.cost);
+      })
+    ]
 
 pub returns-clause-each : goal.returns-clause-each
 returns-clause-each g c = λ before nos change closed e.

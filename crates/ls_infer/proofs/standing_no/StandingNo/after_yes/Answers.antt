@@ -1,44 +1,34 @@
 use Rattle.std.proofs.Common.{◌≡◌, ◌&&◌, not, true, false, sym, ap, ◌∙◌, arith}
-use Rattle.std.specs.Option.{is_some}
-use Rattle.ls_set.specs.ItemSet.{full, has, least, IsWithin}
+use Rattle.ls_set.specs.ItemSet.{full, has, IsWithin}
 use Rattle.ls_set.proofs.Sets.{minus-within, IsWithin-from}
 use Rattle.ls_theory.specs.Families.{closure}
 use Rattle.ls_theory.specs.Queries.{breaks}
 use Rattle.ls_laws.proofs.Breaks.{good-from}
 use Rattle.ls_laws.proofs.ClosureChanges.{closure_holds}
 use Rattle.ls_infer.proofs.States.{good-item}
-use Rattle.ls_infer.proofs.Standing.{some-item, kept-parts, kept-again, after-closed, after-met, after-again, after-lack, after-known, after-state, after-fall, after-no_state}
+use Rattle.ls_infer.proofs.Standing.{kept-parts, kept-again, after-again, after-lack, after-known, after-state, after-fall, after-no_state}
 use Rattle.ls_infer.proofs.standing_no.StandingNo.after_yes.Goals as goal
-use Rattle.ls_infer.proofs.standing_no.StandingNo.after_yes.Goals.{then-has_all, else-has_all, else-not-is_state-via-then-not-is_state+else-has-2, else-not-is_state-via-else-not-is_state}
-
-pub returns-then-has-clause-value : goal.returns-then-has-clause-value
-returns-then-has-clause-value g c = λ before change e. after-closed _ before _ c.args.r.now c.args.self.now change.0 c.requires.good c.requires.kept e (sym c.has.ensures ∙ c.if-has.true)
-
-pub returns-then-is_some-clause-value : goal.returns-then-is_some-clause-value
-returns-then-is_some-clause-value g c = λ before change e.
-    let met = some-item _ (ap (λ s. is_some (least s)) (sym c.meet.ensures) ∙ ap is_some (sym c.least.ensures.value) ∙ sym c.is_some.ensures ∙ c.if-is_some.true) in
-    let lacks = sym c.is_within-has_all.ensures ∙ c.if-not-has_all.true in
-    after-met _ before _ c.args.r.now c.args.self.now met.0 change.0 c.requires.good e lacks met.1
+use Rattle.ls_infer.proofs.standing_no.StandingNo.after_yes.Goals.{then-is_within, else-is_within, else-not-is_state-via-then-not-is_state+else-has, else-not-is_state-via-else-not-is_state}
 
 pub closure-closed-requires : goal.closure-closed-requires
 closure-closed-requires g c = (kept-parts _ c.args.self.now c.requires.kept).closed
 
 pub with_closed-requires-clause-within : goal.with_closed-requires-clause-within
-with_closed-requires-clause-within g c = elim c.if-has_all.branch [
-  | then-has_all w ↦ rw (w.closed-is, w.closure-closed.ensures.value) (minus-within _ _)
-  | else-has_all w ↦ rw w.closed-is (kept-parts _ c.args.self.now c.requires.kept).closed
+with_closed-requires-clause-within g c = elim c.if-is_within.branch [
+  | then-is_within w ↦ rw (w.closed-is, w.closure-closed.ensures.value) (minus-within _ _)
+  | else-is_within w ↦ rw w.closed-is (kept-parts _ c.args.self.now c.requires.kept).closed
 ]
 
-pub returns-then-has-2-clause-value : goal.returns-then-has-2-clause-value
-returns-then-has-2-clause-value g c = λ before change e.
+pub returns-then-has-clause-value : goal.returns-then-has-clause-value
+returns-then-has-clause-value g c = λ before change e.
     let n = g.I.Interior.item_count c.args.f.now in
     let after = g.I.Interior.members c.args.f.now in
     let r = c.args.r.now in
     let s = c.args.self.now in
-    let closed = c.if-has_all.closed in
-    let made : closed ≡ closure (full n) after s.no.query.a = elim c.if-has_all.branch [
-      | then-has_all w ↦ after-again n before after r s closed change.0 c.requires.kept e (w.closed-is ∙ w.closure-closed.ensures.value)
-      | else-has_all w ↦ w.closed-is ∙ after-lack n before after r s change.0 c.requires.good e (sym c.is_within-has_all.ensures ∙ w.if-has_all.false)
+    let closed = c.if-is_within.closed in
+    let made : closed ≡ closure (full n) after s.no.query.a = elim c.if-is_within.branch [
+      | then-is_within w ↦ after-again n before after r s closed change.0 c.requires.kept e (w.closed-is ∙ w.closure-closed.ensures.value)
+      | else-is_within w ↦ w.closed-is ∙ after-lack n before after r s change.0 c.requires.good e (sym c.is_within.ensures ∙ w.if-is_within.false)
     ] in
     let none : (s.is_state && not (breaks s.enough r)) ≡ false = sym c.stays_state-is_state.ensures ∙ c.if-not-is_state.true in
     c.with_closed.ensures.value made (after-known n before after r s closed change.0 e made) (after-no_state n before after r s change.0 e none)
@@ -49,14 +39,14 @@ returns-clause-value g c = λ before change e.
     let after = g.I.Interior.members c.args.f.now in
     let r = c.args.r.now in
     let s = c.args.self.now in
-    let closed = c.if-has_all.closed in
-    let made : closed ≡ closure (full n) after s.no.query.a = elim c.if-has_all.branch [
-      | then-has_all w ↦ after-again n before after r s closed change.0 c.requires.kept e (w.closed-is ∙ w.closure-closed.ensures.value)
-      | else-has_all w ↦ w.closed-is ∙ after-lack n before after r s change.0 c.requires.good e (sym c.is_within-has_all.ensures ∙ w.if-has_all.false)
+    let closed = c.if-is_within.closed in
+    let made : closed ≡ closure (full n) after s.no.query.a = elim c.if-is_within.branch [
+      | then-is_within w ↦ after-again n before after r s closed change.0 c.requires.kept e (w.closed-is ∙ w.closure-closed.ensures.value)
+      | else-is_within w ↦ w.closed-is ∙ after-lack n before after r s change.0 c.requires.good e (sym c.is_within.ensures ∙ w.if-is_within.false)
     ] in
     let is_state = c.stays_state-is_state.result in
     elim c.else-not-is_state.branch [
-      | else-not-is_state-via-then-not-is_state+else-has-2 w ↦ after-fall n before after r s closed c.args.fall is_state change.0 change.1 c.requires.kept e made (sym w.has-then-not-is_state.ensures ∙ w.if-has-2.false) c.stays_state-is_state.ensures
+      | else-not-is_state-via-then-not-is_state+else-has w ↦ after-fall n before after r s closed c.args.fall is_state change.0 change.1 c.requires.kept e made (sym w.has.ensures ∙ w.if-has.false) c.stays_state-is_state.ensures
       | else-not-is_state-via-else-not-is_state w ↦ after-state n before after r s closed is_state change.0 c.requires.kept e made c.stays_state-is_state.ensures w.if-not-is_state.false
     ]
 
@@ -64,23 +54,23 @@ pub returns-clause-kept : goal.returns-clause-kept
 returns-clause-kept g c =
     let s = c.args.self.now in
     let k = kept-parts _ s c.requires.kept in
-    let within : IsWithin c.if-has_all.closed (full (g.I.Interior.item_count c.args.f.now)) = elim c.if-has_all.branch [
-      | then-has_all w ↦ rw (w.closed-is, w.closure-closed.ensures.value) (minus-within _ _)
-      | else-has_all w ↦ rw w.closed-is k.closed
+    let within : IsWithin c.if-is_within.closed (full (g.I.Interior.item_count c.args.f.now)) = elim c.if-is_within.branch [
+      | then-is_within w ↦ rw (w.closed-is, w.closure-closed.ensures.value) (minus-within _ _)
+      | else-is_within w ↦ rw w.closed-is k.closed
     ] in
-    kept-again _ s c.if-has_all.closed s.enough c.stays_state-is_state.result c.requires.kept within k.enough
+    kept-again _ s c.if-is_within.closed s.enough c.stays_state-is_state.result c.requires.kept within k.enough
 
-pub returns-then-has-2-clause-cost : goal.returns-then-has-2-clause-cost
-returns-then-has-2-clause-cost g c =
+pub returns-then-has-clause-cost : goal.returns-then-has-clause-cost
+returns-then-has-clause-cost g c =
     let n = g.I.Interior.item_count c.args.f.now in
     let after = g.I.Interior.members c.args.f.now in
     let s = c.args.self.now in
     let item = good-item n c.args.r.now (good-from n c.args.r.now c.requires.good) in
-    elim c.if-has_all.branch [
-      | then-has_all w ↦
-          let old : has s.closed item.0 ≡ true = IsWithin-from c.args.r.now.a s.closed (sym c.is_within-has_all.ensures ∙ w.if-has_all.true) item.0 item.1 in
-          let here : has c.if-has_all.closed item.0 ≡ true = rw (w.closed-is, w.closure-closed.ensures.value) (closure_holds (full n) after s.closed (kept-parts n s c.requires.kept).closed item.0 old) in
+    elim c.if-is_within.branch [
+      | then-is_within w ↦
+          let old : has s.closed item.0 ≡ true = IsWithin-from c.args.r.now.a s.closed (sym c.is_within.ensures ∙ w.if-is_within.true) item.0 item.1 in
+          let here : has c.if-is_within.closed item.0 ≡ true = rw (w.closed-is, w.closure-closed.ensures.value) (closure_holds (full n) after s.closed (kept-parts n s c.requires.kept).closed item.0 old) in
           let fewer = c.with_closed.ensures.fewer item.0 here item.2 in
           omega (arith, w.steps-is, w.closure-closed.ensures.cost, fewer)
-      | else-has_all w ↦ omega (arith, w.steps-is, c.with_closed.ensures.cost)
+      | else-is_within w ↦ omega (arith, w.steps-is, c.with_closed.ensures.cost)
     ]

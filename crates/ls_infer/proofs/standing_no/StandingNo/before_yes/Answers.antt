@@ -6,14 +6,9 @@ use Rattle.ls_laws.proofs.ClosureChanges.{closure_holds}
 use Rattle.ls_laws.proofs.Families.{family_sets}
 use Rattle.ls_infer.proofs.Outside.{outside-member}
 use Rattle.ls_infer.proofs.States.{good-item, good-several, reached}
-use Rattle.ls_infer.proofs.Standing.{kept-parts, kept-again, before-closed, before-lack, before-among, before-state, standing-from}
+use Rattle.ls_infer.proofs.Standing.{kept-parts, kept-again, before-lack, before-among, before-state, standing-from}
 use Rattle.ls_infer.proofs.standing_no.StandingNo.before_yes.Goals as goal
-use Rattle.ls_infer.proofs.standing_no.StandingNo.before_yes.Goals.{then-has_all, else-has_all}
-
-pub returns-then-has-clause-value : goal.returns-then-has-clause-value
-returns-then-has-clause-value g c = λ before change kept_closures e.
-    before-closed _ before _ c.args.r.now c.args.self.now change (g.met.I.Interior.is_family c.args.f.now) c.requires.good c.requires.kept e
-    (sym c.is_within-has_all.ensures ∙ c.if-not-has_all.true) (sym c.has.ensures ∙ c.if-has.true)
+use Rattle.ls_infer.proofs.standing_no.StandingNo.before_yes.Goals.{then-is_within, else-is_within}
 
 pub closure-closed-requires : goal.closure-closed-requires
 closure-closed-requires g c = (kept-parts _ c.args.self.now c.requires.kept).good.small
@@ -30,34 +25,34 @@ enough_between-enough-requires-clause-known g c i h = (kept-parts _ c.args.self.
 pub enough_between-enough-requires-clause-among : goal.enough_between-enough-requires-clause-among
 enough_between-enough-requires-clause-among g c = (kept-parts _ c.args.self.now c.requires.kept).enough
 
-pub returns-then-is_within-clause-value : goal.returns-then-is_within-clause-value
-returns-then-is_within-clause-value g c = λ before change kept_closures e.
+pub returns-then-is_within-2-clause-value : goal.returns-then-is_within-2-clause-value
+returns-then-is_within-2-clause-value g c = λ before change kept_closures e.
     let n = g.I.Interior.item_count c.args.f.now in
     let after = g.I.Interior.members c.args.f.now in
     let family = g.met.I.Interior.is_family c.args.f.now in
     let r = c.args.r.now in
     let s = c.args.self.now in
-    let closed = c.if-has_all.closed in
-    let made : closed ≡ closure (full n) after s.no.query.a = elim c.if-has_all.branch [
-      | then-has_all w ↦ w.closed-is ∙ w.closure-closed.ensures.value
-      | else-has_all w ↦ w.closed-is ∙ before-lack n before after r s change family c.requires.good e (sym c.is_within-has_all.ensures ∙ w.if-has_all.false)
+    let closed = c.if-is_within.closed in
+    let made : closed ≡ closure (full n) after s.no.query.a = elim c.if-is_within.branch [
+      | then-is_within w ↦ w.closed-is ∙ w.closure-closed.ensures.value
+      | else-is_within w ↦ w.closed-is ∙ before-lack n before after r s change family c.requires.good e (sym c.is_within.ensures ∙ w.if-is_within.false)
     ] in
     let small = (kept-parts n s c.requires.kept).enough in
     let known = reached n after closed s.no.query.q c.reaching-known.result (λ i h. small i (c.reaching-known.ensures.part i h)) (c.reaching-known.ensures.closures n after kept_closures) in
     let all = c.enough_between-enough.ensures.value (rw made (outside-member n after s.no.query.a (family_sets n after family))) known (before-among n before after r s closed change e made) in
-    before-state n before after r s closed c.enough_between-enough.result change e made all (IsWithin-from s.enough c.enough_between-enough.result (sym c.is_within.ensures ∙ c.if-is_within.true)) (sym c.keeps_state.ensures ∙ c.if-keeps_state.true)
+    before-state n before after r s closed c.enough_between-enough.result change e made all (IsWithin-from s.enough c.enough_between-enough.result (sym c.is_within-then-keeps_state.ensures ∙ c.if-is_within-2.true)) (sym c.keeps_state.ensures ∙ c.if-keeps_state.true)
 
-pub returns-then-is_within-clause-kept : goal.returns-then-is_within-clause-kept
-returns-then-is_within-clause-kept g c =
+pub returns-then-is_within-2-clause-kept : goal.returns-then-is_within-2-clause-kept
+returns-then-is_within-2-clause-kept g c =
     let n = g.I.Interior.item_count c.args.f.now in
     let f = g.I.Interior.members c.args.f.now in
     let s = c.args.self.now in
     let k = kept-parts n s c.requires.kept in
-    let within : IsWithin c.if-has_all.closed (full n) = elim c.if-has_all.branch [
-      | then-has_all w ↦ rw (w.closed-is, w.closure-closed.ensures.value) (minus-within _ _)
-      | else-has_all w ↦ rw w.closed-is k.closed
+    let within : IsWithin c.if-is_within.closed (full n) = elim c.if-is_within.branch [
+      | then-is_within w ↦ rw (w.closed-is, w.closure-closed.ensures.value) (minus-within _ _)
+      | else-is_within w ↦ rw w.closed-is k.closed
     ] in
-    kept-again n s c.if-has_all.closed s.enough s.is_state c.requires.kept within k.enough
+    kept-again n s c.if-is_within.closed s.enough s.is_state c.requires.kept within k.enough
 
 pub of-requires : goal.of-requires
 of-requires g c = c.enough_between-enough.ensures.within
@@ -69,10 +64,10 @@ returns-clause-value g c = λ before change kept_closures e.
     let family = g.met.I.Interior.is_family c.args.f.now in
     let r = c.args.r.now in
     let s = c.args.self.now in
-    let closed = c.if-has_all.closed in
-    let made : closed ≡ closure (full n) after s.no.query.a = elim c.if-has_all.branch [
-      | then-has_all w ↦ w.closed-is ∙ w.closure-closed.ensures.value
-      | else-has_all w ↦ w.closed-is ∙ before-lack n before after r s change family c.requires.good e (sym c.is_within-has_all.ensures ∙ w.if-has_all.false)
+    let closed = c.if-is_within.closed in
+    let made : closed ≡ closure (full n) after s.no.query.a = elim c.if-is_within.branch [
+      | then-is_within w ↦ w.closed-is ∙ w.closure-closed.ensures.value
+      | else-is_within w ↦ w.closed-is ∙ before-lack n before after r s change family c.requires.good e (sym c.is_within.ensures ∙ w.if-is_within.false)
     ] in
     let small = (kept-parts n s c.requires.kept).enough in
     let known = reached n after closed s.no.query.q c.reaching-known.result (λ i h. small i (c.reaching-known.ensures.part i h)) (c.reaching-known.ensures.closures n after kept_closures) in
@@ -85,11 +80,11 @@ returns-clause-kept g c =
     let f = g.I.Interior.members c.args.f.now in
     let s = c.args.self.now in
     let k = kept-parts n s c.requires.kept in
-    let within : IsWithin c.if-has_all.closed (full n) = elim c.if-has_all.branch [
-      | then-has_all w ↦ rw (w.closed-is, w.closure-closed.ensures.value) (minus-within _ _)
-      | else-has_all w ↦ rw w.closed-is k.closed
+    let within : IsWithin c.if-is_within.closed (full n) = elim c.if-is_within.branch [
+      | then-is_within w ↦ rw (w.closed-is, w.closure-closed.ensures.value) (minus-within _ _)
+      | else-is_within w ↦ rw w.closed-is k.closed
     ] in
-    rw c.of.ensures.value (kept-again n s c.if-has_all.closed c.enough_between-enough.result (is_among f c.enough_between-enough.result) c.requires.kept within c.enough_between-enough.ensures.within)
+    rw c.of.ensures.value (kept-again n s c.if-is_within.closed c.enough_between-enough.result (is_among f c.enough_between-enough.result) c.requires.kept within c.enough_between-enough.ensures.within)
 
 pub returns-clause-cost : goal.returns-clause-cost
 returns-clause-cost g c =
@@ -98,10 +93,10 @@ returns-clause-cost g c =
     let a = c.args.self.now.no.query.a in
     let good = (kept-parts n c.args.self.now c.requires.kept).good in
     let item = good-item n c.args.self.now.no.query good in
-    elim c.if-has_all.branch [
-      | then-has_all w ↦
-          let here : has c.if-has_all.closed item.0 ≡ true = rw (w.closed-is, w.closure-closed.ensures.value) (closure_holds (full n) after a good.small item.0 item.1) in
+    elim c.if-is_within.branch [
+      | then-is_within w ↦
+          let here : has c.if-is_within.closed item.0 ≡ true = rw (w.closed-is, w.closure-closed.ensures.value) (closure_holds (full n) after a good.small item.0 item.1) in
           let fewer = c.enough_between-enough.ensures.fewer item.0 here item.2 (good-several n c.args.self.now.no.query good) in
           omega (arith, w.steps-is, w.closure-closed.ensures.cost, fewer, c.of.ensures.cost)
-      | else-has_all w ↦ omega (arith, w.steps-is, c.enough_between-enough.ensures.cost, c.of.ensures.cost)
+      | else-is_within w ↦ omega (arith, w.steps-is, c.enough_between-enough.ensures.cost, c.of.ensures.cost)
     ]
