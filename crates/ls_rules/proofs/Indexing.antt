@@ -202,6 +202,24 @@ IsIndexed-remove n rules m r wakes starts wakes' starts' singles singles' heads 
   few_heads = a.few_heads;
 }
 
+-- where no rule is left nothing need follow
+pub IsIndexed-clear : (n : ℕ) (rules : List Query) (wakes starts : List PlaceList) (singles heads heads' followers followers' : List Items) → IsIndexed n rules singles wakes starts heads followers → rules ≡ []
+    → length heads' ≡ length heads → length followers' ≡ length followers → IsIndexed n rules singles wakes starts heads' followers'
+IsIndexed-clear n rules wakes starts singles heads heads' followers followers' a e hl al = record {
+  good = a.good;
+  singles_are = a.singles_are;
+  wakes_are = a.wakes_are;
+  starts_are = a.starts_are;
+  headed = subst (AreFollowed heads' (λ r. first_of (several r.a))) (sym e) tt;
+  followed = subst (AreFollowed followers' (λ r. r.a)) (sym e) tt;
+  few_wakes = a.few_wakes;
+  few_starts = a.few_starts;
+  singles_reach = a.singles_reach;
+  heads_reach = rw hl a.heads_reach;
+  followers_reach = rw al a.followers_reach;
+  few_heads = rw hl a.few_heads;
+}
+
 pub IsIndexed-reserve : (n : ℕ) (rules : List Query) (wakes starts wakes' starts' : List PlaceList) (singles singles' heads heads' followers followers' : List Items) → IsIndexed n rules singles wakes starts heads followers
     → ((i : ℕ) → places_at wakes' i ≡ places_at wakes i) → length wakes' ≤ n → ((i : ℕ) → places_at starts' i ≡ places_at starts i) → length starts' ≤ n
     → ((i : ℕ) → set_at singles' i ≡ set_at singles i) → length starts' ≤ length singles'

@@ -10,7 +10,7 @@ use std::alloc::{AllocError, Global};
 use std::marker::Model;
 
 /// For each item the set of those that follow it, empty past the end. What was pushed follows; more
-/// may, since nothing is taken out.
+/// may, since nothing is taken out but all at once.
 #[derive(Debug, Drop)]
 pub struct Followers {
     sets: Sets,
@@ -72,6 +72,14 @@ impl Followers {
         ensures len { length self.new ≡ length self.old }
     {
         push_each(&mut self.sets, set, q);
+    }
+
+    /// No item follows another any more. The room stays.
+    pub fn clear(&mut self)
+        ensures sets { (i : ℕ) → set_at self.new i ≡ empty }
+        ensures len { length self.new ≡ length self.old }
+    {
+        self.sets.clear();
     }
 
     /// Whether an item that is kept follows the item.

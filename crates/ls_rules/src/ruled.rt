@@ -111,7 +111,8 @@ impl<F: Inside> Ruled<F> {
         self.rules.push(r).unwrap()
     }
 
-    /// Takes out the rule at a place, counted from 0. The others keep their order.
+    /// Takes out the rule at a place, counted from 0. The others keep their order. Where none is
+    /// left nothing follows an item; else what followed by the rule may still be said to.
     pub fn remove(&mut self, place: usize)
         requires { place < length self.old.rules }
         ensures rules { self.new.rules ≡ remove self.old.rules place }
@@ -122,6 +123,10 @@ impl<F: Inside> Ruled<F> {
         let r = self.rules.remove(place);
         let n = self.inner.items();
         self.singles.remove(&r, n, &self.rules);
+        if self.rules.is_empty() {
+            self.heads.clear();
+            self.followers.clear();
+        }
     }
 
     /// The rules, in their order.

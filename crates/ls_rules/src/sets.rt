@@ -1,5 +1,6 @@
 // A set of items for each item.
 ghost use Rattle.std.specs.Prelude.{◌≡◌, ℕ, ◌<◌, ◌≤◌, [], length, set, OnOk};
+ghost use Rattle.ls_set.specs.ItemSet.{empty};
 ghost use Rattle.ls_rules.specs.Sets.{set_at};
 
 use ls_set::{ItemSet, PLACES};
@@ -71,6 +72,14 @@ impl Sets {
         ensures { self.new ≡ set self.old i items }
     {
         put(&mut self.list, i, items);
+    }
+
+    /// Makes each set empty. The room stays.
+    pub fn clear(&mut self)
+        ensures sets { (i : ℕ) → set_at self.new i ≡ empty }
+        ensures len { length self.new ≡ length self.old }
+    {
+        self.list.fill(ItemSet::empty());
     }
 
     /// The set of an item.
