@@ -1,15 +1,21 @@
 -- Places in lists and in blocks.
-use Rattle.std.proofs.Common.{ℕ, ◌+◌, ◌<◌, ◌≤◌, ◌≡◌, Bool, true, false, cond, find, length, slice_get, Some, None, refl, sym, ap, ◌∙◌, add-one}
+use Rattle.std.proofs.Common.{ℕ, zero, suc, ◌+◌, ◌<◌, ◌≤◌, ◌≡◌, Bool, true, false, cond, List, [], ◌∷◌, map, find, length, slice_get, Some, None, refl, sym, ap, ◌∙◌, arith, add-one}
 use Rattle.std.proofs.lemmas.Option.{slice_get-get_or}
 use Rattle.ls_lists.proofs.Elements.{get-in}
 use Rattle.ls_lists.proofs.Finds.{find-any}
+use Rattle.ls_lists.proofs.Places.{get-map}
 use Rattle.ls_lists.proofs.Sorted.{find-next}
-use Rattle.ls_set.specs.ItemSet.{Items, empty, full, len, IsWithin}
+use Rattle.ls_set.specs.ItemSet.{Items, empty, full, single, len, IsWithin}
+use Rattle.ls_theory.specs.Families.{closure}
 use Rattle.ls_theory.specs.Queries.{blocks, block_before}
 use Rattle.ls_theory.specs.Blocks.{BlockRange}
 use Rattle.ls_query.specs.Blocks.{sets_of}
 use Rattle.ls_query.proofs.BlockOrder.{before-asymmetric}
 use Rattle.ls_query.proofs.BlockSets.{sorted-blocks, blocks-in, first-blocks}
+use Rattle.ls_query.proofs.BySize.{of_size, of_size-more, of_size-none, blocks-more}
+use Rattle.ls_query.proofs.Placed.{get-append_left}
+use Rattle.ls_laws.proofs.Counts.{len-empty}
+use Rattle.ls_infer.proofs.Outside.{with-empty}
 
 -- ---- blocks
 
@@ -48,3 +54,33 @@ pub came-past : (b of_walk : BlockRange) (i : ℕ) (old new : Items) (went : Boo
     → find (block_before old) (sets_of of_walk) ≡ cond went (Some new) None → went ≡ false → slice_get (sets_of b) i ≡ None
 came-past b of_walk i old new went same place next stayed =
     sym place ∙ ap (λ x. find (block_before old) (sets_of x)) (sym same) ∙ next ∙ ap (λ t. cond t (Some new) None) stayed
+
+-- ---- the sets of one item
+
+of_none : (i m : ℕ) → of_size i m 0 ≡ empty ∷ []
+of_none i zero = rw len-empty refl
+of_none i (suc m) = of_size-none i m ∙ of_none (suc i) m
+
+of_one : (i m j : ℕ) → j < m → slice_get (of_size i m 1) j ≡ Some (single (i + j))
+of_one i zero j l = absurd (omega arith)
+of_one i (suc m) zero l = rw (of_size-more i m 0, of_none (suc i) m) (ap Some (with-empty i ∙ ap single (let e : i ≡ i + 0 = omega arith in e)))
+of_one i (suc m) (suc j) l = rw (of_size-more i m 0, of_none (suc i) m) (of_one (suc i) m j (omega arith) ∙ ap (λ x. Some (single x)) (let e : suc i + j ≡ i + suc j = omega arith in e))
+
+blocks-none : (n : ℕ) → blocks n 0 ≡ []
+unfolding blocks
+blocks-none n = refl
+
+-- they are the first of the blocks
+of_blocks : (n k i : ℕ) → i < n → slice_get (blocks n (suc k)) i ≡ Some (single i)
+of_blocks n zero i l = rw (blocks-more n 0, blocks-none n) (of_one 0 n i l ∙ ap (λ x. Some (single x)) (let e : 0 + i ≡ i = omega arith in e))
+of_blocks n (suc k) i l = rw (blocks-more n (suc k)) (get-append_left (blocks n (suc k)) (of_size 0 n (suc (suc k))) i (single i) (of_blocks n k i l))
+
+-- so the closure that is kept there is that of an item alone
+pub closed-alone : (n k i : ℕ) (f : List Items) (closures : List Items) (closed : Items) → i < n → closures ≡ map (closure (full n) f) (blocks n k) → slice_get closures i ≡ Some closed → closed ≡ closure (full n) f (single i)
+closed-alone n zero i f closures closed l made at =
+    let none : slice_get closures i ≡ None = ap (λ c. slice_get c i) (made ∙ ap (map (closure (full n) f)) (blocks-none n)) in
+    let clash = sym at ∙ none in
+    cc
+closed-alone n (suc k) i f closures closed l made at =
+    let same : Some closed ≡ Some (closure (full n) f (single i)) = sym at ∙ ap (λ c. slice_get c i) made ∙ get-map (closure (full n) f) (blocks n (suc k)) i (single i) (of_blocks n k i l) in
+    cc

@@ -1,17 +1,17 @@
 -- What a Yes that comes or goes changes of what is kept of a standing No.
-use Rattle.std.proofs.Common.{ℕ, ◌+◌, ◌<◌, ◌≡◌, inl, inr, Bool, true, false, not, ◌&&◌, ◌||◌, ltb, List, length, get_or, slice_get, Some, None, refl, sym, ap, ap₂, ◌∙◌, subst, true≢false, ltb-true}
+use Rattle.std.proofs.Common.{ℕ, ◌+◌, ◌<◌, ◌≡◌, inl, inr, Bool, true, false, not, ◌&&◌, ◌||◌, ltb, List, length, get_or, slice_get, Some, refl, sym, ap, ap₂, ◌∙◌, subst, true≢false, ltb-true}
 use Rattle.std.proofs.lemmas.Bool.{and_parts, and_from, or_parts, cases_Bool, false_from_ne_true, not-true, not-false}
 use Rattle.std.proofs.Math.ListN.{set}
 use Rattle.std.proofs.lemmas.Option.{slice_get-get_or}
 use Rattle.ls_lists.specs.Lists.{images}
 use Rattle.ls_lists.proofs.Overwriting.{images-at, images-next}
-use Rattle.ls_set.specs.ItemSet.{Items, has, empty, full, with, meet, is_same, is_within, is_among, IsWithin}
+use Rattle.ls_set.specs.ItemSet.{Items, has, empty, full, with, meet, minus, is_same, is_within, is_among, IsWithin}
 use Rattle.ls_set.specs.Query.{is_good}
 use Rattle.ls_set.specs.declared.query.Query.{Query}
 use Rattle.ls_laws.proofs.Counts.{some_item}
 use Rattle.ls_set.proofs.Sets.{Decides-is_same, has-meet, same_set, same_within, IsWithin-from, is_within-from, minus-within}
 use Rattle.ls_theory.specs.declared.no.No.{No}
-use Rattle.ls_theory.specs.Families.{closure}
+use Rattle.ls_theory.specs.Families.{interior, closure}
 use Rattle.ls_theory.specs.Queries.{breaks}
 use Rattle.ls_laws.specs.Families.{IsFamily}
 use Rattle.ls_laws.specs.Spans.{IsPart, left_by}
@@ -22,11 +22,11 @@ use Rattle.ls_laws.proofs.ClosureChanges.{closure_holds, closure_grows, closure_
 use Rattle.ls_laws.proofs.Families.{family_sets}
 use Rattle.ls_infer.specs.declared.standing_no.StandingNo.{StandingNo}
 use Rattle.ls_infer.specs.declared.yes_change.YesChange.{YesChange}
-use Rattle.ls_infer.specs.Changes.{CanFall, IsAdded, IsChange, is_kept, is_reached}
+use Rattle.ls_infer.specs.Changes.{CanFall, IsAdded, IsChange, can_grow, is_kept, is_reached}
 use Rattle.ls_infer.specs.Tables.{enough_for, standing}
 use Rattle.ls_infer.proofs.Kept.{has-enough, with-within}
 use Rattle.ls_infer.proofs.Outside.{with-left, with-cases, outside-member}
-use Rattle.ls_infer.proofs.States.{enough-apart_from, enough-grows, enough-unbroken, enough-stays, unbroken-among}
+use Rattle.ls_infer.proofs.States.{with-itself, enough-apart, enough-only, enough-apart_from, enough-grows, enough-unbroken, enough-stays, unbroken-among}
 
 -- ---- closures that stay
 
@@ -134,6 +134,17 @@ standing-from n f a closed enough is_state c e m =
 
 stands-again : (n : ℕ) (f : List Items) (s : StandingNo) → IsStanding n f s → s ≡ standing n f s.no
 stands-again n f s k = standing-from n f s.no s.closed s.enough s.is_state k.closed (k.enough ∙ ap (λ x. enough_for n f x s.no.query.q) (sym k.closed)) k.is_state
+
+-- where p is left in a state of those that are known to be enough, with itself, these are all
+pub standing-only : (n : ℕ) (f : List Items) (a : No) (closed known : Items) (is_state : Bool) → IsUnionFamily n f → a.query.q < n → closed ≡ closure (full n) f a.query.a → IsWithin known (enough_for n f closed a.query.q)
+    → has closed a.query.q ≡ false → has (interior f (with known a.query.q)) a.query.q ≡ true → is_state ≡ is_among f (with known a.query.q)
+    → record { no = a; closed = closed; enough = with known a.query.q; is_state = is_state } ≡ standing n f a
+standing-only n f a closed known is_state family l made sound lacks inside state =
+    let q = a.query.q in
+    let all = with-itself n f closed q known l sound in
+    let member : is_among f (minus (full n) closed) ≡ true = subst (λ c. is_among f (minus (full n) c) ≡ true) (sym made) (outside-member n f a.query.a family) in
+    standing-from n f a closed (with known q) is_state made
+    (enough-only n f closed q (with known q) all (λ i h. enough-apart n f closed q member lacks i (all i h)) inside) state
 
 -- ---- a Yes that comes
 
@@ -275,16 +286,33 @@ standing-next n before after nos ys i x y l made here next =
 
 -- ---- what no Yes reaches stays
 
+unreached-after : (n : ℕ) (before after : List Items) (r : Query) (s : StandingNo) (fall : Items) → IsAdded n r before after → CanFall before r.q fall → is_good n r ≡ true → is_kept n s ≡ true → s ≡ standing n before s.no
+    → is_within r.a s.closed ≡ false → can_grow fall r s ≡ false → s ≡ standing n after s.no
+unreached-after n before after r s fall change can good kept e lacks h =
+    let made = after-lack n before after r s change good e lacks in
+    let same : (b : Bool) → s.is_state ≡ b → s ≡ record { no = s.no; closed = s.closed; enough = s.enough; is_state = b } = λ b x. ap (λ y. record { no = s.no; closed = s.closed; enough = s.enough; is_state = y }) x in
+    elim (cases_Bool s.is_state) [
+      | inl state ↦
+          let whole : breaks s.enough r ≡ false = rw state at h in
+          same true state ∙ after-state n before after r s s.closed true change kept e made (rw (state, whole) refl) refl
+      | inr none ↦ elim (cases_Bool (has fall s.no.query.q)) [
+        | inl falls ↦
+            let meets : is_same (meet r.a s.enough) empty ≡ false = rw (none, falls) at h in
+            elim (some_item (meet r.a s.enough)) [
+              | inl empty ↦ absurd (true≢false (sym ((Decides-is_same (meet r.a s.enough) _).1 empty) ∙ meets))
+              | inr some ↦ after-met n before after r s some.0 change good e lacks some.1
+            ]
+        | inr stays ↦ same false none ∙ after-fall n before after r s s.closed fall false change can kept e made stays (rw none refl)
+      ]
+    ]
+
 pub unreached : (n : ℕ) (before after : List Items) (r : Query) (s : StandingNo) (change : YesChange) → IsChange change n r before after → IsFamily n after → is_good n r ≡ true → is_kept n s ≡ true → s ≡ standing n before s.no
     → is_reached change r s ≡ false → s ≡ standing n after s.no
 unreached n before after r s (YesChange.Added fall) change family good kept e h = elim (cases_Bool (has s.closed r.q)) [
   | inl here ↦ after-closed n before after r s change.0 good kept e here
   | inr out ↦
-      let p = or_parts (is_within r.a s.closed) (is_same (meet r.a s.enough) empty) (rw out at h) in
-      elim (some_item (meet r.a s.enough)) [
-        | inl none ↦ absurd (true≢false (sym ((Decides-is_same (meet r.a s.enough) empty).1 none) ∙ p.1))
-        | inr some ↦ after-met n before after r s some.0 change.0 good e p.0 some.1
-      ]
+      let p = or_parts (is_within r.a s.closed) (can_grow fall r s) (rw out at h) in
+      unreached-after n before after r s fall change.0 change.1 good kept e p.0 p.1
 ]
 unreached n before after r s YesChange.Removed change family good kept e h =
     let p = or_parts (is_within r.a s.closed) (not (has s.closed r.q)) h in

@@ -1,9 +1,9 @@
 // The lists that make up a table.
-ghost use Rattle.std.specs.Prelude.{◌≡◌, ◌+◌, ◌*◌, ◌<◌, ◌≤◌, true, List, map, length, count_by, find, slice_get, IfOk};
+ghost use Rattle.std.specs.Prelude.{◌≡◌, ◌+◌, ◌*◌, ◌<◌, ◌≤◌, ℕ, true, List, map, length, count_by, find, slice_get, IfOk};
 ghost use Rattle.std.specs.List.{list_all, position};
 ghost use Rattle.ls_set.specs.ItemSet.{Items, full, is_within};
 ghost use Rattle.ls_set.specs.Query.{is_good};
-ghost use Rattle.ls_theory.specs.Queries.{block_before};
+ghost use Rattle.ls_theory.specs.Queries.{block_before, blocks};
 ghost use Rattle.ls_theory.specs.Families.{closure};
 ghost use Rattle.ls_query.specs.Blocks.{sets_of};
 ghost use Rattle.ls_infer.specs.Changes.{IsChange, is_stale};
@@ -45,25 +45,23 @@ pub fn closures_of<I: Interior, L: Ledger>(
 }
 
 /// What is kept of each of the answers, in their order, in a step at most for each item and one
-/// more for each answer. `closures` are those of the sets of the blocks.
+/// more for each answer. `closures` are those of the sets of blocks.
 pub fn standing_of<I: Interior, L: Ledger>(
     alloc: Global,
     f: &I,
     closures: &[ItemSet],
-    blocks: Blocks,
     answers: &[No],
     steps: &mut Steps<L>,
 ) -> Result<Vec<StandingNo>, AllocError>
-    requires closures { closures.now
-        ≡ map (closure (full (I.item_count f.now)) (I.members f.now)) (sets_of blocks) }
     requires good { list_all (λ a. is_good (I.item_count f.now) a.query) answers.now ≡ true }
-    ensures list { IfOk result (λ v. v.items
-        ≡ map (standing (I.item_count f.now) (I.members f.now)) answers.now) }
+    ensures list { (k : ℕ) → let n = I.item_count f.now in
+        closures.now ≡ map (closure (full n) (I.members f.now)) (blocks n k) →
+        IfOk result (λ v. v.items ≡ map (standing n (I.members f.now)) answers.now) }
     ensures cost { steps.new ≤ steps.old + (I.item_count f.now + 1) * length answers.now }
 {
     let mut kept = Vec::new(alloc);
     for answer in answers {
-        kept.push(StandingNo::shared(f, closures, blocks, answer, steps))?;
+        kept.push(StandingNo::shared(f, closures, answer, steps))?;
     }
     Ok(kept)
 }

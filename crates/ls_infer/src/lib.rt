@@ -3,6 +3,7 @@
 
 mod closures;
 mod enough;
+mod forcing;
 mod fronts;
 mod laws;
 mod reaching;

@@ -14,7 +14,8 @@ ghost use Rattle.ls_query.specs.Blocks.{sets_of, queries_of};
 ghost use Rattle.ls_infer.specs.Tables.{table_of};
 ghost use Rattle.ls_infer.specs.Search.{IsSearch, outside_of, is_open_by};
 
-use crate::standing_no::{StandingNo, unforced};
+use crate::forcing::unforced;
+use crate::standing_no::StandingNo;
 use crate::table::Table;
 use ls_interior::Inside;
 use ls_query::{BlockWalk, Blocks};

@@ -7,10 +7,9 @@ ghost use Rattle.ls_set.specs.Query.{is_good};
 ghost use Rattle.ls_set.specs.declared.query.Query.{Query};
 ghost use Rattle.ls_theory.specs.Words.{first_least};
 ghost use Rattle.ls_theory.specs.Families.{closure};
-ghost use Rattle.ls_theory.specs.Queries.{breaks};
+ghost use Rattle.ls_theory.specs.Queries.{blocks, breaks};
 ghost use Rattle.ls_theory.specs.declared.no.No.{No};
-ghost use Rattle.ls_query.specs.Blocks.{sets_of};
-ghost use Rattle.ls_infer.specs.Changes.{IsChange, is_kept, is_reached};
+ghost use Rattle.ls_infer.specs.Changes.{IsChange, can_grow, is_kept, is_reached, most_steps};
 ghost use Rattle.ls_infer.specs.Tables.{enough_for, standing, forces};
 ghost use Rattle.ls_infer.specs.declared.yes_change.YesChange.TheVariants as YesChange;
 
@@ -18,7 +17,6 @@ use crate::enough::{enough_between, enough_for, is_state};
 use crate::reaching::reaching;
 use crate::yes_change::YesChange;
 use ls_interior::{Interior, Steps, closure};
-use ls_query::Blocks;
 use ls_set::{ItemSet, PLACES, Query};
 use ls_theory::No;
 use std::sync::ledger::Ledger;
@@ -78,29 +76,66 @@ impl StandingNo {
         StandingNo::of(f, *answer, closed, enough, steps)
     }
 
+    // What is kept of the answer with its closure, where those of `known` are enough, in a step at
+    // most for each item and one more. Where p is left with those that are known alone, no other
+    // item is enough.
+    fn between<I: Interior, L: Ledger>(
+        f: &I,
+        no: No,
+        closed: ItemSet,
+        known: ItemSet,
+        steps: &mut Steps<L>,
+    ) -> StandingNo
+        requires good { is_good (I.item_count f.now) no.query ≡ true }
+        requires within { IsWithin closed (full (I.item_count f.now)) }
+        requires known { IsWithin known (full (I.item_count f.now)) }
+        ensures value { let n = I.item_count f.now in
+            closed ≡ closure (full n) (I.members f.now) no.query.a →
+            IsWithin known (enough_for n (I.members f.now) closed no.query.q) →
+            result ≡ standing n (I.members f.now) no }
+        ensures kept { is_kept (I.item_count f.now) result ≡ true }
+        ensures cost { steps.new ≤ steps.old + (I.item_count f.now + 1) }
+        ensures fewer { (i : ℕ) → has closed i ≡ true → i < I.item_count f.now →
+            steps.new ≤ steps.old + I.item_count f.now }
+    {
+        let all = ItemSet::full(f.items());
+        let q = no.query.q;
+        let known = known.with(q);
+        if !closed.has(q) {
+            let left = f.interior(known, steps);
+            if left.has(q) {
+                return StandingNo {
+                    no,
+                    closed,
+                    enough: known,
+                    is_state: known.is_within(left),
+                };
+            }
+        }
+        let enough = enough_between(f, closed, q, known, all, steps);
+        StandingNo::of(f, no, closed, enough, steps)
+    }
+
     /// What is kept of the answer, in a step at most for each item and one more. Items whose
     /// closures, by those that are kept of the block sets, have p are enough without a step, and
     /// what is not enough is shared. So it mostly takes fewer steps than `new`, which takes all.
     pub fn shared<I: Interior, L: Ledger>(
         f: &I,
         closures: &[ItemSet],
-        blocks: Blocks,
         answer: &No,
         steps: &mut Steps<L>,
     ) -> StandingNo
         requires { is_good (I.item_count f.now) answer.now.query ≡ true }
-        ensures value { let n = I.item_count f.now in
-            closures.now ≡ map (closure (full n) (I.members f.now)) (sets_of blocks) →
+        ensures value { (k : ℕ) → let n = I.item_count f.now in
+            closures.now ≡ map (closure (full n) (I.members f.now)) (blocks n k) →
             result ≡ standing n (I.members f.now) answer.now }
         ensures kept { is_kept (I.item_count f.now) result ≡ true }
         ensures cost { steps.new ≤ steps.old + (I.item_count f.now + 1) }
     {
         let closed = closure(f, answer.query.a, steps);
-        let q = answer.query.q;
         let all = ItemSet::full(f.items());
-        let known = reaching(closures, blocks, all, q);
-        let enough = enough_between(f, closed, q, known, all, steps);
-        StandingNo::of(f, *answer, closed, enough, steps)
+        let known = reaching(closures, all, answer.query.q);
+        StandingNo::between(f, *answer, closed, known, steps)
     }
 
     // What is kept of it with its closure, where what was enough stays so, but is no state.
@@ -148,6 +183,7 @@ impl StandingNo {
     fn after_yes<I: Interior, L: Ledger>(
         &self,
         f: &I,
+        closures: &[ItemSet],
         fall: ItemSet,
         r: &Query,
         steps: &mut Steps<L>,
@@ -156,12 +192,13 @@ impl StandingNo {
         requires good { is_good (I.item_count f.now) r.now ≡ true }
         requires item { r.now.q < PLACES }
         requires few { I.item_count f.now ≤ PLACES }
-        ensures value { (before : List Items) → let n = I.item_count f.now in
+        ensures value { (before : List Items) (k : ℕ) → let n = I.item_count f.now in
             IsChange (YesChange.Added fall) n r.now before (I.members f.now) →
+            closures.now ≡ map (closure (full n) (I.members f.now)) (blocks n k) →
             self.now ≡ standing n before self.now.no →
             result ≡ standing n (I.members f.now) self.now.no }
         ensures kept { is_kept (I.item_count f.now) result ≡ true }
-        ensures cost { steps.new ≤ steps.old + I.item_count f.now }
+        ensures cost { steps.new ≤ steps.old + (I.item_count f.now + 1) }
     {
         let closed = if r.a.is_within(self.closed) {
             closure(f, self.closed, steps)
@@ -170,6 +207,11 @@ impl StandingNo {
         };
         let is_state = self.stays_state(r);
         if !is_state && fall.has(self.no.query.q) {
+            if self.is_state {
+                let all = ItemSet::full(f.items());
+                let known = reaching(closures, all, self.no.query.q).union(self.enough);
+                return StandingNo::between(f, self.no, closed, known, steps);
+            }
             return self.with_closed(f, closed, steps);
         }
         StandingNo {
@@ -193,7 +235,6 @@ impl StandingNo {
         &self,
         f: &I,
         closures: &[ItemSet],
-        blocks: Blocks,
         r: &Query,
         steps: &mut Steps<L>,
     ) -> StandingNo
@@ -201,9 +242,9 @@ impl StandingNo {
         requires good { is_good (I.item_count f.now) r.now ≡ true }
         requires item { r.now.q < PLACES }
         requires few { I.item_count f.now ≤ PLACES }
-        ensures value { (before : List Items) → let n = I.item_count f.now in
+        ensures value { (before : List Items) (k : ℕ) → let n = I.item_count f.now in
             IsChange YesChange.Removed n r.now before (I.members f.now) →
-            closures.now ≡ map (closure (full n) (I.members f.now)) (sets_of blocks) →
+            closures.now ≡ map (closure (full n) (I.members f.now)) (blocks n k) →
             self.now ≡ standing n before self.now.no →
             result ≡ standing n (I.members f.now) self.now.no }
         ensures kept { is_kept (I.item_count f.now) result ≡ true }
@@ -215,7 +256,7 @@ impl StandingNo {
             self.closed
         };
         let q = self.no.query.q;
-        let known = reaching(closures, blocks, self.enough, q);
+        let known = reaching(closures, self.enough, q);
         let enough = enough_between(f, closed, q, known, self.enough, steps);
         if self.keeps_state(r) && self.enough.is_within(enough) {
             return StandingNo { closed, ..*self };
@@ -223,16 +264,30 @@ impl StandingNo {
         StandingNo::of(f, self.no, closed, enough, steps)
     }
 
-    // Whether a Yes to `r` that came or was taken back can change what is kept of it.
+    // Whether more can be enough under a Yes to `r`, with whose item no items fall but those of
+    // `fall`.
     #[tactic(auto, unfolding(ls_set::specs::ItemSet::is_same))]
+    fn can_grow(&self, fall: ItemSet, r: &Query) -> bool
+        requires item { r.now.q < PLACES }
+        requires asked { self.now.no.query.q < PLACES }
+        ensures { result ≡ can_grow fall r.now self.now }
+    {
+        if self.is_state {
+            breaks(self.enough, r)
+        } else {
+            fall.has(self.no.query.q) && r.a.meet(self.enough) == ItemSet::empty()
+        }
+    }
+
+    // Whether a Yes to `r` that came or was taken back can change what is kept of it.
     fn is_reached(&self, change: &YesChange, r: &Query) -> bool
-        requires { r.now.q < PLACES }
+        requires item { r.now.q < PLACES }
+        requires asked { self.now.no.query.q < PLACES }
         ensures { result ≡ is_reached change.now r.now self.now }
     {
         match change {
-            YesChange::Added(_) => {
-                !self.closed.has(r.q)
-                    && (r.a.is_within(self.closed) || r.a.meet(self.enough) == ItemSet::empty())
+            YesChange::Added(fall) => {
+                !self.closed.has(r.q) && (r.a.is_within(self.closed) || self.can_grow(*fall, r))
             }
             YesChange::Removed => r.a.is_within(self.closed) || !self.closed.has(r.q),
         }
@@ -243,7 +298,6 @@ impl StandingNo {
         &self,
         f: &I,
         closures: &[ItemSet],
-        blocks: Blocks,
         change: &YesChange,
         r: &Query,
         steps: &mut Steps<L>,
@@ -252,17 +306,17 @@ impl StandingNo {
         requires good { is_good (I.item_count f.now) r.now ≡ true }
         requires item { r.now.q < PLACES }
         requires few { I.item_count f.now ≤ PLACES }
-        ensures value { (before : List Items) → let n = I.item_count f.now in
+        ensures value { (before : List Items) (k : ℕ) → let n = I.item_count f.now in
             IsChange change.now n r.now before (I.members f.now) →
-            closures.now ≡ map (closure (full n) (I.members f.now)) (sets_of blocks) →
+            closures.now ≡ map (closure (full n) (I.members f.now)) (blocks n k) →
             self.now ≡ standing n before self.now.no →
             result ≡ standing n (I.members f.now) self.now.no }
         ensures kept { is_kept (I.item_count f.now) result ≡ true }
-        ensures cost { steps.new ≤ steps.old + I.item_count f.now }
+        ensures cost { steps.new ≤ steps.old + most_steps change.now (I.item_count f.now) }
     {
         match change {
-            YesChange::Added(fall) => self.after_yes(f, *fall, r, steps),
-            YesChange::Removed => self.before_yes(f, closures, blocks, r, steps),
+            YesChange::Added(fall) => self.after_yes(f, closures, *fall, r, steps),
+            YesChange::Removed => self.before_yes(f, closures, r, steps),
         }
     }
 
@@ -274,8 +328,8 @@ impl StandingNo {
         r.a.is_within(self.closed) && self.enough.has(r.q)
     }
 
-    // The items `q` of `undecided` for which the answer does not force the query (`a`, q) No.
-    fn unforced(&self, a: ItemSet, undecided: ItemSet) -> ItemSet
+    /// The items `q` of `undecided` for which the answer does not force the query (`a`, q) No.
+    pub fn unforced(&self, a: ItemSet, undecided: ItemSet) -> ItemSet
         ensures { (q : ℕ) → has result q
             ≡ (has undecided q && not (forces (record { a = a; q = q }) self.now)) }
     {
@@ -287,77 +341,13 @@ impl StandingNo {
     }
 }
 
-// The number, or the least so far where that is less.
-fn lesser(least: Option<u64>, number: u64) -> u64
-    ensures { result ≡ option_map_or (min number) least number }
-{
-    match least {
-        Some(least) => number.min(least),
-        None => number,
-    }
-}
-
-/// The least number of the answers that force the query No.
-pub fn forcing(standing: &[StandingNo], r: &Query) -> Option<u64>
-    requires { r.now.q < PLACES }
-    ensures { let forcing = filter (forces r.now) standing.now in
-        result ≡ option_map (λ s. s.no.number) (first_least (λ s. s.no.number) forcing) }
-{
-    let mut least = None;
-    for s in standing {
-        if s.forces(r) {
-            least = Some(lesser(least, s.no.number));
-        }
-    }
-    least
-}
-
-// The items `q` of `undecided` for which the answer at the place, if there is one, does not force
-// the query (`a`, q) No.
-fn unforced_at(standing: &[StandingNo], place: usize, a: ItemSet, undecided: ItemSet) -> ItemSet
-    ensures { (q : ℕ) → let r : Query = record { a = a; q = q } in has result q
-        ≡ (has undecided q && not (option_map_or (forces r) (slice_get standing.now place) false)) }
-{
-    match standing.get(place) {
-        Some(s) => s.unforced(a, undecided),
-        None => undecided,
-    }
-}
-
-/// The items `q` of `undecided` for which no answer forces the query (`a`, q) No. The answer at the
-/// hint is asked first, if there is one; where none is left, the hint is the place of the answer
-/// after which none was.
-pub fn unforced(
-    standing: &[StandingNo],
-    hint: &mut usize,
-    a: ItemSet,
-    undecided: ItemSet,
-) -> ItemSet
-    ensures { (q : ℕ) → has result q ≡ (has undecided q
-        && not (list_any (forces (record { a = a; q = q })) standing.now)) }
-{
-    let mut left = unforced_at(standing, *hint, a, undecided);
-    if left.least().is_none() {
-        return left;
-    }
-    for place in 0..standing.len() {
-        left = standing[place].unforced(a, left);
-        if left.least().is_none() {
-            *hint = place;
-            return left;
-        }
-    }
-    left
-}
-
-/// Makes what is kept of each answer that after a Yes to `r` came or was taken back, in at most as
-/// many steps for each answer as there are items. `f` is the family after the change, and
+/// Makes what is kept of each answer that after a Yes to `r` came or was taken back, in at most a
+/// step for each answer and item, and where a Yes comes one more for each answer. `f` is the family after the change, and
 /// `closures` are those of the sets of the blocks in it.
 pub fn change_each<I: Interior, L: Ledger>(
     kept: &mut [StandingNo],
     f: &I,
     closures: &[ItemSet],
-    blocks: Blocks,
     change: &YesChange,
     r: &Query,
     steps: &mut Steps<L>,
@@ -366,17 +356,18 @@ pub fn change_each<I: Interior, L: Ledger>(
     requires good { is_good (I.item_count f.now) r.now ≡ true }
     requires item { r.now.q < PLACES }
     requires few { I.item_count f.now ≤ PLACES }
-    ensures each { (before : List Items) (nos : List No) → let n = I.item_count f.now in
+    ensures each { (before : List Items) (k : ℕ) (nos : List No) → let n = I.item_count f.now in
         IsChange change.now n r.now before (I.members f.now) →
-        closures.now ≡ map (closure (full n) (I.members f.now)) (sets_of blocks) →
+        closures.now ≡ map (closure (full n) (I.members f.now)) (blocks n k) →
         kept.old ≡ map (standing n before) nos →
         kept.new ≡ map (standing n (I.members f.now)) nos }
     ensures kept { list_all (is_kept (I.item_count f.now)) kept.new ≡ true }
-    ensures cost { steps.new ≤ steps.old + I.item_count f.now * length kept.old }
+    ensures cost { steps.new ≤ steps.old
+        + most_steps change.now (I.item_count f.now) * length kept.old }
 {
     for s in kept.iter_mut() {
         if s.is_reached(change, r) {
-            *s = s.after(f, closures, blocks, change, r, steps);
+            *s = s.after(f, closures, change, r, steps);
         }
     }
 }

@@ -16,7 +16,8 @@ ghost use Rattle.ls_laws.specs.Forced.{IsSound, IsNumbered};
 ghost use Rattle.ls_query.specs.Blocks.{sets_of, queries_of};
 
 use crate::closures::{close_again, closures_of, standing_of};
-use crate::standing_no::{StandingNo, change_each, forcing, take_out, unforced};
+use crate::forcing::{forcing, unforced};
+use crate::standing_no::{StandingNo, change_each, take_out};
 use crate::yes_change::YesChange;
 use ls_interior::{Interior, Steps, closure};
 use ls_query::{BlockWalk, Blocks};
@@ -68,7 +69,7 @@ fn closure_at(closures: &[ItemSet], place: u32) -> ItemSet
 }
 
 impl Table {
-    ghost use Rattle.ls_infer.specs.Changes.{IsChange, CanFall};
+    ghost use Rattle.ls_infer.specs.Changes.{IsChange, CanFall, most_steps};
     ghost use Rattle.ls_infer.specs.Tables.{table_of, standing, closed_of, forces, is_open_in, told};
 
     /// The table of a family, for blocks of its items and the standing answers that are No, whose
@@ -88,7 +89,7 @@ impl Table {
             + (length (sets_of blocks) + (I.item_count f.now + 1) * length answers.now) }
     {
         let closures = closures_of(alloc, blocks, f, steps)?;
-        let standing = standing_of(alloc, f, &closures, blocks, answers, steps)?;
+        let standing = standing_of(alloc, f, &closures, answers, steps)?;
         Ok(Table {
             n: f.items(),
             blocks,
@@ -127,20 +128,12 @@ impl Table {
             self.new.table ≡ table_of self.old.table.blocks (I.members f.now) nos }
         ensures cost { steps.new ≤ steps.old
             + (count_by (λ c. is_within r.now.a c) self.old.table.closures
-            + self.old.table.blocks.item_count * length self.old.table.standing) }
+            + most_steps change.now self.old.table.blocks.item_count
+            * length self.old.table.standing) }
         ensures blocks { self.new.table.blocks ≡ self.old.table.blocks }
     {
         close_again(&mut self.closures, self.blocks, f, change, r, steps);
-        let blocks = self.blocks;
-        change_each(
-            &mut self.standing,
-            f,
-            &self.closures,
-            blocks,
-            change,
-            r,
-            steps,
-        );
+        change_each(&mut self.standing, f, &self.closures, change, r, steps);
     }
 
     /// Keeps the table under a Yes to the good query `r`, of which `f` is the family that is left.
@@ -250,7 +243,7 @@ impl Table {
         ensures blocks { self.new.table.blocks ≡ self.old.table.blocks }
         ensures cost { steps.new ≤ steps.old + (self.old.table.blocks.item_count + 1) }
     {
-        let kept = StandingNo::shared(f, &self.closures, self.blocks, &x, steps);
+        let kept = StandingNo::shared(f, &self.closures, &x, steps);
         self.standing.push_reserved(kept);
     }
 

@@ -1,6 +1,6 @@
-use Rattle.std.proofs.Common.{◌≡◌, inl, inr, true, sym, subst, ap, ◌∙◌, true≢false}
+use Rattle.std.proofs.Common.{◌≡◌, inl, inr, true, sym, subst, ap, ◌∙◌, true≢false, ltb-true}
 use Rattle.ls_set.specs.ItemSet.{has, full, single}
-use Rattle.ls_set.proofs.Sets.{has-empty}
+use Rattle.ls_set.proofs.Sets.{has-empty, has-full}
 use Rattle.ls_set.proofs.Ascending.{least-cases}
 use Rattle.ls_theory.specs.Families.{closure}
 use Rattle.ls_infer.proofs.Outside.{with-cases}
@@ -11,7 +11,7 @@ pub loop-item-init : goal.loop-item-init
 loop-item-init c = record {
   left = λ i h. h;
   part = λ i h. absurd (true≢false (sym h ∙ ap (λ s. has s i) c.empty-reaching.ensures ∙ has-empty i));
-  reach = λ n f made i h. absurd (true≢false (sym h ∙ ap (λ s. has s i) c.empty-reaching.ensures ∙ has-empty i));
+  reach = λ n k f small made i h. absurd (true≢false (sym h ∙ ap (λ s. has s i) c.empty-reaching.ensures ∙ has-empty i));
 }
 
 pub loop-item-smaller-then-has : goal.loop-item-smaller-then-has
@@ -28,9 +28,9 @@ loop-item-preserved-then-has c =
         | inl x ↦ v.part i x
         | inr e ↦ subst (λ k. has c.args.among k ≡ true) (sym e) (v.left item (least-cases c.loop-item.left item (sym c.in-Some.ensures.value)).0)
       ];
-      reach = λ n f made i h. elim (with-cases c.loop-item.reaching item i (subst (λ s. has s i ≡ true) is h)) [
-        | inl x ↦ v.reach n f made i x
-        | inr e ↦ subst (λ k. has (closure (full n) f (single k)) c.args.q ≡ true) (sym e) (c.closed_alone.ensures n f made c.args.q (sym c.has.ensures ∙ c.if-has.true))
+      reach = λ n k f small made i h. elim (with-cases c.loop-item.reaching item i (subst (λ s. has s i ≡ true) is h)) [
+        | inl x ↦ v.reach n k f small made i x
+        | inr e ↦ subst (λ k. has (closure (full n) f (single k)) c.args.q ≡ true) (sym e) (c.closed_alone.ensures n k f (ltb-true item n (sym (has-full n item) ∙ small item (v.left item (least-cases c.loop-item.left item (sym c.in-Some.ensures.value)).0))) made c.args.q (sym c.has.ensures ∙ c.if-has.true))
       ];
     }
 

@@ -1,7 +1,7 @@
 use Rattle.std.proofs.Common.{◌≡◌, ℕ, true, List, map}
 use Rattle.ls_set.specs.ItemSet.{Items, full, has, single, len, IsWithin}
 use Rattle.ls_theory.specs.Families.{closure}
-use Rattle.ls_query.specs.Blocks.{sets_of}
+use Rattle.ls_theory.specs.Queries.{blocks}
 use Rattle.ls_infer.proofs.reaching.reaching.Given as goal
 
 -- those that were found are of the set, and have q in their closures
@@ -9,7 +9,7 @@ abbrev pub invariant-loop-item : goal.invariant-loop-item
 invariant-loop-item l = record {
   left : IsWithin l.left l.fn.among;
   part : IsWithin l.reaching l.fn.among;
-  reach : (n : ℕ) (f : List Items) → l.closures ≡ map (closure (full n) f) (sets_of l.blocks) → (i : ℕ) → has l.reaching i ≡ true → has (closure (full n) f (single i)) l.q ≡ true;
+  reach : (n k : ℕ) (f : List Items) → IsWithin l.fn.among (full n) → l.closures ≡ map (closure (full n) f) (blocks n k) → (i : ℕ) → has l.reaching i ≡ true → has (closure (full n) f (single i)) l.q ≡ true;
 }
 
 abbrev pub decreases-loop-item : goal.decreases-loop-item

@@ -27,23 +27,23 @@ loop-s-preserved g c =
     elim c.if-is_reached.branch [
       | then-is_reached w ↦ rw (w.kept-is, w.steps-is) (record {
         kept = list_all-set (is_kept n) ys i w.after.result v.kept w.after.ensures.kept;
-        made = λ before nos change closed e.
-            standing-next n before after nos ys i x w.after.result (placed before nos e) (v.made before nos change closed e) (ap (get_or ys i) c.s-item.is)
-            (w.after.ensures.value before change closed);
+        made = λ before k nos change closed e.
+            standing-next n before after nos ys i x w.after.result (placed before nos e) (v.made before k nos change closed e) (ap (get_or ys i) c.s-item.is)
+            (w.after.ensures.value before k change closed);
         cost = grind (arith, common_steps, v.cost, w.after.ensures.cost);
       })
       | else-is_reached w ↦ rw (w.kept-is, w.steps-is) (record {
         kept = list_all-set (is_kept n) ys i x v.kept is_one_kept;
-        made = λ before nos change closed e.
-            standing-next n before after nos ys i x x (placed before nos e) (v.made before nos change closed e) (ap (get_or ys i) c.s-item.is)
+        made = λ before k nos change closed e.
+            standing-next n before after nos ys i x x (placed before nos e) (v.made before k nos change closed e) (ap (get_or ys i) c.s-item.is)
             (λ old. unreached n before after c.args.r.now x c.args.change.now change (g.met.I.Interior.is_family c.args.f.now) c.requires.good is_one_kept old (sym c.is_reached.ensures ∙ w.if-is_reached.false));
         cost = grind (arith, common_steps, v.cost);
       })
     ]
 
 pub returns-clause-each : goal.returns-clause-each
-returns-clause-each g c = λ before nos change closed e.
+returns-clause-each g c = λ before k nos change closed e.
     let n = g.I.Interior.item_count c.args.f.now in
     let i = c.loop-s.s-index in
     let past : length nos ≤ i = omega (arith, c.loop-s-test.false, ap length e, length-map nos (standing n before)) in
-    c.loop-s.invariant.made before nos change closed e ∙ images-end (standing n (g.I.Interior.members c.args.f.now)) (standing n before) nos i past
+    c.loop-s.invariant.made before k nos change closed e ∙ images-end (standing n (g.I.Interior.members c.args.f.now)) (standing n before) nos i past

@@ -1,11 +1,11 @@
-use Rattle.std.proofs.Common.{◌≡◌, ◌+◌, ◌*◌, ◌≤◌, true, List, map}
+use Rattle.std.proofs.Common.{ℕ, ◌≡◌, ◌+◌, ◌*◌, ◌≤◌, true, List, map}
 use Rattle.std.specs.List.{list_all}
 use Rattle.ls_lists.specs.Lists.{images}
 use Rattle.ls_set.specs.ItemSet.{Items, full}
 use Rattle.ls_theory.specs.Families.{closure}
-use Rattle.ls_query.specs.Blocks.{sets_of}
+use Rattle.ls_theory.specs.Queries.{blocks}
 use Rattle.ls_theory.specs.declared.no.No.{No}
-use Rattle.ls_infer.specs.Changes.{IsChange, is_kept}
+use Rattle.ls_infer.specs.Changes.{IsChange, is_kept, most_steps}
 use Rattle.ls_infer.specs.Tables.{standing}
 use Rattle.ls_infer.proofs.standing_no.change_each.Given as goal
 
@@ -13,9 +13,9 @@ use Rattle.ls_infer.proofs.standing_no.change_each.Given as goal
 abbrev pub invariant-loop-s : goal.invariant-loop-s
 invariant-loop-s g l = record {
   kept : list_all (is_kept (g.I.Interior.item_count l.f)) l.kept ≡ true;
-  made : (before : List Items) (nos : List No) → IsChange l.change (g.I.Interior.item_count l.f) l.r before (g.I.Interior.members l.f)
-      → l.closures ≡ map (closure (full (g.I.Interior.item_count l.f)) (g.I.Interior.members l.f)) (sets_of l.blocks)
+  made : (before : List Items) (k : ℕ) (nos : List No) → IsChange l.change (g.I.Interior.item_count l.f) l.r before (g.I.Interior.members l.f)
+      → l.closures ≡ map (closure (full (g.I.Interior.item_count l.f)) (g.I.Interior.members l.f)) (blocks (g.I.Interior.item_count l.f) k)
       → l.initial.kept ≡ map (standing (g.I.Interior.item_count l.f) before) nos
       → l.kept ≡ images (standing (g.I.Interior.item_count l.f) (g.I.Interior.members l.f)) (standing (g.I.Interior.item_count l.f) before) nos l.s-index;
-  cost : l.steps ≤ l.fn.steps + g.I.Interior.item_count l.f * l.s-index;
+  cost : l.steps ≤ l.fn.steps + most_steps l.change (g.I.Interior.item_count l.f) * l.s-index;
 }

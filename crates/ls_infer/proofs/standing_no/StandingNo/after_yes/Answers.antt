@@ -1,11 +1,12 @@
 use Rattle.std.proofs.Common.{◌≡◌, ◌&&◌, not, true, false, sym, ap, ◌∙◌, arith}
 use Rattle.ls_set.specs.ItemSet.{full, has, IsWithin}
-use Rattle.ls_set.proofs.Sets.{minus-within, IsWithin-from}
+use Rattle.ls_set.proofs.Sets.{minus-within, union-within, IsWithin-from}
 use Rattle.ls_theory.specs.Families.{closure}
 use Rattle.ls_theory.specs.Queries.{breaks}
 use Rattle.ls_laws.proofs.Breaks.{good-from}
 use Rattle.ls_laws.proofs.ClosureChanges.{closure_holds}
-use Rattle.ls_infer.proofs.States.{good-item}
+use Rattle.ls_infer.specs.Tables.{enough_for}
+use Rattle.ls_infer.proofs.States.{good-item, reached}
 use Rattle.ls_infer.proofs.Standing.{kept-parts, kept-again, after-again, after-lack, after-known, after-state, after-fall, after-no_state}
 use Rattle.ls_infer.proofs.standing_no.StandingNo.after_yes.Goals as goal
 use Rattle.ls_infer.proofs.standing_no.StandingNo.after_yes.Goals.{then-is_within, else-is_within, else-not-is_state-via-then-not-is_state+else-has, else-not-is_state-via-else-not-is_state}
@@ -20,7 +21,7 @@ with_closed-requires-clause-within g c = elim c.if-is_within.branch [
 ]
 
 pub returns-then-has-clause-value : goal.returns-then-has-clause-value
-returns-then-has-clause-value g c = λ before change e.
+returns-then-has-clause-value g c = λ before k change kept_closures e.
     let n = g.I.Interior.item_count c.args.f.now in
     let after = g.I.Interior.members c.args.f.now in
     let r = c.args.r.now in
@@ -34,7 +35,7 @@ returns-then-has-clause-value g c = λ before change e.
     c.with_closed.ensures.value made (after-known n before after r s closed change.0 e made) (after-no_state n before after r s change.0 e none)
 
 pub returns-clause-value : goal.returns-clause-value
-returns-clause-value g c = λ before change e.
+returns-clause-value g c = λ before k change kept_closures e.
     let n = g.I.Interior.item_count c.args.f.now in
     let after = g.I.Interior.members c.args.f.now in
     let r = c.args.r.now in
@@ -73,4 +74,47 @@ returns-then-has-clause-cost g c =
           let fewer = c.with_closed.ensures.fewer item.0 here item.2 in
           omega (arith, w.steps-is, w.closure-closed.ensures.cost, fewer)
       | else-is_within w ↦ omega (arith, w.steps-is, c.with_closed.ensures.cost)
+    ]
+
+pub between-requires-clause-within : goal.between-requires-clause-within
+between-requires-clause-within g c = elim c.if-is_within.branch [
+  | then-is_within w ↦ rw (w.closed-is, w.closure-closed.ensures.value) (minus-within _ _)
+  | else-is_within w ↦ rw w.closed-is (kept-parts _ c.args.self.now c.requires.kept).closed
+]
+
+pub between-requires-clause-known : goal.between-requires-clause-known
+between-requires-clause-known g c =
+    let all : c.full-all.result ≡ full (g.I.Interior.item_count c.args.f.now) = c.full-all.ensures ∙ ap full c.items.ensures.count in
+    rw c.union-known.ensures (union-within c.reaching.result c.args.self.now.enough (full (g.I.Interior.item_count c.args.f.now)) (rw all at c.reaching.ensures.part) (kept-parts _ c.args.self.now c.requires.kept).enough)
+
+pub returns-then-self-clause-value : goal.returns-then-self-clause-value
+returns-then-self-clause-value g c = λ before k change kept_closures e.
+    let n = g.I.Interior.item_count c.args.f.now in
+    let after = g.I.Interior.members c.args.f.now in
+    let r = c.args.r.now in
+    let s = c.args.self.now in
+    let closed = c.if-is_within.closed in
+    let made : closed ≡ closure (full n) after s.no.query.a = elim c.if-is_within.branch [
+      | then-is_within w ↦ after-again n before after r s closed change.0 c.requires.kept e (w.closed-is ∙ w.closure-closed.ensures.value)
+      | else-is_within w ↦ w.closed-is ∙ after-lack n before after r s change.0 c.requires.good e (sym c.is_within.ensures ∙ w.if-is_within.false)
+    ] in
+    let all : c.full-all.result ≡ full n = c.full-all.ensures ∙ ap full c.items.ensures.count in
+    let part : IsWithin c.reaching.result (full n) = rw all at c.reaching.ensures.part in
+    let alone = reached n after closed s.no.query.q c.reaching.result part (c.reaching.ensures.closures n k after (rw all (λ i h. h)) kept_closures) in
+    c.between.ensures.value made
+    (rw c.union-known.ensures (union-within c.reaching.result s.enough (enough_for n after closed s.no.query.q) alone (after-known n before after r s closed change.0 e made)))
+
+pub returns-then-self-clause-cost : goal.returns-then-self-clause-cost
+returns-then-self-clause-cost g c =
+    let n = g.I.Interior.item_count c.args.f.now in
+    let after = g.I.Interior.members c.args.f.now in
+    let s = c.args.self.now in
+    let item = good-item n c.args.r.now (good-from n c.args.r.now c.requires.good) in
+    elim c.if-is_within.branch [
+      | then-is_within w ↦
+          let old : has s.closed item.0 ≡ true = IsWithin-from c.args.r.now.a s.closed (sym c.is_within.ensures ∙ w.if-is_within.true) item.0 item.1 in
+          let here : has c.if-is_within.closed item.0 ≡ true = rw (w.closed-is, w.closure-closed.ensures.value) (closure_holds (full n) after s.closed (kept-parts n s c.requires.kept).closed item.0 old) in
+          let fewer = c.between.ensures.fewer item.0 here item.2 in
+          omega (arith, w.steps-is, w.closure-closed.ensures.cost, fewer)
+      | else-is_within w ↦ omega (arith, w.steps-is, c.between.ensures.cost)
     ]

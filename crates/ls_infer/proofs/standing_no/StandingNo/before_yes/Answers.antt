@@ -26,7 +26,7 @@ pub enough_between-enough-requires-clause-among : goal.enough_between-enough-req
 enough_between-enough-requires-clause-among g c = (kept-parts _ c.args.self.now c.requires.kept).enough
 
 pub returns-then-is_within-2-clause-value : goal.returns-then-is_within-2-clause-value
-returns-then-is_within-2-clause-value g c = λ before change kept_closures e.
+returns-then-is_within-2-clause-value g c = λ before k change kept_closures e.
     let n = g.I.Interior.item_count c.args.f.now in
     let after = g.I.Interior.members c.args.f.now in
     let family = g.met.I.Interior.is_family c.args.f.now in
@@ -38,7 +38,7 @@ returns-then-is_within-2-clause-value g c = λ before change kept_closures e.
       | else-is_within w ↦ w.closed-is ∙ before-lack n before after r s change family c.requires.good e (sym c.is_within.ensures ∙ w.if-is_within.false)
     ] in
     let small = (kept-parts n s c.requires.kept).enough in
-    let known = reached n after closed s.no.query.q c.reaching-known.result (λ i h. small i (c.reaching-known.ensures.part i h)) (c.reaching-known.ensures.closures n after kept_closures) in
+    let known = reached n after closed s.no.query.q c.reaching-known.result (λ i h. small i (c.reaching-known.ensures.part i h)) (c.reaching-known.ensures.closures n k after small kept_closures) in
     let all = c.enough_between-enough.ensures.value (rw made (outside-member n after s.no.query.a (family_sets n after family))) known (before-among n before after r s closed change e made) in
     before-state n before after r s closed c.enough_between-enough.result change e made all (IsWithin-from s.enough c.enough_between-enough.result (sym c.is_within-then-keeps_state.ensures ∙ c.if-is_within-2.true)) (sym c.keeps_state.ensures ∙ c.if-keeps_state.true)
 
@@ -58,7 +58,7 @@ pub of-requires : goal.of-requires
 of-requires g c = c.enough_between-enough.ensures.within
 
 pub returns-clause-value : goal.returns-clause-value
-returns-clause-value g c = λ before change kept_closures e.
+returns-clause-value g c = λ before k change kept_closures e.
     let n = g.I.Interior.item_count c.args.f.now in
     let after = g.I.Interior.members c.args.f.now in
     let family = g.met.I.Interior.is_family c.args.f.now in
@@ -70,7 +70,7 @@ returns-clause-value g c = λ before change kept_closures e.
       | else-is_within w ↦ w.closed-is ∙ before-lack n before after r s change family c.requires.good e (sym c.is_within.ensures ∙ w.if-is_within.false)
     ] in
     let small = (kept-parts n s c.requires.kept).enough in
-    let known = reached n after closed s.no.query.q c.reaching-known.result (λ i h. small i (c.reaching-known.ensures.part i h)) (c.reaching-known.ensures.closures n after kept_closures) in
+    let known = reached n after closed s.no.query.q c.reaching-known.result (λ i h. small i (c.reaching-known.ensures.part i h)) (c.reaching-known.ensures.closures n k after small kept_closures) in
     c.of.ensures.value ∙ standing-from n after s.no closed c.enough_between-enough.result _ made
     (c.enough_between-enough.ensures.value (rw made (outside-member n after s.no.query.a (family_sets n after family))) known (before-among n before after r s closed change e made)) refl
 

@@ -1,1 +1,0 @@
-use Rattle.ls_infer.proofs.table.Table.no_added_shared.Goals as goal

@@ -3,7 +3,7 @@ use Rattle.std.specs.List.{list_any}
 use Rattle.ls_set.specs.ItemSet.{has}
 use Rattle.ls_infer.specs.Tables.{forces}
 use Rattle.ls_infer.proofs.Kept.{unforced-first, unforced-next, unforced-none, none_left}
-use Rattle.ls_infer.proofs.standing_no.unforced.Goals as goal
+use Rattle.ls_infer.proofs.forcing.unforced.Goals as goal
 
 pub returns-then-is_none : goal.returns-then-is_none
 returns-then-is_none c q =

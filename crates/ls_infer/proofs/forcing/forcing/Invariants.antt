@@ -1,7 +1,7 @@
 use Rattle.std.proofs.Common.{◌≡◌, map, filter, drop, None}
 use Rattle.ls_infer.specs.Tables.{forces}
 use Rattle.ls_infer.proofs.Least.{least_with}
-use Rattle.ls_infer.proofs.standing_no.forcing.Given as goal
+use Rattle.ls_infer.proofs.forcing.forcing.Given as goal
 
 -- with those that are left it is the least of all that force the query
 abbrev pub invariant-loop-s : goal.invariant-loop-s

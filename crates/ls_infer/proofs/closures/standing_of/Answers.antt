@@ -1,0 +1,20 @@
+use Rattle.std.proofs.Common.{◌≡◌, ◌++◌, ◌∷◌, [], Some, slice_get, sym, ap, ap₂, ◌∙◌, arith}
+use Rattle.std.proofs.lemmas.Grind.{common_steps}
+use Rattle.std.proofs.lemmas.Option.{slice_get-get_or}
+use Rattle.ls_lists.proofs.Places.{mapped-next}
+use Rattle.ls_infer.specs.Tables.{standing}
+use Rattle.ls_infer.proofs.closures.standing_of.Goals as goal
+
+pub loop-answer-preserved : goal.loop-answer-preserved
+loop-answer-preserved g c =
+    let n = g.I.Interior.item_count c.args.f.now in
+    let f = g.I.Interior.members c.args.f.now in
+    let i = c.loop-answer.answer-index in
+    let a = c.answer-item.result in
+    let v = c.loop-answer.invariant in
+    let at : slice_get c.args.answers.now i ≡ Some a = slice_get-get_or c.args.answers.now i a c.loop-answer-test.true ∙ ap Some (sym c.answer-item.is) in
+    record {
+      list = λ k closed. c.in_ok-push.ensures.items ∙ ap₂ (λ l x. l ++ x ∷ []) (v.list k closed) (c.shared.ensures.value k closed) ∙ mapped-next (standing n f) c.args.answers.now i a at;
+      left = grind (arith, common_steps, v.left);
+      cost = grind (arith, common_steps, v.cost, c.shared.ensures.cost);
+    }
