@@ -13,7 +13,7 @@ ghost use Rattle.ls_reply.specs.Rows.{view_row, edit_row, starts_by, start_read,
 ghost use Rattle.ls_reply.specs.Pupils.{setting_row, pupil_row, classed_by};
 ghost use Rattle.ls_files.specs.SetFiles.{sets_of};
 ghost use Rattle.ls_reply.specs.Replies.{asked_effect, unnamed_at};
-ghost use Rattle.ls_writing.specs.Rooms.{Says};
+ghost use Rattle.ls_texts.specs.Rooms.{Says};
 ghost use Rattle.ls_meanings.specs.Asked.{IsOn, IsSettingOn};
 ghost use Rattle.ls_views.specs.Views.{CanShow, is_based};
 ghost use Rattle.ls_pupils.specs.Cases.{ArePupils};
@@ -34,8 +34,8 @@ use ls_meanings::{ResolveFault, resolve};
 use ls_pupils::{PupilCases, assess_class, attend, set};
 use ls_reply::{Edit, PupilRequest, Refusal, Request, Response, Setting, Shown, StartFile, View};
 use ls_store::{Parts, SessionFault, print_parts, read_parts};
+use ls_texts::{Room, SetTexts};
 use ls_views::{decide, decide_based, is_based, put_shown};
-use ls_writing::{Room, SetTexts};
 use std::alloc::{AllocError, Global};
 use std::marker::Model;
 use std::sync::ledger::Ledger;

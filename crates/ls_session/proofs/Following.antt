@@ -16,7 +16,7 @@ use Rattle.ls_reply.specs.Effects.{Effect}
 use Rattle.ls_reply.specs.Replies.{line_effect, reply_of, is_refusal, is_refused}
 use Rattle.ls_reply.specs.declared.response.Response.{Response}
 use Rattle.ls_reply.proofs.Refusing.{is_refusal-lines_of}
-use Rattle.ls_writing.specs.Rooms.{Wrote}
+use Rattle.ls_texts.specs.Rooms.{Wrote}
 use Rattle.ls_session.specs.Faults.{step_fault}
 use Rattle.ls_session.specs.Follows.{Follows, MovesSink}
 use Rattle.ls_session.specs.Decides.{Decides}

@@ -4,7 +4,7 @@ use Rattle.std.specs.Option.{ForSome}
 use Rattle.ls_reply.specs.Sessions.{Session, started}
 use Rattle.ls_reply.specs.declared.response.Response.{Response}
 use Rattle.ls_reply.specs.declared.response.Response.TheVariants.{Refused, Shown}
-use Rattle.ls_writing.specs.Rooms.{RoomState, no_reply}
+use Rattle.ls_texts.specs.Rooms.{RoomState, no_reply}
 use Rattle.ls_writing.specs.Names.{CanRefuse}
 use Rattle.ls_course.specs.States.{CourseState, CanTell}
 

@@ -5,7 +5,7 @@ ghost use Rattle.ls_edge.specs.Files.{Folder};
 ghost use Rattle.ls_lines.specs.Lines.{is_long};
 ghost use Rattle.ls_reply.specs.Sessions.{started};
 ghost use Rattle.ls_reply.specs.Replies.{line_effect};
-ghost use Rattle.ls_writing.specs.Rooms.{Ends, no_reply};
+ghost use Rattle.ls_texts.specs.Rooms.{Ends, no_reply};
 ghost use Rattle.ls_session.specs.Follows.{Follows, MovesSink};
 
 use crate::StepFault;
@@ -13,7 +13,8 @@ use crate::decider::Decider;
 use ls_edge::{Shelf, Sink, SinkFault};
 use ls_interior::Steps;
 use ls_reply::Refusal;
-use ls_writing::{Room, put_refusal};
+use ls_texts::Room;
+use ls_writing::put_refusal;
 use std::alloc::{AllocError, Global};
 use std::marker::{Brand, Model};
 use std::sync::ledger::{Blank, Ledger};

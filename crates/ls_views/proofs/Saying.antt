@@ -43,7 +43,8 @@ use Rattle.ls_reply.specs.declared.request.View.{View}
 use Rattle.ls_reply.specs.declared.request.View.TheVariants as view
 use Rattle.ls_meanings.specs.Asked as asked_on
 use Rattle.ls_meanings.specs.Asked.{IsAfter}
-use Rattle.ls_writing.specs.Names.{AreNamed, CanRefuse}
+use Rattle.ls_texts.specs.Names.{AreNamed}
+use Rattle.ls_writing.specs.Names.{CanRefuse}
 use Rattle.ls_writing.proofs.Names.{double-named}
 use Rattle.ls_views.specs.Views.{CanSay, is_based}
 use Rattle.ls_views.proofs.OnBases.{compatible-space}

@@ -13,7 +13,7 @@ ghost use Rattle.ls_theory.specs.Interviews.{yes_queries};
 ghost use Rattle.ls_base.specs.Followed.{IsFollowed, followed_sets};
 ghost use Rattle.ls_reply.specs.Rows.{view_row};
 ghost use Rattle.ls_meanings.specs.Asked.{IsOn};
-ghost use Rattle.ls_writing.specs.Rooms.{Says, Wrote, no_reply};
+ghost use Rattle.ls_texts.specs.Rooms.{Says, Wrote, no_reply};
 ghost use Rattle.ls_views.specs.Views.{CanSay, is_reading, command_steps, response_steps, view_steps, session_with};
 
 use crate::based::decide_based;
@@ -28,7 +28,8 @@ use ls_lines::Command;
 use ls_meanings::{ResolveFault, resolve};
 use ls_reply::{Request, Response, View};
 use ls_set::ItemSet;
-use ls_writing::{Room, SetTexts, put_agreed, put_done, put_refusal};
+use ls_texts::{Room, SetTexts};
+use ls_writing::{put_agreed, put_done, put_refusal};
 use std::alloc::{AllocError, Global};
 use std::sync::ledger::Ledger;
 

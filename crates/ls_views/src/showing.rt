@@ -6,7 +6,7 @@ ghost use Rattle.ls_set.specs.Query.{is_good};
 ghost use Rattle.ls_theory.specs.Pages.{page};
 ghost use Rattle.ls_reply.specs.Texts.{line_of, bytes_of};
 ghost use Rattle.ls_reply.specs.Lines.{known_words, question_words, page_lines, shown_lines};
-ghost use Rattle.ls_writing.specs.Rooms.{Says};
+ghost use Rattle.ls_texts.specs.Rooms.{Says};
 ghost use Rattle.ls_views.specs.Views.{CanShow, shown_steps};
 
 use crate::walking::put_paths;
@@ -16,9 +16,10 @@ use ls_interior::{Counted, Inside, Steps};
 use ls_project::Trace;
 use ls_reply::Shown;
 use ls_set::{ItemSet, Query};
+use ls_texts::{Room, SetTexts, put_line, put_numbered, put_surmise};
 use ls_writing::{
-    Room, SetTexts, put_asked, put_base, put_class, put_fringes, put_learning, put_line,
-    put_listing, put_numbered, put_report, put_state, put_surmise, put_verdict,
+    put_asked, put_base, put_class, put_fringes, put_learning, put_listing, put_report, put_state,
+    put_verdict,
 };
 use std::sync::ledger::Ledger;
 

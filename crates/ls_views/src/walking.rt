@@ -9,14 +9,14 @@ ghost use Rattle.ls_theory.specs.Paths.{is_order, paths};
 ghost use Rattle.ls_paths.specs.Left.{paths_left};
 ghost use Rattle.ls_reply.specs.Texts.{bytes_of};
 ghost use Rattle.ls_reply.specs.Lines.{path_lines};
-ghost use Rattle.ls_writing.specs.Rooms.{Says};
+ghost use Rattle.ls_texts.specs.Rooms.{Says};
 ghost use Rattle.ls_views.specs.PathPages.{paths_after};
 
 use ls_edge::Sink;
 use ls_interior::Inside;
 use ls_paths::{Order, Walk};
 use ls_set::{ItemList, PLACES};
-use ls_writing::{PathText, Room, SetTexts, put_more, put_path};
+use ls_texts::{PathText, Room, SetTexts, put_more, put_path};
 
 // The walk over the paths after an order of all items, or over all of them.
 fn walk_after<'a, F: Inside>(f: &'a F, after: &Option<ItemList>) -> Walk<'a, F>

@@ -1,20 +1,12 @@
 -- The names of the items that a refusal or a question names.
-use Rattle.std.specs.Prelude.{◌<◌, ℕ, Bool, true, false, List, [], length, Option, Some, None, All, ⊤}
+use Rattle.std.specs.Prelude.{◌<◌, Bool, true, false, List, length, ⊤}
 use Rattle.ls_theory.specs.declared.asked.Asked.{Asked}
 use Rattle.ls_theory.specs.declared.asked.Asked.TheVariants.{Item, Over}
 use Rattle.ls_lines.specs.Lines.{Text}
 use Rattle.ls_reply.specs.Refusals.{refusal_items}
 use Rattle.ls_reply.specs.declared.refusal.Refusal.{Refusal}
 use Rattle.ls_reply.specs.declared.refusal.Refusal.TheVariants.{ManyStates, Heavy, ManyPupils, PupilStands, NoPupil, Reply, BadSetting, BadClass}
-
--- the names of the items, none where no domain stands
-abbrev pub names_in : Option (List Text) → List Text
-names_in None = []
-names_in (Some names) = names
-
--- the items of a list have names
-abbrev pub AreNamed : List Text → List ℕ → Type 0
-AreNamed names items = All (λ q. q < length names) items
+use Rattle.ls_texts.specs.Names.{AreNamed}
 
 -- each item that the refusal names has a name
 abbrev pub CanRefuse : List Text → Refusal → Type 0

@@ -3,12 +3,13 @@ ghost use Rattle.std.specs.Prelude.{◌∷◌, [], length};
 ghost use Rattle.ls_set.specs.ItemSet.{full, IsWithin};
 ghost use Rattle.ls_reply.specs.Texts.{line_of, bytes_of};
 ghost use Rattle.ls_reply.specs.Lines.{asked_words, outcome_words, fringes_words};
-ghost use Rattle.ls_writing.specs.Rooms.{Says};
+ghost use Rattle.ls_texts.specs.Rooms.{Says};
 ghost use Rattle.ls_writing.specs.Names.{CanAsk};
 
 use crate::pupil_refusals::reason_word;
-use crate::{Room, SetTexts, put_fringes, put_line};
+use crate::put_fringes;
 use ls_edge::Sink;
+use ls_texts::{Room, SetTexts, put_line};
 use ls_theory::{Asked, FringePair, Outcome};
 
 /// Says what a pupil is asked, or why its assessment is over.

@@ -5,12 +5,12 @@ ghost use Rattle.ls_set.specs.ItemSet.{full, IsWithin};
 ghost use Rattle.ls_class.specs.Results.{result_of};
 ghost use Rattle.ls_reply.specs.Texts.{line_of, bytes_of};
 ghost use Rattle.ls_reply.specs.Lines.{result_words, class_lines};
-ghost use Rattle.ls_writing.specs.Rooms.{Says};
+ghost use Rattle.ls_texts.specs.Rooms.{Says};
 
 use crate::pupil_refusals::reason_word;
-use crate::{Room, SetTexts, put_numbered};
 use ls_class::{ClassResult, Results};
 use ls_edge::Sink;
+use ls_texts::{Room, SetTexts, put_numbered};
 
 /// Says what is known of the pupils of a class, and how many they are.
 pub fn put_class<K: Sink>(texts: &SetTexts, results: &Results, room: &mut Room, out: &mut K)

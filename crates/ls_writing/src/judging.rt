@@ -1,18 +1,15 @@
-// The lines of verdicts, of states and their fringes, and of learning paths.
+// The lines of verdicts, and of states and their fringes.
 ghost use Rattle.std.specs.Prelude.{◌≡◌, ◌<◌, ◌++◌, ◌∷◌, [], length, codes};
-ghost use Rattle.std.specs.List.{All};
 ghost use Rattle.ls_set.specs.ItemSet.{full, IsWithin};
 ghost use Rattle.ls_domain.specs.Texts.{set_text, fringe_words};
 ghost use Rattle.ls_reply.specs.Texts.{line_of};
-ghost use Rattle.ls_reply.specs.Lines.{learning_words, path_words, verdict_words};
+ghost use Rattle.ls_reply.specs.Lines.{learning_words, verdict_words};
 ghost use Rattle.ls_spans.specs.Speaking.{IsBaseVerdictOn, IsVerdictOn};
-ghost use Rattle.ls_writing.specs.Rooms.{Says};
-ghost use Rattle.ls_writing.specs.PathTexts.{IsTextOf};
+ghost use Rattle.ls_texts.specs.Rooms.{Says};
 
-use crate::item_names::put_double;
-use crate::{PathText, Room, SetTexts, put_line, put_numbered};
 use ls_edge::Sink;
 use ls_set::ItemSet;
+use ls_texts::{Room, SetTexts, put_double, put_line, put_numbered};
 use ls_theory::{BaseVerdict, FringePair, Verdict};
 
 /// Says whether a space is a learning space.
@@ -80,44 +77,4 @@ pub fn put_fringes<K: Sink>(texts: &SetTexts, fringes: FringePair, room: &mut Ro
     room.put(b" |", out);
     texts.put_spaced(fringes.outer, 0, room, out);
     room.end_line(out);
-}
-
-/// Says a learning path: the items in an order. The text of a front that it shares with the path
-/// said before is taken from there.
-pub fn put_path<K: Sink>(
-    texts: &SetTexts,
-    order: &[u32],
-    shared: &mut PathText,
-    room: &mut Room,
-    out: &mut K,
-)
-    requires order { All (λ i. i < length texts.now) order.now }
-    requires shared { IsTextOf texts.now shared.old }
-    ensures says { Says (K.written out.old) (K.faults out.old) room.old (K.written out.new)
-        (K.faults out.new) room.new (line_of (path_words texts.now order.now)) }
-    ensures shared { IsTextOf texts.now shared.new }
-{
-    let rest = share(texts, order, shared);
-    room.put(b"path", out);
-    room.put(shared.text(), out);
-    for item in rest {
-        texts.put_name(*item, room, out);
-    }
-    room.end_line(out);
-}
-
-// Shares the text of a front of the order, and answers the items behind that front.
-fn share<'a>(texts: &SetTexts, order: &'a [u32], shared: &mut PathText) -> &'a [u32]
-    requires order { All (λ i. i < length texts.now) order.now }
-    requires shared { IsTextOf texts.now shared.old }
-    ensures parts { shared.new.front ++ result.now ≡ order.now }
-    ensures text { IsTextOf texts.now shared.new }
-{
-    match shared.rest(order) {
-        Some(rest) => rest,
-        None => {
-            let taken = shared.fill(texts, order);
-            &order[taken..]
-        }
-    }
 }

@@ -2,14 +2,15 @@
 ghost use Rattle.std.specs.Prelude.{◌≡◌, ◌∷◌, [], true, codes, option_copied};
 ghost use Rattle.ls_reply.specs.Texts.{line_of};
 ghost use Rattle.ls_reply.specs.Refusals.{refusal_words, reply_words, reply_items, reason_word};
-ghost use Rattle.ls_writing.specs.Rooms.{Says};
-ghost use Rattle.ls_writing.specs.Names.{names_in, AreNamed, CanRefuse, is_of_pupils};
+ghost use Rattle.ls_texts.specs.Rooms.{Says};
+ghost use Rattle.ls_texts.specs.Names.{names_in, AreNamed};
+ghost use Rattle.ls_writing.specs.Names.{CanRefuse, is_of_pupils};
 
-use crate::item_names::name_in;
-use crate::{Room, put_line, put_numbered};
+use crate::codes::{put_code, put_code_number};
 use ls_domain::Domain;
 use ls_edge::Sink;
 use ls_reply::Refusal;
+use ls_texts::{Room, name_in, put_line};
 use ls_theory::{Reason, ReplyFault};
 
 /// Says the refusal of a setting, of what is asked of a pupil, or of a class.
@@ -27,18 +28,18 @@ pub(crate) fn put_pupil_refusal<K: Sink>(
         refusal.now)) }
 {
     match refusal {
-        Refusal::ManyStates => put_line(&[b"no", b"34"], room, out),
+        Refusal::ManyStates => put_code(b"34", room, out),
         Refusal::Heavy { replies } => {
-            put_numbered(&[b"no", b"35"], &[u64::from(*replies)], room, out);
+            put_code_number(b"35", u64::from(*replies), room, out);
         }
-        Refusal::ManyPupils => put_line(&[b"no", b"36"], room, out),
-        Refusal::PupilStands => put_line(&[b"no", b"37"], room, out),
-        Refusal::NoPupil => put_line(&[b"no", b"38"], room, out),
+        Refusal::ManyPupils => put_code(b"36", room, out),
+        Refusal::PupilStands => put_code(b"37", room, out),
+        Refusal::NoPupil => put_code(b"38", room, out),
         Refusal::Reply(fault) => put_reply_fault(domain, *fault, room, out),
         Refusal::BadClass { row } => {
-            put_numbered(&[b"no", b"41"], &[u64::from(*row)], room, out);
+            put_code_number(b"41", u64::from(*row), room, out);
         }
-        Refusal::BadSetting => put_line(&[b"no", b"43"], room, out),
+        Refusal::BadSetting => put_code(b"43", room, out),
         _ => unreachable!(),
     }
 }

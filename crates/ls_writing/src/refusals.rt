@@ -3,18 +3,19 @@ ghost use Rattle.std.specs.Prelude.{◌≡◌, [], ◌∷◌, codes, decimal, op
 ghost use Rattle.ls_reply.specs.Texts.{line_of};
 ghost use Rattle.ls_reply.specs.Refusals.{domain_words, block_words, answer_words, cursor_words};
 ghost use Rattle.ls_reply.specs.Refusals.{refusal_words, cause_word};
-ghost use Rattle.ls_writing.specs.Rooms.{Says};
-ghost use Rattle.ls_writing.specs.Names.{names_in, CanRefuse};
+ghost use Rattle.ls_texts.specs.Rooms.{Says};
+ghost use Rattle.ls_texts.specs.Names.{names_in};
+ghost use Rattle.ls_writing.specs.Names.{CanRefuse};
 
-use crate::item_names::put_double;
+use crate::codes::{put_code, put_code_number};
 use crate::pupil_refusals::put_pupil_refusal;
 use crate::start_refusals::{put_base_fault, put_sets_fault, put_surmise_fault};
-use crate::{Room, put_line, put_numbered};
 use ls_domain::{Domain, DomainFault};
 use ls_edge::Sink;
 use ls_reply::Refusal;
 use ls_saved::Cause;
 use ls_set::CursorFault;
+use ls_texts::{Room, put_double, put_line, put_numbered};
 use ls_theory::{AnswerFault, BlockFault};
 
 /// Says the line of a command that was carried out, with the number that it tells.
@@ -50,35 +51,35 @@ pub fn put_refusal<K: Sink>(
 {
     match refusal {
         Refusal::NoCommand { place } => {
-            put_numbered(&[b"no", b"10"], &[u64::from(*place)], room, out);
+            put_code_number(b"10", u64::from(*place), room, out);
         }
         Refusal::LongLine { bytes } => put_numbered(&[b"no", b"10", b"long"], &[*bytes], room, out),
-        Refusal::DomainStands => put_line(&[b"no", b"11"], room, out),
+        Refusal::DomainStands => put_code(b"11", room, out),
         Refusal::Domain(fault) => put_domain_fault(*fault, room, out),
-        Refusal::AnswersStand => put_line(&[b"no", b"13"], room, out),
+        Refusal::AnswersStand => put_code(b"13", room, out),
         Refusal::StartSurmise(fault) => put_surmise_fault(domain, *fault, room, out),
         Refusal::StartSets(fault) => put_sets_fault(b"14", *fault, room, out),
         Refusal::StartBase(fault) => put_base_fault(domain, *fault, room, out),
-        Refusal::Unnamed { place } => put_numbered(&[b"no", b"15"], &[*place as u64], room, out),
+        Refusal::Unnamed { place } => put_code_number(b"15", *place as u64, room, out),
         Refusal::Block(fault) => put_block_fault(*fault, room, out),
         Refusal::Answer(fault) => put_answer_fault(*fault, room, out),
-        Refusal::NotStanding => put_line(&[b"no", b"23"], room, out),
+        Refusal::NotStanding => put_code(b"23", room, out),
         Refusal::Cursor(fault) => put_cursor_fault(*fault, room, out),
         Refusal::Past { position, count } => {
             let numbers = [*position as u64, *count as u64];
             put_numbered(&[b"no", b"25"], &numbers, room, out);
         }
-        Refusal::NoFile => put_line(&[b"no", b"26"], room, out),
-        Refusal::FileFailed => put_line(&[b"no", b"27"], room, out),
-        Refusal::LargeFile { bytes } => put_numbered(&[b"no", b"28"], &[*bytes], room, out),
+        Refusal::NoFile => put_code(b"26", room, out),
+        Refusal::FileFailed => put_code(b"27", room, out),
+        Refusal::LargeFile { bytes } => put_code_number(b"28", *bytes, room, out),
         Refusal::TestedSets(fault) => put_sets_fault(b"29", *fault, room, out),
-        Refusal::NotState => put_line(&[b"no", b"30"], room, out),
+        Refusal::NotState => put_code(b"30", room, out),
         Refusal::NotLearning { set, first, second } => {
             room.put(b"no 31", out);
             put_double(domain, *set, *first, *second, room, out);
         }
-        Refusal::NoState => put_line(&[b"no", b"32"], room, out),
-        Refusal::NotOrder => put_line(&[b"no", b"33"], room, out),
+        Refusal::NoState => put_code(b"32", room, out),
+        Refusal::NotOrder => put_code(b"33", room, out),
         Refusal::BadSession { cause } => {
             put_line(&[b"no", b"42", cause_word(*cause)], room, out);
         }
@@ -101,7 +102,7 @@ fn put_domain_fault<K: Sink>(fault: DomainFault, room: &mut Room, out: &mut K)
             put_numbered(&[b"no", b"12", b"repeat"], &rows, room, out);
         }
         DomainFault::TooMany => put_line(&[b"no", b"12", b"many"], room, out),
-        DomainFault::Memory(_) => put_line(&[b"no", b"12"], room, out),
+        DomainFault::Memory(_) => put_code(b"12", room, out),
     }
 }
 
@@ -139,10 +140,10 @@ fn put_block_fault<K: Sink>(fault: BlockFault, room: &mut Room, out: &mut K)
 {
     match fault {
         BlockFault::TooWide { size } => {
-            put_numbered(&[b"no", b"16"], &[u64::from(size)], room, out);
+            put_code_number(b"16", u64::from(size), room, out);
         }
-        BlockFault::BadBlock => put_line(&[b"no", b"17"], room, out),
-        BlockFault::Memory(_) => put_line(&[b"no", b"16"], room, out),
+        BlockFault::BadBlock => put_code(b"17", room, out),
+        BlockFault::Memory(_) => put_code(b"16", room, out),
     }
 }
 
@@ -153,12 +154,12 @@ fn put_answer_fault<K: Sink>(fault: AnswerFault, room: &mut Room, out: &mut K)
         (line_of (codes "no" ∷ answer_words fault)) }
 {
     match fault {
-        AnswerFault::BadQuery => put_line(&[b"no", b"18"], room, out),
-        AnswerFault::Repeat { number } => put_numbered(&[b"no", b"19"], &[number], room, out),
-        AnswerFault::ForcedYes => put_line(&[b"no", b"20"], room, out),
-        AnswerFault::ForcedNo { by } => put_numbered(&[b"no", b"21"], &[by], room, out),
-        AnswerFault::Full => put_line(&[b"no", b"22"], room, out),
-        AnswerFault::Memory(_) => put_line(&[b"no", b"22"], room, out),
+        AnswerFault::BadQuery => put_code(b"18", room, out),
+        AnswerFault::Repeat { number } => put_code_number(b"19", number, room, out),
+        AnswerFault::ForcedYes => put_code(b"20", room, out),
+        AnswerFault::ForcedNo { by } => put_code_number(b"21", by, room, out),
+        AnswerFault::Full => put_code(b"22", room, out),
+        AnswerFault::Memory(_) => put_code(b"22", room, out),
     }
 }
 

@@ -3,15 +3,14 @@ ghost use Rattle.std.specs.Prelude.{◌∷◌, [], codes, decimal, option_copied
 ghost use Rattle.ls_reply.specs.Texts.{line_of};
 ghost use Rattle.ls_files.specs.SurmiseFiles.{surmise_items};
 ghost use Rattle.ls_reply.specs.Refusals.{surmise_words, sets_words, base_words, base_items};
-ghost use Rattle.ls_writing.specs.Rooms.{Says};
-ghost use Rattle.ls_writing.specs.Names.{names_in, AreNamed};
+ghost use Rattle.ls_texts.specs.Rooms.{Says};
+ghost use Rattle.ls_texts.specs.Names.{names_in, AreNamed};
 
-use crate::Room;
-use crate::item_names::name_in;
-use crate::lines::{put_between, put_line, put_numbered};
+use crate::codes::put_code;
 use ls_domain::Domain;
 use ls_edge::Sink;
 use ls_files::FamilyFault;
+use ls_texts::{Room, name_in, put_between, put_line, put_numbered};
 use ls_theory::{BaseFault, SurmiseFault};
 
 /// Says the refusal of a surmise file.
@@ -45,7 +44,7 @@ pub(crate) fn put_surmise_fault<K: Sink>(
             put_numbered(&words, &[first as u64, second as u64], room, out);
         }
         SurmiseFault::Wide { count } => put_wide(count, room, out),
-        SurmiseFault::Memory(_) => put_line(&[b"no", b"14"], room, out),
+        SurmiseFault::Memory(_) => put_code(b"14", room, out),
     }
 }
 
@@ -69,7 +68,7 @@ pub(crate) fn put_sets_fault<K: Sink>(code: &[u8], fault: FamilyFault, room: &mu
         FamilyFault::TooMany { row } => {
             put_numbered(&[b"no", code, b"many"], &[row as u64], room, out);
         }
-        FamilyFault::Memory(_) => put_line(&[b"no", code], room, out),
+        FamilyFault::Memory(_) => put_code(code, room, out),
     }
 }
 
@@ -94,7 +93,7 @@ pub(crate) fn put_base_fault<K: Sink>(
             );
         }
         BaseFault::Past { count } => put_wide(count, room, out),
-        BaseFault::Memory(_) => put_line(&[b"no", b"14"], room, out),
+        BaseFault::Memory(_) => put_code(b"14", room, out),
     }
 }
 

@@ -9,7 +9,8 @@ use Rattle.ls_clauses.proofs.BaseCovers.{based-cover, missing-lt}
 use Rattle.ls_lines.specs.Lines.{Text}
 use Rattle.ls_reply.specs.Rows.{start_of_base}
 use Rattle.ls_reply.specs.declared.refusal.Refusal.TheVariants.{StartBase}
-use Rattle.ls_writing.specs.Names.{AreNamed, CanRefuse}
+use Rattle.ls_texts.specs.Names.{AreNamed}
+use Rattle.ls_writing.specs.Names.{CanRefuse}
 use Rattle.ls_course.proofs.starting.base_of.Goals as goal
 
 one-named : (names : List Text) (q : ℕ) → q < length names → AreNamed names (q ∷ [])

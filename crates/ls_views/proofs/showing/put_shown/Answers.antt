@@ -14,7 +14,7 @@ use Rattle.ls_domain.specs.Texts.{set_text, fringe_words}
 use Rattle.ls_reply.specs.Texts.{line_of, bytes_of}
 use Rattle.ls_reply.specs.Lines.{known_words, question_words, surmise_words, base_lines, page_lines, path_lines, learning_words, verdict_words, asked_words}
 use Rattle.ls_reply.specs.declared.response.Shown.TheVariants as shown
-use Rattle.ls_writing.proofs.Saying.{says_then, says_as}
+use Rattle.ls_texts.proofs.Saying.{says_then, says_as}
 use Rattle.ls_writing.proofs.Joins.{bytes_of-one, bytes_of-append}
 use Rattle.ls_views.specs.Views.{CanShow}
 use Rattle.ls_views.proofs.Shown.{shown_bytes, base-within, base-clauses, base-atoms, all-within}

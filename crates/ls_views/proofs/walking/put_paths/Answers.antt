@@ -4,8 +4,8 @@ use Rattle.ls_theory.specs.Paths.{paths}
 use Rattle.ls_paths.specs.Left.{paths_left}
 use Rattle.ls_reply.specs.Texts.{line_of}
 use Rattle.ls_reply.specs.Lines.{path_words}
-use Rattle.ls_writing.specs.PathTexts.{IsTextOf}
-use Rattle.ls_writing.proofs.Saying.{says_then, says_as, says_nothing, says_void}
+use Rattle.ls_texts.specs.PathTexts.{IsTextOf}
+use Rattle.ls_texts.proofs.Saying.{says_then, says_as, says_nothing, says_void}
 use Rattle.ls_views.specs.PathPages.{paths_after, left_bytes}
 use Rattle.ls_views.proofs.Listing.{path-left, path-ended, path-full, more-left}
 use Rattle.ls_views.proofs.walking.put_paths.Goals as goal

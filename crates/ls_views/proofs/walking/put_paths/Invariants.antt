@@ -1,6 +1,6 @@
 use Rattle.std.proofs.Common.{◌≡◌, ◌-◌, ◌++◌, ℕ, List}
-use Rattle.ls_writing.specs.Rooms.{Says}
-use Rattle.ls_writing.specs.PathTexts.{IsTextOf}
+use Rattle.ls_texts.specs.Rooms.{Says}
+use Rattle.ls_texts.specs.PathTexts.{IsTextOf}
 use Rattle.ls_paths.specs.Left.{paths_left}
 use Rattle.ls_views.specs.PathPages.{paths_after, left_bytes}
 use Rattle.ls_views.proofs.walking.put_paths.Given as goal

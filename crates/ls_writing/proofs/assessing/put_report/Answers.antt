@@ -1,5 +1,5 @@
 use Rattle.ls_reply.specs.Lines.{outcome_words, fringes_words}
-use Rattle.ls_writing.proofs.Saying.{says_then, says_as}
+use Rattle.ls_texts.proofs.Saying.{says_then, says_as}
 use Rattle.ls_writing.proofs.Joins.{bytes_of-two}
 use Rattle.ls_writing.proofs.assessing.put_report.Goals as goal
 

@@ -9,7 +9,7 @@ use Rattle.ls_lines.specs.Lines.{Text}
 use Rattle.ls_theory.specs.Classes.{PupilResult}
 use Rattle.ls_reply.specs.Texts.{line_of, bytes_of}
 use Rattle.ls_reply.specs.Lines.{result_words}
-use Rattle.ls_writing.proofs.Saying.{says_then, says_as}
+use Rattle.ls_texts.proofs.Saying.{says_then, says_as}
 use Rattle.ls_writing.proofs.Joins.{bytes_of-last}
 use Rattle.ls_writing.proofs.classes.put_class.Goals as goal
 

@@ -5,7 +5,7 @@ use Rattle.ls_class.specs.Results.{result_of}
 use Rattle.ls_class.specs.declared.results.ClassResult.{ClassResult}
 use Rattle.ls_reply.specs.Texts.{line_of, bytes_of}
 use Rattle.ls_reply.specs.Lines.{result_words}
-use Rattle.ls_writing.proofs.Saying.{says_then, says_as, says_nothing}
+use Rattle.ls_texts.proofs.Saying.{says_then, says_as, says_nothing}
 use Rattle.ls_writing.proofs.Joins.{bytes_of-none, bytes_of-next}
 use Rattle.ls_writing.proofs.classes.put_results.Goals as goal
 

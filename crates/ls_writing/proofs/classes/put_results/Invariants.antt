@@ -3,7 +3,7 @@ use Rattle.ls_class.specs.Results.{result_of}
 use Rattle.ls_class.specs.declared.results.ClassResult.{ClassResult}
 use Rattle.ls_reply.specs.Texts.{bytes_of}
 use Rattle.ls_reply.specs.Lines.{result_words}
-use Rattle.ls_writing.specs.Rooms.{Says}
+use Rattle.ls_texts.specs.Rooms.{Says}
 use Rattle.ls_writing.proofs.classes.put_results.Given as goal
 
 abbrev pub invariant-loop-known : goal.invariant-loop-known

@@ -7,9 +7,9 @@ use Rattle.ls_reply.specs.Texts.{line_of}
 use Rattle.ls_reply.specs.Refusals.{double_words}
 use Rattle.ls_reply.specs.Lines.{learning_words}
 use Rattle.ls_spans.specs.Speaking.{IsBaseVerdictOn}
-use Rattle.ls_writing.specs.Names.{AreNamed}
+use Rattle.ls_texts.specs.Names.{AreNamed}
 use Rattle.ls_writing.proofs.Names.{double-named}
-use Rattle.ls_writing.proofs.Saying.{says_then, says_as}
+use Rattle.ls_texts.proofs.Saying.{says_then, says_as}
 use Rattle.ls_writing.proofs.Joins.{line-spaced}
 use Rattle.ls_writing.proofs.judging.put_learning.Goals as goal
 

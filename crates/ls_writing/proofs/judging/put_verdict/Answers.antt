@@ -8,9 +8,9 @@ use Rattle.ls_reply.specs.Texts.{line_of}
 use Rattle.ls_reply.specs.Refusals.{double_words}
 use Rattle.ls_reply.specs.Lines.{verdict_words}
 use Rattle.ls_spans.specs.Speaking.{IsVerdictOn}
-use Rattle.ls_writing.specs.Names.{AreNamed}
+use Rattle.ls_texts.specs.Names.{AreNamed}
 use Rattle.ls_writing.proofs.Names.{double-named}
-use Rattle.ls_writing.proofs.Saying.{says_then, says_as}
+use Rattle.ls_texts.proofs.Saying.{says_then, says_as}
 use Rattle.ls_writing.proofs.Joins.{line-spaced, line-pair}
 use Rattle.ls_writing.proofs.judging.put_verdict.Goals as goal
 

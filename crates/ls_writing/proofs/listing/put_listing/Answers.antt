@@ -3,7 +3,7 @@ use Rattle.ls_enum.proofs.Left.{more_steps}
 use Rattle.ls_enum.specs.Listings.{left_after}
 use Rattle.ls_reply.specs.Texts.{line_of}
 use Rattle.ls_reply.specs.Lines.{set_words, more_words}
-use Rattle.ls_writing.proofs.Saying.{says_then, says_as, says_nothing, says_void}
+use Rattle.ls_texts.proofs.Saying.{says_then, says_as, says_nothing, says_void}
 use Rattle.ls_writing.proofs.Pages.{page_bytes, page-left, page-ended, page-full}
 use Rattle.ls_writing.proofs.listing.put_listing.Goals as goal
 

@@ -3,8 +3,8 @@ use Rattle.ls_reply.specs.Texts.{line_of}
 use Rattle.ls_reply.specs.Refusals.{surmise_words}
 use Rattle.ls_theory.specs.declared.surmise_fault.SurmiseFault.{SurmiseFault}
 use Rattle.ls_lines.specs.Lines.{Text}
-use Rattle.ls_writing.specs.Names.{names_in}
-use Rattle.ls_writing.proofs.Saying.{says_as}
+use Rattle.ls_texts.specs.Names.{names_in}
+use Rattle.ls_texts.proofs.Saying.{says_as}
 use Rattle.ls_writing.proofs.start_refusals.put_surmise_fault.Goals as goal
 
 pub returns-in-NoClause : goal.returns-in-NoClause

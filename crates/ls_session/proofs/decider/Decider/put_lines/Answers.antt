@@ -5,7 +5,7 @@ use Rattle.ls_reply.specs.Refusals.{refusal_words}
 use Rattle.ls_reply.specs.Lines.{lines_of}
 use Rattle.ls_reply.specs.declared.response.Response.{Response}
 use Rattle.ls_writing.specs.Names.{CanRefuse}
-use Rattle.ls_writing.proofs.Saying.{says_nothing, says_as}
+use Rattle.ls_texts.proofs.Saying.{says_nothing, says_as}
 use Rattle.ls_writing.proofs.Joins.{bytes_of-none, bytes_of-one}
 use Rattle.ls_session.specs.Courses.{standing_session, IsSayable}
 use Rattle.ls_session.proofs.Deciding.{refuses-named}

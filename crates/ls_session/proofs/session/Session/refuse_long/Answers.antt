@@ -8,7 +8,7 @@ use Rattle.ls_reply.specs.Replies.{line_effect}
 use Rattle.ls_reply.specs.declared.refusal.Refusal.TheVariants.{LongLine}
 use Rattle.ls_reply.specs.declared.response.Response.TheVariants.{Refused}
 use Rattle.ls_reply.proofs.Effects.{line_effect-long}
-use Rattle.ls_writing.proofs.Saying.{says_as, wrote}
+use Rattle.ls_texts.proofs.Saying.{says_as, wrote}
 use Rattle.ls_writing.proofs.Joins.{bytes_of-one}
 use Rattle.ls_session.specs.Decides.{Decides}
 use Rattle.ls_session.proofs.Deciding.{decides_made, decides_nothing}

@@ -1,0 +1,38 @@
+-- Fronts of paths and their texts.
+use Rattle.std.proofs.Common.{◌≡◌, ℕ, ◌+◌, ◌<◌, false, true, List, [], ◌∷◌, ◌++◌, length, take, drop, get_or, eqb, Option, Some, None, IfSome, MatchOption, Bor, ap, sym, ◌∙◌, subst, arith, append_assoc, codes, length-append}
+use Rattle.std.specs.Cmp.Lexicographic.{pointwise}
+use Rattle.std.proofs.lemmas.Bool.Decides.{Decides-eqb}
+use Rattle.std.proofs.lemmas.Slice.Eq.{strip_prefix_is}
+use Rattle.std.proofs.lemmas.List.{get_or-append-add}
+use Rattle.std.specs.List.{All}
+use Rattle.std.proofs.lemmas.Grind.{flat_map-append}
+use Rattle.ls_lists.specs.Lists.{spaced}
+use Rattle.ls_lines.specs.Lines.{Text}
+use Rattle.ls_domain.specs.Texts.{name_of}
+use Rattle.ls_reply.specs.Texts.{line_of}
+use Rattle.ls_reply.specs.Lines.{path_words}
+use Rattle.ls_texts.specs.PathTexts.{PathFront, IsTextOf}
+use Rattle.ls_texts.proofs.Joins.{line-images}
+
+-- what stands behind a front
+pub behind : (s p q : List ℕ) (r : Option (Bor (List ℕ))) → q ≡ p
+    → MatchOption r (pointwise eqb (take (length p) s) p ≡ false) (λ x. (pointwise eqb (take (length p) s) p ≡ true) × (x.now ≡ drop (length p) s) × (length x.now + length p ≡ length s))
+    → IfSome r (λ x. q ++ x.now ≡ s)
+behind s p q None e m = tt
+behind s p q (Some x) e m = ap (λ l. l ++ x.now) e ∙ sym (strip_prefix_is Decides-eqb s p (Some x) m)
+
+-- what holds of each item of an order holds of each behind a front
+pub All-behind : (P : ℕ → Type 0) (front rest order : List ℕ) (k d : ℕ) → front ++ rest ≡ order → All P order → k < length rest → P (get_or rest k d)
+All-behind P front rest order k d parts all h =
+    subst P (ap (λ l. get_or l (length front + k) d) (sym parts) ∙ get_or-append-add front rest k d)
+    (all (length front + k) d (omega (arith, length-append front rest, ap length parts)))
+
+-- the line of a path, from the text of a front and the names behind it
+pub path-line : (names : List Text) (p : PathFront) (rest order : List ℕ) → IsTextOf names p → p.front ++ rest ≡ order
+    → ((codes "path" ++ p.text) ++ spaced (name_of names) rest) ++ 10 ∷ [] ≡ line_of (path_words names order)
+path-line names p rest order is parts =
+    let f = name_of names in
+    ap (λ l. l ++ 10 ∷ [])
+    (append_assoc (codes "path") p.text (spaced f rest)
+    ∙ ap (λ l. codes "path" ++ l) (ap (λ l. l ++ spaced f rest) is ∙ sym (flat_map-append (λ x. 32 ∷ f x) p.front rest) ∙ ap (spaced f) parts))
+    ∙ line-images (codes "path") f order

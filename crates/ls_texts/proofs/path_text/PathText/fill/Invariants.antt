@@ -1,0 +1,9 @@
+use Rattle.std.proofs.Common.{◌≡◌, take}
+use Rattle.ls_texts.specs.PathTexts.{IsTextOf}
+use Rattle.ls_texts.proofs.path_text.PathText.fill.Given as goal
+
+abbrev pub invariant-loop-place : goal.invariant-loop-place
+invariant-loop-place l = record {
+  front : l.self.front ≡ take l.place l.order;
+  text : IsTextOf l.texts l.self;
+}

@@ -1,0 +1,13 @@
+use Rattle.std.proofs.Common.{ap}
+use Rattle.ls_texts.specs.Rooms.{RoomState}
+use Rattle.ls_texts.proofs.Saying.{says_then, says_pending}
+use Rattle.ls_texts.proofs.room.Room.put_long.Goals as goal
+
+pub returns-then-bytes-le-ROOM-clause-says : goal.returns-then-bytes-le-ROOM-clause-says
+returns-then-bytes-le-ROOM-clause-says g c =
+    let pending = ap (λ (r : RoomState). r.pending) c.append.ensures in
+    let fault = ap (λ (r : RoomState). r.fault) c.append.ensures in
+    says_then c.flush.ensures.says (says_pending _ _ _ _ _ pending fault)
+
+pub returns-else-bytes-le-ROOM-clause-says : goal.returns-else-bytes-le-ROOM-clause-says
+returns-else-bytes-le-ROOM-clause-says g c = says_then c.flush.ensures.says c.pass.ensures.says

@@ -1,0 +1,7 @@
+use Rattle.std.proofs.Common.{◌≡◌, ◌/◌, ◌%◌, map}
+use Rattle.ls_set.specs.ItemSet.{numbers_from}
+use Rattle.ls_texts.specs.SetTexts.{group_text}
+use Rattle.ls_texts.proofs.set_texts.texts_of.Given as goal
+
+abbrev pub invariant-loop-index : goal.invariant-loop-index
+invariant-loop-index l = l.texts ≡ map (λ k. group_text l.domain (k / 256) (k % 256)) (numbers_from 0 l.index)

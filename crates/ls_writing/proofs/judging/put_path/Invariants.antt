@@ -1,8 +1,0 @@
-use Rattle.std.proofs.Common.{◌++◌, take, codes}
-use Rattle.ls_lists.specs.Lists.{spaced}
-use Rattle.ls_domain.specs.Texts.{name_of}
-use Rattle.ls_writing.specs.Rooms.{Says}
-use Rattle.ls_writing.proofs.judging.put_path.Given as goal
-
-abbrev pub invariant-loop-item : goal.invariant-loop-item
-invariant-loop-item g l = Says (g.K.Sink.written l.fn.out) (g.K.Sink.faults l.fn.out) l.fn.room (g.K.Sink.written l.out) (g.K.Sink.faults l.out) l.room ((codes "path" ++ l.shared.text) ++ spaced (name_of l.texts) (take l.item-index l.rest))

@@ -1,7 +1,0 @@
-use Rattle.std.proofs.Common.{◌≡◌, ◌/◌, ◌%◌, map}
-use Rattle.ls_set.specs.ItemSet.{numbers_from}
-use Rattle.ls_writing.specs.SetTexts.{group_text}
-use Rattle.ls_writing.proofs.set_texts.texts_of.Given as goal
-
-abbrev pub invariant-loop-index : goal.invariant-loop-index
-invariant-loop-index l = l.texts ≡ map (λ k. group_text l.domain (k / 256) (k % 256)) (numbers_from 0 l.index)
