@@ -93,7 +93,11 @@ fn answer_whole<R: Threads + Sync, K: Sink, H: Shelf>(
     ensures later { H.faults shelf.old ≤ H.faults shelf.new }
 {
     let mut run = Run::new(alloc)?;
-    answer_by(rt, &mut run, script, out, shelf)
+    let ended = answer_by(rt, &mut run, script, out, shelf);
+
+    // Let go by a call, as in `answer_source`.
+    drop(run);
+    ended
 }
 
 // Does so by a run that has answered nothing.

@@ -29,7 +29,11 @@ pub fn answer_source<R: Threads + Sync, S: Source, K: Sink, H: Shelf>(
         (K.written out.old) (K.written out.new) (K.faults out.old) (K.faults out.new) result }
 {
     let mut run = Run::new(alloc)?;
-    answer_pieces(rt, &mut run, src, out, shelf)
+    let ended = answer_pieces(rt, &mut run, src, out, shelf);
+
+    // Let go by a call: a return that lets go of a run proves the drop of each part of a session.
+    drop(run);
+    ended
 }
 
 // Does so by a run that has answered nothing. The lines that have ended are answered before the
