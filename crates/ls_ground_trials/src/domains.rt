@@ -12,50 +12,60 @@ fn words(alloc: Global, texts: &[&str]) -> Result<WordList, AllocError> {
     Ok(list)
 }
 
-// The names of a domain, each behind a space; or why there is none.
-fn shown(alloc: Global, domain: Result<Domain, DomainFault>) -> Result<String, AllocError> {
-    match domain {
-        Ok(domain) => {
-            let mut text = String::new(alloc);
-            for i in 0..domain.count() {
-                text.push(' ')?;
-                text.push_str(domain.name(i))?;
-            }
-            Ok(text)
-        }
-        Err(DomainFault::NoItems) => String::from_str(alloc, "no items"),
-        Err(DomainFault::BadCsv { row }) => format!(in alloc; "csv {row}"),
-        Err(DomainFault::BadName { row }) => format!(in alloc; "name {row}"),
-        Err(DomainFault::Repeat { row, first }) => format!(in alloc; "repeat {row} {first}"),
-        Err(DomainFault::TooMany) => String::from_str(alloc, "many"),
-        Err(DomainFault::Memory(error)) => Err(error),
+// The names of a domain, each behind a space.
+fn names(alloc: Global, domain: &Domain) -> Result<String, AllocError> {
+    let mut text = String::new(alloc);
+    for i in 0..domain.count() {
+        text.push(' ')?;
+        text.push_str(domain.name(i))?;
     }
+    Ok(text)
 }
+
+// Tables of the items add and sub.
+const TABLES: &[&[u8]] = &[
+    b"add\nsub\n",
+    b"add,1\r\nsub,2\r\n",
+    b"\xef\xbb\xbfadd\nsub",
+    b"\n\nadd\n\nsub\n",
+    b"\"add\",\"a, b\"\n\"sub\",\"\"\"x\n\"",
+    b"add,\xff\nsub,\xfe",
+];
+
+// Tables of no domain, each with the reason.
+const BAD_TABLES: &[(&[u8], DomainFault)] = &[
+    (b"", DomainFault::NoItems),
+    (b"\xef\xbb\xbf", DomainFault::NoItems),
+    // A record of more fields or of fewer than the first is told as such, not as no memory.
+    (b"add\nsub,1\nadd", DomainFault::BadCsv { row: 2 }),
+    (b"add,1\nsub,2\nmul\n", DomainFault::BadCsv { row: 3 }),
+    (b"add\na b\n", DomainFault::BadName { row: 2 }),
+    (b"add\n\xff\n", DomainFault::BadName { row: 2 }),
+    (
+        b"\xef\xbb\xbf\xef\xbb\xbfadd\n",
+        DomainFault::BadName { row: 1 },
+    ),
+    // The quote is never closed, so the second name has a line feed in it.
+    (b"add\n\"sub\nmul", DomainFault::BadName { row: 2 }),
+    (b"add\nsub\nadd\n", DomainFault::Repeat { row: 3, first: 1 }),
+    (b"add\n,\nadd\n", DomainFault::BadCsv { row: 2 }),
+];
 
 #[test]
 fn tables_are_read(rt: HostRuntime) -> Result<(), Fail> {
-    for (bytes, want) in [
-        (b"add\nsub\n".as_slice(), " add sub"),
-        (b"add,1\r\nsub,2\r\n", " add sub"),
-        (b"\xef\xbb\xbfadd\nsub", " add sub"),
-        (b"\n\nadd\n\nsub\n", " add sub"),
-        (b"\"add\",\"a, b\"\n\"sub\",\"\"\"x\n\"", " add sub"),
-        (b"add,\xff\nsub,\xfe", " add sub"),
-        (b"", "no items"),
-        (b"\xef\xbb\xbf", "no items"),
-        // A record of more fields or of fewer than the first is told as such, not as no memory.
-        (b"add\nsub,1\nadd", "csv 2"),
-        (b"add,1\nsub,2\nmul\n", "csv 3"),
-        (b"add\na b\n", "name 2"),
-        (b"add\n\xff\n", "name 2"),
-        (b"\xef\xbb\xbf\xef\xbb\xbfadd\n", "name 1"),
-        // The quote is never closed, so the second name has a line feed in it.
-        (b"add\n\"sub\nmul", "name 2"),
-        (b"add\nsub\nadd\n", "repeat 3 1"),
-        (b"add\n,\nadd\n", "csv 2"),
-    ] {
+    for bytes in TABLES {
+        let Ok(domain) = Domain::from_csv(rt.alloc(), bytes) else {
+            panic!(rt; "no domain at {bytes:?}")
+        };
+        assert_eq!(rt;
+            names(rt.alloc(), &domain)?.as_str(),
+            " add sub",
+            "at {bytes:?}"
+        );
+    }
+    for (bytes, fault) in BAD_TABLES {
         let domain = Domain::from_csv(rt.alloc(), bytes);
-        assert_eq!(rt; shown(rt.alloc(), domain)?.as_str(), want, "at {bytes:?}");
+        assert_eq!(rt; domain.err(), Some(*fault), "at {bytes:?}");
     }
     Ok(())
 }
@@ -64,14 +74,18 @@ fn tables_are_read(rt: HostRuntime) -> Result<(), Fail> {
 fn words_are_read(rt: HostRuntime) -> Result<(), Fail> {
     domains_are_read();
     names_and_numbers_agree();
-    for (texts, want) in [
-        (["b", "a", "c.2"].as_slice(), " b a c.2"),
-        (&[], "no items"),
-        (&["a", "b c", "a"], "name 2"),
-        (&["a", "b", "a", "b"], "repeat 3 1"),
+    let domain = Domain::from_names(rt.alloc(), &words(rt.alloc(), &["b", "a", "c.2"])?)?;
+    assert_eq!(rt; names(rt.alloc(), &domain)?.as_str(), " b a c.2");
+    for (texts, fault) in [
+        ([].as_slice(), DomainFault::NoItems),
+        (&["a", "b c", "a"], DomainFault::BadName { row: 2 }),
+        (
+            &["a", "b", "a", "b"],
+            DomainFault::Repeat { row: 3, first: 1 },
+        ),
     ] {
         let domain = Domain::from_names(rt.alloc(), &words(rt.alloc(), texts)?);
-        assert_eq!(rt; shown(rt.alloc(), domain)?.as_str(), want, "at {texts:?}");
+        assert_eq!(rt; domain.err(), Some(fault), "at {texts:?}");
     }
     Ok(())
 }

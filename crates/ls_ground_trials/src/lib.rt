@@ -11,4 +11,6 @@ mod domains;
 #[cfg(test)]
 mod lines;
 #[cfg(test)]
+mod rows;
+#[cfg(test)]
 mod sets;
