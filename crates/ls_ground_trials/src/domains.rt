@@ -70,22 +70,31 @@ fn tables_are_read(rt: HostRuntime) -> Result<(), Fail> {
     Ok(())
 }
 
+// The domain of the names.
+fn domain_of(alloc: Global, texts: &[&str]) -> Result<Domain, DomainFault> {
+    let names = words(alloc, texts).map_err(DomainFault::Memory)?;
+    Domain::from_names(alloc, &names)
+}
+
+// Names of no domain, each with the reason.
+const BAD_NAMES: &[(&[&str], DomainFault)] = &[
+    (&[], DomainFault::NoItems),
+    (&["a", "b c", "a"], DomainFault::BadName { row: 2 }),
+    (
+        &["a", "b", "a", "b"],
+        DomainFault::Repeat { row: 3, first: 1 },
+    ),
+];
+
 #[test]
 fn words_are_read(rt: HostRuntime) -> Result<(), Fail> {
     domains_are_read();
     names_and_numbers_agree();
-    let domain = Domain::from_names(rt.alloc(), &words(rt.alloc(), &["b", "a", "c.2"])?)?;
+    let domain = domain_of(rt.alloc(), &["b", "a", "c.2"])?;
     assert_eq!(rt; names(rt.alloc(), &domain)?.as_str(), " b a c.2");
-    for (texts, fault) in [
-        ([].as_slice(), DomainFault::NoItems),
-        (&["a", "b c", "a"], DomainFault::BadName { row: 2 }),
-        (
-            &["a", "b", "a", "b"],
-            DomainFault::Repeat { row: 3, first: 1 },
-        ),
-    ] {
-        let domain = Domain::from_names(rt.alloc(), &words(rt.alloc(), texts)?);
-        assert_eq!(rt; domain.err(), Some(fault), "at {texts:?}");
+    for (texts, fault) in BAD_NAMES {
+        let domain = domain_of(rt.alloc(), texts);
+        assert_eq!(rt; domain.err(), Some(*fault), "at {texts:?}");
     }
     Ok(())
 }
@@ -99,15 +108,19 @@ fn printed(alloc: Global, domain: &Domain, texts: &[&str]) -> Result<Vec<u8>, Fa
     Ok(out)
 }
 
+// The words of some sets of b, a and c, each with what is printed of it.
+const SETS: &[(&[&str], &str)] = &[
+    (&["c", "b", "c"], "{b c}b c"),
+    (&["a"], "{a}a"),
+    (&[], "{}"),
+];
+
 #[test]
 fn sets_are_read_and_printed(rt: HostRuntime) -> Result<(), Fail> {
-    let domain = Domain::from_names(rt.alloc(), &words(rt.alloc(), &["b", "a", "c"])?)?.copy()?;
-    for (texts, want) in [
-        (["c", "b", "c"].as_slice(), b"{b c}b c".as_slice()),
-        (&["a"], b"{a}a"),
-        (&[], b"{}"),
-    ] {
-        assert_eq!(rt; printed(rt.alloc(), &domain, texts)?.as_slice(), want);
+    let domain = domain_of(rt.alloc(), &["b", "a", "c"])?.copy()?;
+    for (texts, want) in SETS {
+        let text = printed(rt.alloc(), &domain, texts)?;
+        assert_eq!(rt; text.as_slice(), want.as_bytes(), "at {texts:?}");
     }
     Ok(())
 }

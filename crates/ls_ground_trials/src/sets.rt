@@ -174,21 +174,24 @@ fn combines_sets(rt: HostRuntime) {
     assert!(rt; !left.is_within(right));
 }
 
+// The items of the set of a query, its item, and whether it can be asked about three items.
+const QUERIES: &[(&[u32], u32, bool)] = &[
+    (&[0, 1], 2, true),
+    (&[], 2, false),
+    (&[0, 2], 2, false),
+    (&[0], 3, false),
+    (&[0, 3], 2, false),
+    (&[0], u32::MAX, false),
+];
+
 #[test]
 fn tells_good_queries(rt: HostRuntime) {
-    for (items, q, want) in [
-        (&[0, 1][..], 2, true),
-        (&[][..], 2, false),
-        (&[0, 2][..], 2, false),
-        (&[0][..], 3, false),
-        (&[0, 3][..], 2, false),
-        (&[0][..], u32::MAX, false),
-    ] {
+    for (items, q, want) in QUERIES {
         let query = Query {
             a: set_of(&rt, items),
-            q,
+            q: *q,
         };
-        assert_eq!(rt; query.is_good(3), want, "{query:?}");
+        assert_eq!(rt; query.is_good(3), *want, "{query:?}");
     }
 }
 
@@ -213,11 +216,13 @@ fn keeps_lists_in_order(rt: HostRuntime) -> Result<(), Fail> {
     Ok(())
 }
 
+const LISTS: &[&[u32]] = &[&[], &[0, 70, 127], &ENDS];
+
 #[test]
 fn gives_items_in_order(rt: HostRuntime) -> Result<(), Fail> {
-    for items in [[].as_slice(), [0, 70, 127].as_slice(), ENDS.as_slice()] {
+    for items in LISTS {
         let found: Vec<u32> = set_of(&rt, items).items().collect(rt.alloc())?;
-        assert_eq!(rt; found.as_slice(), items);
+        assert_eq!(rt; found.as_slice(), *items);
     }
     Ok(())
 }
