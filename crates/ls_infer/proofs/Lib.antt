@@ -5,6 +5,7 @@ mod Told
 mod Questions
 mod Sharing
 mod States
+mod Witnessing
 pub mod Changes
 mod Standing
 mod Closing

@@ -140,7 +140,7 @@ found-all enough found left so none = same_within found enough so.sound (λ i a.
   | inr y ↦ absurd (true≢false (sym y ∙ least-none_left left i none))
 ])
 
-meet-left : (s t : Items) → IsWithin (meet s t) s
+pub meet-left : (s t : Items) → IsWithin (meet s t) s
 meet-left s t i h = (and_parts (has s i) (has t i) (sym (has-meet s t i) ∙ h)).0
 
 pub left-hit : (others left rest : Items) (r : ℕ) → IsWithin left others → rest ≡ without left r → IsWithin rest others

@@ -3,3 +3,4 @@ pub mod Forced
 pub mod Changes
 pub mod Fronts
 pub mod Search
+pub mod Narrowing

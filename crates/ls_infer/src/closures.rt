@@ -11,6 +11,7 @@ ghost use Rattle.ls_infer.specs.Tables.{standing};
 
 use crate::fronts::{Front, close_block};
 use crate::standing_no::StandingNo;
+use crate::witnesses::Witnesses;
 use crate::yes_change::YesChange;
 use ls_interior::{Interior, Steps};
 use ls_query::{BlockWalk, Blocks, MOST_SETS};
@@ -51,6 +52,7 @@ pub fn standing_of<I: Interior, L: Ledger>(
     f: &I,
     closures: &[ItemSet],
     answers: &[No],
+    witnesses: &mut [Witnesses],
     steps: &mut Steps<L>,
 ) -> Result<Vec<StandingNo>, AllocError>
     requires good { list_all (λ a. is_good (I.item_count f.now) a.query) answers.now ≡ true }
@@ -61,7 +63,7 @@ pub fn standing_of<I: Interior, L: Ledger>(
 {
     let mut kept = Vec::new(alloc);
     for answer in answers {
-        kept.push(StandingNo::shared(f, closures, answer, steps))?;
+        kept.push(StandingNo::shared(f, closures, answer, witnesses, steps))?;
     }
     Ok(kept)
 }

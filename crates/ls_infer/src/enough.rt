@@ -2,8 +2,11 @@
 ghost use Rattle.std.specs.Prelude.{◌≡◌, ◌+◌, ◌<◌, ◌≤◌, ◌⊎◌, ℕ, true};
 ghost use Rattle.ls_set.specs.ItemSet.{full, has, with, minus, len, is_among, IsWithin};
 ghost use Rattle.ls_theory.specs.Families.{closure};
+ghost use Rattle.ls_infer.specs.Narrowing.{owed};
 ghost use Rattle.ls_infer.specs.Tables.{enough_for};
 
+use crate::narrowing::{Rest, lessen, narrow};
+use crate::witnesses::{Witnesses, keep_witness};
 use ls_interior::{Interior, Steps};
 use ls_set::{ItemSet, PLACES};
 use std::sync::ledger::Ledger;
@@ -32,36 +35,42 @@ pub fn enough_for<I: Interior, L: Ledger>(
     enough
 }
 
-/// The items that are enough: those that are known to be, and those of `others` that are, in a step
-/// at most for each of `others`. What is not enough is shared: where `r` is not, no item of the
-/// closure with `r` is.
+/// The items that are enough: those that are known to be, and those of the rest that are, in a step
+/// at most for each of the rest and the spare ones. What is not enough is shared: where `r` is not,
+/// no item of the closure with `r` is. What shows that is kept among the witnesses.
 pub fn enough_among<I: Interior, L: Ledger>(
     f: &I,
     closed: ItemSet,
     q: u32,
     known: ItemSet,
-    others: ItemSet,
+    rest: Rest,
+    witnesses: &mut [Witnesses],
     steps: &mut Steps<L>,
 ) -> ItemSet
     requires item { q < I.item_count f.now }
     requires known { IsWithin known (full (I.item_count f.now)) }
-    requires others { IsWithin others (full (I.item_count f.now)) }
+    requires rest { IsWithin rest.items (full (I.item_count f.now)) }
     ensures value { is_among (I.members f.now) (minus (full (I.item_count f.now)) closed) ≡ true →
         IsWithin known (enough_for (I.item_count f.now) (I.members f.now) closed q) →
         ((r : ℕ) → has (enough_for (I.item_count f.now) (I.members f.now) closed q) r ≡ true →
-        (has known r ≡ true) ⊎ (has others r ≡ true)) →
+        (has known r ≡ true) ⊎ (has rest.items r ≡ true)) →
         result ≡ enough_for (I.item_count f.now) (I.members f.now) closed q }
     ensures within { IsWithin result (full (I.item_count f.now)) }
-    ensures cost { steps.new ≤ steps.old + len others }
+    ensures cost { steps.new ≤ steps.old + owed rest }
 {
     let outside = ItemSet::full(f.items()).minus(closed);
     let keep = ItemSet::empty().with(q);
     let mut enough = known;
-    let mut left = others;
-    while let Some(r) = left.least() {
-        left = left.without(r);
+    let mut rest = rest;
+    narrow(f, outside, q, witnesses, &mut rest, steps);
+    while let Some(r) = rest.items.least() {
+        rest.items = rest.items.without(r);
         match f.interior_without(outside, r, keep, steps) {
-            Some(missed) => left = left.meet(missed),
+            Some(missed) => {
+                rest.items = rest.items.meet(missed);
+                let witness = lessen(f, outside, q, missed, &mut rest, steps);
+                keep_witness(witnesses, witness, q);
+            }
             None => enough = enough.with(r),
         }
     }
@@ -77,6 +86,7 @@ pub fn enough_between<I: Interior, L: Ledger>(
     q: u32,
     known: ItemSet,
     among: ItemSet,
+    witnesses: &mut [Witnesses],
     steps: &mut Steps<L>,
 ) -> ItemSet
     requires item { q < I.item_count f.now }
@@ -96,8 +106,10 @@ pub fn enough_between<I: Interior, L: Ledger>(
         return all;
     }
     let known = known.with(q);
-    let others = among.minus(known).minus(closed);
-    enough_among(f, closed, q, known, others, steps)
+    let items = among.minus(known).minus(closed);
+    let spare = f.items().saturating_sub(items.len()).saturating_sub(2);
+    let rest = Rest { items, spare };
+    enough_among(f, closed, q, known, rest, witnesses, steps)
 }
 
 /// Whether the set is a state, in one step. All its items are below `f.items()`.

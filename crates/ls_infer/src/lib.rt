@@ -6,10 +6,12 @@ mod enough;
 mod forcing;
 mod fronts;
 mod laws;
+mod narrowing;
 mod reaching;
 mod search;
 mod standing_no;
 mod table;
+mod witnesses;
 mod yes_change;
 
 pub use laws::told_is_forced;

@@ -15,6 +15,7 @@ ghost use Rattle.ls_infer.specs.declared.yes_change.YesChange.TheVariants as Yes
 
 use crate::enough::{enough_between, enough_for, is_state};
 use crate::reaching::reaching;
+use crate::witnesses::Witnesses;
 use crate::yes_change::YesChange;
 use ls_interior::{Interior, Steps, closure};
 use ls_set::{ItemSet, PLACES, Query};
@@ -84,6 +85,7 @@ impl StandingNo {
         no: No,
         closed: ItemSet,
         known: ItemSet,
+        witnesses: &mut [Witnesses],
         steps: &mut Steps<L>,
     ) -> StandingNo
         requires good { is_good (I.item_count f.now) no.query ≡ true }
@@ -112,7 +114,7 @@ impl StandingNo {
                 };
             }
         }
-        let enough = enough_between(f, closed, q, known, all, steps);
+        let enough = enough_between(f, closed, q, known, all, witnesses, steps);
         StandingNo::of(f, no, closed, enough, steps)
     }
 
@@ -123,6 +125,7 @@ impl StandingNo {
         f: &I,
         closures: &[ItemSet],
         answer: &No,
+        witnesses: &mut [Witnesses],
         steps: &mut Steps<L>,
     ) -> StandingNo
         requires { is_good (I.item_count f.now) answer.now.query ≡ true }
@@ -135,7 +138,7 @@ impl StandingNo {
         let closed = closure(f, answer.query.a, steps);
         let all = ItemSet::full(f.items());
         let known = reaching(closures, all, answer.query.q);
-        StandingNo::between(f, *answer, closed, known, steps)
+        StandingNo::between(f, *answer, closed, known, witnesses, steps)
     }
 
     // What is kept of it with its closure, where what was enough stays so, but is no state.
@@ -143,6 +146,7 @@ impl StandingNo {
         &self,
         f: &I,
         closed: ItemSet,
+        witnesses: &mut [Witnesses],
         steps: &mut Steps<L>,
     ) -> StandingNo
         requires kept { is_kept (I.item_count f.now) self.now ≡ true }
@@ -158,7 +162,15 @@ impl StandingNo {
             steps.new + 1 ≤ steps.old + I.item_count f.now }
     {
         let all = ItemSet::full(f.items());
-        let enough = enough_between(f, closed, self.no.query.q, self.enough, all, steps);
+        let enough = enough_between(
+            f,
+            closed,
+            self.no.query.q,
+            self.enough,
+            all,
+            witnesses,
+            steps,
+        );
         if enough.is_within(self.enough) {
             return StandingNo {
                 closed,
@@ -186,6 +198,7 @@ impl StandingNo {
         closures: &[ItemSet],
         fall: ItemSet,
         r: &Query,
+        witnesses: &mut [Witnesses],
         steps: &mut Steps<L>,
     ) -> StandingNo
         requires kept { is_kept (I.item_count f.now) self.now ≡ true }
@@ -210,9 +223,9 @@ impl StandingNo {
             if self.is_state {
                 let all = ItemSet::full(f.items());
                 let known = reaching(closures, all, self.no.query.q).union(self.enough);
-                return StandingNo::between(f, self.no, closed, known, steps);
+                return StandingNo::between(f, self.no, closed, known, witnesses, steps);
             }
-            return self.with_closed(f, closed, steps);
+            return self.with_closed(f, closed, witnesses, steps);
         }
         StandingNo {
             closed,
@@ -236,6 +249,7 @@ impl StandingNo {
         f: &I,
         closures: &[ItemSet],
         r: &Query,
+        witnesses: &mut [Witnesses],
         steps: &mut Steps<L>,
     ) -> StandingNo
         requires kept { is_kept (I.item_count f.now) self.now ≡ true }
@@ -257,7 +271,7 @@ impl StandingNo {
         };
         let q = self.no.query.q;
         let known = reaching(closures, self.enough, q);
-        let enough = enough_between(f, closed, q, known, self.enough, steps);
+        let enough = enough_between(f, closed, q, known, self.enough, witnesses, steps);
         if self.keeps_state(r) && self.enough.is_within(enough) {
             return StandingNo { closed, ..*self };
         }
@@ -300,6 +314,7 @@ impl StandingNo {
         closures: &[ItemSet],
         change: &YesChange,
         r: &Query,
+        witnesses: &mut [Witnesses],
         steps: &mut Steps<L>,
     ) -> StandingNo
         requires kept { is_kept (I.item_count f.now) self.now ≡ true }
@@ -315,8 +330,8 @@ impl StandingNo {
         ensures cost { steps.new ≤ steps.old + most_steps change.now (I.item_count f.now) }
     {
         match change {
-            YesChange::Added(fall) => self.after_yes(f, closures, *fall, r, steps),
-            YesChange::Removed => self.before_yes(f, closures, r, steps),
+            YesChange::Added(fall) => self.after_yes(f, closures, *fall, r, witnesses, steps),
+            YesChange::Removed => self.before_yes(f, closures, r, witnesses, steps),
         }
     }
 
@@ -350,6 +365,7 @@ pub fn change_each<I: Interior, L: Ledger>(
     closures: &[ItemSet],
     change: &YesChange,
     r: &Query,
+    witnesses: &mut [Witnesses],
     steps: &mut Steps<L>,
 )
     requires kept { list_all (is_kept (I.item_count f.now)) kept.old ≡ true }
@@ -367,7 +383,7 @@ pub fn change_each<I: Interior, L: Ledger>(
 {
     for s in kept.iter_mut() {
         if s.is_reached(change, r) {
-            *s = s.after(f, closures, change, r, steps);
+            *s = s.after(f, closures, change, r, witnesses, steps);
         }
     }
 }

@@ -18,6 +18,7 @@ ghost use Rattle.ls_query.specs.Blocks.{sets_of, queries_of};
 use crate::closures::{close_again, closures_of, standing_of};
 use crate::forcing::{forcing, unforced};
 use crate::standing_no::{StandingNo, change_each, take_out};
+use crate::witnesses::{Witnesses, no_witnesses};
 use crate::yes_change::YesChange;
 use ls_interior::{Interior, Steps, closure};
 use ls_query::{BlockWalk, Blocks};
@@ -36,6 +37,8 @@ pub struct Table {
     blocks: Blocks,
     closures: Vec<ItemSet>,
     standing: Vec<StandingNo>,
+    // for each item
+    witnesses: Vec<Witnesses>,
 }
 
 impl Model for Table {
@@ -88,13 +91,16 @@ impl Table {
         ensures cost { steps.new ≤ steps.old
             + (length (sets_of blocks) + (I.item_count f.now + 1) * length answers.now) }
     {
+        let n = f.items();
+        let mut witnesses = no_witnesses(alloc, n)?;
         let closures = closures_of(alloc, blocks, f, steps)?;
-        let standing = standing_of(alloc, f, &closures, answers, steps)?;
+        let standing = standing_of(alloc, f, &closures, answers, &mut witnesses, steps)?;
         Ok(Table {
-            n: f.items(),
+            n,
             blocks,
             closures,
             standing,
+            witnesses,
         })
     }
 
@@ -133,7 +139,16 @@ impl Table {
         ensures blocks { self.new.table.blocks ≡ self.old.table.blocks }
     {
         close_again(&mut self.closures, self.blocks, f, change, r, steps);
-        change_each(&mut self.standing, f, &self.closures, change, r, steps);
+        let witnesses = &mut self.witnesses;
+        change_each(
+            &mut self.standing,
+            f,
+            &self.closures,
+            change,
+            r,
+            witnesses,
+            steps,
+        );
     }
 
     /// Keeps the table under a Yes to the good query `r`, of which `f` is the family that is left.
@@ -243,7 +258,7 @@ impl Table {
         ensures blocks { self.new.table.blocks ≡ self.old.table.blocks }
         ensures cost { steps.new ≤ steps.old + (self.old.table.blocks.item_count + 1) }
     {
-        let kept = StandingNo::shared(f, &self.closures, &x, steps);
+        let kept = StandingNo::shared(f, &self.closures, &x, &mut self.witnesses, steps);
         self.standing.push_reserved(kept);
     }
 

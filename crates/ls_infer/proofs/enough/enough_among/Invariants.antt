@@ -1,20 +1,21 @@
 use Rattle.std.proofs.Common.{◌≡◌, ◌+◌, ◌≤◌, ◌⊎◌, ℕ, true}
 use Rattle.ls_set.specs.ItemSet.{full, has, minus, len, is_among, IsWithin}
+use Rattle.ls_infer.specs.Narrowing.{owed}
 use Rattle.ls_infer.specs.Tables.{enough_for}
 use Rattle.ls_infer.proofs.Sharing.{IsFound}
 use Rattle.ls_infer.proofs.enough.enough_among.Given as goal
 
--- what is found of the items that are enough, and a step for each that is no longer left
+-- what is found of the items that are enough, and the steps that are still owed
 abbrev pub invariant-loop-r : goal.invariant-loop-r
 invariant-loop-r g l = record {
   found : is_among (g.I.Interior.members l.f) (minus (full (g.I.Interior.item_count l.f)) l.fn.closed) ≡ true →
       IsWithin l.fn.known (enough_for (g.I.Interior.item_count l.f) (g.I.Interior.members l.f) l.fn.closed l.q) →
-      ((r : ℕ) → has (enough_for (g.I.Interior.item_count l.f) (g.I.Interior.members l.f) l.fn.closed l.q) r ≡ true → (has l.fn.known r ≡ true) ⊎ (has l.fn.others r ≡ true)) →
-      IsFound (enough_for (g.I.Interior.item_count l.f) (g.I.Interior.members l.f) l.fn.closed l.q) l.enough l.left;
+      ((r : ℕ) → has (enough_for (g.I.Interior.item_count l.f) (g.I.Interior.members l.f) l.fn.closed l.q) r ≡ true → (has l.fn.known r ≡ true) ⊎ (has l.fn.rest.items r ≡ true)) →
+      IsFound (enough_for (g.I.Interior.item_count l.f) (g.I.Interior.members l.f) l.fn.closed l.q) l.enough l.rest.items;
   small : IsWithin l.enough (full (g.I.Interior.item_count l.f));
-  within : IsWithin l.left l.fn.others;
-  cost : l.steps + len l.left ≤ l.fn.steps + len l.fn.others;
+  within : IsWithin l.rest.items l.fn.rest.items;
+  cost : l.steps + owed l.rest ≤ l.fn.steps + owed l.fn.rest;
 }
 
 abbrev pub decreases-loop-r : goal.decreases-loop-r
-decreases-loop-r g l = len l.left
+decreases-loop-r g l = len l.rest.items

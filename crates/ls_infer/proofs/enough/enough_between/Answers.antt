@@ -13,26 +13,26 @@ returns-then-has-clause-value g c = λ member known among.
 pub enough_among-requires-clause-known : goal.enough_among-requires-clause-known
 enough_among-requires-clause-known g c = rw c.with-known.ensures (with-within _ c.args.known c.args.q c.requires.known c.requires.item)
 
-pub enough_among-requires-clause-others : goal.enough_among-requires-clause-others
-enough_among-requires-clause-others g c = rw (c.minus-others.ensures, c.minus.ensures) (others-within _ c.args.among c.with-known.result c.args.closed c.requires.among)
+pub enough_among-requires-clause-rest : goal.enough_among-requires-clause-rest
+enough_among-requires-clause-rest g c = rw (c.minus-items.ensures, c.minus.ensures) (others-within _ c.args.among c.with-known.result c.args.closed c.requires.among)
 
 pub returns-clause-value : goal.returns-clause-value
 returns-clause-value g c = λ member known among.
     let n = g.I.Interior.item_count c.args.f.now in
     let f = g.I.Interior.members c.args.f.now in
-    let others : c.minus-others.result ≡ minus (minus c.args.among c.with-known.result) c.args.closed = rw c.minus.ensures at c.minus-others.ensures in
+    let others : c.minus-items.result ≡ minus (minus c.args.among c.with-known.result) c.args.closed = rw c.minus.ensures at c.minus-items.ensures in
     c.enough_among.ensures.value member (rw c.with-known.ensures (with-itself n f c.args.closed c.args.q c.args.known c.requires.item known))
     (λ r h. rw others (among-others n f c.args.closed c.args.q c.with-known.result c.args.among r member (sym c.has.ensures ∙ c.if-has.false) among h))
 
 pub returns-clause-cost : goal.returns-clause-cost
 returns-clause-cost g c =
     let n = g.I.Interior.item_count c.args.f.now in
-    let few : len c.minus-others.result + 1 ≤ n = rw (c.minus-others.ensures, c.minus.ensures, c.with-known.ensures) (others-few n c.args.among (with c.args.known c.args.q) c.args.closed c.args.q c.requires.among c.requires.item (with-here c.args.known c.args.q)) in
-    omega (arith, few, c.enough_among.ensures.cost)
+    let few : len c.minus-items.result + 1 ≤ n = rw (c.minus-items.ensures, c.minus.ensures, c.with-known.ensures) (others-few n c.args.among (with c.args.known c.args.q) c.args.closed c.args.q c.requires.among c.requires.item (with-here c.args.known c.args.q)) in
+    omega (arith, few, c.len.ensures, c.items-2.ensures.count, c.saturating_sub.ensures, c.saturating_sub-spare.ensures, c.enough_among.ensures.cost)
 
 pub returns-clause-fewer : goal.returns-clause-fewer
 returns-clause-fewer g c i here l more =
     let n = g.I.Interior.item_count c.args.f.now in
-    let few : len c.minus-others.result + 2 ≤ n = rw (c.minus-others.ensures, c.minus.ensures, c.with-known.ensures)
+    let few : len c.minus-items.result + 2 ≤ n = rw (c.minus-items.ensures, c.minus.ensures, c.with-known.ensures)
     (others-fewer n c.args.among (with c.args.known c.args.q) c.args.closed c.args.q i c.requires.among c.requires.item (with-here c.args.known c.args.q) (sym c.has.ensures ∙ c.if-has.false) here l) in
-    omega (arith, few, c.enough_among.ensures.cost)
+    omega (arith, few, c.len.ensures, c.items-2.ensures.count, c.saturating_sub.ensures, c.saturating_sub-spare.ensures, c.enough_among.ensures.cost)

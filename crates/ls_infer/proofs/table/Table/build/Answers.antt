@@ -14,10 +14,10 @@ invariant_of-result g c =
     let b = c.args.blocks in
     let closed : c.deref.result.now ≡ map (closure (full n) f) (blocks n b.largest) = c.deref.ensures.value ∙ c.in_ok-closures.ensures.list ∙ ap (λ m. map (closure (full n) f) (blocks m b.largest)) (sym c.requires.items) in
     record {
-      items = c.items.ensures.count ∙ c.requires.items;
-      few = c.items.ensures.few;
+      items = c.items-n.ensures.count ∙ c.requires.items;
+      few = c.items-n.ensures.few;
       each = grind (arith, common_steps);
       few_sets = grind (arith, common_steps);
-      within = rw (c.items.ensures.count, c.in_ok-closures.ensures.list) (closures-within n f (sets_of c.args.blocks));
-      kept = rw (c.items.ensures.count, c.in_ok-standing.ensures.list b.largest closed) (standing-kept n f c.args.answers.now c.requires.good);
+      within = rw (c.items-n.ensures.count, c.in_ok-closures.ensures.list) (closures-within n f (sets_of c.args.blocks));
+      kept = rw (c.items-n.ensures.count, c.in_ok-standing.ensures.list b.largest closed) (standing-kept n f c.args.answers.now c.requires.good);
     }
