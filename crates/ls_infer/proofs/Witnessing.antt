@@ -76,7 +76,7 @@ narrowed-part items kept q = elim (cases_Bool (has kept q)) [
   | inr lost ↦ rw lost (λ i h. h)
 ]
 
--- after one more state was asked
+-- after one more set was tried
 pub narrowed-next : (n : ℕ) (f : List Items) (outside set kept first items after : Items) (q : ℕ) → IsUnionFamily n f → IsWithin set outside → kept ≡ interior f set → after ≡ narrowed items q kept
     → IsNarrowed n f outside q first items → IsNarrowed n f outside q first after
 narrowed-next n f outside set kept first items after q family out same made so =

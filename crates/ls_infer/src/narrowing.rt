@@ -18,7 +18,7 @@ pub struct Rest {
 
 // The interior of a set. Where it has `q`, items that it lacks are not enough. The step is that of
 // an item that falls out of the rest, or else a spare one.
-fn ask<I: Interior, L: Ledger>(
+fn try_set<I: Interior, L: Ledger>(
     f: &I,
     set: ItemSet,
     q: u32,
@@ -46,7 +46,7 @@ fn ask<I: Interior, L: Ledger>(
     inside
 }
 
-// Whether a set may show that an item of the rest is not enough, and there is a step to ask it.
+// Whether a set may show that an item of the rest is not enough, and there is a step to spare.
 fn is_of_use(set: ItemSet, outside: ItemSet, q: u32, rest: &Rest) -> bool
     requires { q < PLACES }
     ensures within { result ≡ true → IsWithin set outside }
@@ -55,8 +55,8 @@ fn is_of_use(set: ItemSet, outside: ItemSet, q: u32, rest: &Rest) -> bool
     rest.spare > 0 && set.has(q) && !rest.items.is_within(set) && set.is_within(outside)
 }
 
-/// Leaves out of the rest what the witnesses that are kept for `q` show not to be enough. They are
-/// asked for only within `outside`, and where they lack an item of the rest.
+/// Leaves out of the rest what the witnesses that are kept for `q` show not to be enough. Those
+/// are tried that lie within `outside` and lack an item of the rest.
 pub fn narrow<I: Interior, L: Ledger>(
     f: &I,
     outside: ItemSet,
@@ -67,15 +67,19 @@ pub fn narrow<I: Interior, L: Ledger>(
 )
     requires within { IsWithin outside (full (I.item_count f.now)) }
     requires item { q < PLACES }
-    ensures narrowed { IsNarrowed (I.item_count f.now) (I.members f.now) outside q rest.old.items rest.new.items }
+    ensures narrowed { let n = I.item_count f.now in
+        IsNarrowed n (I.members f.now) outside q rest.old.items rest.new.items }
     ensures cost { steps.new + owed rest.new ≤ steps.old + owed rest.old }
 {
+    if rest.items.least().is_none() {
+        return;
+    }
     let Some(kept) = witnesses.get_mut(q as usize) else {
         return;
     };
     for set in kept.sets.iter_mut() {
         if is_of_use(*set, outside, q, rest) {
-            *set = ask(f, *set, q, rest, steps);
+            *set = try_set(f, *set, q, rest, steps);
         }
     }
 }
@@ -104,7 +108,8 @@ pub fn lessen<I: Interior, L: Ledger>(
     requires within { IsWithin outside (full (I.item_count f.now)) }
     requires part { IsWithin state outside }
     requires item { q < PLACES }
-    ensures narrowed { IsNarrowed (I.item_count f.now) (I.members f.now) outside q rest.old.items rest.new.items }
+    ensures narrowed { let n = I.item_count f.now in
+        IsNarrowed n (I.members f.now) outside q rest.old.items rest.new.items }
     ensures cost { steps.new + owed rest.new ≤ steps.old + owed rest.old }
 {
     let mut state = state;
@@ -114,7 +119,7 @@ pub fn lessen<I: Interior, L: Ledger>(
         if part.least().is_none() {
             return state;
         }
-        let inside = ask(f, state.minus(part), q, rest, steps);
+        let inside = try_set(f, state.minus(part), q, rest, steps);
         if inside.has(q) {
             state = inside;
             greatest = true;

@@ -5,8 +5,8 @@ use Rattle.ls_laws.proofs.Families.{family_sets}
 use Rattle.ls_infer.proofs.Witnessing.{narrowed-next, inside-part}
 use Rattle.ls_infer.proofs.narrowing.lessen.Goals as goal
 
-pub ask-inside-requires-clause-within : goal.ask-inside-requires-clause-within
-ask-inside-requires-clause-within g c i h = c.requires.within i (c.loop-rest.invariant.part i (minus-within c.loop-rest.state c.half-part.result i (ap (λ s. has s i) (sym c.minus.ensures) ∙ h)))
+pub try_set-inside-requires-clause-within : goal.try_set-inside-requires-clause-within
+try_set-inside-requires-clause-within g c i h = c.requires.within i (c.loop-rest.invariant.part i (minus-within c.loop-rest.state c.half-part.result i (ap (λ s. has s i) (sym c.minus.ensures) ∙ h)))
 
 pub loop-rest-preserved-then-has : goal.loop-rest-preserved-then-has
 loop-rest-preserved-then-has g c =
@@ -14,8 +14,8 @@ loop-rest-preserved-then-has g c =
     let f = g.I.Interior.members c.args.f.now in
     let out : IsWithin c.minus.result c.args.outside = λ i h. c.loop-rest.invariant.part i (minus-within c.loop-rest.state c.half-part.result i (ap (λ s. has s i) (sym c.minus.ensures) ∙ h)) in
     record {
-      narrowed = narrowed-next n f c.args.outside c.minus.result c.ask-inside.result c.args.rest.now.items c.loop-rest.rest.items c.ask-inside.new.rest.items c.args.q (family_sets n f (g.met.I.Interior.is_family c.args.f.now)) out
-          c.ask-inside.ensures.value c.ask-inside.ensures.items c.loop-rest.invariant.narrowed;
-      part = inside-part f c.minus.result c.ask-inside.result c.args.outside out c.ask-inside.ensures.value;
-      cost = omega (arith, c.ask-inside.ensures.cost, c.loop-rest.invariant.cost);
+      narrowed = narrowed-next n f c.args.outside c.minus.result c.try_set-inside.result c.args.rest.now.items c.loop-rest.rest.items c.try_set-inside.new.rest.items c.args.q (family_sets n f (g.met.I.Interior.is_family c.args.f.now)) out
+          c.try_set-inside.ensures.value c.try_set-inside.ensures.items c.loop-rest.invariant.narrowed;
+      part = inside-part f c.minus.result c.try_set-inside.result c.args.outside out c.try_set-inside.ensures.value;
+      cost = omega (arith, c.try_set-inside.ensures.cost, c.loop-rest.invariant.cost);
     }

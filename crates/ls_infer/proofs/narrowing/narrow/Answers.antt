@@ -10,9 +10,9 @@ loop-set-preserved g c =
     let f = g.I.Interior.members c.args.f.now in
     elim c.if-is_of_use.branch [
       | then-is_of_use w ↦ rw (w.rest-is, w.steps-is) (record {
-        narrowed = narrowed-next n f c.args.outside _ w.ask.result c.args.rest.now.items c.loop-set.rest.items w.ask.new.rest.items c.args.q (family_sets n f (g.met.I.Interior.is_family c.args.f.now))
-            (c.is_of_use.ensures.within w.if-is_of_use.true) w.ask.ensures.value w.ask.ensures.items c.loop-set.invariant.narrowed;
-        cost = omega (arith, w.ask.ensures.cost, c.loop-set.invariant.cost);
+        narrowed = narrowed-next n f c.args.outside _ w.try_set.result c.args.rest.now.items c.loop-set.rest.items w.try_set.new.rest.items c.args.q (family_sets n f (g.met.I.Interior.is_family c.args.f.now))
+            (c.is_of_use.ensures.within w.if-is_of_use.true) w.try_set.ensures.value w.try_set.ensures.items c.loop-set.invariant.narrowed;
+        cost = omega (arith, w.try_set.ensures.cost, c.loop-set.invariant.cost);
       })
       | else-is_of_use w ↦ rw (w.rest-is, w.steps-is) (record { narrowed = c.loop-set.invariant.narrowed; cost = c.loop-set.invariant.cost })
     ]

@@ -3,8 +3,8 @@ use Rattle.ls_set.specs.ItemSet.{has, len}
 use Rattle.ls_infer.specs.Narrowing.{narrowed}
 use Rattle.ls_infer.specs.declared.narrowing.Rest.{Rest}
 use Rattle.ls_infer.proofs.Witnessing.{narrowed-few, narrowed-part, part-fewer}
-use Rattle.ls_infer.proofs.narrowing.ask.Goals as goal
-use Rattle.ls_infer.proofs.narrowing.ask.Goals.{then-has, else-has, then-is_within, else-is_within}
+use Rattle.ls_infer.proofs.narrowing.try_set.Goals as goal
+use Rattle.ls_infer.proofs.narrowing.try_set.Goals.{then-has, else-has, then-is_within, else-is_within}
 
 pub returns-clause-fewer : goal.returns-clause-fewer
 returns-clause-fewer g c =
