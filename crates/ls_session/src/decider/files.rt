@@ -10,6 +10,7 @@ ghost use Rattle.ls_reply.specs.Pupils.{class_row};
 ghost use Rattle.ls_reply.specs.Saving.{save_row, open_row, opened_by};
 ghost use Rattle.ls_reply.specs.Replies.{file_shown, file_stored};
 ghost use Rattle.ls_reply.specs.declared.refusal.Refusal.TheVariants.{FileFailed};
+ghost use Rattle.ls_reply.specs.declared.response.Response.TheVariants.{Done};
 ghost use Rattle.std.specs.declared.option.Option.{Option};
 ghost use Rattle.ls_course.specs.States.{CourseState, CanTell};
 ghost use Rattle.ls_session.specs.Courses.{standing_session, IsSayable};
@@ -152,15 +153,22 @@ impl Decider {
         ensures said { IfOk result (IsSayable self.new.course) }
     {
         match Course::open(self.alloc, bytes, steps) {
-            Ok(course) => {
-                let number = u64::from(course.domain().count());
-                self.course = Some(course);
-                Ok(Response::Done { number })
-            }
+            Ok(course) => Ok(self.take_up(course)),
             Err(SessionFault::BadSession { cause }) => {
                 Ok(Response::Refused(Refusal::BadSession { cause }))
             }
             Err(SessionFault::Memory(e)) => Err(e),
         }
+    }
+
+    // Takes up a course, in place of the one that stands, which is let go.
+    fn take_up(&mut self, course: Course) -> Response
+        ensures session { standing_session self.new.course ≡ course.session }
+        ensures response { result ≡ Done (length course.session.names) }
+        ensures said { IsSayable self.new.course result }
+    {
+        let number = u64::from(course.domain().count());
+        self.course = Some(course);
+        Response::Done { number }
     }
 }
