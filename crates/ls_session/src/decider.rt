@@ -141,7 +141,11 @@ impl Decider {
         }
         match read_command(self.alloc, line) {
             Ok(Command::Nothing) => Ok(Response::Silence),
-            Ok(command) => self.decide(rt, &command, shelf, steps),
+            Ok(command) => {
+                let decided = self.decide(rt, &command, shelf, steps);
+                drop(command);
+                decided
+            }
             Err(LineFault::Shape { place }) => Ok(Response::Refused(Refusal::NoCommand { place })),
             Err(LineFault::Memory(e)) => Err(e),
         }

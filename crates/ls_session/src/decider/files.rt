@@ -168,7 +168,7 @@ impl Decider {
         ensures said { IsSayable self.new.course result }
     {
         let number = u64::from(course.domain().count());
-        self.course = Some(course);
+        drop(self.course.replace(course));
         Response::Done { number }
     }
 }

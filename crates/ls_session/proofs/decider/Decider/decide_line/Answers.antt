@@ -14,7 +14,7 @@ returns-then-line-gt-LONGEST_LINE-clause-decides g c =
 pub returns-in-Ok-clause-decides : goal.returns-in-Ok-clause-decides
 returns-in-Ok-clause-decides g c =
     decides_as _ (λ calls. line_effect-command (standing_session c.args.self.now.course) calls c.args.line.now c.in-Ok.command c.if-line-gt-LONGEST_LINE.false c.in-Ok.ensures.read)
-    c.decide.ensures.decides
+    c.decide-decided.ensures.decides
 
 pub returns-in-Ok-Nothing-clause-decides : goal.returns-in-Ok-Nothing-clause-decides
 unfolding command_effect
