@@ -357,8 +357,8 @@ impl StandingNo {
 }
 
 /// Makes what is kept of each answer that after a Yes to `r` came or was taken back, in at most a
-/// step for each answer and item, and where a Yes comes one more for each answer. `f` is the family after the change, and
-/// `closures` are those of the sets of the blocks in it.
+/// step for each answer and item, and where a Yes comes one more for each answer. `f` is the family
+/// after the change, and `closures` are those of the sets of the blocks in it.
 pub fn change_each<I: Interior, L: Ledger>(
     kept: &mut [StandingNo],
     f: &I,

@@ -8,8 +8,9 @@ use std::alloc::{AllocError, Global};
 const MOST: usize = 32;
 
 /// Sets that are kept for an item p. Each was a state with p when it was found. That shows that no
-/// item outside it was enough for p with any closed set that it doesn't meet. Whether a set still is
-/// a state is found out wherever it is used, so nothing rests on what is kept but the steps it saves.
+/// item outside it was enough for p with any closed set that it doesn't meet. Whether a set still
+/// is a state is found out wherever it is used, so nothing rests on what is kept but the steps that
+/// it saves.
 #[derive(Clone, Copy, Debug)]
 pub struct Witnesses {
     /// The sets that are kept, and empty ones.
