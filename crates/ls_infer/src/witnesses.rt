@@ -27,7 +27,7 @@ impl Witnesses {
         }
     }
 
-    /// Keeps one more, in the place of one that lacks the item, or else of the oldest.
+    /// Keeps one more, in the place of one that lacks the item, or else of each in turn.
     pub fn keep(&mut self, witness: ItemSet, item: u32)
         requires { item < PLACES }
     {
