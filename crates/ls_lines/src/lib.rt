@@ -38,7 +38,7 @@ pub use listing_form::ListingForm;
 pub use part::Part;
 pub use printing::print_command;
 pub use pupil_form::PupilForm;
-pub use reading::read_command;
+pub use reading::{is_note, read_command};
 pub use setting_form::SettingForm;
 pub use structure_form::StructureForm;
 pub use word::Word;

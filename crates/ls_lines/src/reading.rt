@@ -1,15 +1,23 @@
 // Reading a line by the table of forms.
-ghost use Rattle.std.specs.Prelude.{◌≡◌, ◌<◌, ◌≤◌, ◌+◌, ℕ, All, IfOk, IfSome, IsErrOf, None, Some, length, take};
+ghost use Rattle.std.specs.Prelude.{◌≡◌, ◌<◌, ◌≤◌, ◌+◌, ℕ, true, [], All, IfOk, IfSome, IsErrOf, None, Some, length, take};
 ghost use Rattle.std.specs.Str.{IsAscii};
-ghost use Rattle.ls_lines.specs.Lines.{words, runs, longest_line};
+ghost use Rattle.ls_lines.specs.Lines.{words, runs, is_note, without_return, longest_line};
 ghost use Rattle.ls_lines.specs.Commands.{fits, front, command_of, fault_place};
 ghost use Rattle.ls_lines.specs.Reading.{initial, begun_length};
 
 use crate::cut::Cut;
-use crate::token::{Token, is_note, push_runs, without_return};
+use crate::token::{Token, begins_note, push_runs, without_return};
 use crate::{Command, Form, LineFault, Part};
 use smallvec::SmallVec;
 use std::alloc::Global;
+
+/// Whether the line is a note: its first byte after spaces and tabs is `#`. It has no words then.
+pub fn is_note(line: &[u8]) -> bool
+    ensures note { result ≡ is_note (without_return line.now) }
+    ensures silent { result ≡ true → words line.now ≡ [] }
+{
+    begins_note(without_return(line))
+}
 
 /// The command that a line is. The line has no line feed, and at most as many bytes as are read.
 pub fn read_command(alloc: Global, line: &[u8]) -> Result<Command, LineFault>
@@ -19,11 +27,10 @@ pub fn read_command(alloc: Global, line: &[u8]) -> Result<Command, LineFault>
         → IsErrOf result (LineFault.Shape place)
         → (command_of (words line.now) ≡ None) × (place ≡ fault_place (words line.now)) }
 {
-    let body = without_return(line);
-    if is_note(body) {
+    if is_note(line) {
         return Ok(Command::Nothing);
     }
-    read_runs(alloc, body)
+    read_runs(alloc, without_return(line))
 }
 
 // The command that the words of a line are, which is no note. It is not made part of its caller, so

@@ -41,7 +41,7 @@ pub(crate) fn without_return(line: &[u8]) -> &[u8]
 }
 
 // A note begins with `#`, after spaces and tabs.
-pub(crate) fn is_note(line: &[u8]) -> bool
+pub(crate) fn begins_note(line: &[u8]) -> bool
     ensures { result ≡ is_note line.now }
 {
     line.iter().find(|b| !is_blank(**b)).copied() == Some(b'#')

@@ -4,7 +4,7 @@ use Rattle.std.proofs.lemmas.Iterator.{YieldsList-from_slice}
 use Rattle.std.proofs.lemmas.Iterator.Search.{find_from_yields_List}
 use Rattle.ls_lines.specs.Lines.{is_blank}
 use Rattle.ls_lines.proofs.Runs.{is_note-by_first}
-use Rattle.ls_lines.proofs.token.is_note.Goals as goal
+use Rattle.ls_lines.proofs.token.begins_note.Goals as goal
 
 pub returns : goal.returns
 returns c =

@@ -1,0 +1,9 @@
+use Rattle.std.proofs.Common.{◌∙◌, ap, sym}
+use Rattle.ls_lines.specs.Lines.{is_note}
+use Rattle.ls_lines.proofs.Runs.{words-note}
+use Rattle.ls_lines.proofs.reading.is_note.Goals as goal
+
+pub returns : goal.returns
+returns c =
+    let note = c.begins_note.ensures ∙ ap is_note c.without_return.ensures in
+    record { note = note; silent = λ is. words-note c.args.line.now (sym note ∙ is) }
