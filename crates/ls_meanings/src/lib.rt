@@ -7,5 +7,5 @@ mod pupils;
 mod request;
 mod unnamed;
 
-pub use request::{asks, resolve};
+pub use request::resolve;
 pub use unnamed::ResolveFault;

@@ -1,5 +1,5 @@
 // What commands ask.
-ghost use Rattle.std.specs.Prelude.{◌≡◌, ◌≤◌, [], Some, false, is_some, map, length, slice_get, option_map, IfOk, IfErr, OnOk};
+ghost use Rattle.std.specs.Prelude.{◌≡◌, ◌≤◌, [], Some, false, map, length, slice_get, option_map, IfOk, IfErr, OnOk};
 ghost use Rattle.std.specs.Option.{ForSome};
 ghost use Rattle.ls_set.specs.ItemSet.{full, IsWithin};
 ghost use Rattle.ls_domain.specs.Meanings.{item_of, items_of};
@@ -18,24 +18,6 @@ use std::alloc::Global;
 
 // The first place of the names after which learning paths are listed.
 const FIRST_OF_PATH: usize = 4;
-
-/// Whether the command asks something where a domain stands, in the items' numbers.
-pub fn asks(command: &Command) -> bool
-    ensures { result ≡ is_some (request_of [] command.now) }
-{
-    !matches!(
-        command,
-        Command::Nothing
-            | Command::Items { .. }
-            | Command::LoadItems { .. }
-            | Command::StartSurmise { .. }
-            | Command::StartBase { .. }
-            | Command::Test { .. }
-            | Command::Class { .. }
-            | Command::Save { .. }
-            | Command::Reopen { .. }
-    )
-}
 
 /// What the command asks on a domain's items, or `None` where it is another kind of command. The
 /// error is the first of its words that must name an item and doesn't; or memory ran out.
