@@ -1,11 +1,11 @@
 -- What commands do, by whether a domain stands.
-use Rattle.std.proofs.Common.{◌≡◌, ◌<◌, ◌≤◌, true, false, not, ne_eqb, cond, List, [], ◌∷◌, ◌++◌, length, Option, Some, None, is_some, ℕ, refl, sym, ap, ◌∙◌, arith, le-ltb, lt-ltb}
+use Rattle.std.proofs.Common.{◌≡◌, ◌<◌, ◌≤◌, true, false, not, ne_eqb, cond, List, [], ◌∷◌, ◌++◌, length, Option, Some, None, ℕ, refl, sym, ap, ◌∙◌, arith, le-ltb, lt-ltb}
 use Rattle.ls_lines.specs.Lines.{Text, longest_line, words}
 use Rattle.ls_lines.specs.Commands.{command_of, fault_place}
 use Rattle.ls_lines.specs.declared.command.Command.{Command}
 use Rattle.ls_lines.specs.declared.command.Command.TheVariants as command
 use Rattle.ls_domain.specs.Domains.{names_of_words, names_of_table}
-use Rattle.ls_reply.specs.Sessions.{Session, started, has_domain}
+use Rattle.ls_reply.specs.Sessions.{Session, has_domain}
 use Rattle.ls_reply.specs.Scenes.{Calls, Fetched}
 use Rattle.ls_reply.specs.Meanings.{request_of}
 use Rattle.ls_reply.specs.Effects.{Effect, Change, answers, refuse}
@@ -14,7 +14,7 @@ use Rattle.ls_reply.specs.Replies.{asked_effect, unnamed_at, command_effect, wor
 use Rattle.ls_reply.specs.declared.request.Request.{Request}
 use Rattle.ls_reply.specs.declared.request.Request.TheVariants.{View, Edit, Setting, Pupil}
 use Rattle.ls_reply.specs.declared.refusal.Refusal.TheVariants.{NoCommand, LongLine, DomainStands, Unnamed}
-use Rattle.ls_reply.specs.declared.response.Response.TheVariants.{Refused, Silence}
+use Rattle.ls_reply.specs.declared.response.Response.TheVariants.{Refused}
 
 -- a domain stands where there are names
 pub has_domain-some : (s : Session) → 0 < length s.names → has_domain s ≡ true
@@ -47,11 +47,6 @@ asked_effect-stored s [] (Some (View view)) = refl
 asked_effect-stored s [] (Some (Edit edit)) = refl
 asked_effect-stored s [] (Some (Setting setting)) = refl
 asked_effect-stored s [] (Some (Pupil name what)) = refl
-
--- where no domain stands, nothing is asked
-pub asked_effect-without : (r : Option Request) → asked_effect (started []) (0 ∷ []) r ≡ answers (started []) (cond (is_some r) (Refused (Unnamed 0)) Silence)
-asked_effect-without None = refl
-asked_effect-without (Some request) = refl
 
 -- ---- commands and lines
 
