@@ -1,9 +1,9 @@
 -- A line that was decided, and then written.
-use Rattle.std.proofs.Common.{◌≡◌, ℕ, inl, inr, Bool, List, Result, Ok, Err, IsErrAnd, IsErrOf, refl, sym, ap, ap₂, ◌∙◌, subst, arith}
+use Rattle.std.proofs.Common.{◌≡◌, ℕ, inl, inr, Bool, false, List, Result, Ok, Err, IsErrAnd, IsErrOf, refl, sym, ap, ap₂, ◌∙◌, subst, arith}
 use Rattle.std.specs.declared.option.Option.{Option}
 use Rattle.std.specs.declared.alloc.AllocError.{AllocError}
 use Rattle.std.specs.Io.KnownBytes.{Appends}
-use Rattle.std.proofs.KnownBytes.{Keeps-refl}
+use Rattle.std.proofs.KnownBytes.{Keeps-refl, Appends-nil}
 use Rattle.ls_edge.specs.Causes.{AppendsFront}
 use Rattle.ls_edge.specs.Files.{Folder}
 use Rattle.ls_edge.specs.declared.traits.SinkFault.{SinkFault}
@@ -12,14 +12,17 @@ use Rattle.ls_reply.specs.Texts.{bytes_of}
 use Rattle.ls_reply.specs.Scenes.{Calls}
 use Rattle.ls_reply.specs.Sessions.{Session}
 use Rattle.ls_reply.specs.Lines.{lines_of}
-use Rattle.ls_reply.specs.Effects.{Effect}
+use Rattle.ls_reply.specs.Effects.{Effect, answers}
 use Rattle.ls_reply.specs.Replies.{line_effect, reply_of, is_refusal, is_refused}
 use Rattle.ls_reply.specs.declared.response.Response.{Response}
+use Rattle.ls_reply.specs.declared.response.Response.TheVariants.{Silence}
 use Rattle.ls_reply.proofs.Refusing.{is_refusal-lines_of}
 use Rattle.ls_texts.specs.Rooms.{Wrote}
+use Rattle.ls_writing.proofs.Joins.{bytes_of-none}
 use Rattle.ls_session.specs.Faults.{step_fault}
 use Rattle.ls_session.specs.Follows.{Follows, MovesSink}
-use Rattle.ls_session.specs.Decides.{Decides}
+use Rattle.ls_conduct.specs.Decides.{Decides}
+use Rattle.ls_conduct.proofs.Deciding.{decides_made}
 use Rattle.ls_session.specs.declared.step_fault.StepFault.{StepFault}
 use Rattle.ls_session.specs.declared.step_fault.StepFault.TheVariants.{Write, Memory}
 
@@ -86,6 +89,21 @@ module _ {effect : Calls → Effect} {old new : Session} {folder left : Option F
         cause = λ q. w.cause.failed (told_failed {T = Bool} (Err f) err is q);
         later = w.cause.later;
       }
+
+-- nothing was done, and nothing said
+pub follows_silent : {effect : Calls → Effect} {s : Session} {folder : Option Folder} {i : ℕ} {a : Option (List ℕ)} {k : ℕ} → ((calls : Calls) → effect calls ≡ answers s Silence) → Follows Write effect s s folder folder i i a a k k (Ok false)
+follows_silent {effect} {s} {folder} {i} {a} {k} same =
+    let d : Decides effect s s folder folder i i (Ok Silence) = decides_made folder i (Ok Silence) same refl (record { response = refl; session = refl; undone = tt }) in
+    let is = bytes_of-none ∙ reply_is d in
+    record {
+      calls = d.calls;
+      sees = d.sees;
+      gives = (d.decided, record { written = subst (Appends a a) is (Appends-nil a); told = ap is_refusal is });
+      alone = d.alone;
+      shelf_later = d.later;
+      cause = λ e. absurd (cc e);
+      later = omega arith;
+    }
 
 -- the sessions by other names
 pub follows_of : (line : List ℕ) {s t n m : Session} {folder left : Option Folder} {i j : ℕ} {a b : Option (List ℕ)} {k l : ℕ} {r : Result Bool StepFault} → s ≡ t → m ≡ n

@@ -1,4 +1,2 @@
-pub mod Deciding
-pub mod Fetching
+pub mod Beginning
 pub mod Following
-pub mod Storing

@@ -1,6 +1,9 @@
 -- A session by its course, where a domain stands.
-use Rattle.std.specs.Prelude.{◌≡◌, ◌<◌, [], length, Option, Some, None, ⊤}
+use Rattle.std.specs.Prelude.{◌≡◌, ◌<◌, List, [], length, Option, Some, None, Result, Ok, IfOk, IfErr, ⊤}
 use Rattle.std.specs.Option.{ForSome}
+use Rattle.ls_lines.specs.Lines.{Text}
+use Rattle.ls_domain.specs.Domains.{IsFaultOf}
+use Rattle.ls_domain.specs.declared.domain_fault.DomainFault.{DomainFault}
 use Rattle.ls_reply.specs.Sessions.{Session, started}
 use Rattle.ls_reply.specs.declared.response.Response.{Response}
 use Rattle.ls_reply.specs.declared.response.Response.TheVariants.{Refused, Shown}
@@ -27,3 +30,8 @@ IsSayable (Some c) response = CanTell c response
 -- a room, if there is one, is as before a reply
 abbrev pub IsIdle : Option RoomState → Type 0
 IsIdle room = ForSome room (λ r. r ≡ no_reply)
+
+-- names that were read are those of the reading, unless memory ran out
+pub record IsRead (reading read : Result (List Text) DomainFault) : Type 0 where
+  pub names : IfOk read (λ names. reading ≡ Ok names)
+  pub fault : IfErr read (IsFaultOf reading)

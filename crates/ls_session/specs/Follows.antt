@@ -1,37 +1,25 @@
 -- What a line says and leaves, by what it does.
-use Rattle.std.specs.Prelude.{◌≡◌, ℕ, ◌≤◌, ◌⊎◌, Bool, true, List, Result, Ok, Err, IsErrOf, Some}
+use Rattle.std.specs.Prelude.{◌≡◌, ℕ, ◌≤◌, ◌⊎◌, Bool, List, Result, Ok, Err, IsErrOf, Some}
 use Rattle.std.specs.declared.option.Option.{Option}
 use Rattle.std.specs.Io.KnownBytes.{Appends, Keeps}
 use Rattle.ls_edge.specs.Causes.{Rose, AppendsFront}
 use Rattle.ls_edge.specs.Files.{Folder}
-use Rattle.ls_lines.specs.Lines.{Text}
-use Rattle.ls_reply.specs.Scenes.{Calls, calls_of, Failed}
+use Rattle.ls_reply.specs.Scenes.{Calls}
 use Rattle.ls_reply.specs.Sessions.{Session}
 use Rattle.ls_reply.specs.Effects.{Effect}
 use Rattle.ls_reply.specs.Replies.{reply_of, is_refusal}
-use Rattle.ls_reply.specs.Transcripts.{folder_with}
+use Rattle.ls_conduct.specs.Decides.{Sees, IsDecided}
 
 -- the bytes were appended, and it is told whether they begin with `no `
 pub record Said (before after : Option (List ℕ)) (bytes : List ℕ) (refused : Bool) : Type 0 where
   pub written : Appends before after bytes
   pub told : refused ≡ is_refusal bytes
 
--- what a line saw of the folder: told files are seen by whether a call of the line failed, and a call fails only where the count of faults rose
-pub record Sees (calls : Calls) (folder : Option Folder) (before now : ℕ) : Type 0 where
-  pub told : (m : Folder) → folder ≡ Some m → (name : Text) → calls.file name ≡ (calls_of m calls.failed).file name
-  pub failed : (name : Text) → calls.file name ≡ Failed → calls.failed ≡ true
-  pub cause : calls.failed ≡ true → Rose before now
-
 -- a line that was not decided: the session, told files and the known written bytes are as before
 pub record IsUndone (old new : Session) (folder left : Option Folder) (before after : Option (List ℕ)) : Type 0 where
   pub session : new ≡ old
   pub files : (m : Folder) → folder ≡ Some m → left ≡ Some m
   pub written : Keeps before after
-
--- a line that was decided: the session and told files are as its effect leaves them
-pub record IsDecided (effect : Effect) (new : Session) (folder left : Option Folder) : Type 0 where
-  pub session : new ≡ effect.session
-  pub files : (m : Folder) → folder ≡ Some m → left ≡ Some (folder_with m effect.stored)
 
 -- A line was decided and its reply said; or after a fault it was not decided, and nothing failed to be written, or it was decided and a front of its reply said.
 abbrev pub Gives : {E : Type 0} → E → Effect → Session → Session → Option Folder → Option Folder → Option (List ℕ) → Option (List ℕ) → Result Bool E → Type 0

@@ -1,4 +1,3 @@
 pub mod Follows
 pub mod Faults
 pub mod Courses
-pub mod Decides

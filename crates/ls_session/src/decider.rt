@@ -1,35 +1,29 @@
 // What a line does, decided and not yet written.
-ghost use Rattle.std.specs.Prelude.{◌≡◌, ◌∷◌, [], None, is_some, List, Result, Err, IfOk, if◌then◌else◌, option_copied};
+ghost use Rattle.std.specs.Prelude.{◌≡◌, [], None, List, Result, IfOk, option_copied};
 ghost use Rattle.ls_domain.specs.Domains.{names_of_table};
 ghost use Rattle.ls_domain.specs.declared.domain_fault.DomainFault.{DomainFault as Fault};
 ghost use Rattle.ls_lines.specs.Lines.{Text};
 ghost use Rattle.ls_reply.specs.Texts.{bytes_of};
 ghost use Rattle.ls_reply.specs.Scenes.{Fetched};
-ghost use Rattle.ls_reply.specs.Meanings.{request_of};
 ghost use Rattle.ls_reply.specs.Lines.{lines_of};
-ghost use Rattle.ls_reply.specs.Effects.{answers, changes, changes_interview};
-ghost use Rattle.ls_reply.specs.Refusals.{refusal_items};
+ghost use Rattle.ls_reply.specs.Effects.{changes};
 ghost use Rattle.ls_reply.specs.Rows.{items_row, load_items_row, started_by};
-ghost use Rattle.ls_reply.specs.Rows.{start_row, starts_by, start_read};
-ghost use Rattle.ls_reply.specs.Rows.{file_refusals, bytes_fetched, test_row};
-ghost use Rattle.ls_reply.specs.Replies.{line_effect, command_effect, asked_effect, file_effect, file_shown, unnamed_at};
-ghost use Rattle.ls_reply.specs.declared.refusal.Refusal.TheVariants.{Unnamed};
-ghost use Rattle.ls_reply.specs.declared.response.Response.TheVariants.{Silence, Refused};
+ghost use Rattle.ls_reply.specs.Rows.{file_refusals, bytes_fetched};
+ghost use Rattle.ls_reply.specs.Replies.{line_effect, command_effect};
 ghost use Rattle.ls_texts.specs.Rooms.{Says};
 ghost use Rattle.ls_texts.specs.Names.{names_in};
-ghost use Rattle.ls_course.specs.States.{CanTell};
-ghost use Rattle.ls_session.specs.Courses.{standing_session, HasNames, IsSayable};
-ghost use Rattle.ls_session.specs.Decides.{Decides, Makes, IsRead, IsFetched};
+ghost use Rattle.ls_conduct.specs.Decides.{Decides, Makes, IsFetched, NeedsDomain};
+ghost use Rattle.ls_session.specs.Courses.{standing_session, HasNames, IsSayable, IsRead};
 
-mod files;
+mod opening;
 
+use ls_conduct::{carry_out, refusal_of};
 use ls_course::Course;
 use ls_domain::{Domain, DomainFault};
 use ls_edge::{FetchFault, Shelf, Sink};
 use ls_interior::Steps;
 use ls_lines::{Command, LONGEST_LINE, LineFault, Word, WordList, read_command};
-use ls_meanings::asks;
-use ls_reply::{Refusal, Response, StartFile};
+use ls_reply::{Refusal, Response};
 use ls_texts::Room;
 use ls_writing::{put_agreed, put_done, put_refusal};
 use std::alloc::{AllocError, Global};
@@ -43,71 +37,6 @@ pub struct Decider {
     alloc: Global,
     pub course: Option<Course>,
     ghost named: { HasNames course },
-}
-
-// What a command that calls no folder and isn't `items` is answered where no domain stands: it is
-// refused, if it asks something.
-fn answer_without(command: &Command) -> Response
-    ensures { result
-        ≡ (if is_some (request_of [] command.now) then Refused (Unnamed 0) else Silence) }
-{
-    if asks(command) {
-        Response::Refused(Refusal::Unnamed { place: 0 })
-    } else {
-        Response::Silence
-    }
-}
-
-// The refusal of a file that was not fetched, unless memory ran out.
-fn refusal_of(fault: FetchFault) -> Result<Refusal, AllocError>
-    ensures refusal { (given : Fetched) → IsFetched given (Err fault) →
-        IfOk result (λ r. file_refusals given ≡ r ∷ []) }
-    ensures names { IfOk result (λ r. refusal_items r ≡ []) }
-{
-    match fault {
-        FetchFault::Missing => Ok(Refusal::NoFile),
-        FetchFault::TooLarge { bytes } => Ok(Refusal::LargeFile { bytes }),
-        FetchFault::Failed => Ok(Refusal::FileFailed),
-        FetchFault::Memory(e) => Err(e),
-    }
-}
-
-// Begins the interview with the start of the file that was fetched, where no answer stands.
-fn start_from<L: Ledger>(
-    course: &mut Course,
-    kind: StartFile,
-    fetched: Result<Vec<u8>, FetchFault>,
-    steps: &mut Steps<L>,
-) -> Result<Response, AllocError>
-    requires { course.old.session.interview.answers ≡ [] }
-    ensures makes { let s = course.old.session in
-        (given : Fetched) → IsFetched given fetched →
-        Makes (changes_interview s (starts_by s.interview (file_refusals given)
-        (start_read kind s.names (bytes_fetched given)))) s course.new.session result }
-    ensures names { course.new.session.names ≡ course.old.session.names }
-    ensures said { IfOk result (CanTell course.new) }
-{
-    match fetched {
-        Ok(bytes) => course.start_from(kind, &bytes, steps),
-        Err(fault) => Ok(Response::Refused(refusal_of(fault)?)),
-    }
-}
-
-// The verdict on the family of the file that was fetched.
-fn test_fetched<R: Threads + Sync>(
-    rt: &R,
-    course: &Course,
-    fetched: Result<Vec<u8>, FetchFault>,
-) -> Result<Response, AllocError>
-    ensures makes { let s = course.now.session in
-        (given : Fetched) → IsFetched given fetched →
-        Makes (answers s (test_row s.names given)) s s result }
-    ensures said { IfOk result (CanTell course.now) }
-{
-    match fetched {
-        Ok(bytes) => course.test(rt, &bytes),
-        Err(fault) => Ok(Response::Refused(refusal_of(fault)?)),
-    }
 }
 
 impl Decider {
@@ -170,33 +99,30 @@ impl Decider {
             Command::Nothing => Ok(Response::Silence),
             Command::Items { names } => self.begin(names, steps),
             Command::LoadItems { file } => self.load(file, shelf, steps),
-            Command::StartSurmise { file } => {
-                self.load_start(StartFile::Surmise, file, shelf, steps)
-            }
-            Command::StartBase { file } => self.load_start(StartFile::Base, file, shelf, steps),
-            Command::Test { file } => self.load_test(rt, file, shelf),
-            Command::Class { file } => self.load_class(rt, file, shelf, steps),
-            Command::Save { file } => self.save(file, shelf),
             Command::Reopen { file } => self.open(file, shelf, steps),
-            _ => self.ask(command, steps),
+            _ => self.carry_out(rt, command, shelf, steps),
         }
     }
 
-    // Decides what a command does that asks something of the items.
-    fn ask<L: Ledger>(
+    // Decides what a command does that needs a domain: where none stands it is refused.
+    fn carry_out<R: Threads + Sync, H: Shelf, L: Ledger>(
         &mut self,
+        rt: &R,
         command: &Command,
+        shelf: &mut H,
         steps: &mut Steps<L>,
     ) -> Result<Response, AllocError>
-        ensures makes { let s = standing_session self.old.course in
-            Makes (asked_effect s (unnamed_at s command.now) (request_of s.names command.now))
-            s (standing_session self.new.course) result }
+        requires needed { NeedsDomain command.now }
+        ensures decides { let s = standing_session self.old.course in
+            Decides (λ calls. command_effect s calls command.now) s (standing_session self.new.course)
+            (H.files shelf.old) (H.files shelf.new)
+            (H.faults shelf.old) (H.faults shelf.new) result }
         ensures said { IfOk result (IsSayable self.new.course) }
     {
         let Some(course) = &mut self.course else {
-            return Ok(answer_without(command));
+            return Ok(Response::Refused(Refusal::Unnamed { place: 0 }));
         };
-        course.ask(command, steps)
+        carry_out(rt, course, command, shelf, steps)
     }
 
     // `items NAMES`
@@ -275,52 +201,6 @@ impl Decider {
             Err(DomainFault::Memory(e)) => Err(e),
             Err(fault) => Ok(Response::Refused(Refusal::Domain(fault))),
         }
-    }
-
-    // `start surmise FILE` and `start base FILE`. It is not made part of its callers, as `load`
-    // isn't.
-    #[inline(never)]
-    fn load_start<H: Shelf, L: Ledger>(
-        &mut self,
-        kind: StartFile,
-        file: &Word,
-        shelf: &mut H,
-        steps: &mut Steps<L>,
-    ) -> Result<Response, AllocError>
-        ensures decides { let s = standing_session self.old.course in
-            Decides (λ calls. file_effect s (start_row kind s (calls.file file.now)))
-            s (standing_session self.new.course)
-            (H.files shelf.old) (H.files shelf.new)
-            (H.faults shelf.old) (H.faults shelf.new) result }
-        ensures said { IfOk result (IsSayable self.new.course) }
-    {
-        let Some(course) = &mut self.course else {
-            return Ok(Response::Refused(Refusal::Unnamed { place: 0 }));
-        };
-        if course.has_answers() {
-            return Ok(Response::Refused(Refusal::AnswersStand));
-        }
-        start_from(course, kind, shelf.fetch(file.as_str()), steps)
-    }
-
-    // `test FILE`. It is not made part of its callers, as `load` isn't.
-    #[inline(never)]
-    fn load_test<R: Threads + Sync, H: Shelf>(
-        &self,
-        rt: &R,
-        file: &Word,
-        shelf: &mut H,
-    ) -> Result<Response, AllocError>
-        ensures decides { let s = standing_session self.now.course in
-            Decides (λ calls. file_shown s (test_row s.names (calls.file file.now))) s s
-            (H.files shelf.old) (H.files shelf.new)
-            (H.faults shelf.old) (H.faults shelf.new) result }
-        ensures said { IfOk result (IsSayable self.now.course) }
-    {
-        let Some(course) = &self.course else {
-            return Ok(Response::Refused(Refusal::Unnamed { place: 0 }));
-        };
-        test_fetched(rt, course, shelf.fetch(file.as_str()))
     }
 
     // The names of the items, where a domain stands.

@@ -3,8 +3,11 @@ ghost use Rattle.std.specs.Prelude.{◌≡◌, true, List, ℕ, [], length, IfOk
 ghost use Rattle.std.specs.declared.option.Option.{Option};
 ghost use Rattle.ls_edge.specs.Files.{Folder};
 ghost use Rattle.ls_lines.specs.Lines.{is_long};
-ghost use Rattle.ls_reply.specs.Sessions.{started};
+ghost use Rattle.ls_reply.specs.Scenes.{Calls};
+ghost use Rattle.ls_reply.specs.Sessions.{Session as State, started};
+ghost use Rattle.ls_reply.specs.Effects.{answers};
 ghost use Rattle.ls_reply.specs.Replies.{line_effect};
+ghost use Rattle.ls_reply.specs.declared.response.Response.TheVariants.{Silence};
 ghost use Rattle.ls_texts.specs.Rooms.{Ends, no_reply};
 ghost use Rattle.ls_session.specs.Follows.{Follows, MovesSink};
 
@@ -12,6 +15,7 @@ use crate::StepFault;
 use crate::decider::Decider;
 use ls_edge::{Shelf, Sink, SinkFault};
 use ls_interior::Steps;
+use ls_lines::{LONGEST_LINE, is_note};
 use ls_reply::Refusal;
 use ls_texts::Room;
 use ls_writing::put_refusal;
@@ -21,12 +25,20 @@ use std::sync::ledger::{Blank, Ledger};
 use std::thread::Threads;
 
 /// A session: the domain with its interview, if one stands. It has one room for its replies, which
-/// it takes at the first line.
+/// it takes at the first line that is no note.
 #[derive(Drop)]
 pub struct Session {
     alloc: Global,
     decider: Decider,
     room: Option<Room>,
+}
+
+// Whether the line is a note that is not too long: nothing is done then, and nothing said.
+fn is_passed(line: &[u8]) -> bool
+    ensures { result ≡ true → (s : State) → (calls : Calls)
+        → line_effect s calls line.now ≡ answers s Silence }
+{
+    line.len() <= LONGEST_LINE && is_note(line)
 }
 
 impl Model for Session {
@@ -67,6 +79,9 @@ impl Session {
             (H.files shelf.old) (H.files shelf.new) (H.faults shelf.old) (H.faults shelf.new)
             (K.written out.old) (K.written out.new) (K.faults out.old) (K.faults out.new) result }
     {
+        if is_passed(line) {
+            return Ok(false);
+        }
         self.answer::<R, K, H, Brand>(rt, line, out, shelf, Blank::new(1))
     }
 
@@ -86,7 +101,9 @@ impl Session {
         Ok(true)
     }
 
-    // Answers one line. Its interiors are counted from the blank on.
+    // Answers one line. Its interiors are counted from the blank on. It is not made part of its
+    // caller, since its frame is large, and most lines of a long script are notes.
+    #[inline(never)]
     fn answer<R: Threads + Sync, K: Sink, H: Shelf, L: Ledger>(
         &mut self,
         rt: &R,

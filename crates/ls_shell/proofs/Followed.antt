@@ -15,7 +15,8 @@ use Rattle.ls_reply.specs.Scenes.{Fetched, Calls, calls_of}
 use Rattle.ls_reply.specs.Effects.{Effect}
 use Rattle.ls_reply.specs.Replies.{line_effect, reply_of}
 use Rattle.ls_reply.specs.Transcripts.{World, Marked, folder_with, effect_at}
-use Rattle.ls_session.specs.Follows.{Said, Sees, IsUndone, IsDecided, Gives, Follows, MovesSink}
+use Rattle.ls_conduct.specs.Decides.{Sees, IsDecided}
+use Rattle.ls_session.specs.Follows.{Said, IsUndone, Gives, Follows, MovesSink}
 use Rattle.ls_shell.specs.declared.run.Run.{Run}
 use Rattle.ls_shell.specs.Progress.{AnswersLine}
 

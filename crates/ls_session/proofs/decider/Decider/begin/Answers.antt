@@ -4,7 +4,8 @@ use Rattle.ls_reply.specs.Sessions.{has_domain}
 use Rattle.ls_reply.specs.Effects.{changes}
 use Rattle.ls_reply.proofs.Effects.{items_row-begins}
 use Rattle.ls_session.specs.Courses.{standing_session}
-use Rattle.ls_session.proofs.Deciding.{has_domain-is, makes_as}
+use Rattle.ls_conduct.proofs.Deciding.{makes_as}
+use Rattle.ls_session.proofs.Beginning.{has_domain-is}
 use Rattle.ls_session.proofs.decider.Decider.begin.Goals as goal
 
 pub returns-clause-makes : goal.returns-clause-makes

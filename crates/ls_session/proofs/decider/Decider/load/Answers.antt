@@ -5,8 +5,9 @@ use Rattle.ls_reply.specs.Sessions.{has_domain}
 use Rattle.ls_reply.specs.Effects.{changes}
 use Rattle.ls_reply.proofs.Effects.{load_items_row-stands}
 use Rattle.ls_session.specs.Courses.{standing_session}
-use Rattle.ls_session.proofs.Deciding.{has_domain-is, decides_made}
-use Rattle.ls_session.proofs.Fetching.{decides_loaded}
+use Rattle.ls_conduct.proofs.Deciding.{decides_made}
+use Rattle.ls_session.proofs.Beginning.{has_domain-is}
+use Rattle.ls_session.proofs.Beginning.{decides_loaded}
 use Rattle.ls_session.proofs.decider.Decider.load.Goals as goal
 
 pub returns-then-is_some-clause-decides : goal.returns-then-is_some-clause-decides

@@ -5,8 +5,8 @@ use Rattle.ls_reply.specs.Effects.{changes}
 use Rattle.ls_reply.specs.Rows.{file_refusals, bytes_fetched}
 use Rattle.ls_reply.specs.Saving.{opened_by}
 use Rattle.ls_session.specs.Courses.{standing_session}
-use Rattle.ls_session.specs.Decides.{IsFetched}
-use Rattle.ls_session.proofs.Deciding.{makes_as}
+use Rattle.ls_conduct.specs.Decides.{IsFetched}
+use Rattle.ls_conduct.proofs.Deciding.{makes_as}
 use Rattle.ls_session.proofs.decider.Decider.open_fetched.Goals as goal
 
 pub returns-in-Ok-clause-makes : goal.returns-in-Ok-clause-makes

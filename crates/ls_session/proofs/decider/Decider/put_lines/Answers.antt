@@ -8,7 +8,7 @@ use Rattle.ls_writing.specs.Names.{CanRefuse}
 use Rattle.ls_texts.proofs.Saying.{says_nothing, says_as}
 use Rattle.ls_writing.proofs.Joins.{bytes_of-none, bytes_of-one}
 use Rattle.ls_session.specs.Courses.{standing_session, IsSayable}
-use Rattle.ls_session.proofs.Deciding.{refuses-named}
+use Rattle.ls_session.proofs.Beginning.{refuses-named}
 use Rattle.ls_session.proofs.decider.Decider.put_lines.Goals as goal
 
 pub put_refusal-requires : goal.put_refusal-requires

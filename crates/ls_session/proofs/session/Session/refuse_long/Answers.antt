@@ -10,8 +10,8 @@ use Rattle.ls_reply.specs.declared.response.Response.TheVariants.{Refused}
 use Rattle.ls_reply.proofs.Effects.{line_effect-long}
 use Rattle.ls_texts.proofs.Saying.{says_as, wrote}
 use Rattle.ls_writing.proofs.Joins.{bytes_of-one}
-use Rattle.ls_session.specs.Decides.{Decides}
-use Rattle.ls_session.proofs.Deciding.{decides_made, decides_nothing}
+use Rattle.ls_conduct.specs.Decides.{Decides}
+use Rattle.ls_conduct.proofs.Deciding.{decides_made, decides_nothing}
 use Rattle.ls_session.proofs.Following.{follows_undone, follows_whole, follows_front, follows_of, moves_wrote, told_failed}
 use Rattle.ls_session.proofs.session.Session.refuse_long.Goals as goal
 

@@ -1,0 +1,14 @@
+use Rattle.std.proofs.Common.{◌≡◌, ◌∙◌, sym, ap, subst}
+use Rattle.ls_reply.specs.Scenes.{Fetched, Bytes}
+use Rattle.ls_reply.specs.Effects.{answers}
+use Rattle.ls_reply.specs.Rows.{test_row}
+use Rattle.ls_conduct.specs.Decides.{IsFetched}
+use Rattle.ls_conduct.proofs.Deciding.{makes_as, shown_only}
+use Rattle.ls_conduct.proofs.loading.test_fetched.Goals as goal
+
+pub returns-in-Ok-clause-makes : goal.returns-in-Ok-clause-makes
+returns-in-Ok-clause-makes g c = λ given h.
+    let s = c.args.course.now.session in
+    let is : given ≡ Bytes c.in-Ok.bytes.items = subst (IsFetched given) c.in-Ok.is h in
+    makes_as (ap (λ (f : Fetched). answers s (test_row s.names f)) (is ∙ ap Bytes (sym c.deref.ensures.value)))
+    (shown_only s (test_row s.names (Bytes c.deref.result.now)) c.test.result c.test.ensures.response)
