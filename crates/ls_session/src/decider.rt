@@ -90,7 +90,8 @@ impl Decider {
         steps: &mut Steps<L>,
     ) -> Result<Response, AllocError>
         ensures decides { let s = standing_session self.old.course in
-            Decides (λ calls. command_effect s calls command.now) s (standing_session self.new.course)
+            Decides (λ calls. command_effect s calls command.now)
+            s (standing_session self.new.course)
             (H.files shelf.old) (H.files shelf.new)
             (H.faults shelf.old) (H.faults shelf.new) result }
         ensures said { IfOk result (IsSayable self.new.course) }
@@ -114,7 +115,8 @@ impl Decider {
     ) -> Result<Response, AllocError>
         requires needed { NeedsDomain command.now }
         ensures decides { let s = standing_session self.old.course in
-            Decides (λ calls. command_effect s calls command.now) s (standing_session self.new.course)
+            Decides (λ calls. command_effect s calls command.now)
+            s (standing_session self.new.course)
             (H.files shelf.old) (H.files shelf.new)
             (H.faults shelf.old) (H.faults shelf.new) result }
         ensures said { IfOk result (IsSayable self.new.course) }
