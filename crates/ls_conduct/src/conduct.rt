@@ -1,5 +1,5 @@
 // What a command does where a domain stands.
-ghost use Rattle.std.specs.Prelude.{◌<◌, length, IfOk};
+ghost use Rattle.std.specs.Prelude.{◌≡◌, ◌<◌, length, IfOk, Some};
 ghost use Rattle.ls_reply.specs.Replies.{command_effect};
 ghost use Rattle.ls_course.specs.States.{CanTell};
 ghost use Rattle.ls_conduct.specs.Decides.{Decides, NeedsDomain};
@@ -43,4 +43,11 @@ pub fn carry_out<R: Threads + Sync, H: Shelf, L: Ledger>(
         Command::Save { file } => save(course, file, shelf),
         _ => course.ask(command, steps),
     }
+}
+
+/// Puts a course in the place of the one that stands, if one does. That one is let go.
+pub fn put_in_place(course: Course, place: &mut Option<Course>)
+    ensures { place.new ≡ Some course }
+{
+    drop(place.replace(course));
 }

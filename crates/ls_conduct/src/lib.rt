@@ -6,5 +6,5 @@ mod conduct;
 mod loading;
 mod saving;
 
-pub use conduct::carry_out;
+pub use conduct::{carry_out, put_in_place};
 pub use loading::refusal_of;

@@ -17,7 +17,7 @@ ghost use Rattle.ls_session.specs.Courses.{standing_session, HasNames, IsSayable
 
 mod opening;
 
-use ls_conduct::{carry_out, refusal_of};
+use ls_conduct::{carry_out, put_in_place, refusal_of};
 use ls_course::Course;
 use ls_domain::{Domain, DomainFault};
 use ls_edge::{FetchFault, Shelf, Sink};
@@ -197,7 +197,8 @@ impl Decider {
         match read {
             Ok(domain) => {
                 let number = u64::from(domain.count());
-                self.course = Some(Course::begin(self.alloc, domain, steps)?);
+                let course = Course::begin(self.alloc, domain, steps)?;
+                put_in_place(course, &mut self.course);
                 Ok(Response::Done { number })
             }
             Err(DomainFault::Memory(e)) => Err(e),

@@ -10,7 +10,7 @@ ghost use Rattle.ls_conduct.specs.Decides.{Decides, Makes, IsFetched};
 ghost use Rattle.ls_session.specs.Courses.{standing_session, IsSayable};
 
 use crate::decider::Decider;
-use ls_conduct::refusal_of;
+use ls_conduct::{put_in_place, refusal_of};
 use ls_course::Course;
 use ls_edge::{FetchFault, Shelf};
 use ls_interior::Steps;
@@ -84,7 +84,7 @@ impl Decider {
         ensures said { IsSayable self.new.course result }
     {
         let number = u64::from(course.domain().count());
-        drop(self.course.replace(course));
+        put_in_place(course, &mut self.course);
         Response::Done { number }
     }
 }
