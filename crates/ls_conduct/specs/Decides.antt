@@ -16,7 +16,7 @@ use Rattle.ls_reply.specs.Effects.{Effect}
 use Rattle.ls_reply.specs.Transcripts.{folder_with}
 use Rattle.ls_reply.specs.declared.response.Response.{Response}
 
--- a command that needs a domain: any but nothing, `items`, `load-items` and `open`
+-- a command that needs a domain: any but the first four
 abbrev pub NeedsDomain : Command → Type 0
 NeedsDomain command.Nothing = ⊥
 NeedsDomain (command.Items names) = ⊥
