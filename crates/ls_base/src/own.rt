@@ -12,14 +12,17 @@ pub fn own_items(sets: &[ItemSet], set: ItemSet) -> ItemSet
     requires needed { is_same (union_below sets.now set) set ≡ false }
     ensures { result ≡ minus set (union_below sets.now set) }
 {
+    if set.len() == 1 {
+        return set;
+    }
     let mut own = set;
     for place in (0..sets.len()).rev() {
-        if own.len() == 1 {
-            return own;
-        }
         let other = sets[place];
         if is_proper(other, set) {
             own = own.minus(other);
+            if own.len() == 1 {
+                return own;
+            }
         }
     }
     own

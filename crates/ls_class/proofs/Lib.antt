@@ -1,5 +1,4 @@
 mod Examples
-mod Records
 mod Headers
 mod Marked
 mod Rows

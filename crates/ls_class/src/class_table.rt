@@ -1,5 +1,5 @@
 // Class tables.
-ghost use Rattle.std.specs.Prelude.{◌≡◌, ◌<◌, ◌≤◌, ◌==◌, ◌+◌, ◌++◌, ◌∷◌, [], All, Ok, Some, None, false, true, length, map, slice_get, option_map, IfOk, IfErr, OnOk, OnErr};
+ghost use Rattle.std.specs.Prelude.{◌≡◌, ◌<◌, ◌≤◌, ◌==◌, ◌+◌, ◌++◌, ◌∷◌, [], All, Ok, Some, false, length, map, slice_get, option_map, IfOk, IfErr, OnOk, OnErr};
 ghost use Rattle.csv.specs.Records.{fields_of};
 ghost use Rattle.ls_domain.specs.Meanings.{is_named};
 ghost use Rattle.ls_theory.specs.Classes.{Row};
@@ -8,14 +8,16 @@ ghost use Rattle.ls_class.specs.Tables.{class_of, most_class_pupils, next_row, I
 use crate::ClassFault;
 use crate::columns::columns_of;
 use crate::marks::read_marks;
-use crate::table::{MOST_PUPILS, first_records};
 use csv::ByteRecord;
 use indexmap::IndexMap;
-use ls_domain::Domain;
+use ls_domain::{Domain, first_records};
 use ls_lines::Kind;
 use ls_set::{ItemList, ItemSet, PLACES};
 use std::alloc::{AllocError, Global};
 use std::marker::Model;
+
+/// The most pupils of a class.
+pub const MOST_CLASS_PUPILS: usize = 4_096;
 
 /// A class: for each pupil, in the order of the table, its name and the items that it gets right.
 /// Contracts see it as the list of these rows.
@@ -46,7 +48,8 @@ impl ClassTable {
         ensures read { IfOk result (λ t. class_of domain.now bytes.now ≡ Ok t) }
         ensures fault { IfErr result (IsFaultOf (class_of domain.now bytes.now)) }
     {
-        let records = first_records(alloc, bytes).map_err(ClassFault::Memory)?;
+        let most = MOST_CLASS_PUPILS + 1;
+        let records = first_records(alloc, bytes, most).map_err(ClassFault::Memory)?;
         let Some((header, pupils)) = records.split_first() else {
             return Err(ClassFault::BadClass { row: 1 });
         };
@@ -66,7 +69,7 @@ impl ClassTable {
     /// How many pupils there are.
     pub fn len(&self) -> usize
         ensures value { result ≡ length self.now }
-        ensures few { result ≤ MOST_PUPILS }
+        ensures few { result ≤ MOST_CLASS_PUPILS }
     {
         self.pupils.len()
     }
@@ -106,7 +109,7 @@ impl ClassTable {
         let Some(name) = fields.get(0) else {
             return Err(bad);
         };
-        if !Kind::Name.takes(name) || self.len() == MOST_PUPILS {
+        if !Kind::Name.takes(name) || self.len() == MOST_CLASS_PUPILS {
             return Err(bad);
         }
         let name = str::from_utf8(name).unwrap();

@@ -6,9 +6,7 @@ mod class_table;
 mod columns;
 mod marks;
 mod results;
-mod table;
 
 pub use class_fault::ClassFault;
-pub use class_table::ClassTable;
+pub use class_table::{ClassTable, MOST_CLASS_PUPILS};
 pub use results::{ClassResult, Results};
-pub use table::MOST_PUPILS;

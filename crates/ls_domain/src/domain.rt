@@ -57,7 +57,7 @@ impl Domain {
         ensures read { IfOk result (λ d. names_of_table bytes.now ≡ Ok d) }
         ensures fault { IfErr result (IsFaultOf (names_of_table bytes.now)) }
     {
-        let records = first_records(alloc, bytes).map_err(DomainFault::Memory)?;
+        let records = first_records(alloc, bytes, PLACES as usize).map_err(DomainFault::Memory)?;
         let Some(first) = records.first() else {
             return Err(DomainFault::NoItems);
         };

@@ -12,4 +12,5 @@ mod unknown_at;
 pub use domain::Domain;
 pub use domain_fault::DomainFault;
 pub use laws::{domains_are_read, names_and_numbers_agree, sets_are_read_back};
+pub use table::first_records;
 pub use unknown_at::UnknownAt;

@@ -4,13 +4,15 @@ ghost use Rattle.csv.specs.Records.{fields_of};
 ghost use Rattle.ls_domain.specs.Domains.{first_field, table_records};
 
 use csv::{ByteRecord, ReaderBuilder};
-use ls_set::PLACES;
 use std::alloc::{AllocError, Global};
 
-/// The records of a table with no header row, up to the first that is one too many for a domain.
-pub(crate) fn first_records(alloc: Global, bytes: &[u8]) -> Result<Vec<ByteRecord>, AllocError>
-    ensures { IfOk result (λ v.
-        map fields_of v.items ≡ take (PLACES + 1) (table_records bytes.now)) }
+/// The records of a table with no header row, up to the first that is one more than the most.
+pub fn first_records(
+    alloc: Global,
+    bytes: &[u8],
+    most: usize,
+) -> Result<Vec<ByteRecord>, AllocError>
+    ensures { IfOk result (λ v. map fields_of v.items ≡ take (most + 1) (table_records bytes.now)) }
 {
     let reader = ReaderBuilder::new()
         .has_headers(false)
@@ -23,7 +25,7 @@ pub(crate) fn first_records(alloc: Global, bytes: &[u8]) -> Result<Vec<ByteRecor
             return Err(AllocError);
         };
         records.push(record)?;
-        if records.len() > PLACES as usize {
+        if records.len() > most {
             return Ok(records);
         }
     }

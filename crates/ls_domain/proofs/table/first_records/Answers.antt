@@ -5,7 +5,6 @@ use Rattle.csv.specs.Reading.{Reached, default_config, strip_bom}
 use Rattle.csv.specs.Records.{fields_of}
 use Rattle.csv.specs.declared.parser.State.TheVariants as st
 use Rattle.csv.proofs.ReadFacts.{rows-end, rows-more}
-use Rattle.ls_set.specs.declared.item_set.TheConstants.{PLACES}
 use Rattle.ls_domain.proofs.Records.{all_records, front_records}
 use Rattle.ls_domain.proofs.table.first_records.Goals as goal
 
@@ -46,20 +45,20 @@ loop-record-preserved c =
       few = grind (arith, common_steps);
     }
 
-pub returns-then-len : goal.returns-then-len
-returns-then-len c =
+pub returns-then-len-most : goal.returns-then-len-most
+returns-then-len-most c =
     let so_far = c.loop-record.invariant in
     let step = rw (c.in-Some.is, c.in-Ok.is) at ((c.next.ensures.steps so_far.turns so_far.plain).0 so_far.ready) in
     let items = c.in_ok-push.ensures.items in
     let more = rows-more (λ (s : Bor (List ℕ)). Some s.now) c.loop-record.record-iterator.rdr c.next.new.self.rdr (fields_of c.in-Ok.record) default_config st.StartRecord (strip_bom c.args.bytes.now) so_far.rest (map fields_of c.loop-record.records.items) so_far.config so_far.source so_far.reached step.0 in
     let reached : Reached default_config st.StartRecord (strip_bom c.args.bytes.now) (map fields_of c.push.new.self.items) c.next.new.self.rdr.state more.0 = rw (items, map-append fields_of c.loop-record.records.items (c.in-Ok.record ∷ [])) more.2 in
-    front_records default_config (PLACES + 1) (strip_bom c.args.bytes.now) (map fields_of c.push.new.self.items) c.next.new.self.rdr.state more.0 reached
+    front_records default_config (c.args.most + 1) (strip_bom c.args.bytes.now) (map fields_of c.push.new.self.items) c.next.new.self.rdr.state more.0 reached
     (length-map c.push.new.self.items fields_of ∙ grind (arith, common_steps))
 
 pub returns : goal.returns
 returns c =
     let so_far = c.loop-record.invariant in
     let step = rw c.in-None.is at ((c.next.ensures.steps so_far.turns so_far.plain).0 so_far.ready) in
-    all_records default_config (PLACES + 1) (strip_bom c.args.bytes.now) (map fields_of c.loop-record.records.items)
+    all_records default_config (c.args.most + 1) (strip_bom c.args.bytes.now) (map fields_of c.loop-record.records.items)
     (c.loop-record.record-iterator.rdr.state, so_far.rest, so_far.reached, rows-end (λ (s : Bor (List ℕ)). Some s.now) c.loop-record.record-iterator.rdr c.next.new.self.rdr [] default_config so_far.rest so_far.config so_far.source step)
     (omega (arith, length-map c.loop-record.records.items fields_of, so_far.few))

@@ -3,7 +3,6 @@ use Rattle.csv.specs.Reading.{Reached, Ready, default_config, source_of, strip_b
 use Rattle.csv.specs.Records.{fields_of}
 use Rattle.csv.specs.declared.parser.State.TheVariants as st
 use Rattle.csv.specs.declared.reader.Trim.TheVariants as trim
-use Rattle.ls_set.specs.declared.item_set.TheConstants.{PLACES}
 use Rattle.ls_domain.proofs.table.first_records.Given as goal
 
 -- the records so far were reached, and the reader goes on after them
@@ -16,5 +15,5 @@ invariant-loop-record l = record {
   rest : List ℕ;
   source : source_of (λ s. Some s.now) l.record-iterator.rdr ≡ Some rest;
   reached : Reached default_config st.StartRecord (strip_bom l.fn.bytes) (map fields_of l.records.items) l.record-iterator.rdr.state rest;
-  few : length l.records.items ≤ PLACES;
+  few : length l.records.items ≤ l.fn.most;
 }
