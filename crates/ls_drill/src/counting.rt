@@ -1,12 +1,8 @@
 // How many queries were asked, and how many the answers force.
-ghost use Rattle.std.specs.Prelude.{◌≡◌, ◌<◌, ◌≤◌, ◌+◌, ◌^◌, true, not, if◌then◌else◌, length, count_by, Some, None};
-ghost use Rattle.std.specs.List.{list_any};
-ghost use Rattle.ls_set.specs.ItemSet.{len};
-ghost use Rattle.ls_set.specs.Query.{is_good};
+ghost use Rattle.std.specs.Prelude.{◌≡◌, ◌<◌, ◌≤◌, ◌+◌, ◌^◌, not, if◌then◌else◌, length, count_by, Some, None};
 ghost use Rattle.ls_theory.specs.Queries.{queries};
-ghost use Rattle.ls_theory.specs.Forced.{known};
-ghost use Rattle.ls_theory.specs.Answering.{is_same_query, most_answers};
-ghost use Rattle.ls_drill.specs.Summaries.{is_yes, is_no, is_filled, is_filled_yes, is_filled_no};
+ghost use Rattle.ls_theory.specs.Answering.{most_answers};
+ghost use Rattle.ls_drill.specs.Summaries.{is_filled, is_filled_yes, is_filled_no};
 
 use crate::standing::Standing;
 use crate::walking::{query_after, single_blocks};

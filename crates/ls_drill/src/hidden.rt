@@ -1,6 +1,6 @@
 // Hidden orders.
 ghost use Rattle.std.specs.Prelude.{◌≡◌, ◌<◌, ◌≤◌, IfOk};
-ghost use Rattle.ls_drill.specs.HiddenOrders.{implied, most_drilled};
+ghost use Rattle.ls_drill.specs.HiddenOrders.{implied};
 
 use crate::closing::closed;
 use crate::drawing::related_pairs;

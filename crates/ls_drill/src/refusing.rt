@@ -1,6 +1,5 @@
 // Which queries the Nos of a drill force a No to.
-ghost use Rattle.std.specs.Prelude.{◌≡◌, ◌<◌, ◌≤◌, true};
-ghost use Rattle.std.specs.List.{list_any, range_with_len};
+ghost use Rattle.std.specs.Prelude.{◌≡◌, ◌<◌, true};
 ghost use Rattle.ls_drill.specs.Standings.{is_refused, is_refused_by};
 
 use crate::marking::set_at;

@@ -1,5 +1,5 @@
 // Writing all of some bytes to a sink.
-ghost use Rattle.std.specs.Prelude.{◌≡◌, OnOk, OnErr};
+ghost use Rattle.std.specs.Prelude.{OnOk, OnErr};
 ghost use Rattle.std.specs.Io.KnownBytes.{Appends};
 ghost use Rattle.ls_edge.specs.Causes.{AppendsFront, HasSinkCause};
 

@@ -1,5 +1,5 @@
 // Laws of the text of fringes.
-ghost use Rattle.std.specs.Prelude.{◌≡◌, ℕ, true, List, Some, length};
+ghost use Rattle.std.specs.Prelude.{◌≡◌, true, List, Some, length};
 ghost use Rattle.ls_set.specs.ItemSet.{Items, full, is_among, IsWithin};
 ghost use Rattle.ls_theory.specs.Verdict.{is_learning_space};
 ghost use Rattle.ls_theory.specs.Fringes.{fringes, state_of};

@@ -1,7 +1,6 @@
 // The items that are enough with a closed set for an item.
 ghost use Rattle.std.specs.Prelude.{◌≡◌, ◌+◌, ◌<◌, ◌≤◌, ◌⊎◌, ℕ, true};
-ghost use Rattle.ls_set.specs.ItemSet.{full, has, with, minus, len, is_among, IsWithin};
-ghost use Rattle.ls_theory.specs.Families.{closure};
+ghost use Rattle.ls_set.specs.ItemSet.{full, has, minus, is_among, IsWithin};
 ghost use Rattle.ls_infer.specs.Narrowing.{owed};
 ghost use Rattle.ls_infer.specs.Tables.{enough_for};
 

@@ -1,6 +1,6 @@
 // What may still be enough, as states tell it.
 ghost use Rattle.std.specs.Prelude.{◌≡◌, ◌+◌, ◌<◌, ◌≤◌, true};
-ghost use Rattle.ls_set.specs.ItemSet.{full, len, IsWithin};
+ghost use Rattle.ls_set.specs.ItemSet.{full, IsWithin};
 ghost use Rattle.ls_theory.specs.Families.{interior};
 ghost use Rattle.ls_infer.specs.Narrowing.{narrowed, owed, IsNarrowed};
 

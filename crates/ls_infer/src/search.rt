@@ -1,6 +1,6 @@
 // A search for open queries where no closures are kept.
 ghost use Rattle.std.specs.Prelude.{◌≡◌, ◌&&◌, ℕ, not, find};
-ghost use Rattle.ls_set.specs.ItemSet.{has, full, IsWithin};
+ghost use Rattle.ls_set.specs.ItemSet.{has, full};
 ghost use Rattle.ls_set.specs.Query.{is_good};
 ghost use Rattle.ls_set.specs.declared.query.Query.{Query};
 ghost use Rattle.ls_lists.specs.Lists.{IsIn};

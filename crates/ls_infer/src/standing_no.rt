@@ -1,11 +1,9 @@
 // What is kept of a standing answer that is No.
-ghost use Rattle.std.specs.Prelude.{◌≡◌, ◌+◌, ◌*◌, ◌<◌, ◌≤◌, ◌==◌, ◌&&◌, ◌||◌, ℕ, List, true, false, not, min, map, length, filter, slice_get, option_map};
-ghost use Rattle.std.specs.List.{list_all, list_any};
-ghost use Rattle.std.specs.Option.{option_map_or};
+ghost use Rattle.std.specs.Prelude.{◌≡◌, ◌+◌, ◌*◌, ◌<◌, ◌≤◌, ◌==◌, ◌&&◌, ◌||◌, ℕ, List, true, false, not, map, length, filter};
+ghost use Rattle.std.specs.List.{list_all};
 ghost use Rattle.ls_set.specs.ItemSet.{Items, full, has, is_among, IsWithin};
 ghost use Rattle.ls_set.specs.Query.{is_good};
 ghost use Rattle.ls_set.specs.declared.query.Query.{Query};
-ghost use Rattle.ls_theory.specs.Words.{first_least};
 ghost use Rattle.ls_theory.specs.Families.{closure};
 ghost use Rattle.ls_theory.specs.Queries.{blocks, breaks};
 ghost use Rattle.ls_theory.specs.declared.no.No.{No};

@@ -1,6 +1,6 @@
 // Tables of closures.
 ghost use Rattle.std.specs.Prelude.{◌≡◌, ◌+◌, ◌*◌, ◌<◌, ◌≤◌, ◌==◌, ◌&&◌, ◌++◌, ◌∷◌, ℕ, true, not, List, [], Some, length, filter, find, slice_get, count_by, OnOk, IfOk};
-ghost use Rattle.std.specs.List.{list_all, list_any, position};
+ghost use Rattle.std.specs.List.{list_all, position};
 ghost use Rattle.std.specs.Option.{ForSome, option_map, option_map_or};
 ghost use Rattle.ls_set.specs.ItemSet.{Items, full, has, is_same, is_within, IsWithin};
 ghost use Rattle.ls_set.specs.Query.{is_good};
@@ -73,7 +73,7 @@ fn closure_at(closures: &[ItemSet], place: u32) -> ItemSet
 
 impl Table {
     ghost use Rattle.ls_infer.specs.Changes.{IsChange, CanFall, most_steps};
-    ghost use Rattle.ls_infer.specs.Tables.{table_of, standing, closed_of, forces, is_open_in, told};
+    ghost use Rattle.ls_infer.specs.Tables.{table_of, standing, closed_of, is_open_in, told};
 
     /// The table of a family, for blocks of its items and the standing answers that are No, whose
     /// queries are good. It takes at most a step for each block set, and for each answer a step for

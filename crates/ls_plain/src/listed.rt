@@ -1,5 +1,5 @@
 // Lists of numbers, of sets, and of families.
-ghost use Rattle.std.specs.Prelude.{◌≡◌, ◌<◌, ◌≤◌, ◌+◌, ◌^◌, ◌++◌, ◌∷◌, map, length, IfOk};
+ghost use Rattle.std.specs.Prelude.{◌≡◌, ◌<◌, ◌≤◌, ◌+◌, ◌^◌, ◌++◌, ◌∷◌, map, IfOk};
 ghost use Rattle.ls_set.specs.ItemSet.{with, subsets, numbers_from};
 ghost use Rattle.ls_theory.specs.Words.{sublists};
 ghost use Rattle.ls_theory.specs.Families.{families};

@@ -1,5 +1,5 @@
 // Fringes, and the state that two fringes tell.
-ghost use Rattle.std.specs.Prelude.{◌≡◌, ◌≤◌, filter, length};
+ghost use Rattle.std.specs.Prelude.{◌≡◌, ◌≤◌, filter};
 ghost use Rattle.ls_set.specs.ItemSet.{with, without, is_among, items, set_of, is_same};
 ghost use Rattle.ls_theory.specs.Fringes.{inner_fringe, outer_fringe, fringes, state_of};
 ghost use Rattle.std.specs.Prelude.{◌&&◌};

@@ -1,5 +1,5 @@
 // Which assessments have numbers of at most 128 bits.
-ghost use Rattle.std.specs.Prelude.{◌≡◌, ◌<◌, ◌≤◌, ◌*◌, ◌^◌, ◌↔◌, IsTrue};
+ghost use Rattle.std.specs.Prelude.{◌<◌, ◌*◌, ◌^◌, ◌↔◌, IsTrue};
 ghost use Rattle.std.specs.Option.{SomeIff};
 ghost use Rattle.ls_theory.specs.Weights.{weight, total};
 ghost use Rattle.ls_theory.specs.Settings.{settings_of};

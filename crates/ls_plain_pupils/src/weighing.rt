@@ -1,5 +1,5 @@
 // Weights of states after replies.
-ghost use Rattle.std.specs.Prelude.{◌≡◌, ◌<◌, ◌≤◌, ◌*◌, ◌^◌, filter};
+ghost use Rattle.std.specs.Prelude.{◌≡◌, ◌<◌, ◌*◌, ◌^◌};
 ghost use Rattle.ls_set.specs.ItemSet.{has};
 ghost use Rattle.ls_theory.specs.Weights.{agrees, ratio_for, factor, weight, total, mass};
 

@@ -1,5 +1,5 @@
 // The blocks of an interview.
-ghost use Rattle.std.specs.Prelude.{◌≡◌, ◌<◌, ◌≤◌, ℕ, true, Err, length, find};
+ghost use Rattle.std.specs.Prelude.{◌≡◌, ◌<◌, ◌≤◌, true, Err, length, find};
 ghost use Rattle.std.specs.Option.{ForSome, option_map};
 ghost use Rattle.std.specs.List.{position};
 ghost use Rattle.ls_set.specs.ItemSet.{full, len, IsWithin, is_same};

@@ -1,6 +1,6 @@
 // A walk through the sets of blocks.
-ghost use Rattle.std.specs.Prelude.{◌≡◌, ◌<◌, ◌≤◌, ℕ, true, false, Some, None, find, IfSome, MatchOption, if◌then◌else◌};
-ghost use Rattle.ls_set.specs.ItemSet.{Items, has, empty, full, with, len, most_items, IsWithin};
+ghost use Rattle.std.specs.Prelude.{◌≡◌, ◌<◌, ◌≤◌, true, false, Some, None, find, IfSome, MatchOption, if◌then◌else◌};
+ghost use Rattle.ls_set.specs.ItemSet.{empty, full, with, len, most_items, IsWithin};
 ghost use Rattle.ls_theory.specs.Queries.{block_before};
 ghost use Rattle.ls_query.specs.Blocks.{AreBounded, sets_of};
 ghost use Rattle.ls_query.specs.Moves.{IsGreatest};

@@ -1,5 +1,5 @@
 // Places in a list.
-ghost use Rattle.std.specs.Prelude.{◌≡◌, ◌<◌, ◌++◌, ◌∷◌, [], ◌≤◌, ◌==◌, OnOk, map, filter, not};
+ghost use Rattle.std.specs.Prelude.{◌≡◌, ◌<◌, ◌++◌, ◌∷◌, [], ◌==◌, OnOk, map, filter, not};
 ghost use Rattle.ls_rules.specs.Places.{lower, lowered};
 
 use std::alloc::{AllocError, Global};

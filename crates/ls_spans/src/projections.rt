@@ -1,5 +1,5 @@
 // Laws of projections.
-ghost use Rattle.std.specs.Prelude.{◌≡◌, ℕ, true, List};
+ghost use Rattle.std.specs.Prelude.{◌≡◌, ℕ, List};
 ghost use Rattle.ls_set.specs.ItemSet.{Items, full, union, meet, minus, is_among, IsInOrder};
 ghost use Rattle.ls_theory.specs.Families.{interior};
 ghost use Rattle.ls_theory.specs.Bases.{base};

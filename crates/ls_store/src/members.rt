@@ -1,11 +1,10 @@
 // Parts that objects have, by their keys.
 ghost use Rattle.std.specs.Prelude.{◌≡◌, ◌<◌, ◌≤◌, codes, option_map, IfOk, IfSome};
-ghost use Rattle.std.specs.Option.{option_zip};
 ghost use Rattle.serde_json.specs.Find.{as_str};
 ghost use Rattle.serde_json.specs.View.{view};
 ghost use Rattle.ls_expert.specs.Starts.{start_of, IsStartOn};
 ghost use Rattle.ls_saved.specs.Readers.{at_key};
-ghost use Rattle.ls_saved.specs.Parts.{read_block, read_limits, read_names, read_odds, read_settings, read_start, read_version};
+ghost use Rattle.ls_saved.specs.Parts.{read_block, read_limits, read_names, read_odds, read_start, read_version};
 
 use ls_domain::Domain;
 use ls_expert::Start;

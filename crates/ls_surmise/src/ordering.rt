@@ -1,7 +1,5 @@
 // Clauses in the order of sets, and the base of distinct ones.
-ghost use Rattle.std.specs.Prelude.{◌≡◌, ◌≤◌, ℕ, None, Err, Ok, map, length, IfOk, IfErr, OnOk};
-ghost use Rattle.std.specs.Option.{option_map_or};
-ghost use Rattle.ls_set.specs.ItemSet.{Items, is_among, IsInOrder};
+ghost use Rattle.std.specs.Prelude.{◌≡◌, ◌≤◌, ℕ, None, Err, Ok, map, IfOk, IfErr, OnOk};
 ghost use Rattle.ls_theory.specs.Bases.{base};
 ghost use Rattle.ls_theory.specs.Clauses.{all_clauses};
 ghost use Rattle.ls_laws.specs.Spans.{IsOn, spanned};

@@ -8,7 +8,7 @@ ghost use Rattle.ls_domain.specs.Texts.{name_of, joined_names, set_text};
 ghost use Rattle.ls_reply.specs.Texts.{line_of};
 ghost use Rattle.ls_reply.specs.Lines.{set_words};
 ghost use Rattle.ls_texts.specs.Rooms.{Says};
-ghost use Rattle.ls_texts.specs.SetTexts.{group_count, group_items, group_text, group_texts, spaced_names};
+ghost use Rattle.ls_texts.specs.SetTexts.{group_items, group_text, group_texts, spaced_names};
 ghost use Rattle.ls_texts.specs.SurmiseTexts.{items_by_name, insert_by_name, quoted_name};
 
 use crate::Room;

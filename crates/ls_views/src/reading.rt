@@ -1,5 +1,5 @@
 // The commands that look at an interview and change nothing.
-ghost use Rattle.std.specs.Prelude.{◌≡◌, ◌≤◌, ◌+◌, ℕ, List, true, [], length, IfOk, OnOk, OnErr};
+ghost use Rattle.std.specs.Prelude.{◌≡◌, ◌≤◌, ◌+◌, true, [], length, IfOk, OnOk, OnErr};
 ghost use Rattle.std.specs.Io.KnownBytes.{Appends};
 ghost use Rattle.ls_edge.specs.Causes.{AppendsFront, HasSinkCause};
 ghost use Rattle.ls_reply.specs.Scenes.{Calls};

@@ -1,5 +1,5 @@
 // What is shown of an interview, said.
-ghost use Rattle.std.specs.Prelude.{◌≡◌, ◌≤◌, ◌+◌, ◌*◌, ◌∷◌, [], true, length, Some};
+ghost use Rattle.std.specs.Prelude.{◌≡◌, ◌≤◌, ◌+◌, ◌*◌, true, length, Some};
 ghost use Rattle.std.specs.Option.{ForSome};
 ghost use Rattle.ls_set.specs.ItemSet.{full, IsWithin, comes_before};
 ghost use Rattle.ls_set.specs.Query.{is_good};

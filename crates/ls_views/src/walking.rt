@@ -2,7 +2,7 @@
 ghost use Rattle.std.specs.Prelude.{◌≡◌, true, length};
 ghost use Rattle.std.specs.Option.{ForSome};
 ghost use Rattle.ls_set.specs.ItemSet.{full};
-ghost use Rattle.ls_theory.specs.Pages.{page, comes_after};
+ghost use Rattle.ls_theory.specs.Pages.{page};
 ghost use Rattle.ls_theory.specs.Words.{is_lex_before};
 ghost use Rattle.ls_theory.specs.Verdict.{is_learning_space};
 ghost use Rattle.ls_theory.specs.Paths.{is_order, paths};

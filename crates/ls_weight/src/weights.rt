@@ -1,5 +1,5 @@
 // The weights of listed states after replies.
-ghost use Rattle.std.specs.Prelude.{◌≡◌, ◌<◌, ◌≤◌, ◌++◌, ◌∷◌, ◌^◌, [], ℕ, List, length, slice_get, nat_lt, true, Some, None, Err, IfOk, OnOk};
+ghost use Rattle.std.specs.Prelude.{◌≡◌, ◌<◌, ◌≤◌, ◌++◌, ◌∷◌, ◌^◌, [], ℕ, length, slice_get, nat_lt, true, Some, None, Err, IfOk, OnOk};
 ghost use Rattle.std.specs.List.{list_all};
 ghost use Rattle.ls_set.specs.ItemSet.{Items};
 ghost use Rattle.ls_theory.specs.Settings.{heavy_after};

@@ -1,5 +1,5 @@
 // The lines of verdicts, and of states and their fringes.
-ghost use Rattle.std.specs.Prelude.{◌≡◌, ◌<◌, ◌++◌, ◌∷◌, [], length, codes};
+ghost use Rattle.std.specs.Prelude.{◌<◌, ◌∷◌, [], length, codes};
 ghost use Rattle.ls_set.specs.ItemSet.{full, IsWithin};
 ghost use Rattle.ls_domain.specs.Texts.{set_text, fringe_words};
 ghost use Rattle.ls_reply.specs.Texts.{line_of};

@@ -1,5 +1,5 @@
 // The lines of refusals of settings, of pupils and of classes.
-ghost use Rattle.std.specs.Prelude.{◌≡◌, ◌∷◌, [], true, codes, option_copied};
+ghost use Rattle.std.specs.Prelude.{◌≡◌, ◌∷◌, true, codes, option_copied};
 ghost use Rattle.ls_reply.specs.Texts.{line_of};
 ghost use Rattle.ls_reply.specs.Refusals.{refusal_words, reply_words, reply_items, reason_word};
 ghost use Rattle.ls_texts.specs.Rooms.{Says};

@@ -1,5 +1,5 @@
 // Answers that an inquiry takes and takes back.
-ghost use Rattle.std.specs.Prelude.{◌≡◌, ◌+◌, ◌<◌, ◌≤◌, Bool, true, false, Some, None, IfSome, IfOk, IfErr, OnOk, OnErr};
+ghost use Rattle.std.specs.Prelude.{◌≡◌, ◌+◌, ◌<◌, ◌≤◌, true, false, Some, None, IfOk, IfErr, OnOk, OnErr};
 ghost use Rattle.ls_theory.specs.Interviews.{accepted, retracted};
 ghost use Rattle.ls_theory.specs.Compatible.{compatible_sets};
 ghost use Rattle.ls_theory.specs.Forced.{known};
