@@ -22,7 +22,7 @@ use Rattle.ls_query.proofs.Sorted.{sorted-cases}
 use Rattle.ls_query.proofs.QuerySets.{sorted-queries, query_before-asymmetric, query_before-cases, before-by_set, before-by_item}
 use Rattle.ls_theory.specs.Blocks.{BlockRange}
 use Rattle.ls_query.specs.Blocks.{queries_of}
-use Rattle.ls_infer.specs.Tables.{TableState}
+use Rattle.ls_infer.specs.Tables.{TableState, AreStates}
 use Rattle.ls_expert.specs.Held.{blocks_of, IsHeld, NoneBefore, PlaceFor, IsInquiry}
 use Rattle.ls_expert.proofs.AnswerLists.{no_queries-yes, no_queries-no}
 
@@ -172,10 +172,11 @@ place-some i (Some r) s p = question-after i r s p
 -- ---- what an inquiry keeps
 
 -- where an open query is looked for from the first query of the blocks on
-pub asking : (i : Interview) (b : BlockRange) (rules : List Query) (t : TableState) (from : Option Query) → IsHeld i rules t → b ≡ blocks_of i → 0 < i.block
-    → from ≡ find (comes_after query_before None) (queries_of b) → IsInquiry i b rules t from false
-asking i b rules t from held e some first = record {
+pub asking : (i : Interview) (b : BlockRange) (rules : List Query) (t : TableState) (w : List (List Items)) (from : Option Query) → IsHeld i rules t → AreStates (compatible_sets i) w → b ≡ blocks_of i → 0 < i.block
+    → from ≡ find (comes_after query_before None) (queries_of b) → IsInquiry i b rules t w from false
+asking i b rules t w from held states e some first = record {
   held = held;
+  states = states;
   asked = e;
   some_sizes = some;
   none_before = none-before_first i from (first ∙ ap (λ (b : BlockRange). find (comes_after query_before None) (queries_of b)) e);
@@ -183,10 +184,11 @@ asking i b rules t from held e some first = record {
 }
 
 -- where an answer is taken
-pub still-asking : (i : Interview) (r : Query) (is_yes : Bool) (b : BlockRange) (rules more : List Query) (t new : TableState) (from : Option Query) (is_found : Bool) → IsInquiry i b rules t from is_found
-    → IsHeld (accepted i r is_yes) more new → IsInquiry (accepted i r is_yes) b more new from false
-still-asking i r is_yes b rules more t new from is_found kept held = record {
+pub still-asking : (i : Interview) (r : Query) (is_yes : Bool) (b : BlockRange) (rules more : List Query) (t new : TableState) (w u : List (List Items)) (from : Option Query) (is_found : Bool) → IsInquiry i b rules t w from is_found
+    → IsHeld (accepted i r is_yes) more new → AreStates (compatible_sets (accepted i r is_yes)) u → IsInquiry (accepted i r is_yes) b more new u from false
+still-asking i r is_yes b rules more t new w u from is_found kept held states = record {
   held = held;
+  states = states;
   asked = kept.asked;
   some_sizes = kept.some_sizes;
   none_before = still-none_before i r is_yes from kept.none_before;

@@ -2,10 +2,11 @@
 use Rattle.std.proofs.Common.{ℕ, zero, suc, ◌+◌, ◌<◌, ◌≤◌, ◌≡◌, length, List, [], Result, Ok, refl, sym, ap, ap₂, ◌∙◌, subst, arith}
 use Rattle.std.specs.List.{IsDistinct}
 use Rattle.ls_set.specs.declared.item_set.TheConstants.{PLACES}
+use Rattle.ls_set.specs.ItemSet.{Items}
 use Rattle.ls_set.specs.declared.query.Query.{Query}
 use Rattle.ls_theory.specs.Starts as theory
 use Rattle.ls_theory.specs.Queries.{blocks}
-use Rattle.ls_theory.specs.Compatible.{compat}
+use Rattle.ls_theory.specs.Compatible.{compat, compatible_sets}
 use Rattle.ls_theory.specs.Interviews.{Interview, begun, yes_queries, nos}
 use Rattle.ls_theory.specs.declared.answer.Answer.{Answer}
 use Rattle.ls_theory.specs.Blocks.{BlockRange, made, most_sets}
@@ -20,7 +21,7 @@ use Rattle.ls_query.proofs.Made.{made_of}
 use Rattle.ls_query.proofs.Binomials.{choose-none, choose-more, choose-zero_more}
 use Rattle.ls_query.proofs.BySize.{length-blocks_more, length-blocks_none}
 use Rattle.ls_query.proofs.Counted.{made-ok, none_too_wide}
-use Rattle.ls_infer.specs.Tables.{TableState, table_of}
+use Rattle.ls_infer.specs.Tables.{TableState, AreStates, table_of}
 use Rattle.ls_expert.specs.Held.{single_items, closures_of, IsHeld}
 
 -- ---- blocks of single items
@@ -51,6 +52,12 @@ pub tabled-by : (i : Interview) (n : ℕ) (s : theory.Start) (rules : List Query
 tabled-by i n s rules answers t h en es er ea =
     h ∙ ap₂ (λ (m : ℕ) (s : theory.Start). table_of (single_items m) (compat m s rules) (nos answers)) en es
     ∙ ap₂ (λ (rs : List Query) (done : List Answer). table_of (single_items i.count) (compat i.count i.start rs) (nos done)) er ea
+
+-- and so for the states that are kept
+pub states-by : (i : Interview) (n : ℕ) (s : theory.Start) (rules : List Query) (w : List (List Items)) → AreStates (compat n s rules) w → n ≡ i.count → s ≡ i.start → rules ≡ yes_queries i.answers → AreStates (compatible_sets i) w
+states-by i n s rules w h en es er =
+    subst (λ (rs : List Query). AreStates (compat i.count i.start rs) w) er
+    (subst (λ (t : theory.Start). AreStates (compat i.count t rules) w) es (subst (λ (m : ℕ). AreStates (compat m s rules) w) en h))
 
 -- ---- the beginning
 

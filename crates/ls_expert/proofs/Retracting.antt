@@ -24,7 +24,7 @@ use Rattle.ls_theory.specs.Answering.{answer_with, is_same_query}
 use Rattle.ls_laws.specs.Spans.{left_by}
 use Rattle.ls_laws.proofs.Accepting.{taken_out}
 use Rattle.ls_laws.proofs.Numbered.{retracted-numbered}
-use Rattle.ls_infer.specs.Tables.{TableState, standing, table_of}
+use Rattle.ls_infer.specs.Tables.{TableState, AreStates, standing, table_of}
 use Rattle.ls_expert.specs.Steps.{closures_over}
 use Rattle.ls_expert.specs.Held.{single_items, closures_of, rules_before, IsHeld}
 use Rattle.ls_expert.proofs.AnswerLists.{is_other, all-fewer, all-told, told-all, nos-others, rising, yes_queries-without_yes, yes_queries-without_no, nos-without_yes, rules_before-within}
@@ -124,17 +124,29 @@ module _ (i : Interview) (a : Answer) (rules : List Query) (t new : TableState) 
       ∙ sym (and_assoc (meets i.start k) (breaks_none (yes_queries after.answers) k) (not (breaks k a.query)))) (subsets i.count)
       ∙ sym (filter-both (is_compatible i.start (yes_queries after.answers)) (λ k. not (breaks k a.query)) (subsets i.count))
 
-  pub held-without_yes : (others : List Query) (k : List Items) → a.yes ≡ true → others ≡ remove rules (rules_before i.answers a.number) → k ≡ compat i.count i.start others
-      → ((ns : List No) → t ≡ table_of t.blocks (left_by a.query k) ns → new ≡ table_of t.blocks k ns) → IsHeld after others new
-  held-without_yes others k y removed family kept =
+  pub held-without_yes : (w : List (List Items)) (others : List Query) (k : List Items) → AreStates (compatible_sets i) w → a.yes ≡ true → others ≡ remove rules (rules_before i.answers a.number) → k ≡ compat i.count i.start others
+      → ((ns : List No) → AreStates (left_by a.query k) w → t ≡ table_of t.blocks (left_by a.query k) ns → new ≡ table_of t.blocks k ns) → IsHeld after others new
+  held-without_yes w others k states y removed family kept =
       let ruled : others ≡ yes_queries after.answers =
       removed ∙ ap (λ (l : List Query). remove l (rules_before i.answers a.number)) h.ruled ∙ sym (yes_queries-without_yes i a h.standing.numbered stands y) in
       let left : k ≡ compatible_sets after = family ∙ ap (compat i.count i.start) ruled in
       let blocks = ap (λ (s : TableState). s.blocks) h.tabled in
       back others ruled
-      (kept (nos i.answers) (h.tabled ∙ ap₂ (λ (b : BlockRange) (m : List Items). table_of b m (nos i.answers)) (sym blocks) (left-before y ∙ ap (left_by a.query) (sym left)))
+      (kept (nos i.answers) (subst (λ g. AreStates g w) (left-before y ∙ ap (left_by a.query) (sym left)) states) (h.tabled ∙ ap₂ (λ (b : BlockRange) (m : List Items). table_of b m (nos i.answers)) (sym blocks) (left-before y ∙ ap (left_by a.query) (sym left)))
       ∙ ap₂ (λ (b : BlockRange) (m : List Items). table_of b m (nos i.answers)) blocks left
       ∙ ap (λ (l : List No). table_of (single_items i.count) (compatible_sets after) l) (sym (nos-without_yes i a h.standing.numbered stands y)))
+
+  -- the states that are kept without it
+  pub states-without_yes : (w u : List (List Items)) (others : List Query) (k : List Items) → AreStates (compatible_sets i) w → a.yes ≡ true → others ≡ remove rules (rules_before i.answers a.number) → k ≡ compat i.count i.start others
+      → ((ns : List No) → AreStates (left_by a.query k) w → t ≡ table_of t.blocks (left_by a.query k) ns → AreStates k u) → AreStates (compatible_sets after) u
+  states-without_yes w u others k states y removed family kept =
+      let ruled : others ≡ yes_queries after.answers =
+      removed ∙ ap (λ (l : List Query). remove l (rules_before i.answers a.number)) h.ruled ∙ sym (yes_queries-without_yes i a h.standing.numbered stands y) in
+      let left : k ≡ compatible_sets after = family ∙ ap (compat i.count i.start) ruled in
+      let blocks = ap (λ (s : TableState). s.blocks) h.tabled in
+      subst (λ g. AreStates g u) left
+      (kept (nos i.answers) (subst (λ g. AreStates g w) (left-before y ∙ ap (left_by a.query) (sym left)) states)
+      (h.tabled ∙ ap₂ (λ (b : BlockRange) (m : List Items). table_of b m (nos i.answers)) (sym blocks) (left-before y ∙ ap (left_by a.query) (sym left))))
 
   -- ---- a No
 

@@ -33,7 +33,7 @@ use Rattle.ls_theory.specs.Queries.{breaks, some_breaks}
 use Rattle.ls_lists.proofs.Filters.{filter-all}
 use Rattle.ls_laws.proofs.Numbered.{accepted-numbered}
 use Rattle.ls_infer.specs.Changes.{CanFall}
-use Rattle.ls_infer.specs.Tables.{TableState, table_of}
+use Rattle.ls_infer.specs.Tables.{TableState, AreStates, table_of}
 use Rattle.ls_expert.specs.Held.{single_items, closures_of, IsHeld}
 use Rattle.ls_expert.proofs.AnswerLists.{yes_queries-yes, yes_queries-no, nos-yes, nos-no}
 
@@ -144,7 +144,7 @@ module _ (i : Interview) (r : Query) (rules : List Query) (t new : TableState) (
 
 -- ---- tables
 
-module _ (i : Interview) (r : Query) (old new : TableState) (f : List Items) (h : old ≡ closures_of i) where
+module _ (i : Interview) (r : Query) (old new : TableState) (kept_sets : List (List Items)) (f : List Items) (h : old ≡ closures_of i) (states : AreStates (compatible_sets i) kept_sets) where
   own : (ns : List No) (g : List Items) → g ≡ compatible_sets i → ns ≡ nos i.answers → old ≡ table_of old.blocks g ns
   own ns g eg en =
       h ∙ ap (λ (b : BlockRange). table_of b (compatible_sets i) (nos i.answers)) (sym (ap (λ (t : TableState). t.blocks) h))
@@ -152,21 +152,34 @@ module _ (i : Interview) (r : Query) (old new : TableState) (f : List Items) (h 
 
   -- the table after a No
   pub tabled-no : (x : No) → f ≡ compatible_sets i → x ≡ record { number = i.next; query = r }
-      → ((ns : List No) → old ≡ table_of old.blocks f ns → new ≡ table_of old.blocks f (ns ++ x ∷ [])) → new ≡ closures_of (accepted i r false)
+      → ((ns : List No) → AreStates f kept_sets → old ≡ table_of old.blocks f ns → new ≡ table_of old.blocks f (ns ++ x ∷ [])) → new ≡ closures_of (accepted i r false)
   tabled-no x family e kept =
-      kept (nos i.answers) (own (nos i.answers) f family refl)
+      kept (nos i.answers) (subst (λ g. AreStates g kept_sets) (sym family) states) (own (nos i.answers) f family refl)
       ∙ ap (λ (b : BlockRange). table_of b f (nos i.answers ++ x ∷ [])) (ap (λ (t : TableState). t.blocks) h)
       ∙ ap₂ (λ (k : List Items) (l : List No). table_of (single_items i.count) k l) (family ∙ sym (compatible-no i r)) (ap (λ y. nos i.answers ++ y ∷ []) e ∙ sym (nos-no i r))
 
   -- the table after a Yes
   pub tabled-yes : (fall : Items) → CanFall (compatible_sets i) r.q fall → f ≡ compat i.count i.start (yes_queries i.answers ++ r ∷ [])
-      → ((before : List Items) (ns : List No) → IsFamily old.blocks.item_count before → f ≡ left_by r before → CanFall before r.q fall → old ≡ table_of old.blocks before ns → new ≡ table_of old.blocks f ns) → new ≡ closures_of (accepted i r true)
+      → ((before : List Items) (ns : List No) → IsFamily old.blocks.item_count before → f ≡ left_by r before → CanFall before r.q fall → AreStates before kept_sets → old ≡ table_of old.blocks before ns → new ≡ table_of old.blocks f ns) → new ≡ closures_of (accepted i r true)
   tabled-yes fall can family kept =
       let left : f ≡ left_by r (compatible_sets i) = family ∙ compat-more i.count i.start (yes_queries i.answers) r in
       kept (compatible_sets i) (nos i.answers)
-      (subst (λ n. IsFamily n (compatible_sets i)) (ap (λ (t : TableState). t.blocks.item_count) (sym h)) (compat-IsFamily i.count i.start (yes_queries i.answers))) left can (own (nos i.answers) (compatible_sets i) refl refl)
+      (subst (λ n. IsFamily n (compatible_sets i)) (ap (λ (t : TableState). t.blocks.item_count) (sym h)) (compat-IsFamily i.count i.start (yes_queries i.answers))) left can states (own (nos i.answers) (compatible_sets i) refl refl)
       ∙ ap (λ (b : BlockRange). table_of b f (nos i.answers)) (ap (λ (t : TableState). t.blocks) h)
       ∙ ap₂ (λ (k : List Items) (l : List No). table_of (single_items i.count) k l) (left ∙ sym (compatible-yes i r)) (sym (nos-yes i r))
+
+  -- the states that are kept after a Yes
+  pub states-yes : (fall : Items) (after : List (List Items)) → CanFall (compatible_sets i) r.q fall → f ≡ compat i.count i.start (yes_queries i.answers ++ r ∷ [])
+      → ((before : List Items) (ns : List No) → IsFamily old.blocks.item_count before → f ≡ left_by r before → CanFall before r.q fall → AreStates before kept_sets → old ≡ table_of old.blocks before ns → AreStates f after) → AreStates (compatible_sets (accepted i r true)) after
+  states-yes fall after can family kept =
+      let left : f ≡ left_by r (compatible_sets i) = family ∙ compat-more i.count i.start (yes_queries i.answers) r in
+      subst (λ g. AreStates g after) (left ∙ sym (compatible-yes i r))
+      (kept (compatible_sets i) (nos i.answers)
+      (subst (λ n. IsFamily n (compatible_sets i)) (ap (λ (t : TableState). t.blocks.item_count) (sym h)) (compat-IsFamily i.count i.start (yes_queries i.answers))) left can states (own (nos i.answers) (compatible_sets i) refl refl))
+
+  -- and after a No
+  pub states-no : (after : List (List Items)) → f ≡ compatible_sets i → (AreStates f kept_sets → AreStates f after) → AreStates (compatible_sets (accepted i r false)) after
+  states-no after family kept = subst (λ g. AreStates g after) (family ∙ sym (compatible-no i r)) (kept (subst (λ g. AreStates g kept_sets) (sym family) states))
 
 -- a Yes that the others force leaves the compatible sets
 forced_yes : (sure never : Bool) (k : ℕ) → cond sure Known.Yes (cond never (Known.No k) Known.Unsettled) ≡ Known.Yes → sure ≡ true
@@ -189,3 +202,7 @@ forced-left i r fits e =
 pub tabled-forced : (i : Interview) (r : Query) (t : TableState) → SomeFits i → known i r ≡ Known.Yes → t ≡ closures_of i → t ≡ closures_of (accepted i r true)
 tabled-forced i r t fits e h =
     h ∙ ap₂ (λ (k : List Items) (l : List No). table_of (single_items i.count) k l) (sym (compatible-yes i r ∙ forced-left i r fits e)) (sym (nos-yes i r))
+
+-- and the states that are kept
+pub states-forced : (i : Interview) (r : Query) (w : List (List Items)) → SomeFits i → known i r ≡ Known.Yes → AreStates (compatible_sets i) w → AreStates (compatible_sets (accepted i r true)) w
+states-forced i r w fits e = subst (λ g. AreStates g w) (sym (compatible-yes i r ∙ forced-left i r fits e))

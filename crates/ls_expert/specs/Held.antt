@@ -1,7 +1,7 @@
 -- What an inquiry keeps true of its parts.
 use Rattle.std.specs.Prelude.{◌≡◌, ℕ, Bool, ◌+◌, ◌<◌, ◌≤◌, true, false, ◌&&◌, nat_lt, List, map, length, count_by, find, Option, None, Some}
 use Rattle.std.specs.List.{list_all, IsDistinct}
-use Rattle.ls_set.specs.ItemSet.{most_items}
+use Rattle.ls_set.specs.ItemSet.{Items, most_items}
 use Rattle.ls_set.specs.declared.query.Query.{Query}
 use Rattle.ls_set.specs.Query.{is_good}
 use Rattle.ls_theory.specs.declared.answer.Answer.{Answer}
@@ -15,7 +15,7 @@ use Rattle.ls_lists.specs.Lists.{IsIn}
 use Rattle.ls_theory.specs.Blocks.{BlockRange}
 use Rattle.ls_theory.specs.Answering.{most_answers, most_number, is_same_query}
 use Rattle.ls_laws.specs.Forced.{IsSound, IsNumbered}
-use Rattle.ls_infer.specs.Tables.{TableState, table_of}
+use Rattle.ls_infer.specs.Tables.{TableState, AreStates, table_of}
 use Rattle.ls_expert.specs.Starts.{StartOn}
 
 -- the interview on n items with the start, where sets up to the size k are asked, the answers stand and `next` is the number of the next
@@ -71,9 +71,10 @@ abbrev pub PlaceFor : Interview → Option Query → Option Query → Type 0
 PlaceFor i None from = NoneBefore i from
 PlaceFor i (Some r) from = from ≡ find (query_before r) (queries i.count i.block)
 
--- With that the blocks are kept, which have some sizes; the query from which an open one is looked for; and whether that is the first open one.
-pub record IsInquiry (i : Interview) (blocks : BlockRange) (rules : List Query) (table : TableState) (from : Option Query) (is_found : Bool) : Type 0 where
+-- With that compatible sets are kept, as the states of the table; the blocks, which have some sizes; the query from which an open one is looked for; and whether that is the first open one.
+pub record IsInquiry (i : Interview) (blocks : BlockRange) (rules : List Query) (table : TableState) (witnesses : List (List Items)) (from : Option Query) (is_found : Bool) : Type 0 where
   pub held : IsHeld i rules table
+  pub states : AreStates (compatible_sets i) witnesses
   pub asked : blocks ≡ blocks_of i
   pub some_sizes : 0 < i.block
   pub none_before : NoneBefore i from

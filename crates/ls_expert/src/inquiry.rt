@@ -11,7 +11,7 @@ ghost use Rattle.ls_theory.specs.Forced.{known, next_question, is_settled};
 ghost use Rattle.ls_theory.specs.Bases.{base};
 ghost use Rattle.ls_theory.specs.Blocks.{made, IsBlockFault};
 ghost use Rattle.ls_theory.specs.Answering.{refusal, answer_with, IsFaultOf};
-ghost use Rattle.ls_infer.specs.Tables.{table_of};
+ghost use Rattle.ls_infer.specs.Tables.{table_of, AreStates};
 ghost use Rattle.ls_expert.specs.Held.{single_items, blocks_of, rules_before, IsStanding, PlaceFor};
 ghost use Rattle.ls_expert.specs.Steps.{steps_back, most_steps};
 
@@ -73,7 +73,7 @@ impl Model for Inquiry {
 
     ghost invariant = { λ s. IsInquiry
         (interview_of s.family.inner s.block s.answers.items s.next)
-        s.blocks s.family.rules s.table.table s.from s.is_found };
+        s.blocks s.family.rules s.table.table s.table.witnesses s.from s.is_found };
 }
 
 // The table of a family with rules, of the sets of one item, for the answers that are No.
@@ -87,9 +87,12 @@ fn build<L: Ledger>(
     requires few { family.now.inner.item_count ≤ PLACES }
     requires good { list_all (λ a. is_good family.now.inner.item_count a.query) answers.now
         ≡ true }
-    ensures { let n = family.now.inner.item_count in
+    ensures table { let n = family.now.inner.item_count in
         IfOk result (λ t. t.table ≡ table_of (single_items n)
         (compat n family.now.inner.start family.now.rules) (nos answers.now)) }
+    ensures states { let n = family.now.inner.item_count in
+        IfOk result (λ t.
+        AreStates (compat n family.now.inner.start family.now.rules) t.witnesses) }
 {
     let nos = nos(alloc, answers)?;
     let blocks = Blocks::new(family.items(), 1).unwrap();

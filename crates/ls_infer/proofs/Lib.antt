@@ -6,6 +6,7 @@ mod Questions
 mod Sharing
 mod States
 mod Witnessing
+pub mod KeptStates
 pub mod Changes
 mod Standing
 mod Closing

@@ -275,14 +275,20 @@ before-state n before after r s closed enough change e made all within keeps =
 
 -- ---- one No after another
 
+pub standing-at : (n : ℕ) (before after : List Items) (nos : List No) (ys : List StandingNo) (i : ℕ) (x : StandingNo) → i < length nos → ys ≡ images (standing n after) (standing n before) nos i → x ≡ get_or ys i x → x ≡ standing n before x.no
+standing-at n before after nos ys i x l made here =
+    let a = get_or nos i x.no in
+    let at : slice_get nos i ≡ Some a = slice_get-get_or nos i x.no l in
+    let old : x ≡ standing n before a = here ∙ ap (λ zs. get_or zs i x) made ∙ images-at (standing n after) (standing n before) nos i a x at in
+    old ∙ ap (standing n before) (sym (ap (λ (s : StandingNo). s.no) old))
+
 pub standing-next : (n : ℕ) (before after : List Items) (nos : List No) (ys : List StandingNo) (i : ℕ) (x y : StandingNo) → i < length nos → ys ≡ images (standing n after) (standing n before) nos i → x ≡ get_or ys i x
     → (x ≡ standing n before x.no → y ≡ standing n after x.no) → set ys i y ≡ images (standing n after) (standing n before) nos (i + 1)
 standing-next n before after nos ys i x y l made here next =
     let a = get_or nos i x.no in
     let at : slice_get nos i ≡ Some a = slice_get-get_or nos i x.no l in
     let old : x ≡ standing n before a = here ∙ ap (λ zs. get_or zs i x) made ∙ images-at (standing n after) (standing n before) nos i a x at in
-    let no : x.no ≡ a = ap (λ (s : StandingNo). s.no) old in
-    images-next (standing n after) (standing n before) nos ys i a y at made (next (old ∙ ap (standing n before) (sym no)) ∙ ap (standing n after) no)
+    images-next (standing n after) (standing n before) nos ys i a y at made (next (standing-at n before after nos ys i x l made here) ∙ ap (standing n after) (ap (λ (s : StandingNo). s.no) old))
 
 -- ---- what no Yes reaches stays
 

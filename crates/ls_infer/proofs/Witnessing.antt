@@ -1,12 +1,14 @@
 -- What a state tells of the items that are enough.
 use Rattle.std.proofs.Common.{ℕ, ◌<◌, ◌≤◌, ◌≡◌, inl, inr, true, false, List, sym, ap, ◌∙◌, subst, arith, true≢false}
 use Rattle.std.proofs.lemmas.Bool.{cases_Bool, and_from, false_from_ne_true, true_from_ne_false}
-use Rattle.ls_set.specs.ItemSet.{Items, has, full, with, meet, minus, len, is_within, IsWithin}
+use Rattle.ls_set.specs.ItemSet.{Items, has, full, with, meet, minus, len, is_within, is_among, IsWithin}
 use Rattle.ls_set.proofs.Sets.{has-empty, has-meet, is_within-from}
 use Rattle.ls_set.proofs.Sizes.{len-within, len-less}
 use Rattle.ls_laws.proofs.Counts.{some_item}
 use Rattle.ls_theory.specs.Families.{interior}
-use Rattle.ls_laws.proofs.Interiors.{IsUnionFamily, interior-is, interior-within, interior-greatest}
+use Rattle.ls_laws.specs.Families.{IsFamily}
+use Rattle.ls_laws.proofs.Families.{family_sets}
+use Rattle.ls_laws.proofs.Interiors.{IsUnionFamily, interior-is, interior-within, interior-greatest, interior-member}
 use Rattle.ls_infer.specs.Tables.{enough_for}
 use Rattle.ls_infer.specs.Narrowing.{narrowed, IsNarrowed}
 use Rattle.ls_infer.proofs.Outside.{out-parts, out-from, with-cases}
@@ -82,5 +84,14 @@ pub narrowed-next : (n : ℕ) (f : List Items) (outside set kept first items aft
 narrowed-next n f outside set kept first items after q family out same made so =
     subst (λ s. IsNarrowed n f outside q first s) (sym made) (narrowed-both n f outside q first items (narrowed items q kept) so (narrowed-from n f outside set kept items q family out same))
 
+-- after one more state that has q
+pub narrowed-by_state : (n : ℕ) (f : List Items) (outside state first items after : Items) (q : ℕ) → IsFamily n f → is_among f state ≡ true → has state q ≡ true → IsWithin state outside → after ≡ meet items state
+    → IsNarrowed n f outside q first items → IsNarrowed n f outside q first after
+narrowed-by_state n f outside state first items after q family member holds out made so =
+    narrowed-next n f outside state state first items after q (family_sets n f family) out (sym (interior-member f state member)) (rw holds made) so
+
 pub inside-part : (f : List Items) (set kept outside : Items) → IsWithin set outside → kept ≡ interior f set → IsWithin kept outside
 inside-part f set kept outside out same i h = out i (interior-within f set i (ap (λ s. has s i) (sym same) ∙ h))
+
+pub inside-member : (n : ℕ) (f : List Items) (set kept : Items) → IsUnionFamily n f → kept ≡ interior f set → is_among f kept ≡ true
+inside-member n f set kept family same = ap (is_among f) same ∙ (interior-is f family.holds_empty family.holds_unions set).member

@@ -1,5 +1,6 @@
 -- Tables of closures: what is kept of a family of sets, so that queries are answered without forming it.
 --     table_of b f nos      the table of the family f, for blocks b and the standing answers that are No
+--     AreStates f kept      the sets that are kept for each item are members of the family f
 --     forces r s      the No of which s is kept forces the query r No
 --     closed_of t a      the closure that is kept of a block set
 --     told n f nos r      what the family f and the standing Nos tell of the query r
@@ -35,10 +36,15 @@ pub record TableState : Type 0 where
   pub closures : List Items
   pub standing : List StandingNo
 
--- a table, with the number of standing Nos for which there is room
+-- a table, with the sets that are kept for each item, and the number of standing Nos for which there is room
 pub record TableRoom : Type 0 where
   pub table : TableState
+  pub witnesses : List (List Items)
   pub spare : ℕ
+
+-- the sets that are kept for each item are members of the family
+abbrev pub AreStates : List Items → List (List Items) → Type 0
+AreStates f kept = list_all (list_all (is_among f)) kept ≡ true
 
 -- the table of a family
 abbrev pub table_of : BlockRange → List Items → List No → TableState

@@ -7,7 +7,7 @@ ghost use Rattle.ls_theory.specs.Queries.{block_before, blocks};
 ghost use Rattle.ls_theory.specs.Families.{closure};
 ghost use Rattle.ls_query.specs.Blocks.{sets_of};
 ghost use Rattle.ls_infer.specs.Changes.{IsChange, is_stale};
-ghost use Rattle.ls_infer.specs.Tables.{standing};
+ghost use Rattle.ls_infer.specs.Tables.{standing, AreStates};
 
 use crate::fronts::{Front, close_block};
 use crate::standing_no::StandingNo;
@@ -58,7 +58,10 @@ pub fn standing_of<I: Interior, L: Ledger>(
     requires good { list_all (λ a. is_good (I.item_count f.now) a.query) answers.now ≡ true }
     ensures list { (k : ℕ) → let n = I.item_count f.now in
         closures.now ≡ map (closure (full n) (I.members f.now)) (blocks n k) →
+        AreStates (I.members f.now) witnesses.old →
         IfOk result (λ v. v.items ≡ map (standing n (I.members f.now)) answers.now) }
+    ensures states { AreStates (I.members f.now) witnesses.old →
+        AreStates (I.members f.now) witnesses.new }
     ensures cost { steps.new ≤ steps.old + (I.item_count f.now + 1) * length answers.now }
 {
     let mut kept = Vec::new(alloc);

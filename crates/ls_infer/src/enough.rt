@@ -2,7 +2,7 @@
 ghost use Rattle.std.specs.Prelude.{◌≡◌, ◌+◌, ◌<◌, ◌≤◌, ◌⊎◌, ℕ, true};
 ghost use Rattle.ls_set.specs.ItemSet.{full, has, minus, is_among, IsWithin};
 ghost use Rattle.ls_infer.specs.Narrowing.{owed};
-ghost use Rattle.ls_infer.specs.Tables.{enough_for};
+ghost use Rattle.ls_infer.specs.Tables.{enough_for, AreStates};
 
 use crate::narrowing::{Rest, lessen, narrow};
 use crate::witnesses::{Witnesses, keep_witness};
@@ -50,10 +50,13 @@ pub fn enough_among<I: Interior, L: Ledger>(
     requires known { IsWithin known (full (I.item_count f.now)) }
     requires rest { IsWithin rest.items (full (I.item_count f.now)) }
     ensures value { is_among (I.members f.now) (minus (full (I.item_count f.now)) closed) ≡ true →
+        AreStates (I.members f.now) witnesses.old →
         IsWithin known (enough_for (I.item_count f.now) (I.members f.now) closed q) →
         ((r : ℕ) → has (enough_for (I.item_count f.now) (I.members f.now) closed q) r ≡ true →
         (has known r ≡ true) ⊎ (has rest.items r ≡ true)) →
         result ≡ enough_for (I.item_count f.now) (I.members f.now) closed q }
+    ensures states { is_among (I.members f.now) (minus (full (I.item_count f.now)) closed) ≡ true →
+        AreStates (I.members f.now) witnesses.old → AreStates (I.members f.now) witnesses.new }
     ensures within { IsWithin result (full (I.item_count f.now)) }
     ensures cost { steps.new ≤ steps.old + owed rest }
 {
@@ -61,12 +64,12 @@ pub fn enough_among<I: Interior, L: Ledger>(
     let keep = ItemSet::empty().with(q);
     let mut enough = known;
     let mut rest = rest;
-    narrow(f, outside, q, witnesses, &mut rest, steps);
+    narrow(outside, q, witnesses, &mut rest);
     while let Some(r) = rest.items.least() {
         rest.items = rest.items.without(r);
         match f.interior_without(outside, r, keep, steps) {
             Some(missed) => {
-                rest.items = rest.items.meet(missed);
+                rest.leave(missed);
                 let witness = lessen(f, outside, q, missed, &mut rest, steps);
                 keep_witness(witnesses, witness, q);
             }
@@ -92,9 +95,12 @@ pub fn enough_between<I: Interior, L: Ledger>(
     requires known { IsWithin known (full (I.item_count f.now)) }
     requires among { IsWithin among (full (I.item_count f.now)) }
     ensures value { is_among (I.members f.now) (minus (full (I.item_count f.now)) closed) ≡ true →
+        AreStates (I.members f.now) witnesses.old →
         IsWithin known (enough_for (I.item_count f.now) (I.members f.now) closed q) →
         IsWithin (enough_for (I.item_count f.now) (I.members f.now) closed q) among →
         result ≡ enough_for (I.item_count f.now) (I.members f.now) closed q }
+    ensures states { is_among (I.members f.now) (minus (full (I.item_count f.now)) closed) ≡ true →
+        AreStates (I.members f.now) witnesses.old → AreStates (I.members f.now) witnesses.new }
     ensures within { IsWithin result (full (I.item_count f.now)) }
     ensures cost { steps.new + 1 ≤ steps.old + I.item_count f.now }
     ensures fewer { (i : ℕ) → has closed i ≡ true → i < I.item_count f.now →

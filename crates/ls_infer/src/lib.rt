@@ -1,6 +1,8 @@
 //! What the standing answers of an interview tell, by the closures of its block sets.
 #![tactic(auto)]
 
+mod breaking;
+mod changing;
 mod closures;
 mod enough;
 mod forcing;

@@ -1,8 +1,10 @@
 // What may still be enough, as states tell it.
-ghost use Rattle.std.specs.Prelude.{◌≡◌, ◌+◌, ◌<◌, ◌≤◌, true};
-ghost use Rattle.ls_set.specs.ItemSet.{full, IsWithin};
+ghost use Rattle.std.specs.Prelude.{◌≡◌, ◌+◌, ◌<◌, ◌≤◌, ℕ, true, List};
+ghost use Rattle.ls_set.specs.ItemSet.{Items, full, has, meet, is_among, IsWithin};
 ghost use Rattle.ls_theory.specs.Families.{interior};
+ghost use Rattle.ls_laws.specs.Families.{IsFamily};
 ghost use Rattle.ls_infer.specs.Narrowing.{narrowed, owed, IsNarrowed};
+ghost use Rattle.ls_infer.specs.Tables.{AreStates};
 
 use crate::witnesses::Witnesses;
 use ls_interior::{Interior, Steps};
@@ -16,8 +18,20 @@ pub struct Rest {
     pub spare: u32,
 }
 
-// The interior of a set. Where it has `q`, items that it lacks are not enough. The step is that of
-// an item that falls out of the rest, or else a spare one.
+impl Rest {
+    /// Leaves out the items that a set lacks. Their steps can be spared.
+    pub fn leave(&mut self, set: ItemSet)
+        ensures items { self.new.items ≡ meet self.old.items set }
+        ensures fewer { owed self.new ≤ owed self.old }
+    {
+        let left = self.items.meet(set);
+        self.spare = self.spare.saturating_add(self.items.len() - left.len());
+        self.items = left;
+    }
+}
+
+// The interior of a set. Where it has `q`, items that it lacks are not enough. It takes a spare
+// step.
 fn try_set<I: Interior, L: Ledger>(
     f: &I,
     set: ItemSet,
@@ -34,52 +48,37 @@ fn try_set<I: Interior, L: Ledger>(
     ensures cost { steps.new + owed rest.new ≤ steps.old + owed rest.old }
 {
     let inside = f.interior(set, steps);
-    let items = if inside.has(q) {
-        rest.items.meet(inside)
-    } else {
-        rest.items
-    };
-    if rest.items.is_within(items) {
-        rest.spare -= 1;
+    rest.spare -= 1;
+    if inside.has(q) {
+        rest.leave(inside);
     }
-    rest.items = items;
     inside
 }
 
-// Whether a set may show that an item of the rest is not enough, and there is a step to spare.
-fn is_of_use(set: ItemSet, outside: ItemSet, q: u32, rest: &Rest) -> bool
+// Whether a state shows that an item of the rest is not enough.
+fn is_of_use(state: ItemSet, outside: ItemSet, q: u32, rest: ItemSet) -> bool
     requires { q < PLACES }
-    ensures within { result ≡ true → IsWithin set outside }
-    ensures spare { result ≡ true → 0 < rest.now.spare }
+    ensures item { result ≡ true → has state q ≡ true }
+    ensures within { result ≡ true → IsWithin state outside }
 {
-    rest.spare > 0 && set.has(q) && !rest.items.is_within(set) && set.is_within(outside)
+    !rest.is_within(state) && state.has(q) && state.is_within(outside)
 }
 
-/// Leaves out of the rest what the witnesses that are kept for `q` show not to be enough. Those
-/// are tried that lie within `outside` and lack an item of the rest.
-pub fn narrow<I: Interior, L: Ledger>(
-    f: &I,
-    outside: ItemSet,
-    q: u32,
-    witnesses: &mut [Witnesses],
-    rest: &mut Rest,
-    steps: &mut Steps<L>,
-)
-    requires within { IsWithin outside (full (I.item_count f.now)) }
-    requires item { q < PLACES }
-    ensures narrowed { let n = I.item_count f.now in
-        IsNarrowed n (I.members f.now) outside q rest.old.items rest.new.items }
-    ensures cost { steps.new + owed rest.new ≤ steps.old + owed rest.old }
+/// Leaves out of the rest what the states that are kept for `q` show not to be enough: what those
+/// lack that lie within `outside`. It takes no step.
+pub fn narrow(outside: ItemSet, q: u32, witnesses: &[Witnesses], rest: &mut Rest)
+    requires { q < PLACES }
+    ensures narrowed { (n : ℕ) (f : List Items) → IsFamily n f → AreStates f witnesses.now →
+        IsNarrowed n f outside q rest.old.items rest.new.items }
+    ensures part { IsWithin rest.new.items rest.old.items }
+    ensures fewer { owed rest.new ≤ owed rest.old }
 {
-    if rest.items.least().is_none() {
-        return;
-    }
-    let Some(kept) = witnesses.get_mut(q as usize) else {
+    let Some(kept) = witnesses.get(q as usize) else {
         return;
     };
-    for set in kept.sets.iter_mut() {
-        if is_of_use(*set, outside, q, rest) {
-            *set = try_set(f, *set, q, rest, steps);
+    for state in kept.states() {
+        if is_of_use(*state, outside, q, rest.items) {
+            rest.leave(*state);
         }
     }
 }
@@ -110,6 +109,8 @@ pub fn lessen<I: Interior, L: Ledger>(
     requires item { q < PLACES }
     ensures narrowed { let n = I.item_count f.now in
         IsNarrowed n (I.members f.now) outside q rest.old.items rest.new.items }
+    ensures member { is_among (I.members f.now) state ≡ true →
+        is_among (I.members f.now) result ≡ true }
     ensures cost { steps.new + owed rest.new ≤ steps.old + owed rest.old }
 {
     let mut state = state;

@@ -1,6 +1,5 @@
 // What is kept of a standing answer that is No.
-ghost use Rattle.std.specs.Prelude.{◌≡◌, ◌+◌, ◌*◌, ◌<◌, ◌≤◌, ◌==◌, ◌&&◌, ◌||◌, ℕ, List, true, false, not, map, length, filter};
-ghost use Rattle.std.specs.List.{list_all};
+ghost use Rattle.std.specs.Prelude.{◌≡◌, ◌+◌, ◌<◌, ◌≤◌, ◌==◌, ◌&&◌, ◌||◌, ℕ, List, true, false, not, map, filter};
 ghost use Rattle.ls_set.specs.ItemSet.{Items, full, has, is_among, IsWithin};
 ghost use Rattle.ls_set.specs.Query.{is_good};
 ghost use Rattle.ls_set.specs.declared.query.Query.{Query};
@@ -8,9 +7,10 @@ ghost use Rattle.ls_theory.specs.Families.{closure};
 ghost use Rattle.ls_theory.specs.Queries.{blocks, breaks};
 ghost use Rattle.ls_theory.specs.declared.no.No.{No};
 ghost use Rattle.ls_infer.specs.Changes.{IsChange, can_grow, is_kept, is_reached, most_steps};
-ghost use Rattle.ls_infer.specs.Tables.{enough_for, standing, forces};
+ghost use Rattle.ls_infer.specs.Tables.{enough_for, standing, forces, AreStates};
 ghost use Rattle.ls_infer.specs.declared.yes_change.YesChange.TheVariants as YesChange;
 
+use crate::breaking::breaks;
 use crate::enough::{enough_between, enough_for, is_state};
 use crate::reaching::reaching;
 use crate::witnesses::Witnesses;
@@ -31,15 +31,6 @@ pub struct StandingNo {
     pub enough: ItemSet,
     /// Whether the items of `enough` are a state, so that the others are a closed set.
     pub is_state: bool,
-}
-
-// Whether the set has no item of the query's A, and has its q.
-#[tactic(auto, unfolding(ls_set::specs::ItemSet::is_same))]
-fn breaks(set: ItemSet, r: &Query) -> bool
-    requires { r.now.q < PLACES }
-    ensures { result ≡ breaks set r.now }
-{
-    set.meet(r.a) == ItemSet::empty() && set.has(r.q)
 }
 
 impl StandingNo {
@@ -91,8 +82,12 @@ impl StandingNo {
         requires known { IsWithin known (full (I.item_count f.now)) }
         ensures value { let n = I.item_count f.now in
             closed ≡ closure (full n) (I.members f.now) no.query.a →
+            AreStates (I.members f.now) witnesses.old →
             IsWithin known (enough_for n (I.members f.now) closed no.query.q) →
             result ≡ standing n (I.members f.now) no }
+        ensures states { let n = I.item_count f.now in
+            closed ≡ closure (full n) (I.members f.now) no.query.a →
+            AreStates (I.members f.now) witnesses.old → AreStates (I.members f.now) witnesses.new }
         ensures kept { is_kept (I.item_count f.now) result ≡ true }
         ensures cost { steps.new ≤ steps.old + (I.item_count f.now + 1) }
         ensures fewer { (i : ℕ) → has closed i ≡ true → i < I.item_count f.now →
@@ -129,7 +124,10 @@ impl StandingNo {
         requires { is_good (I.item_count f.now) answer.now.query ≡ true }
         ensures value { (k : ℕ) → let n = I.item_count f.now in
             closures.now ≡ map (closure (full n) (I.members f.now)) (blocks n k) →
+            AreStates (I.members f.now) witnesses.old →
             result ≡ standing n (I.members f.now) answer.now }
+        ensures states { AreStates (I.members f.now) witnesses.old →
+            AreStates (I.members f.now) witnesses.new }
         ensures kept { is_kept (I.item_count f.now) result ≡ true }
         ensures cost { steps.new ≤ steps.old + (I.item_count f.now + 1) }
     {
@@ -151,9 +149,13 @@ impl StandingNo {
         requires within { IsWithin closed (full (I.item_count f.now)) }
         ensures value { let n = I.item_count f.now in
             closed ≡ closure (full n) (I.members f.now) self.now.no.query.a →
+            AreStates (I.members f.now) witnesses.old →
             IsWithin self.now.enough (enough_for n (I.members f.now) closed self.now.no.query.q) →
             is_among (I.members f.now) self.now.enough ≡ false →
             result ≡ standing n (I.members f.now) self.now.no }
+        ensures states { let n = I.item_count f.now in
+            closed ≡ closure (full n) (I.members f.now) self.now.no.query.a →
+            AreStates (I.members f.now) witnesses.old → AreStates (I.members f.now) witnesses.new }
         ensures kept { is_kept (I.item_count f.now) result ≡ true }
         ensures cost { steps.new ≤ steps.old + I.item_count f.now }
         ensures fewer { (i : ℕ) → has closed i ≡ true → i < I.item_count f.now →
@@ -206,8 +208,13 @@ impl StandingNo {
         ensures value { (before : List Items) (k : ℕ) → let n = I.item_count f.now in
             IsChange (YesChange.Added fall) n r.now before (I.members f.now) →
             closures.now ≡ map (closure (full n) (I.members f.now)) (blocks n k) →
+            AreStates (I.members f.now) witnesses.old →
             self.now ≡ standing n before self.now.no →
             result ≡ standing n (I.members f.now) self.now.no }
+        ensures states { (before : List Items) → let n = I.item_count f.now in
+            IsChange (YesChange.Added fall) n r.now before (I.members f.now) →
+            self.now ≡ standing n before self.now.no →
+            AreStates (I.members f.now) witnesses.old → AreStates (I.members f.now) witnesses.new }
         ensures kept { is_kept (I.item_count f.now) result ≡ true }
         ensures cost { steps.new ≤ steps.old + (I.item_count f.now + 1) }
     {
@@ -257,8 +264,13 @@ impl StandingNo {
         ensures value { (before : List Items) (k : ℕ) → let n = I.item_count f.now in
             IsChange YesChange.Removed n r.now before (I.members f.now) →
             closures.now ≡ map (closure (full n) (I.members f.now)) (blocks n k) →
+            AreStates (I.members f.now) witnesses.old →
             self.now ≡ standing n before self.now.no →
             result ≡ standing n (I.members f.now) self.now.no }
+        ensures states { (before : List Items) → let n = I.item_count f.now in
+            IsChange YesChange.Removed n r.now before (I.members f.now) →
+            self.now ≡ standing n before self.now.no →
+            AreStates (I.members f.now) witnesses.old → AreStates (I.members f.now) witnesses.new }
         ensures kept { is_kept (I.item_count f.now) result ≡ true }
         ensures cost { steps.new ≤ steps.old + I.item_count f.now }
     {
@@ -291,8 +303,8 @@ impl StandingNo {
         }
     }
 
-    // Whether a Yes to `r` that came or was taken back can change what is kept of it.
-    fn is_reached(&self, change: &YesChange, r: &Query) -> bool
+    /// Whether a Yes to `r` that came or was taken back can change what is kept of it.
+    pub fn is_reached(&self, change: &YesChange, r: &Query) -> bool
         requires item { r.now.q < PLACES }
         requires asked { self.now.no.query.q < PLACES }
         ensures { result ≡ is_reached change.now r.now self.now }
@@ -305,8 +317,8 @@ impl StandingNo {
         }
     }
 
-    // What is kept of it after a Yes to the good query `r` came or was taken back.
-    fn after<I: Interior, L: Ledger>(
+    /// What is kept of it after a Yes to the good query `r` came or was taken back.
+    pub fn after<I: Interior, L: Ledger>(
         &self,
         f: &I,
         closures: &[ItemSet],
@@ -322,8 +334,13 @@ impl StandingNo {
         ensures value { (before : List Items) (k : ℕ) → let n = I.item_count f.now in
             IsChange change.now n r.now before (I.members f.now) →
             closures.now ≡ map (closure (full n) (I.members f.now)) (blocks n k) →
+            AreStates (I.members f.now) witnesses.old →
             self.now ≡ standing n before self.now.no →
             result ≡ standing n (I.members f.now) self.now.no }
+        ensures states { (before : List Items) → let n = I.item_count f.now in
+            IsChange change.now n r.now before (I.members f.now) →
+            self.now ≡ standing n before self.now.no →
+            AreStates (I.members f.now) witnesses.old → AreStates (I.members f.now) witnesses.new }
         ensures kept { is_kept (I.item_count f.now) result ≡ true }
         ensures cost { steps.new ≤ steps.old + most_steps change.now (I.item_count f.now) }
     {
@@ -350,38 +367,6 @@ impl StandingNo {
             undecided.minus(self.enough)
         } else {
             undecided
-        }
-    }
-}
-
-/// Makes what is kept of each answer that after a Yes to `r` came or was taken back, in at most a
-/// step for each answer and item, and where a Yes comes one more for each answer. `f` is the family
-/// after the change, and `closures` are those of the sets of the blocks in it.
-pub fn change_each<I: Interior, L: Ledger>(
-    kept: &mut [StandingNo],
-    f: &I,
-    closures: &[ItemSet],
-    change: &YesChange,
-    r: &Query,
-    witnesses: &mut [Witnesses],
-    steps: &mut Steps<L>,
-)
-    requires kept { list_all (is_kept (I.item_count f.now)) kept.old ≡ true }
-    requires good { is_good (I.item_count f.now) r.now ≡ true }
-    requires item { r.now.q < PLACES }
-    requires few { I.item_count f.now ≤ PLACES }
-    ensures each { (before : List Items) (k : ℕ) (nos : List No) → let n = I.item_count f.now in
-        IsChange change.now n r.now before (I.members f.now) →
-        closures.now ≡ map (closure (full n) (I.members f.now)) (blocks n k) →
-        kept.old ≡ map (standing n before) nos →
-        kept.new ≡ map (standing n (I.members f.now)) nos }
-    ensures kept { list_all (is_kept (I.item_count f.now)) kept.new ≡ true }
-    ensures cost { steps.new ≤ steps.old
-        + most_steps change.now (I.item_count f.now) * length kept.old }
-{
-    for s in kept.iter_mut() {
-        if s.is_reached(change, r) {
-            *s = s.after(f, closures, change, r, witnesses, steps);
         }
     }
 }

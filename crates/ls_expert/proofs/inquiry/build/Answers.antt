@@ -1,4 +1,4 @@
-use Rattle.std.proofs.Common.{ℕ, ◌≡◌, ap, ap₂, not, refl, sym, ◌∙◌, List, [], filter, true}
+use Rattle.std.proofs.Common.{ℕ, ◌≡◌, ap, ap₂, not, refl, sym, ◌∙◌, subst, List, [], filter, true}
 use Rattle.std.specs.List.{list_all}
 use Rattle.std.proofs.lemmas.Result.{IfOk-weaker}
 use Rattle.ls_set.specs.ItemSet.{Items}
@@ -7,7 +7,7 @@ use Rattle.ls_theory.specs.Queries.{breaks_none}
 use Rattle.ls_theory.specs.Compatible.{compat}
 use Rattle.ls_theory.specs.Blocks.{BlockRange, made}
 use Rattle.ls_theory.specs.declared.no.No.{No}
-use Rattle.ls_infer.specs.Tables.{table_of}
+use Rattle.ls_infer.specs.Tables.{AreStates, table_of}
 use Rattle.ls_rules.specs.Ruled.{RuledState}
 use Rattle.ls_expert.specs.Starts.{StartOn}
 use Rattle.ls_expert.specs.Held.{single_items}
@@ -37,13 +37,19 @@ build-requires-clause-good g c =
     ∙ all-told (λ (a : No). is_good n a.query) (λ a. not a.yes) (λ a. let x : No = record { number = a.number; query = a.query } in x) c.args.answers.now c.requires.good in
     told
 
-pub returns : goal.returns
-returns g c =
+pub returns-clause-table : goal.returns-clause-table
+returns-clause-table g c =
     let f = c.args.family.now in
     let n = f.inner.item_count in
     IfOk-weaker c.build.result _ _
-    (λ t h. h ∙ ap (λ (b : BlockRange). table_of b (filter (breaks_none c.new-2.result.rules) (compat c.new-2.result.inner.item_count c.new-2.result.inner.start [])) c.deref.result.now) (blocks_are g (goal.at.returns g c).After-unwrap-blocks)
+    (λ t h. h ∙ ap (λ (b : BlockRange). table_of b (filter (breaks_none c.new-2.result.rules) (compat c.new-2.result.inner.item_count c.new-2.result.inner.start [])) c.deref.result.now) (blocks_are g (goal.at.returns-clause-table g c).After-unwrap-blocks)
     ∙ ap₂ (λ (k : List Items) (l : List No). table_of (single_items n) k l)
     (rw c.new-2.ensures (ruled-compat n f.inner.start f.rules))
     (c.deref.ensures.value ∙ c.in_ok-nos.ensures))
     c.build.ensures.built
+
+pub returns-clause-states : goal.returns-clause-states
+returns-clause-states g c =
+    let f = c.args.family.now in
+    let n = f.inner.item_count in
+    IfOk-weaker c.build.result _ _ (λ t h. subst (λ g. AreStates g t.witnesses) (rw c.new-2.ensures (ruled-compat n f.inner.start f.rules)) h) c.build.ensures.states

@@ -14,7 +14,8 @@ loop-answer-preserved g c =
     let v = c.loop-answer.invariant in
     let at : slice_get c.args.answers.now i ≡ Some a = slice_get-get_or c.args.answers.now i a c.loop-answer-test.true ∙ ap Some (sym c.answer-item.is) in
     record {
-      list = λ k closed. c.in_ok-push.ensures.items ∙ ap₂ (λ l x. l ++ x ∷ []) (v.list k closed) (c.shared.ensures.value k closed) ∙ mapped-next (standing n f) c.args.answers.now i a at;
+      list = λ k closed states. c.in_ok-push.ensures.items ∙ ap₂ (λ l x. l ++ x ∷ []) (v.list k closed states) (c.shared.ensures.value k closed (v.states states)) ∙ mapped-next (standing n f) c.args.answers.now i a at;
+      states = λ states. c.shared.ensures.states (v.states states);
       left = grind (arith, common_steps, v.left);
       cost = grind (arith, common_steps, v.cost, c.shared.ensures.cost);
     }

@@ -2,5 +2,5 @@ use Rattle.std.proofs.Common.{sym, ◌∙◌}
 use Rattle.ls_set.proofs.Sets.{IsWithin-from}
 use Rattle.ls_infer.proofs.narrowing.is_of_use.Goals as goal
 
-pub returns-then-not-is_within-clause-within : goal.returns-then-not-is_within-clause-within
-returns-then-not-is_within-clause-within c h = IsWithin-from c.args.set c.args.outside (sym c.is_within-then-not-is_within.ensures ∙ h)
+pub returns-then-has-clause-within : goal.returns-then-has-clause-within
+returns-then-has-clause-within c h = IsWithin-from c.args.state c.args.outside (sym c.is_within-then-has.ensures ∙ h)

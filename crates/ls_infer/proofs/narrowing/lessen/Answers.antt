@@ -2,7 +2,7 @@ use Rattle.std.proofs.Common.{sym, ap, ◌∙◌, arith}
 use Rattle.ls_set.specs.ItemSet.{has, IsWithin}
 use Rattle.ls_set.proofs.Sets.{minus-within}
 use Rattle.ls_laws.proofs.Families.{family_sets}
-use Rattle.ls_infer.proofs.Witnessing.{narrowed-next, inside-part}
+use Rattle.ls_infer.proofs.Witnessing.{narrowed-next, inside-part, inside-member}
 use Rattle.ls_infer.proofs.narrowing.lessen.Goals as goal
 
 pub try_set-inside-requires-clause-within : goal.try_set-inside-requires-clause-within
@@ -17,5 +17,6 @@ loop-rest-preserved-then-has g c =
       narrowed = narrowed-next n f c.args.outside c.minus.result c.try_set-inside.result c.args.rest.now.items c.loop-rest.rest.items c.try_set-inside.new.rest.items c.args.q (family_sets n f (g.met.I.Interior.is_family c.args.f.now)) out
           c.try_set-inside.ensures.value c.try_set-inside.ensures.items c.loop-rest.invariant.narrowed;
       part = inside-part f c.minus.result c.try_set-inside.result c.args.outside out c.try_set-inside.ensures.value;
+      member = λ _. inside-member n f c.minus.result c.try_set-inside.result (family_sets n f (g.met.I.Interior.is_family c.args.f.now)) c.try_set-inside.ensures.value;
       cost = omega (arith, c.try_set-inside.ensures.cost, c.loop-rest.invariant.cost);
     }

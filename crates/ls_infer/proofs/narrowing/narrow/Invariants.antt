@@ -1,10 +1,14 @@
-use Rattle.std.proofs.Common.{◌+◌, ◌≤◌}
+use Rattle.std.proofs.Common.{ℕ, ◌≤◌, List}
+use Rattle.ls_set.specs.ItemSet.{Items, IsWithin}
+use Rattle.ls_laws.specs.Families.{IsFamily}
 use Rattle.ls_infer.specs.Narrowing.{owed, IsNarrowed}
+use Rattle.ls_infer.specs.Tables.{AreStates}
 use Rattle.ls_infer.proofs.narrowing.narrow.Given as goal
 
--- what is left of the rest, and the steps
-abbrev pub invariant-loop-set : goal.invariant-loop-set
-invariant-loop-set g l = record {
-  narrowed : IsNarrowed (g.I.Interior.item_count l.f) (g.I.Interior.members l.f) l.fn.outside l.q l.fn.rest.items l.rest.items;
-  cost : l.steps + owed l.rest ≤ l.fn.steps + owed l.fn.rest;
+-- what is left of the rest, and the steps that are owed
+abbrev pub invariant-loop-state : goal.invariant-loop-state
+invariant-loop-state l = record {
+  narrowed : (n : ℕ) (f : List Items) → IsFamily n f → AreStates f l.fn.witnesses → IsNarrowed n f l.fn.outside l.q l.fn.rest.items l.rest.items;
+  part : IsWithin l.rest.items l.fn.rest.items;
+  fewer : owed l.rest ≤ owed l.fn.rest;
 }

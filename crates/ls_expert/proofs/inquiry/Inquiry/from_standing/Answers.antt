@@ -10,7 +10,7 @@ use Rattle.ls_expert.specs.Starts.{StartOn, start_of}
 use Rattle.ls_expert.specs.Held.{blocks_of, interview_on, IsHeld}
 use Rattle.ls_expert.specs.Saved.{are_broken}
 use Rattle.ls_expert.proofs.Asking.{asking}
-use Rattle.ls_expert.proofs.Holding.{range-of, some-made, tabled-by}
+use Rattle.ls_expert.proofs.Holding.{range-of, some-made, tabled-by, states-by}
 use Rattle.ls_expert.proofs.Saving.{made-as, ran_out, no_table, fit-decides}
 use Rattle.ls_expert.proofs.inquiry.Inquiry.from_standing.Given as given
 use Rattle.ls_expert.proofs.inquiry.Inquiry.from_standing.Goals as goal
@@ -80,8 +80,10 @@ invariant_of-result g c =
           (ap (λ (u : StartOn). u.item_count) inner) (ap (λ (u : StartOn). u.start) inner) ruled refl;
       standing = c.can_stand.ensures.enough i.start c.args.k c.if-not-can_stand.false ((decides g (goal.at.invariant_of-result g c).In_ok-family).0 c.in_ok-table.ensures.broken);
     } in
+    let states = states-by i c.in_ok-family.family.inner.item_count c.in_ok-family.family.inner.start c.in_ok-family.family.rules c.in_ok-table.table.witnesses c.in_ok-table.ensures.states
+    (ap (λ (u : StartOn). u.item_count) inner) (ap (λ (u : StartOn). u.start) inner) ruled in
     rw (inner, ruled, c.in_ok-copied.ensures.items)
-    (asking i c.in_ok-blocks.blocks (yes_queries i.answers) c.in_ok-table.table.table c.next_query.result held (range g (goal.at.invariant_of-result g c).In_ok-blocks) (some-made c.args.n c.args.k c.in_ok-blocks.blocks (sym c.new.ensures.value ∙ c.in_ok-blocks.was)) c.next_query.ensures)
+    (asking i c.in_ok-blocks.blocks (yes_queries i.answers) c.in_ok-table.table.table c.in_ok-table.table.witnesses c.next_query.result held states (range g (goal.at.invariant_of-result g c).In_ok-blocks) (some-made c.args.n c.args.k c.in_ok-blocks.blocks (sym c.new.ensures.value ∙ c.in_ok-blocks.was)) c.next_query.ensures)
 
 pub returns-clause-made : goal.returns-clause-made
 returns-clause-made g c =

@@ -1,5 +1,8 @@
 use Rattle.std.proofs.Common.{ap, ◌∙◌}
 use Rattle.ls_theory.specs.Interviews.{Interview, retracted}
+use Rattle.ls_theory.specs.Compatible.{compatible_sets}
+use Rattle.ls_laws.proofs.Accepting.{compatible-fewer}
+use Rattle.ls_infer.proofs.KeptStates.{states-part}
 use Rattle.ls_theory.specs.Answering.{answer_with}
 use Rattle.ls_expert.specs.Held.{interview_of}
 use Rattle.ls_expert.proofs.Asking.{asking}
@@ -11,7 +14,8 @@ invariant_of-self c =
     let i = interview_of c.self.inside.family.inner c.self.inside.block c.self.inside.answers.items c.self.inside.next in
     let a = c.args.answer.now in
     rw c.take_out.ensures
-    (asking (retracted i a.number) c.self.inside.blocks c.self.inside.family.rules c.no_removed.new.self.table c.next_query-self-inside.result
+    (asking (retracted i a.number) c.self.inside.blocks c.self.inside.family.rules c.no_removed.new.self.table c.no_removed.new.self.witnesses c.next_query-self-inside.result
     (held-without_no i a c.self.inside.family.rules c.self.inside.table.table c.no_removed.new.self.table c.self.invariant.held
     (ap (λ (j : Interview). answer_with j a.number) c.self.view_is ∙ c.requires.stands) c.requires.no c.no_removed.ensures.kept)
+    (rw c.no_removed.ensures.witnesses (states-part (compatible_sets (retracted i a.number)) (compatible_sets i) c.self.inside.table.witnesses (compatible-fewer i a.number) c.self.invariant.states))
     c.self.invariant.asked c.self.invariant.some_sizes c.next_query-self-inside.ensures)

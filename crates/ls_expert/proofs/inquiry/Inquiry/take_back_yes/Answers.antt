@@ -9,7 +9,7 @@ use Rattle.ls_expert.specs.Starts.{StartOn}
 use Rattle.ls_expert.specs.Held.{interview_of, rules_before}
 use Rattle.ls_expert.proofs.Ruling.{ruled-compat}
 use Rattle.ls_expert.proofs.Asking.{asking}
-use Rattle.ls_expert.proofs.Retracting.{held-without_yes, rule-within, good-of, steps-over}
+use Rattle.ls_expert.proofs.Retracting.{held-without_yes, states-without_yes, rule-within, good-of, steps-over}
 use Rattle.ls_expert.proofs.inquiry.Inquiry.take_back_yes.Goals as goal
 
 pub returns-clause-cost : goal.returns-clause-cost
@@ -45,8 +45,11 @@ invariant_of-self g c =
     let family =
     ruled-compat c.remove.new.self.inner.item_count c.remove.new.self.inner.start others
     ∙ ap (λ (u : StartOn). compat u.item_count u.start others) c.remove.ensures.inner in
-    let held = held-without_yes i a c.self.inside.family.rules c.self.inside.table.table c.yes_removed.new.self.table c.self.invariant.held
-    (ap (λ (j : Interview). answer_with j a.number) c.self.view_is ∙ c.requires.stands) others _ c.requires.yes
-    (c.remove.ensures.rules ∙ ap (remove c.self.inside.family.rules) rule) (rw c.new.ensures family) c.yes_removed.ensures.kept in
+    let stands = ap (λ (j : Interview). answer_with j a.number) c.self.view_is ∙ c.requires.stands in
+    let removed = c.remove.ensures.rules ∙ ap (remove c.self.inside.family.rules) rule in
+    let held = held-without_yes i a c.self.inside.family.rules c.self.inside.table.table c.yes_removed.new.self.table c.self.invariant.held stands c.self.inside.table.witnesses others _ c.self.invariant.states c.requires.yes
+    removed (rw c.new.ensures family) c.yes_removed.ensures.kept in
+    let states = states-without_yes i a c.self.inside.family.rules c.self.inside.table.table c.yes_removed.new.self.table c.self.invariant.held stands c.self.inside.table.witnesses c.yes_removed.new.self.witnesses others _ c.self.invariant.states c.requires.yes
+    removed (rw c.new.ensures family) c.yes_removed.ensures.states in
     rw (c.take_out.ensures, c.remove.ensures.inner)
-    (asking (retracted i a.number) c.self.inside.blocks others c.yes_removed.new.self.table c.next_query-self-inside.result held c.self.invariant.asked c.self.invariant.some_sizes c.next_query-self-inside.ensures)
+    (asking (retracted i a.number) c.self.inside.blocks others c.yes_removed.new.self.table c.yes_removed.new.self.witnesses c.next_query-self-inside.result held states c.self.invariant.asked c.self.invariant.some_sizes c.next_query-self-inside.ensures)

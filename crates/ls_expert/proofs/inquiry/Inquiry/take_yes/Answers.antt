@@ -1,18 +1,18 @@
 use Rattle.std.proofs.Common.{◌≡◌, ◌∷◌, ◌++◌, [], List, true, false, true≢false, arith, sym, ap, ap₂, ◌∙◌}
+use Rattle.ls_set.specs.ItemSet.{Items}
 use Rattle.ls_set.specs.declared.query.Query.{Query}
 use Rattle.ls_theory.specs.Interviews.{Interview, accepted}
 use Rattle.ls_theory.specs.Compatible.{compat, compatible_sets}
 use Rattle.ls_theory.specs.Forced.{known}
 use Rattle.ls_theory.specs.Answering.{refusal}
-use Rattle.ls_laws.proofs.Breaks.{good-from}
 use Rattle.ls_infer.specs.Changes.{CanFall}
-use Rattle.ls_infer.specs.Tables.{TableState}
+use Rattle.ls_infer.specs.Tables.{TableState, AreStates}
 use Rattle.ls_expert.specs.Starts.{StartOn}
 use Rattle.ls_expert.specs.Held.{interview_of, closures_of}
 use Rattle.ls_expert.proofs.Ruling.{ruled-compat}
 use Rattle.ls_expert.proofs.Asking.{still-asking}
 use Rattle.ls_expert.proofs.Retracting.{steps-over}
-use Rattle.ls_expert.proofs.Taking.{passes-from, held-yes, tabled-yes, tabled-forced}
+use Rattle.ls_expert.proofs.Taking.{held-yes, tabled-yes, tabled-forced, states-yes, states-forced}
 use Rattle.ls_expert.proofs.inquiry.Inquiry.take_yes.Goals as goal
 use Rattle.ls_expert.proofs.inquiry.Inquiry.take_yes.Goals.{then-forced, else-forced, then-not-forced, else-not-forced}
 
@@ -29,16 +29,22 @@ invariant_of-self-2 g c =
     ∙ ap₂ (λ (u : StartOn) (l : List Query). compat u.item_count u.start l) inner (ruled ∙ ap (λ (l : List Query). l ++ r ∷ []) h.ruled) in
     let held = λ (new : TableState). held-yes i r c.self-2.inside.family.rules c.self-2.inside.table.table new h c.push_reserved.new.self.rules
     (ap (λ (j : Interview). refusal j r true) c.self-2.view_is ∙ c.requires.passes) ruled in
-    let kept = λ (new : TableState) (e : new ≡ closures_of (accepted i r true)). still-asking i r true c.self-2.inside.blocks c.self-2.inside.family.rules c.push_reserved.new.self.rules c.self-2.inside.table.table new c.self-2.inside.from c.self-2.inside.is_found c.self-2.invariant (held new e) in
+    let kept = λ (new : TableState) (after : List (List Items)) (e : new ≡ closures_of (accepted i r true)) (states : AreStates (compatible_sets (accepted i r true)) after).
+    still-asking i r true c.self-2.inside.blocks c.self-2.inside.family.rules c.push_reserved.new.self.rules c.self-2.inside.table.table new c.self-2.inside.table.witnesses after c.self-2.inside.from c.self-2.inside.is_found c.self-2.invariant (held new e) states in
     let can : c.is_yes-forced.result ≡ false → CanFall (compatible_sets i) r.q c.if-forced.fall = λ free. elim c.if-forced.branch [
       | then-forced f ↦ absurd (true≢false (sym f.if-forced.true ∙ free))
       | else-forced f ↦ rw f.fall-is (rw (← c.self-2.view_is) at f.falling-fall.ensures)
     ] in
     elim c.if-not-forced.branch [
       | then-not-forced w ↦ rw (c.put_last.ensures.last, c.put_last.ensures.next, w.self-inside-is, c.reserve.ensures.items, inner)
-          (kept w.yes_added_within.new.self.table (tabled-yes i r c.self-2.inside.table.table w.yes_added_within.new.self.table _ h.tabled c.if-forced.fall (can w.if-not-forced.true) (rw w.new.ensures family) w.yes_added_within.ensures.kept))
+          (kept w.yes_added_within.new.self.table w.yes_added_within.new.self.witnesses
+          (tabled-yes i r c.self-2.inside.table.table w.yes_added_within.new.self.table c.self-2.inside.table.witnesses _ h.tabled c.self-2.invariant.states c.if-forced.fall (can w.if-not-forced.true) (rw w.new.ensures family) w.yes_added_within.ensures.kept)
+          (states-yes i r c.self-2.inside.table.table w.yes_added_within.new.self.table c.self-2.inside.table.witnesses _ h.tabled c.self-2.invariant.states c.if-forced.fall w.yes_added_within.new.self.witnesses (can w.if-not-forced.true) (rw w.new.ensures family)
+          w.yes_added_within.ensures.states))
       | else-not-forced w ↦ rw (c.put_last.ensures.last, c.put_last.ensures.next, w.self-inside-is, c.reserve.ensures.items, inner)
-          (kept c.self-2.inside.table.table (tabled-forced i r c.self-2.inside.table.table h.standing.sound.some_fits (ap (λ (j : Interview). known j r) c.self-2.view_is ∙ sym c.requires.known ∙ c.is_yes-forced.ensures w.if-not-forced.false) h.tabled))
+          (let forced = ap (λ (j : Interview). known j r) c.self-2.view_is ∙ sym c.requires.known ∙ c.is_yes-forced.ensures w.if-not-forced.false in
+          kept c.self-2.inside.table.table c.self-2.inside.table.witnesses (tabled-forced i r c.self-2.inside.table.table h.standing.sound.some_fits forced h.tabled)
+          (states-forced i r c.self-2.inside.table.witnesses h.standing.sound.some_fits forced c.self-2.invariant.states))
     ]
 
 pub returns-clause-cost : goal.returns-clause-cost

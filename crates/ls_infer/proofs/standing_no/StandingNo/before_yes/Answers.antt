@@ -1,14 +1,29 @@
-use Rattle.std.proofs.Common.{◌≡◌, true, sym, refl, ◌∙◌, arith}
-use Rattle.ls_set.specs.ItemSet.{full, has, is_among, IsWithin}
+use Rattle.std.proofs.Common.{◌≡◌, true, List, sym, refl, ◌∙◌, arith}
+use Rattle.ls_set.specs.ItemSet.{Items, full, has, is_among, IsWithin}
 use Rattle.ls_set.proofs.Sets.{minus-within, IsWithin-from}
 use Rattle.ls_theory.specs.Families.{closure}
 use Rattle.ls_laws.proofs.ClosureChanges.{closure_holds}
 use Rattle.ls_laws.proofs.Families.{family_sets}
+use Rattle.ls_infer.specs.Changes.{IsChange}
+use Rattle.ls_infer.specs.declared.yes_change.YesChange.TheVariants as YesChange
+use Rattle.ls_infer.specs.Tables.{standing}
 use Rattle.ls_infer.proofs.Outside.{outside-member}
 use Rattle.ls_infer.proofs.States.{good-item, good-several, reached}
 use Rattle.ls_infer.proofs.Standing.{kept-parts, kept-again, before-lack, before-among, before-state, standing-from}
+use Rattle.ls_infer.proofs.standing_no.StandingNo.before_yes.Given as given
 use Rattle.ls_infer.proofs.standing_no.StandingNo.before_yes.Goals as goal
-use Rattle.ls_infer.proofs.standing_no.StandingNo.before_yes.Goals.{then-is_within, else-is_within}
+use Rattle.ls_infer.proofs.standing_no.StandingNo.before_yes.Goals.{Joined-is_within, then-is_within, else-is_within}
+
+-- the closure is that in the family after the change
+closed_is : (g : given.Over) (c : Joined-is_within g) → (before : List Items) → IsChange YesChange.Removed (g.I.Interior.item_count c.args.f.now) c.args.r.now before (g.I.Interior.members c.args.f.now)
+    → c.args.self.now ≡ standing (g.I.Interior.item_count c.args.f.now) before c.args.self.now.no → c.if-is_within.closed ≡ closure (full (g.I.Interior.item_count c.args.f.now)) (g.I.Interior.members c.args.f.now) c.args.self.now.no.query.a
+closed_is g c before change e =
+    let n = g.I.Interior.item_count c.args.f.now in
+    let after = g.I.Interior.members c.args.f.now in
+    elim c.if-is_within.branch [
+      | then-is_within w ↦ w.closed-is ∙ w.closure-closed.ensures.value
+      | else-is_within w ↦ w.closed-is ∙ before-lack n before after c.args.r.now c.args.self.now change (g.met.I.Interior.is_family c.args.f.now) c.requires.good e (sym c.is_within.ensures ∙ w.if-is_within.false)
+    ]
 
 pub closure-closed-requires : goal.closure-closed-requires
 closure-closed-requires g c = (kept-parts _ c.args.self.now c.requires.kept).good.small
@@ -26,20 +41,17 @@ pub enough_between-enough-requires-clause-among : goal.enough_between-enough-req
 enough_between-enough-requires-clause-among g c = (kept-parts _ c.args.self.now c.requires.kept).enough
 
 pub returns-then-is_within-2-clause-value : goal.returns-then-is_within-2-clause-value
-returns-then-is_within-2-clause-value g c = λ before k change kept_closures e.
+returns-then-is_within-2-clause-value g c = λ before k change kept_closures states e.
     let n = g.I.Interior.item_count c.args.f.now in
     let after = g.I.Interior.members c.args.f.now in
     let family = g.met.I.Interior.is_family c.args.f.now in
     let r = c.args.r.now in
     let s = c.args.self.now in
     let closed = c.if-is_within.closed in
-    let made : closed ≡ closure (full n) after s.no.query.a = elim c.if-is_within.branch [
-      | then-is_within w ↦ w.closed-is ∙ w.closure-closed.ensures.value
-      | else-is_within w ↦ w.closed-is ∙ before-lack n before after r s change family c.requires.good e (sym c.is_within.ensures ∙ w.if-is_within.false)
-    ] in
+    let made = closed_is g (goal.at.returns-then-is_within-2-clause-value g c).Joined-is_within before change e in
     let small = (kept-parts n s c.requires.kept).enough in
     let known = reached n after closed s.no.query.q c.reaching-known.result (λ i h. small i (c.reaching-known.ensures.part i h)) (c.reaching-known.ensures.closures n k after small kept_closures) in
-    let all = c.enough_between-enough.ensures.value (rw made (outside-member n after s.no.query.a (family_sets n after family))) known (before-among n before after r s closed change e made) in
+    let all = c.enough_between-enough.ensures.value (rw made (outside-member n after s.no.query.a (family_sets n after family))) states known (before-among n before after r s closed change e made) in
     before-state n before after r s closed c.enough_between-enough.result change e made all (IsWithin-from s.enough c.enough_between-enough.result (sym c.is_within-then-keeps_state.ensures ∙ c.if-is_within-2.true)) (sym c.keeps_state.ensures ∙ c.if-keeps_state.true)
 
 pub returns-then-is_within-2-clause-kept : goal.returns-then-is_within-2-clause-kept
@@ -54,25 +66,36 @@ returns-then-is_within-2-clause-kept g c =
     ] in
     kept-again n s c.if-is_within.closed s.enough s.is_state c.requires.kept within k.enough
 
+pub returns-then-is_within-2-clause-states : goal.returns-then-is_within-2-clause-states
+returns-then-is_within-2-clause-states g c = λ before change e.
+    let n = g.I.Interior.item_count c.args.f.now in
+    let after = g.I.Interior.members c.args.f.now in
+    let made = closed_is g (goal.at.returns-then-is_within-2-clause-states g c).Joined-is_within before change e in
+    c.enough_between-enough.ensures.states (rw made (outside-member n after c.args.self.now.no.query.a (family_sets n after (g.met.I.Interior.is_family c.args.f.now))))
+
 pub of-requires : goal.of-requires
 of-requires g c = c.enough_between-enough.ensures.within
 
 pub returns-clause-value : goal.returns-clause-value
-returns-clause-value g c = λ before k change kept_closures e.
+returns-clause-value g c = λ before k change kept_closures states e.
     let n = g.I.Interior.item_count c.args.f.now in
     let after = g.I.Interior.members c.args.f.now in
     let family = g.met.I.Interior.is_family c.args.f.now in
     let r = c.args.r.now in
     let s = c.args.self.now in
     let closed = c.if-is_within.closed in
-    let made : closed ≡ closure (full n) after s.no.query.a = elim c.if-is_within.branch [
-      | then-is_within w ↦ w.closed-is ∙ w.closure-closed.ensures.value
-      | else-is_within w ↦ w.closed-is ∙ before-lack n before after r s change family c.requires.good e (sym c.is_within.ensures ∙ w.if-is_within.false)
-    ] in
+    let made = closed_is g (goal.at.returns-clause-value g c).Joined-is_within before change e in
     let small = (kept-parts n s c.requires.kept).enough in
     let known = reached n after closed s.no.query.q c.reaching-known.result (λ i h. small i (c.reaching-known.ensures.part i h)) (c.reaching-known.ensures.closures n k after small kept_closures) in
     c.of.ensures.value ∙ standing-from n after s.no closed c.enough_between-enough.result _ made
-    (c.enough_between-enough.ensures.value (rw made (outside-member n after s.no.query.a (family_sets n after family))) known (before-among n before after r s closed change e made)) refl
+    (c.enough_between-enough.ensures.value (rw made (outside-member n after s.no.query.a (family_sets n after family))) states known (before-among n before after r s closed change e made)) refl
+
+pub returns-clause-states : goal.returns-clause-states
+returns-clause-states g c = λ before change e.
+    let n = g.I.Interior.item_count c.args.f.now in
+    let after = g.I.Interior.members c.args.f.now in
+    let made = closed_is g (goal.at.returns-clause-states g c).Joined-is_within before change e in
+    c.enough_between-enough.ensures.states (rw made (outside-member n after c.args.self.now.no.query.a (family_sets n after (g.met.I.Interior.is_family c.args.f.now))))
 
 pub returns-clause-kept : goal.returns-clause-kept
 returns-clause-kept g c =

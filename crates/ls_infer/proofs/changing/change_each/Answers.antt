@@ -9,9 +9,9 @@ use Rattle.ls_set.specs.ItemSet.{Items}
 use Rattle.ls_theory.specs.declared.no.No.{No}
 use Rattle.ls_infer.specs.Changes.{is_kept}
 use Rattle.ls_infer.specs.Tables.{standing}
-use Rattle.ls_infer.proofs.Standing.{standing-next, unreached}
-use Rattle.ls_infer.proofs.standing_no.change_each.Goals as goal
-use Rattle.ls_infer.proofs.standing_no.change_each.Goals.{then-is_reached, else-is_reached}
+use Rattle.ls_infer.proofs.Standing.{standing-at, standing-next, unreached}
+use Rattle.ls_infer.proofs.changing.change_each.Goals as goal
+use Rattle.ls_infer.proofs.changing.change_each.Goals.{then-is_reached, else-is_reached}
 
 pub loop-s-preserved : goal.loop-s-preserved
 loop-s-preserved g c =
@@ -25,25 +25,33 @@ loop-s-preserved g c =
     let l : i < length nos = omega (arith, c.loop-s-test.true, ap length e, length-map nos (standing n before)) in l in
     let is_one_kept : is_kept n x ≡ true = true_from_ne_false (is_kept n x) (λ h. true≢false (sym v.kept ∙ list_all_at (is_kept n) ys i c.s-item.result (omega (arith, c.loop-s-test.true, c.loop-s.auto.kept)) h)) in
     elim c.if-is_reached.branch [
-      | then-is_reached w ↦ rw (w.kept-is, w.steps-is) (record {
+      | then-is_reached w ↦ rw (w.kept-is, w.witnesses-is, w.steps-is) (record {
         kept = list_all-set (is_kept n) ys i w.after.result v.kept w.after.ensures.kept;
-        made = λ before k nos change closed e.
-            standing-next n before after nos ys i x w.after.result (placed before nos e) (v.made before k nos change closed e) (ap (get_or ys i) c.s-item.is)
-            (w.after.ensures.value before k change closed);
+        made = λ before k nos change closed states e.
+            let so = v.made before k nos change closed states e in (
+              standing-next n before after nos ys i x w.after.result (placed before nos e) so.0 (ap (get_or ys i) c.s-item.is) (w.after.ensures.value before k change closed so.1),
+              w.after.ensures.states before change (standing-at n before after nos ys i x (placed before nos e) so.0 (ap (get_or ys i) c.s-item.is)) so.1,
+            );
         cost = grind (arith, common_steps, v.cost, w.after.ensures.cost);
       })
-      | else-is_reached w ↦ rw (w.kept-is, w.steps-is) (record {
+      | else-is_reached w ↦ rw (w.kept-is, w.witnesses-is, w.steps-is) (record {
         kept = list_all-set (is_kept n) ys i x v.kept is_one_kept;
-        made = λ before k nos change closed e.
-            standing-next n before after nos ys i x x (placed before nos e) (v.made before k nos change closed e) (ap (get_or ys i) c.s-item.is)
-            (λ old. unreached n before after c.args.r.now x c.args.change.now change (g.met.I.Interior.is_family c.args.f.now) c.requires.good is_one_kept old (sym c.is_reached.ensures ∙ w.if-is_reached.false));
+        made = λ before k nos change closed states e.
+            let so = v.made before k nos change closed states e in (
+              standing-next n before after nos ys i x x (placed before nos e) so.0 (ap (get_or ys i) c.s-item.is)
+                  (λ old. unreached n before after c.args.r.now x c.args.change.now change (g.met.I.Interior.is_family c.args.f.now) c.requires.good is_one_kept old (sym c.is_reached.ensures ∙ w.if-is_reached.false)),
+              so.1,
+            );
         cost = grind (arith, common_steps, v.cost);
       })
     ]
 
 pub returns-clause-each : goal.returns-clause-each
-returns-clause-each g c = λ before k nos change closed e.
+returns-clause-each g c = λ before k nos change closed states e.
     let n = g.I.Interior.item_count c.args.f.now in
     let i = c.loop-s.s-index in
     let past : length nos ≤ i = omega (arith, c.loop-s-test.false, ap length e, length-map nos (standing n before)) in
-    c.loop-s.invariant.made before k nos change closed e ∙ images-end (standing n (g.I.Interior.members c.args.f.now)) (standing n before) nos i past
+    (c.loop-s.invariant.made before k nos change closed states e).0 ∙ images-end (standing n (g.I.Interior.members c.args.f.now)) (standing n before) nos i past
+
+pub returns-clause-states : goal.returns-clause-states
+returns-clause-states g c = λ before k nos change closed states e. (c.loop-s.invariant.made before k nos change closed states e).1
