@@ -13,7 +13,7 @@ mod telling;
 use crate::changing::change_each;
 use crate::closures::{close_again, closures_of, standing_of};
 use crate::standing_no::{StandingNo, take_out};
-use crate::witnesses::{Witnesses, let_go_each, no_witnesses};
+use crate::witnesses::{Witnesses, let_go_each, no_witnesses, reserve_each};
 use crate::yes_change::YesChange;
 use ls_interior::{Interior, Steps, closure};
 use ls_query::Blocks;
@@ -82,7 +82,7 @@ impl Table {
             + (length (sets_of blocks) + (I.item_count f.now + 1) * length answers.now) }
     {
         let n = f.items();
-        let mut witnesses = no_witnesses(alloc, n)?;
+        let mut witnesses = no_witnesses(alloc, n, answers.len())?;
         let closures = closures_of(alloc, blocks, f, steps)?;
         let standing = standing_of(alloc, f, &closures, answers, &mut witnesses, steps)?;
         Ok(Table {
@@ -242,13 +242,18 @@ impl Table {
         self.change(f, &YesChange::Removed, r, steps);
     }
 
-    /// Makes room for one standing No, unless memory runs out.
+    /// Makes room for one standing No, and where there is none left for the states of more, unless
+    /// memory runs out.
     pub fn reserve_no(&mut self) -> Result<(), AllocError>
         ensures ok { OnOk result (0 < self.new.spare) }
         ensures table { self.new.table ≡ self.old.table }
         ensures witnesses { self.new.witnesses ≡ self.old.witnesses }
     {
-        self.standing.reserve(1)
+        if self.standing.len() == self.standing.capacity() {
+            self.standing.reserve(1)?;
+            reserve_each(&mut self.witnesses, self.standing.capacity())?;
+        }
+        Ok(())
     }
 
     /// Keeps a No that now stands, the last of them, in the room that was made. `f` is the family

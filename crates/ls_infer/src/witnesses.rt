@@ -10,8 +10,17 @@ use ls_set::{ItemSet, PLACES, Query};
 use std::alloc::{AllocError, Global};
 use std::marker::Model;
 
-/// How many states are kept for an item at most.
-const MOST: usize = 512;
+/// For how many states there is room for an item at least.
+const FEWEST: usize = 512;
+
+/// For how many states there is room for each standing No, in equal parts for the items.
+const FOR_EACH_NO: usize = 128;
+
+// For how many states there is room for an item.
+fn room_for(nos: usize, items: usize) -> usize {
+    let part = nos.saturating_mul(FOR_EACH_NO) / items.max(1);
+    part.max(FEWEST)
+}
 
 /// States that are kept for an item p. Each has p: that shows that no item outside it is enough for
 /// p with any closed set that it doesn't meet. Contracts see them as their list.
@@ -33,13 +42,20 @@ impl Model for Witnesses {
 
 impl Witnesses {
     // None yet, with the room for them, unless memory runs out.
-    fn new(alloc: Global) -> Result<Witnesses, AllocError>
+    fn new(alloc: Global, room: usize) -> Result<Witnesses, AllocError>
         ensures { IfOk result (λ w. w ≡ []) }
     {
         Ok(Witnesses {
-            states: Vec::with_capacity(alloc, MOST)?,
+            states: Vec::with_capacity(alloc, room)?,
             replaced: 0,
         })
+    }
+
+    // Makes room for so many in all, unless memory runs out.
+    fn reserve(&mut self, room: usize) -> Result<(), AllocError>
+        ensures { self.new ≡ self.old }
+    {
+        self.states.reserve(room.saturating_sub(self.states.len()))
     }
 
     /// The states.
@@ -54,9 +70,10 @@ impl Witnesses {
         ensures { (f : List Items) → list_all (is_among f) self.old ≡ true →
             is_among f state ≡ true → list_all (is_among f) self.new ≡ true }
     {
-        if self.states.len() < self.states.capacity() {
+        let count = self.states.len();
+        if count < self.states.capacity() {
             self.states.push_reserved(state);
-        } else if let Some(place) = self.states.get_mut(self.replaced % MOST) {
+        } else if let Some(place) = self.states.get_mut(self.replaced % count.max(1)) {
             *place = state;
             self.replaced = self.replaced.wrapping_add(1);
         }
@@ -92,13 +109,26 @@ pub fn let_go_each(kept: &mut [Witnesses], r: &Query)
     }
 }
 
-/// None yet for each of the first `n` items, unless memory runs out.
-pub fn no_witnesses(alloc: Global, n: u32) -> Result<Vec<Witnesses>, AllocError>
+/// Makes the room that so many standing Nos are worth, unless memory runs out.
+pub fn reserve_each(kept: &mut [Witnesses], nos: usize) -> Result<(), AllocError>
+    ensures { kept.new ≡ kept.old }
+{
+    let room = room_for(nos, kept.len());
+    for witnesses in kept.iter_mut() {
+        witnesses.reserve(room)?;
+    }
+    Ok(())
+}
+
+/// None yet for each of the first `n` items, with the room that so many standing Nos are worth,
+/// unless memory runs out.
+pub fn no_witnesses(alloc: Global, n: u32, nos: usize) -> Result<Vec<Witnesses>, AllocError>
     ensures { (f : List Items) → IfOk result (λ v. AreStates f v.items) }
 {
+    let room = room_for(nos, n as usize);
     let mut kept = Vec::new(alloc);
     for _item in 0..n {
-        kept.push(Witnesses::new(alloc)?)?;
+        kept.push(Witnesses::new(alloc, room)?)?;
     }
     Ok(kept)
 }

@@ -1,6 +1,5 @@
-use Rattle.std.proofs.Common.{ℕ, ◌≡◌, List, sym, ap, ◌∙◌, subst}
+use Rattle.std.proofs.Common.{◌≡◌, List, subst}
 use Rattle.ls_set.specs.ItemSet.{Items}
-use Rattle.ls_theory.specs.declared.no.No.{No}
 use Rattle.ls_laws.specs.Families.{IsFamily}
 use Rattle.ls_laws.specs.Spans.{left_by}
 use Rattle.ls_infer.specs.Tables.{TableState, AreStates, table_of}
