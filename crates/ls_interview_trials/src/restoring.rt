@@ -1,7 +1,7 @@
 // The parts of a saved session of three items, read back where memory is ample.
 ghost use Rattle.std.specs.Prelude.{◌≡◌};
 
-use ls_expert::Start;
+use ls_expert::{Inquiry, Start};
 use ls_interior::Steps;
 use ls_restore::{read_block, read_inquiry, read_start};
 use ls_set::ItemSet;
@@ -44,32 +44,42 @@ fn a_surmise_function_is_read_as_a_start(rt: HostRuntime) -> Result<(), Fail> {
     Ok(())
 }
 
-// One answer stands, and sets of one item are asked.
-fn assert_restored<L: Ledger>(rt: &impl Abort, alloc: Global, blank: Blank) -> Result<(), Fail>
-    requires name { blank.name ≡ L.name }
-    requires parts { blank.parts ≡ L.parts }
-    requires one { blank.parts ≡ 1 }
-{
-    let mut steps = Steps::<L>::new(blank);
-    let object = Value::from_slice(
-        alloc,
-        b"{\"answers\":[[1,true,\"8\",1]],\"block\":1,\"next\":2}",
-    )?;
+fn assert_one_answer(rt: &impl Abort, inquiry: &Inquiry) {
+    assert_eq!(rt; inquiry.next_number(), 2);
+    assert_eq!(rt; inquiry.yes_queries().len(), 1);
+}
+
+// One answer stands in the object, and sets of one item are asked.
+fn assert_restored<L: Ledger>(
+    rt: &impl Abort,
+    alloc: Global,
+    object: &Value,
+    steps: &mut Steps<L>,
+) -> Result<(), Fail> {
     let Some(value) = object.get("block") else {
         panic!(rt; "no value")
     };
     let Some(block) = read_block(3, value) else {
         panic!(rt; "no blocks")
     };
-    let Some(inquiry) = read_inquiry(alloc, 3, Start::Free, block, &object, &mut steps)? else {
-        panic!(rt; "no inquiry")
-    };
-    assert_eq!(rt; inquiry.next_number(), 2);
-    assert_eq!(rt; inquiry.yes_queries().len(), 1);
+    match &read_inquiry(alloc, 3, Start::Free, block, object, steps)? {
+        Some(inquiry) => assert_one_answer(rt, inquiry),
+        None => panic!(rt; "no inquiry"),
+    }
     Ok(())
+}
+
+fn assert_read<L: Ledger>(rt: &impl Abort, alloc: Global, blank: Blank) -> Result<(), Fail>
+    requires name { blank.name ≡ L.name }
+    requires parts { blank.parts ≡ L.parts }
+    requires one { blank.parts ≡ 1 }
+{
+    let text = b"{\"answers\":[[1,true,\"8\",1]],\"block\":1,\"next\":2}";
+    let object = Value::from_slice(alloc, text)?;
+    assert_restored(rt, alloc, &object, &mut Steps::<L>::new(blank))
 }
 
 #[test]
 fn an_inquiry_is_read_back(rt: HostRuntime) -> Result<(), Fail> {
-    assert_restored::<Brand>(&rt, rt.alloc(), Blank::new(1))
+    assert_read::<Brand>(&rt, rt.alloc(), Blank::new(1))
 }
