@@ -4,8 +4,8 @@ ghost use Rattle.ls_set.specs.ItemSet.{full, has, minus, is_among, IsWithin};
 ghost use Rattle.ls_infer.specs.Narrowing.{owed};
 ghost use Rattle.ls_infer.specs.Tables.{enough_for, AreStates};
 
-use crate::narrowing::{Rest, lessen, narrow};
-use crate::witnesses::{Witnesses, keep_witness};
+use crate::narrowing::{Rest, keep_smaller, narrow};
+use crate::witnesses::Witnesses;
 use ls_interior::{Interior, Steps};
 use ls_set::{ItemSet, PLACES};
 use std::sync::ledger::Ledger;
@@ -70,8 +70,7 @@ pub fn enough_among<I: Interior, L: Ledger>(
         match f.interior_without(outside, r, keep, steps) {
             Some(missed) => {
                 rest.leave(missed);
-                let witness = lessen(f, outside, q, missed, &mut rest, steps);
-                keep_witness(witnesses, witness, q);
+                keep_smaller(f, outside, q, missed, witnesses, &mut rest, steps);
             }
             None => enough = enough.with(r),
         }

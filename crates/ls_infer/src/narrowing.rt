@@ -6,7 +6,7 @@ ghost use Rattle.ls_laws.specs.Families.{IsFamily};
 ghost use Rattle.ls_infer.specs.Narrowing.{narrowed, owed, IsNarrowed};
 ghost use Rattle.ls_infer.specs.Tables.{AreStates};
 
-use crate::witnesses::Witnesses;
+use crate::witnesses::{Witnesses, keep_witness, take_turn};
 use ls_interior::{Interior, Steps};
 use ls_set::{ItemSet, PLACES};
 use std::sync::ledger::Ledger;
@@ -94,9 +94,9 @@ fn half(items: ItemSet, greatest: bool) -> ItemSet {
     if greatest { left } else { items.minus(left) }
 }
 
-/// A state with `q` within the given one that lacks more of the rest, where one is found by leaving
-/// out half of it after half. What it lacks is left out of the rest.
-pub fn lessen<I: Interior, L: Ledger>(
+// A state with `q` within the given one that lacks more of the rest, where one is found by leaving
+// out half of it after half. What it lacks is left out of the rest.
+fn lessen<I: Interior, L: Ledger>(
     f: &I,
     outside: ItemSet,
     q: u32,
@@ -131,4 +131,30 @@ pub fn lessen<I: Interior, L: Ledger>(
         }
     }
     state
+}
+
+/// Keeps a state within the given one among the witnesses, made smaller, where it is still `q`'s
+/// turn. What the kept one lacks is left out of the rest.
+pub fn keep_smaller<I: Interior, L: Ledger>(
+    f: &I,
+    outside: ItemSet,
+    q: u32,
+    state: ItemSet,
+    witnesses: &mut [Witnesses],
+    rest: &mut Rest,
+    steps: &mut Steps<L>,
+)
+    requires within { IsWithin outside (full (I.item_count f.now)) }
+    requires part { IsWithin state outside }
+    requires item { q < PLACES }
+    ensures narrowed { let n = I.item_count f.now in
+        IsNarrowed n (I.members f.now) outside q rest.old.items rest.new.items }
+    ensures states { is_among (I.members f.now) state ≡ true →
+        AreStates (I.members f.now) witnesses.old → AreStates (I.members f.now) witnesses.new }
+    ensures cost { steps.new + owed rest.new ≤ steps.old + owed rest.old }
+{
+    if take_turn(witnesses, q) {
+        let smaller = lessen(f, outside, q, state, rest, steps);
+        keep_witness(witnesses, smaller, q);
+    }
 }

@@ -13,7 +13,7 @@ mod telling;
 use crate::changing::change_each;
 use crate::closures::{close_again, closures_of, standing_of};
 use crate::standing_no::{StandingNo, take_out};
-use crate::witnesses::{Witnesses, let_go_each, no_witnesses, reserve_each};
+use crate::witnesses::{Witnesses, let_go_each, no_witnesses, renew, renew_each, reserve_each};
 use crate::yes_change::YesChange;
 use ls_interior::{Interior, Steps, closure};
 use ls_query::Blocks;
@@ -134,6 +134,7 @@ impl Table {
             * length self.old.table.standing) }
         ensures blocks { self.new.table.blocks ≡ self.old.table.blocks }
     {
+        renew_each(&mut self.witnesses);
         close_again(&mut self.closures, self.blocks, f, change, r, steps);
         let witnesses = &mut self.witnesses;
         change_each(
@@ -291,6 +292,7 @@ impl Table {
         ensures blocks { self.new.table.blocks ≡ self.old.table.blocks }
         ensures cost { steps.new ≤ steps.old + (self.old.table.blocks.item_count + 1) }
     {
+        renew(&mut self.witnesses, x.query.q);
         let kept = StandingNo::shared(f, &self.closures, &x, &mut self.witnesses, steps);
         self.standing.push_reserved(kept);
     }

@@ -16,10 +16,19 @@ const FEWEST: usize = 512;
 /// For how many states there is room for each standing No, in equal parts for the items.
 const FOR_EACH_NO: usize = 128;
 
+/// How many states are made smaller where the Yes answers change by one, in equal parts for the
+/// items; where a table is built, for all its Nos together; and for a No that comes.
+const MOST_TURNS: usize = 2048;
+
 // For how many states there is room for an item.
 fn room_for(nos: usize, items: usize) -> usize {
     let part = nos.saturating_mul(FOR_EACH_NO) / items.max(1);
     part.max(FEWEST)
+}
+
+// How many turns an item has where all items have equal parts.
+fn turns_for(items: usize) -> usize {
+    MOST_TURNS / items.max(1)
 }
 
 /// States that are kept for an item p. Each has p: that shows that no item outside it is enough for
@@ -29,6 +38,8 @@ pub struct Witnesses {
     states: Vec<ItemSet>,
     // how many were put in the place of others
     replaced: usize,
+    // how many more are made smaller
+    turns: usize,
 }
 
 impl Model for Witnesses {
@@ -41,13 +52,14 @@ impl Model for Witnesses {
 }
 
 impl Witnesses {
-    // None yet, with the room for them, unless memory runs out.
-    fn new(alloc: Global, room: usize) -> Result<Witnesses, AllocError>
+    // None yet, with the room for them and so many turns, unless memory runs out.
+    fn new(alloc: Global, room: usize, turns: usize) -> Result<Witnesses, AllocError>
         ensures { IfOk result (λ w. w ≡ []) }
     {
         Ok(Witnesses {
             states: Vec::with_capacity(alloc, room)?,
             replaced: 0,
+            turns,
         })
     }
 
@@ -79,12 +91,56 @@ impl Witnesses {
         }
     }
 
+    // Gives so many turns.
+    fn renew(&mut self, turns: usize)
+        ensures { self.new ≡ self.old }
+    {
+        self.turns = turns;
+    }
+
+    // Whether a turn is left, which it takes.
+    fn take_turn(&mut self) -> bool
+        ensures { self.new ≡ self.old }
+    {
+        let is_left = self.turns > 0;
+        self.turns = self.turns.saturating_sub(1);
+        is_left
+    }
+
     /// Lets go of those that break the query.
     pub fn let_go(&mut self, r: &Query)
         requires { r.now.q < PLACES }
         ensures { self.new ≡ filter (λ k. not (breaks k r.now)) self.old }
     {
         self.states.retain(|s| !breaks(*s, r));
+    }
+}
+
+/// Whether one more state is made smaller for the item, which takes one of its turns.
+pub fn take_turn(kept: &mut [Witnesses], item: u32) -> bool
+    ensures { kept.new ≡ kept.old }
+{
+    let place = item as usize;
+    place < kept.len() && kept[place].take_turn()
+}
+
+/// Gives all turns to one item.
+pub fn renew(kept: &mut [Witnesses], item: u32)
+    ensures { kept.new ≡ kept.old }
+{
+    let place = item as usize;
+    if place < kept.len() {
+        kept[place].renew(MOST_TURNS);
+    }
+}
+
+/// Gives all turns to the items, in equal parts.
+pub fn renew_each(kept: &mut [Witnesses])
+    ensures { kept.new ≡ kept.old }
+{
+    let turns = turns_for(kept.len());
+    for witnesses in kept.iter_mut() {
+        witnesses.renew(turns);
     }
 }
 
@@ -120,15 +176,16 @@ pub fn reserve_each(kept: &mut [Witnesses], nos: usize) -> Result<(), AllocError
     Ok(())
 }
 
-/// None yet for each of the first `n` items, with the room that so many standing Nos are worth,
-/// unless memory runs out.
+/// None yet for each of the first `n` items, with equal parts of the turns and the room that so many
+/// standing Nos are worth, unless memory runs out.
 pub fn no_witnesses(alloc: Global, n: u32, nos: usize) -> Result<Vec<Witnesses>, AllocError>
     ensures { (f : List Items) → IfOk result (λ v. AreStates f v.items) }
 {
     let room = room_for(nos, n as usize);
+    let turns = turns_for(n as usize);
     let mut kept = Vec::new(alloc);
     for _item in 0..n {
-        kept.push(Witnesses::new(alloc, room)?)?;
+        kept.push(Witnesses::new(alloc, room, turns)?)?;
     }
     Ok(kept)
 }

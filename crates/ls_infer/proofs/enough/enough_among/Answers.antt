@@ -15,8 +15,8 @@ interior_without-requires-clause-within g c =
     let e : c.minus-outside.result ≡ minus (full n) c.args.closed = rw (c.minus-outside.ensures, c.full.ensures, c.items.ensures.count) refl in
     λ i h. minus-within (full n) c.args.closed i (subst (λ s. has s i ≡ true) e h)
 
-pub lessen-witness-requires-clause-within : goal.lessen-witness-requires-clause-within
-lessen-witness-requires-clause-within g c =
+pub keep_smaller-requires-clause-within : goal.keep_smaller-requires-clause-within
+keep_smaller-requires-clause-within g c =
     let n = g.I.Interior.item_count c.args.f.now in
     let e : c.minus-outside.result ≡ minus (full n) c.args.closed = rw (c.minus-outside.ensures, c.full.ensures, c.items.ensures.count) refl in
     λ i h. minus-within (full n) c.args.closed i (subst (λ s. has s i ≡ true) e h)
@@ -39,7 +39,7 @@ loop-r-init g c =
 pub loop-r-smaller-in-Some-interior_without : goal.loop-r-smaller-in-Some-interior_without
 loop-r-smaller-in-Some-interior_without g c =
     let fewer = fewer-miss c.loop-r.rest.items c.without-rest.result c.in-Some-interior_without.missed c.leave.new.self.items c.in-Some.r c.in-Some.ensures.value c.without-rest.ensures c.leave.ensures.items in
-    let few : len c.lessen-witness.new.rest.items ≤ len c.leave.new.self.items = len-within c.lessen-witness.new.rest.items c.leave.new.self.items c.lessen-witness.ensures.narrowed.part in
+    let few : len c.keep_smaller.new.rest.items ≤ len c.leave.new.self.items = len-within c.keep_smaller.new.rest.items c.leave.new.self.items c.keep_smaller.ensures.narrowed.part in
     omega (arith, fewer, few)
 
 pub loop-r-preserved-in-Some-interior_without : goal.loop-r-preserved-in-Some-interior_without
@@ -62,15 +62,15 @@ loop-r-preserved-in-Some-interior_without g c =
           let shared = found-miss n f c.args.closed q r found left missed p.0 p.1 (c.loop-r.invariant.found member states known all) in
           let here : IsFound (enough_for n f c.args.closed q) found next = subst (λ s. IsFound (enough_for n f c.args.closed q) found s) (sym c.leave.ensures.items)
           (subst (λ s. IsFound (enough_for n f c.args.closed q) found (meet s missed)) (sym c.without-rest.ensures) shared) in
-          found-narrowed n f c.args.closed c.minus-outside.result q found next c.lessen-witness.new.rest.items outside c.lessen-witness.ensures.narrowed here;
+          found-narrowed n f c.args.closed c.minus-outside.result q found next c.keep_smaller.new.rest.items outside c.keep_smaller.ensures.narrowed here;
       states = λ member states.
           let told = c.in-Some-interior_without.ensures.value (subst (λ s. is_among f s ≡ true) (sym outside) member) in
           let p = miss n f c.args.closed c.minus-outside.result c.with-keep.result q r missed c.requires.item outside keep told in
           let is_state = inside-member n f (without (minus (full n) c.args.closed) r) missed (family_sets n f (g.met.I.Interior.is_family c.args.f.now)) p.1 in
-          c.keep_witness.ensures f (c.loop-r.invariant.states member states) (c.lessen-witness.ensures.member is_state);
+          c.keep_smaller.ensures.states is_state (c.loop-r.invariant.states member states);
       small = c.loop-r.invariant.small;
-      within = λ i h. left-miss c.args.rest.items left c.without-rest.result missed next r c.loop-r.invariant.within c.without-rest.ensures c.leave.ensures.items i (c.lessen-witness.ensures.narrowed.part i h);
-      cost = omega (arith, fewer, c.leave.ensures.fewer, c.interior_without.ensures.cost, c.lessen-witness.ensures.cost, c.loop-r.invariant.cost);
+      within = λ i h. left-miss c.args.rest.items left c.without-rest.result missed next r c.loop-r.invariant.within c.without-rest.ensures c.leave.ensures.items i (c.keep_smaller.ensures.narrowed.part i h);
+      cost = omega (arith, fewer, c.leave.ensures.fewer, c.interior_without.ensures.cost, c.keep_smaller.ensures.cost, c.loop-r.invariant.cost);
     }
 
 pub loop-r-smaller : goal.loop-r-smaller
