@@ -5,3 +5,4 @@ mod Asking
 mod Taking
 mod Retracting
 mod Saving
+mod Leading

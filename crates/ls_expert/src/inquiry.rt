@@ -20,6 +20,7 @@ mod taking;
 
 use crate::answers::{answer_with, nos, rules_before, yes_others};
 use crate::bad_query::BadQuery;
+use crate::few_rules::leading;
 use crate::on_items::OnItems;
 use crate::retract_fault::RetractFault;
 use crate::start::Start;
@@ -76,7 +77,8 @@ impl Model for Inquiry {
         s.blocks s.family.rules s.table.table s.table.witnesses s.from s.is_found };
 }
 
-// The table of a family with rules, of the sets of one item, for the answers that are No.
+// The table of a family with rules, of the sets of one item, for the answers that are No. It is
+// found with fewer rules that leave the same sets.
 fn build<L: Ledger>(
     alloc: Global,
     family: &Ruled<OnItems>,
@@ -85,6 +87,7 @@ fn build<L: Ledger>(
 ) -> Result<Table, AllocError>
     requires some { 0 < family.now.inner.item_count }
     requires few { family.now.inner.item_count ≤ PLACES }
+    requires rules { list_all (is_good family.now.inner.item_count) family.now.rules ≡ true }
     requires good { list_all (λ a. is_good family.now.inner.item_count a.query) answers.now
         ≡ true }
     ensures table { let n = family.now.inner.item_count in
@@ -96,7 +99,8 @@ fn build<L: Ledger>(
 {
     let nos = nos(alloc, answers)?;
     let blocks = Blocks::new(family.items(), 1).unwrap();
-    Table::build(alloc, blocks, &Counted::new(family), &nos, steps)
+    let leading = leading(alloc, family.inner(), family.rules(), steps)?;
+    Table::build(alloc, blocks, &Counted::new(&leading), &nos, steps)
 }
 
 impl Inquiry {

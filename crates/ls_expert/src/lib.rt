@@ -4,6 +4,7 @@
 
 mod answers;
 mod bad_query;
+mod few_rules;
 mod inquiry;
 mod interview;
 mod on_items;

@@ -84,7 +84,7 @@ table-changed m n t cs ss h same alike within kept = record {
 
 -- ---- a Yes that is given without it
 
-unbroken-stays : (f : List Items) (r : Query) → list_any (λ k. breaks k r) f ≡ false → left_by r f ≡ f
+pub unbroken-stays : (f : List Items) (r : Query) → list_any (λ k. breaks k r) f ≡ false → left_by r f ≡ f
 unbroken-stays [] r h = refl
 unbroken-stays (k ∷ f) r h =
     let p = or_parts (breaks k r) (list_any (λ k. breaks k r) f) h in

@@ -52,6 +52,7 @@ fn table_with<L: Ledger>(
 ) -> Result<Table, StandingFault>
     requires some { 0 < family.now.inner.item_count }
     requires few { family.now.inner.item_count ≤ PLACES }
+    requires rules { list_all (is_good family.now.inner.item_count) family.now.rules ≡ true }
     requires good { list_all (λ a. is_good family.now.inner.item_count a.query) answers.now
         ≡ true }
     ensures broken { OnOk result (are_broken family.now answers.now ≡ true) }
