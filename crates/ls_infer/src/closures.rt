@@ -60,13 +60,15 @@ pub fn standing_of<I: Interior, L: Ledger>(
         closures.now ≡ map (closure (full n) (I.members f.now)) (blocks n k) →
         AreStates (I.members f.now) witnesses.old →
         IfOk result (λ v. v.items ≡ map (standing n (I.members f.now)) answers.now) }
-    ensures states { AreStates (I.members f.now) witnesses.old →
-        AreStates (I.members f.now) witnesses.new }
+    ensures states { (k : ℕ) → let n = I.item_count f.now in
+        closures.now ≡ map (closure (full n) (I.members f.now)) (blocks n k) →
+        AreStates (I.members f.now) witnesses.old → AreStates (I.members f.now) witnesses.new }
     ensures cost { steps.new ≤ steps.old + (I.item_count f.now + 1) * length answers.now }
 {
     let mut kept = Vec::new(alloc);
     for answer in answers {
-        kept.push(StandingNo::shared(f, closures, answer, witnesses, steps))?;
+        let no = StandingNo::shared(f, closures, closures, answer, witnesses, steps);
+        kept.push(no)?;
     }
     Ok(kept)
 }

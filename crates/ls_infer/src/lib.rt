@@ -8,6 +8,7 @@ mod enough;
 mod forcing;
 mod fronts;
 mod laws;
+mod losses;
 mod narrowing;
 mod reaching;
 mod search;

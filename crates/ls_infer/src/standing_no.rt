@@ -6,6 +6,7 @@ ghost use Rattle.ls_set.specs.declared.query.Query.{Query};
 ghost use Rattle.ls_theory.specs.Families.{closure};
 ghost use Rattle.ls_theory.specs.Queries.{blocks, breaks};
 ghost use Rattle.ls_theory.specs.declared.no.No.{No};
+ghost use Rattle.ls_interior.specs.Closures.{AreClosures};
 ghost use Rattle.ls_infer.specs.Changes.{IsChange, can_grow, is_kept, is_reached, most_steps};
 ghost use Rattle.ls_infer.specs.Tables.{enough_for, standing, forces, AreStates};
 ghost use Rattle.ls_infer.specs.declared.yes_change.YesChange.TheVariants as YesChange;
@@ -74,6 +75,7 @@ impl StandingNo {
         no: No,
         closed: ItemSet,
         known: ItemSet,
+        closures: &[ItemSet],
         witnesses: &mut [Witnesses],
         steps: &mut Steps<L>,
     ) -> StandingNo
@@ -82,11 +84,13 @@ impl StandingNo {
         requires known { IsWithin known (full (I.item_count f.now)) }
         ensures value { let n = I.item_count f.now in
             closed ≡ closure (full n) (I.members f.now) no.query.a →
+            AreClosures n (I.members f.now) closures.now →
             AreStates (I.members f.now) witnesses.old →
             IsWithin known (enough_for n (I.members f.now) closed no.query.q) →
             result ≡ standing n (I.members f.now) no }
         ensures states { let n = I.item_count f.now in
             closed ≡ closure (full n) (I.members f.now) no.query.a →
+            AreClosures n (I.members f.now) closures.now →
             AreStates (I.members f.now) witnesses.old → AreStates (I.members f.now) witnesses.new }
         ensures kept { is_kept (I.item_count f.now) result ≡ true }
         ensures cost { steps.new ≤ steps.old + (I.item_count f.now + 1) }
@@ -107,16 +111,18 @@ impl StandingNo {
                 };
             }
         }
-        let enough = enough_between(f, closed, q, known, all, witnesses, steps);
+        let enough = enough_between(f, closed, q, known, all, closures, witnesses, steps);
         StandingNo::of(f, no, closed, enough, steps)
     }
 
     /// What is kept of the answer, in a step at most for each item and one more. Items whose
     /// closures, by those that are kept of the block sets, have p are enough without a step, and
     /// what is not enough is shared. So it mostly takes fewer steps than `new`, which takes all.
+    /// `alone` are closures of single items, as far as they are known.
     pub fn shared<I: Interior, L: Ledger>(
         f: &I,
         closures: &[ItemSet],
+        alone: &[ItemSet],
         answer: &No,
         witnesses: &mut [Witnesses],
         steps: &mut Steps<L>,
@@ -124,17 +130,18 @@ impl StandingNo {
         requires { is_good (I.item_count f.now) answer.now.query ≡ true }
         ensures value { (k : ℕ) → let n = I.item_count f.now in
             closures.now ≡ map (closure (full n) (I.members f.now)) (blocks n k) →
+            AreClosures n (I.members f.now) alone.now →
             AreStates (I.members f.now) witnesses.old →
             result ≡ standing n (I.members f.now) answer.now }
-        ensures states { AreStates (I.members f.now) witnesses.old →
-            AreStates (I.members f.now) witnesses.new }
+        ensures states { AreClosures (I.item_count f.now) (I.members f.now) alone.now →
+            AreStates (I.members f.now) witnesses.old → AreStates (I.members f.now) witnesses.new }
         ensures kept { is_kept (I.item_count f.now) result ≡ true }
         ensures cost { steps.new ≤ steps.old + (I.item_count f.now + 1) }
     {
         let closed = closure(f, answer.query.a, steps);
         let all = ItemSet::full(f.items());
         let known = reaching(closures, all, answer.query.q);
-        StandingNo::between(f, *answer, closed, known, witnesses, steps)
+        StandingNo::between(f, *answer, closed, known, alone, witnesses, steps)
     }
 
     // What is kept of it with its closure, where what was enough stays so, but is no state.
@@ -142,6 +149,7 @@ impl StandingNo {
         &self,
         f: &I,
         closed: ItemSet,
+        closures: &[ItemSet],
         witnesses: &mut [Witnesses],
         steps: &mut Steps<L>,
     ) -> StandingNo
@@ -149,12 +157,14 @@ impl StandingNo {
         requires within { IsWithin closed (full (I.item_count f.now)) }
         ensures value { let n = I.item_count f.now in
             closed ≡ closure (full n) (I.members f.now) self.now.no.query.a →
+            AreClosures n (I.members f.now) closures.now →
             AreStates (I.members f.now) witnesses.old →
             IsWithin self.now.enough (enough_for n (I.members f.now) closed self.now.no.query.q) →
             is_among (I.members f.now) self.now.enough ≡ false →
             result ≡ standing n (I.members f.now) self.now.no }
         ensures states { let n = I.item_count f.now in
             closed ≡ closure (full n) (I.members f.now) self.now.no.query.a →
+            AreClosures n (I.members f.now) closures.now →
             AreStates (I.members f.now) witnesses.old → AreStates (I.members f.now) witnesses.new }
         ensures kept { is_kept (I.item_count f.now) result ≡ true }
         ensures cost { steps.new ≤ steps.old + I.item_count f.now }
@@ -168,6 +178,7 @@ impl StandingNo {
             self.no.query.q,
             self.enough,
             all,
+            closures,
             witnesses,
             steps,
         );
@@ -211,8 +222,9 @@ impl StandingNo {
             AreStates (I.members f.now) witnesses.old →
             self.now ≡ standing n before self.now.no →
             result ≡ standing n (I.members f.now) self.now.no }
-        ensures states { (before : List Items) → let n = I.item_count f.now in
+        ensures states { (before : List Items) (k : ℕ) → let n = I.item_count f.now in
             IsChange (YesChange.Added fall) n r.now before (I.members f.now) →
+            closures.now ≡ map (closure (full n) (I.members f.now)) (blocks n k) →
             self.now ≡ standing n before self.now.no →
             AreStates (I.members f.now) witnesses.old → AreStates (I.members f.now) witnesses.new }
         ensures kept { is_kept (I.item_count f.now) result ≡ true }
@@ -228,9 +240,9 @@ impl StandingNo {
             if self.is_state {
                 let all = ItemSet::full(f.items());
                 let known = reaching(closures, all, self.no.query.q).union(self.enough);
-                return StandingNo::between(f, self.no, closed, known, witnesses, steps);
+                return StandingNo::between(f, self.no, closed, known, closures, witnesses, steps);
             }
-            return self.with_closed(f, closed, witnesses, steps);
+            return self.with_closed(f, closed, closures, witnesses, steps);
         }
         StandingNo {
             closed,
@@ -267,8 +279,9 @@ impl StandingNo {
             AreStates (I.members f.now) witnesses.old →
             self.now ≡ standing n before self.now.no →
             result ≡ standing n (I.members f.now) self.now.no }
-        ensures states { (before : List Items) → let n = I.item_count f.now in
+        ensures states { (before : List Items) (k : ℕ) → let n = I.item_count f.now in
             IsChange YesChange.Removed n r.now before (I.members f.now) →
+            closures.now ≡ map (closure (full n) (I.members f.now)) (blocks n k) →
             self.now ≡ standing n before self.now.no →
             AreStates (I.members f.now) witnesses.old → AreStates (I.members f.now) witnesses.new }
         ensures kept { is_kept (I.item_count f.now) result ≡ true }
@@ -281,7 +294,7 @@ impl StandingNo {
         };
         let q = self.no.query.q;
         let known = reaching(closures, self.enough, q);
-        let enough = enough_between(f, closed, q, known, self.enough, witnesses, steps);
+        let enough = enough_between(f, closed, q, known, self.enough, closures, witnesses, steps);
         if self.keeps_state(r) && self.enough.is_within(enough) {
             return StandingNo { closed, ..*self };
         }
@@ -337,8 +350,9 @@ impl StandingNo {
             AreStates (I.members f.now) witnesses.old →
             self.now ≡ standing n before self.now.no →
             result ≡ standing n (I.members f.now) self.now.no }
-        ensures states { (before : List Items) → let n = I.item_count f.now in
+        ensures states { (before : List Items) (k : ℕ) → let n = I.item_count f.now in
             IsChange change.now n r.now before (I.members f.now) →
+            closures.now ≡ map (closure (full n) (I.members f.now)) (blocks n k) →
             self.now ≡ standing n before self.now.no →
             AreStates (I.members f.now) witnesses.old → AreStates (I.members f.now) witnesses.new }
         ensures kept { is_kept (I.item_count f.now) result ≡ true }

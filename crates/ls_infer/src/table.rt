@@ -293,7 +293,8 @@ impl Table {
         ensures cost { steps.new ≤ steps.old + (self.old.table.blocks.item_count + 1) }
     {
         renew(&mut self.witnesses, x.query.q);
-        let kept = StandingNo::shared(f, &self.closures, &x, &mut self.witnesses, steps);
+        let witnesses = &mut self.witnesses;
+        let kept = StandingNo::shared(f, &self.closures, &[], &x, witnesses, steps);
         self.standing.push_reserved(kept);
     }
 

@@ -1,2 +1,3 @@
+pub mod Closures
 pub mod Keeping
 pub mod Listed

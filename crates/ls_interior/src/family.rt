@@ -1,8 +1,9 @@
 // Families that are known by their interiors.
 ghost use Rattle.std.specs.Prelude.{◌≡◌, ℕ, ◌+◌, ◌<◌, ◌≤◌, true, List, IfSome};
-ghost use Rattle.ls_set.specs.ItemSet.{Items, full, without, is_among, IsWithin};
+ghost use Rattle.ls_set.specs.ItemSet.{Items, full, has, without, is_among, IsWithin};
 ghost use Rattle.ls_theory.specs.Families.{interior, closure};
 ghost use Rattle.ls_laws.specs.Families.{IsFamily};
+ghost use Rattle.ls_interior.specs.Closures.{AreClosures};
 ghost use Rattle.ls_interior.specs.Keeping.{interior_keeping};
 
 use crate::steps::Steps;
@@ -51,6 +52,46 @@ pub trait Inside {
         }
     }
 
+    /// What `find_losses` has told of a member, of items by the closures of each alone.
+    ghost are_losses: { Self → Items → Items → List Items → List Items → Type 0 } = { λ _ _ _ _ _. ⊥ };
+
+    /// Tells of a member what of it falls at once with each of some items, where the closures of
+    /// single items are known; `losses` has room for each item. It forms no interior. A family that
+    /// gains nothing by it tells nothing, which is the result false.
+    fn find_losses(
+        &self,
+        member: ItemSet,
+        items: ItemSet,
+        closures: &[ItemSet],
+        losses: &mut [ItemSet],
+    ) -> bool
+        ensures { result ≡ true → is_among (members self.now) member ≡ true →
+            AreClosures (item_count self.now) (members self.now) closures.now →
+            are_losses self.now member items closures.now losses.new }
+    {
+        false
+    }
+
+    /// As `inside_without`, for one of the items of which it was told what falls with them.
+    fn inside_by_losses(
+        &self,
+        member: ItemSet,
+        item: u32,
+        keep: ItemSet,
+        closures: &[ItemSet],
+        losses: &[ItemSet],
+    ) -> Option<ItemSet>
+        requires within { IsWithin member (full (item_count self.now)) }
+        requires item { item < PLACES }
+        ensures value { (items : Items) → is_among (members self.now) member ≡ true →
+            AreClosures (item_count self.now) (members self.now) closures.now →
+            are_losses self.now member items closures.now losses.now → has items item ≡ true →
+            result ≡ interior_keeping (members self.now) (without member item) keep }
+        ensures part { IfSome result (λ k. IsWithin k member) }
+    {
+        self.inside_without(member, item, keep)
+    }
+
     /// The members are a family on the items.
     ghost is_family: { (f : Self) → IsFamily (item_count f) (members f) };
 }
@@ -88,6 +129,43 @@ pub trait Interior {
         requires within { IsWithin member (full (item_count self.now)) }
         requires item { item < PLACES }
         ensures value { is_among (members self.now) member ≡ true →
+            result ≡ interior_keeping (members self.now) (without member item) keep }
+        ensures part { IfSome result (λ k. IsWithin k member) }
+        ensures cost { steps.new ≡ steps.old + 1 };
+
+    /// What `find_losses` has told of a member, of items by the closures of each alone.
+    ghost are_losses: { Self → Items → Items → List Items → List Items → Type 0 };
+
+    /// Tells of a member what of it falls at once with each of some items, where the closures of
+    /// single items are known; `losses` has room for each item. It takes no step. Where it tells
+    /// nothing the result is false.
+    fn find_losses(
+        &self,
+        member: ItemSet,
+        items: ItemSet,
+        closures: &[ItemSet],
+        losses: &mut [ItemSet],
+    ) -> bool
+        ensures { result ≡ true → is_among (members self.now) member ≡ true →
+            AreClosures (item_count self.now) (members self.now) closures.now →
+            are_losses self.now member items closures.now losses.new };
+
+    /// As `interior_without`, for one of the items of which it was told what falls with them. It
+    /// counts as one step.
+    fn interior_by_losses<L: Ledger>(
+        &self,
+        member: ItemSet,
+        item: u32,
+        keep: ItemSet,
+        closures: &[ItemSet],
+        losses: &[ItemSet],
+        steps: &mut Steps<L>,
+    ) -> Option<ItemSet>
+        requires within { IsWithin member (full (item_count self.now)) }
+        requires item { item < PLACES }
+        ensures value { (items : Items) → is_among (members self.now) member ≡ true →
+            AreClosures (item_count self.now) (members self.now) closures.now →
+            are_losses self.now member items closures.now losses.now → has items item ≡ true →
             result ≡ interior_keeping (members self.now) (without member item) keep }
         ensures part { IfSome result (λ k. IsWithin k member) }
         ensures cost { steps.new ≡ steps.old + 1 };

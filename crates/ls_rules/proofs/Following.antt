@@ -20,7 +20,7 @@ use Rattle.ls_rules.proofs.Indexing.{Grows-put, followed-put}
 pub with-here : (s : Items) (i : ℕ) → has (with s i) i ≡ true
 with-here s i = has-with s i i ∙ or_right (has s i) (eqb i i) (eq-eqb i i refl)
 
-left-in : (s t : Items) (i : ℕ) → has s i ≡ true → has t i ≡ false → has (minus s t) i ≡ true
+pub left-in : (s t : Items) (i : ℕ) → has s i ≡ true → has t i ≡ false → has (minus s t) i ≡ true
 left-in s t i h out = has-minus s t i ∙ and_from (has s i) (not (has t i)) h (not_from_false (has t i) out)
 
 left-out : (s t : Items) (i : ℕ) → has (minus s t) i ≡ true → has t i ≡ false

@@ -4,3 +4,4 @@ pub mod Rounds
 pub mod Begun
 pub mod Reaching
 pub mod Following
+pub mod Losing

@@ -3,6 +3,7 @@
 
 mod followers;
 mod index;
+mod losses;
 mod parts;
 mod places;
 mod round;

@@ -6,13 +6,16 @@ ghost use Rattle.ls_set.specs.Query.{is_good};
 ghost use Rattle.ls_theory.specs.Queries.{breaks_none};
 ghost use Rattle.ls_theory.specs.Families.{interior};
 ghost use Rattle.ls_interior.specs.Keeping.{interior_keeping};
+ghost use Rattle.ls_rules.specs.Losses.{IsLoss, AreLosses};
 ghost use Rattle.std.specs.List.{AllByRecursion};
 ghost use Rattle.ls_rules.specs.Waking.{Settling};
 
 use crate::followers::Followers;
 use crate::index::Index;
+use crate::losses::find_losses;
 use crate::parts::{first_of, several};
 use crate::round::Round;
+use crate::sets::set_at;
 use crate::singles::Singles;
 use crate::waking::{begin, settle};
 use ls_interior::Inside;
@@ -242,6 +245,23 @@ impl<F: Inside> Ruled<F> {
         }
         self.settle_within(next, Round { kept: next, fallen }, keep)
     }
+
+    // That of a set, where it has all of `keep`, and where it is told what falls out of it at once.
+    #[inline(never)]
+    fn inside_losing(&self, set: ItemSet, lost: ItemSet, keep: ItemSet) -> Option<ItemSet>
+        requires { IsWithin set (full (F.item_count self.now.inner)) }
+        ensures value { IsLoss self.now.rules set lost → result ≡ interior_keeping
+            (filter (breaks_none self.now.rules) (F.members self.now.inner)) set keep }
+        ensures part { IfSome result (λ k. IsWithin k set) }
+    {
+        let member = self.inner.inside(set);
+        let kept = member.minus(lost);
+        if !keep.is_within(kept) {
+            return None;
+        }
+        let fallen = set.minus(kept).meet(self.waking_items());
+        self.settle_within(member, Round { kept, fallen }, keep)
+    }
 }
 
 impl<F: Inside> Inside for Ruled<F> {
@@ -250,6 +270,9 @@ impl<F: Inside> Inside for Ruled<F> {
     ghost item_count = { λ r. F.item_count r.inner };
 
     ghost members = { λ r. filter (breaks_none r.rules) (F.members r.inner) };
+
+    ghost are_losses = { λ r member items closures losses.
+        AreLosses (F.item_count r.inner) r.rules member items closures losses };
 
     ghost is_family = { λ r. ruled-IsFamily r.rules (F.is_family r.inner) };
 
@@ -270,6 +293,34 @@ impl<F: Inside> Inside for Ruled<F> {
             self.inner.inside_without(member, item, keep)
         } else {
             self.inside_ruled_without(member, item, keep)
+        }
+    }
+
+    fn find_losses(
+        &self,
+        member: ItemSet,
+        items: ItemSet,
+        closures: &[ItemSet],
+        losses: &mut [ItemSet],
+    ) -> bool {
+        let n = self.inner.items();
+        find_losses(&self.rules, &self.wakes, n, member, items, closures, losses);
+        true
+    }
+
+    fn inside_by_losses(
+        &self,
+        member: ItemSet,
+        item: u32,
+        keep: ItemSet,
+        closures: &[ItemSet],
+        losses: &[ItemSet],
+    ) -> Option<ItemSet> {
+        let closed = set_at(closures, item);
+        if item < self.inner.items() && (item as usize) < losses.len() && closed.has(item) {
+            self.inside_losing(member.minus(closed), set_at(losses, item), keep)
+        } else {
+            self.inside_without(member, item, keep)
         }
     }
 }

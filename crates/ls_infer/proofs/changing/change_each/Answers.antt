@@ -30,7 +30,7 @@ loop-s-preserved g c =
         made = λ before k nos change closed states e.
             let so = v.made before k nos change closed states e in (
               standing-next n before after nos ys i x w.after.result (placed before nos e) so.0 (ap (get_or ys i) c.s-item.is) (w.after.ensures.value before k change closed so.1),
-              w.after.ensures.states before change (standing-at n before after nos ys i x (placed before nos e) so.0 (ap (get_or ys i) c.s-item.is)) so.1,
+              w.after.ensures.states before k change closed (standing-at n before after nos ys i x (placed before nos e) so.0 (ap (get_or ys i) c.s-item.is)) so.1,
             );
         cost = grind (arith, common_steps, v.cost, w.after.ensures.cost);
       })

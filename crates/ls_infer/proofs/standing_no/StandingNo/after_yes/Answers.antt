@@ -8,6 +8,7 @@ use Rattle.ls_laws.proofs.ClosureChanges.{closure_holds}
 use Rattle.ls_infer.specs.Changes.{IsChange}
 use Rattle.ls_infer.specs.declared.yes_change.YesChange.TheVariants as YesChange
 use Rattle.ls_infer.specs.Tables.{enough_for, standing}
+use Rattle.ls_infer.proofs.Places.{alone-closures}
 use Rattle.ls_infer.proofs.States.{good-item, reached}
 use Rattle.ls_infer.proofs.Standing.{kept-parts, kept-again, after-again, after-lack, after-known, after-state, after-fall, after-no_state}
 use Rattle.ls_infer.proofs.standing_no.StandingNo.after_yes.Given as given
@@ -45,13 +46,13 @@ returns-then-has-clause-value g c = λ before k change kept_closures states e.
     let closed = c.if-is_within.closed in
     let made = closed_is g (goal.at.returns-then-has-clause-value g c).Joined-is_within before change e in
     let none : (s.is_state && not (breaks s.enough r)) ≡ false = sym c.stays_state-is_state.ensures ∙ c.if-not-is_state.true in
-    c.with_closed.ensures.value made states (after-known n before after r s closed change.0 e made) (after-no_state n before after r s change.0 e none)
+    c.with_closed.ensures.value made (alone-closures n k after c.args.closures.now kept_closures) states (after-known n before after r s closed change.0 e made) (after-no_state n before after r s change.0 e none)
 
 pub returns-then-has-clause-states : goal.returns-then-has-clause-states
-returns-then-has-clause-states g c = λ before change e. c.with_closed.ensures.states (closed_is g (goal.at.returns-then-has-clause-states g c).Joined-is_within before change e)
+returns-then-has-clause-states g c = λ before k change kept_closures e. c.with_closed.ensures.states (closed_is g (goal.at.returns-then-has-clause-states g c).Joined-is_within before change e) (alone-closures _ k _ c.args.closures.now kept_closures)
 
 pub returns-then-self-clause-states : goal.returns-then-self-clause-states
-returns-then-self-clause-states g c = λ before change e. c.between.ensures.states (closed_is g (goal.at.returns-then-self-clause-states g c).Joined-is_within before change e)
+returns-then-self-clause-states g c = λ before k change kept_closures e. c.between.ensures.states (closed_is g (goal.at.returns-then-self-clause-states g c).Joined-is_within before change e) (alone-closures _ k _ c.args.closures.now kept_closures)
 
 pub returns-clause-value : goal.returns-clause-value
 returns-clause-value g c = λ before k change kept_closures states e.
@@ -114,7 +115,7 @@ returns-then-self-clause-value g c = λ before k change kept_closures states e.
     let all : c.full-all.result ≡ full n = c.full-all.ensures ∙ ap full c.items.ensures.count in
     let part : IsWithin c.reaching.result (full n) = rw all at c.reaching.ensures.part in
     let alone = reached n after closed s.no.query.q c.reaching.result part (c.reaching.ensures.closures n k after (rw all (λ i h. h)) kept_closures) in
-    c.between.ensures.value made states
+    c.between.ensures.value made (alone-closures n k after c.args.closures.now kept_closures) states
     (rw c.union-known.ensures (union-within c.reaching.result s.enough (enough_for n after closed s.no.query.q) alone (after-known n before after r s closed change.0 e made)))
 
 pub returns-then-self-clause-cost : goal.returns-then-self-clause-cost
