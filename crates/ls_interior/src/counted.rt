@@ -77,6 +77,7 @@ impl<F: Inside> Interior for Counted<'_, F> {
         steps: &mut Steps<L>,
     ) -> Option<ItemSet> {
         steps.tick();
-        self.family.inside_by_losses(member, item, keep, closures, losses)
+        self.family
+            .inside_by_losses(member, item, keep, closures, losses)
     }
 }

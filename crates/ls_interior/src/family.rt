@@ -3,7 +3,7 @@ ghost use Rattle.std.specs.Prelude.{◌≡◌, ℕ, ◌+◌, ◌<◌, ◌≤◌,
 ghost use Rattle.ls_set.specs.ItemSet.{Items, full, has, without, is_among, IsWithin};
 ghost use Rattle.ls_theory.specs.Families.{interior, closure};
 ghost use Rattle.ls_laws.specs.Families.{IsFamily};
-ghost use Rattle.ls_interior.specs.Closures.{AreClosures};
+ghost use Rattle.ls_interior.specs.Closures.{AreClosures, untold};
 ghost use Rattle.ls_interior.specs.Keeping.{interior_keeping};
 
 use crate::steps::Steps;
@@ -52,12 +52,13 @@ pub trait Inside {
         }
     }
 
-    /// What `find_losses` has told of a member, of items by the closures of each alone.
-    ghost are_losses: { Self → Items → Items → List Items → List Items → Type 0 } = { λ _ _ _ _ _. ⊥ };
+    /// What `find_losses` finds, for a member and some items by their closures.
+    ghost are_losses: { Self → Items → Items → List Items → List Items → Type 0 } = { untold };
 
-    /// Tells of a member what of it falls at once with each of some items, where the closures of
-    /// single items are known; `losses` has room for each item. It forms no interior. A family that
-    /// gains nothing by it tells nothing, which is the result false.
+    /// Finds for each of some items what of a member falls at once where the item's closure is taken
+    /// out. `closures` has at an item's number the closure of the item alone, where that is known,
+    /// and `losses` takes what is found at the same places. It forms no interior. A family that
+    /// gains nothing by this finds nothing, and the result is false.
     fn find_losses(
         &self,
         member: ItemSet,
@@ -72,7 +73,7 @@ pub trait Inside {
         false
     }
 
-    /// As `inside_without`, for one of the items of which it was told what falls with them.
+    /// As `inside_without`, for one of the items for which it was found what falls at once.
     fn inside_by_losses(
         &self,
         member: ItemSet,
@@ -133,12 +134,13 @@ pub trait Interior {
         ensures part { IfSome result (λ k. IsWithin k member) }
         ensures cost { steps.new ≡ steps.old + 1 };
 
-    /// What `find_losses` has told of a member, of items by the closures of each alone.
+    /// What `find_losses` finds, for a member and some items by their closures.
     ghost are_losses: { Self → Items → Items → List Items → List Items → Type 0 };
 
-    /// Tells of a member what of it falls at once with each of some items, where the closures of
-    /// single items are known; `losses` has room for each item. It takes no step. Where it tells
-    /// nothing the result is false.
+    /// Finds for each of some items what of a member falls at once where the item's closure is taken
+    /// out. `closures` has at an item's number the closure of the item alone, where that is known,
+    /// and `losses` takes what is found at the same places. It takes no step. Where nothing is found
+    /// the result is false.
     fn find_losses(
         &self,
         member: ItemSet,
@@ -150,7 +152,7 @@ pub trait Interior {
             AreClosures (item_count self.now) (members self.now) closures.now →
             are_losses self.now member items closures.now losses.new };
 
-    /// As `interior_without`, for one of the items of which it was told what falls with them. It
+    /// As `interior_without`, for one of the items for which it was found what falls at once. It
     /// counts as one step.
     fn interior_by_losses<L: Ledger>(
         &self,

@@ -59,13 +59,7 @@ fn reaching_all(reached: &[ItemSet], set: ItemSet, items: ItemSet) -> ItemSet
 }
 
 // Where the member without the closure of an item breaks the rule, the rule's item falls at once.
-fn tell(
-    rule: &Query,
-    member: ItemSet,
-    items: ItemSet,
-    reached: &[ItemSet],
-    losses: &mut [ItemSet],
-)
+fn tell(rule: &Query, member: ItemSet, items: ItemSet, reached: &[ItemSet], losses: &mut [ItemSet])
     requires { rule.now.q < PLACES }
     ensures { (closures : List Items) (x : ℕ) → IsWithin member (full PLACES) →
         AreReached closures items reached.now → has items x ≡ true → x < length losses.old →
@@ -137,8 +131,8 @@ pub fn find_losses(
     requires good { list_all (is_good n) rules.now ≡ true }
     requires wakes { IsIndexOf wakes.now (map (λ r. several r.a) rules.now) }
     ensures { (x : ℕ) → IsWithin member (full PLACES) → has items x ≡ true →
-        x < length losses.old →
-        IsLosing rules.now member empty (minus member (set_at closures.now x)) (set_at losses.new x) }
+        x < length losses.old → let set = minus member (set_at closures.now x) in
+        IsLosing rules.now member empty set (set_at losses.new x) }
 {
     let mut reached = [ItemSet::empty(); PLACES as usize];
     reach_each(closures, items, &mut reached);
