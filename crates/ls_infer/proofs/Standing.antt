@@ -1,6 +1,6 @@
 -- What a Yes that comes or goes changes of what is kept of a standing No.
 use Rattle.std.proofs.Common.{ℕ, ◌+◌, ◌<◌, ◌≡◌, inl, inr, Bool, true, false, not, ◌&&◌, ◌||◌, ltb, List, length, get_or, slice_get, Some, refl, sym, ap, ap₂, ◌∙◌, subst, true≢false, ltb-true}
-use Rattle.std.proofs.lemmas.Bool.{and_parts, and_from, or_parts, cases_Bool, false_from_ne_true, true_from_ne_false, not-true, not-false}
+use Rattle.std.proofs.lemmas.Bool.{and_parts, and_from, or_parts, cases_Bool, false_from_ne_true, not-true, not-false}
 use Rattle.std.proofs.Math.ListN.{set}
 use Rattle.std.proofs.lemmas.Option.{slice_get-get_or}
 use Rattle.ls_lists.specs.Lists.{images}
@@ -17,17 +17,16 @@ use Rattle.ls_laws.specs.Families.{IsFamily}
 use Rattle.ls_laws.specs.Spans.{IsPart, left_by}
 use Rattle.ls_laws.proofs.Interiors.{IsUnionFamily}
 use Rattle.ls_laws.proofs.Breaks.{IsGood, good-from, good-to, Breaks-from, among-left}
-use Rattle.ls_laws.proofs.Closures.{left-IsUnionFamily, closure_stays}
-use Rattle.ls_laws.proofs.Lists.{IsInOrder-filter}
+use Rattle.ls_laws.proofs.Closures.{closure_stays}
 use Rattle.ls_laws.proofs.ClosureChanges.{closure_holds, closure_grows, closure_widens, closure_again, closure_from_old, closure_before_yes, left-IsPart}
-use Rattle.ls_laws.proofs.Families.{family_sets, family_in_order}
+use Rattle.ls_laws.proofs.Families.{family_sets}
 use Rattle.ls_infer.specs.declared.standing_no.StandingNo.{StandingNo}
 use Rattle.ls_infer.specs.declared.yes_change.YesChange.{YesChange}
 use Rattle.ls_infer.specs.Changes.{CanFall, IsAdded, IsChange, can_grow, is_kept, is_reached}
 use Rattle.ls_infer.specs.Tables.{enough_for, standing}
 use Rattle.ls_infer.proofs.Kept.{has-enough, with-within}
 use Rattle.ls_infer.proofs.Outside.{with-left, with-cases, outside-member}
-use Rattle.ls_infer.proofs.States.{with-itself, enough-parts, enough-from, enough-apart, enough-only, enough-apart_from, enough-grows, enough-unbroken, enough-stays, unbroken-among}
+use Rattle.ls_infer.proofs.States.{with-itself, enough-apart, enough-only, enough-apart_from, enough-grows, enough-unbroken, enough-stays, unbroken-among}
 
 -- ---- closures that stay
 
@@ -215,29 +214,6 @@ after-state n before after r s closed is_state change kept e made state holds =
 -- and else it is none
 pub after-no_state : (n : ℕ) (before after : List Items) (r : Query) (s : StandingNo) → IsAdded n r before after → s ≡ standing n before s.no → (s.is_state && not (breaks s.enough r)) ≡ false → is_among after s.enough ≡ false
 after-no_state n before after r s change e h = ap (λ g. is_among g s.enough) change.1 ∙ among-left before r s.enough ∙ ap (λ b. b && not (breaks s.enough r)) (sym (stands n before s e).is_state) ∙ h
-
--- what is enough anew is so for each item of A: else the closure with it lacks one of A, and is as it was
-pub after-gained : (n : ℕ) (before after : List Items) (r : Query) (s : StandingNo) (i a : ℕ) → IsAdded n r before after → is_good n r ≡ true → s ≡ standing n before s.no → has (enough_for n after s.closed s.no.query.q) i ≡ true
-    → has s.enough i ≡ false → has r.a a ≡ true → has (enough_for n after s.closed a) i ≡ true
-after-gained n before after r s i a change good e here lacks of_a =
-    let c = s.closed in
-    let q = s.no.query.q in
-    let p = enough-parts n after c q i here in
-    let l = ltb-true i n p.0 in
-    enough-from n after c a i l (true_from_ne_false (has (closure (full n) after (with c i)) a) (λ out.
-    let part : IsPart after before = subst (λ g. IsPart g before) (sym change.1) (left-IsPart before r) in
-    let apart : is_within r.a (closure (full n) before (with c i)) ≡ false = false_from_ne_true (is_within r.a (closure (full n) before (with c i))) (λ w.
-    true≢false (sym (closure_widens (full n) before after (with c i) part a (IsWithin-from r.a (closure (full n) before (with c i)) w a of_a)) ∙ out)) in
-    let same : closure (full n) after (with c i) ≡ closure (full n) before (with c i) =
-    ap (λ g. closure (full n) g (with c i)) change.1 ∙ lack-stays n before r (with c i) (family_sets n before change.0) (good-from n r good) apart in
-    let old : has (enough_for n before c q) i ≡ true = enough-from n before c q i l (ap (λ d. has d q) (sym same) ∙ p.1) in
-    let was = ap (λ (t : StandingNo). has t.enough i) e ∙ ap (λ (t : StandingNo). has (enough_for n before t.closed q) i) (sym e) ∙ old in
-    true≢false (sym was ∙ lacks)))
-
--- the family that a Yes leaves
-pub added-IsFamily : (n : ℕ) (before after : List Items) (r : Query) → IsAdded n r before after → IsFamily n after
-added-IsFamily n before after r change =
-    subst (λ g. IsFamily n g) (sym change.1) (family_in_order n (left_by r before) (IsInOrder-filter (λ k. not (breaks k r)) before change.0.in_order) (left-IsUnionFamily n before r (family_sets n before change.0)))
 
 -- where p cannot fall, nothing more is enough
 pub after-fall : (n : ℕ) (before after : List Items) (r : Query) (s : StandingNo) (closed fall : Items) (is_state : Bool) → IsAdded n r before after → CanFall before r.q fall → is_kept n s ≡ true → s ≡ standing n before s.no → closed ≡ closure (full n) after s.no.query.a

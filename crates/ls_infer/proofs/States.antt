@@ -43,7 +43,7 @@ held n f s i l h =
 pub enough-parts : (n : ℕ) (f : List Items) (closed : Items) (p i : ℕ) → has (enough_for n f closed p) i ≡ true → (ltb i n ≡ true) × (has (closure (full n) f (with closed i)) p ≡ true)
 enough-parts n f closed p i h = and_parts (ltb i n) (has (closure (full n) f (with closed i)) p) (sym (has-enough n f closed p i) ∙ h)
 
-pub enough-from : (n : ℕ) (f : List Items) (closed : Items) (p i : ℕ) → i < n → has (closure (full n) f (with closed i)) p ≡ true → has (enough_for n f closed p) i ≡ true
+enough-from : (n : ℕ) (f : List Items) (closed : Items) (p i : ℕ) → i < n → has (closure (full n) f (with closed i)) p ≡ true → has (enough_for n f closed p) i ≡ true
 enough-from n f closed p i l h = has-enough n f closed p i ∙ and_from (ltb i n) (has (closure (full n) f (with closed i)) p) (lt-ltb i n l) h
 
 pub enough-within : (n : ℕ) (f : List Items) (closed : Items) (p : ℕ) → IsWithin (enough_for n f closed p) (full n)

@@ -7,7 +7,6 @@ mod closures;
 mod enough;
 mod forcing;
 mod fronts;
-mod gaining;
 mod laws;
 mod losses;
 mod narrowing;

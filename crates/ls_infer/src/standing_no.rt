@@ -13,7 +13,6 @@ ghost use Rattle.ls_infer.specs.declared.yes_change.YesChange.TheVariants as Yes
 
 use crate::breaking::breaks;
 use crate::enough::{enough_between, enough_for, is_state};
-use crate::gaining::gained_among;
 use crate::reaching::reaching;
 use crate::witnesses::Witnesses;
 use crate::yes_change::YesChange;
@@ -69,29 +68,25 @@ impl StandingNo {
     }
 
     // What is kept of the answer with its closure, where those of `known` are enough, in a step at
-    // most for each item and one more. No item is enough that isn't of `among`; where p is left
-    // with those that are known alone, no other item is enough.
+    // most for each item and one more. Where p is left with those that are known alone, no other
+    // item is enough.
     fn between<I: Interior, L: Ledger>(
         f: &I,
         no: No,
         closed: ItemSet,
         known: ItemSet,
-        among: ItemSet,
         closures: &[ItemSet],
         witnesses: &mut [Witnesses],
         steps: &mut Steps<L>,
     ) -> StandingNo
         requires good { is_good (I.item_count f.now) no.query ≡ true }
-        requires few { I.item_count f.now ≤ PLACES }
         requires within { IsWithin closed (full (I.item_count f.now)) }
         requires known { IsWithin known (full (I.item_count f.now)) }
-        requires among { IsWithin among (full (I.item_count f.now)) }
         ensures value { let n = I.item_count f.now in
             closed ≡ closure (full n) (I.members f.now) no.query.a →
             AreClosures n (I.members f.now) closures.now →
             AreStates (I.members f.now) witnesses.old →
             IsWithin known (enough_for n (I.members f.now) closed no.query.q) →
-            IsWithin (enough_for n (I.members f.now) closed no.query.q) among →
             result ≡ standing n (I.members f.now) no }
         ensures states { let n = I.item_count f.now in
             closed ≡ closure (full n) (I.members f.now) no.query.a →
@@ -102,6 +97,7 @@ impl StandingNo {
         ensures fewer { (i : ℕ) → has closed i ≡ true → i < I.item_count f.now →
             steps.new ≤ steps.old + I.item_count f.now }
     {
+        let all = ItemSet::full(f.items());
         let q = no.query.q;
         let known = known.with(q);
         if !closed.has(q) {
@@ -115,7 +111,7 @@ impl StandingNo {
                 };
             }
         }
-        let enough = enough_between(f, closed, q, known, among, closures, witnesses, steps);
+        let enough = enough_between(f, closed, q, known, all, closures, witnesses, steps);
         StandingNo::of(f, no, closed, enough, steps)
     }
 
@@ -145,7 +141,7 @@ impl StandingNo {
         let closed = closure(f, answer.query.a, steps);
         let all = ItemSet::full(f.items());
         let known = reaching(closures, all, answer.query.q);
-        StandingNo::between(f, *answer, closed, known, all, alone, witnesses, steps)
+        StandingNo::between(f, *answer, closed, known, alone, witnesses, steps)
     }
 
     // What is kept of it with its closure, where what was enough stays so, but is no state.
@@ -153,20 +149,17 @@ impl StandingNo {
         &self,
         f: &I,
         closed: ItemSet,
-        among: ItemSet,
         closures: &[ItemSet],
         witnesses: &mut [Witnesses],
         steps: &mut Steps<L>,
     ) -> StandingNo
         requires kept { is_kept (I.item_count f.now) self.now ≡ true }
         requires within { IsWithin closed (full (I.item_count f.now)) }
-        requires among { IsWithin among (full (I.item_count f.now)) }
         ensures value { let n = I.item_count f.now in
             closed ≡ closure (full n) (I.members f.now) self.now.no.query.a →
             AreClosures n (I.members f.now) closures.now →
             AreStates (I.members f.now) witnesses.old →
             IsWithin self.now.enough (enough_for n (I.members f.now) closed self.now.no.query.q) →
-            IsWithin (enough_for n (I.members f.now) closed self.now.no.query.q) among →
             is_among (I.members f.now) self.now.enough ≡ false →
             result ≡ standing n (I.members f.now) self.now.no }
         ensures states { let n = I.item_count f.now in
@@ -178,8 +171,17 @@ impl StandingNo {
         ensures fewer { (i : ℕ) → has closed i ≡ true → i < I.item_count f.now →
             steps.new + 1 ≤ steps.old + I.item_count f.now }
     {
-        let q = self.no.query.q;
-        let enough = enough_between(f, closed, q, self.enough, among, closures, witnesses, steps);
+        let all = ItemSet::full(f.items());
+        let enough = enough_between(
+            f,
+            closed,
+            self.no.query.q,
+            self.enough,
+            all,
+            closures,
+            witnesses,
+            steps,
+        );
         if enough.is_within(self.enough) {
             return StandingNo {
                 closed,
@@ -198,9 +200,9 @@ impl StandingNo {
         self.is_state && !breaks(self.enough, r)
     }
 
-    // What is kept of it under a Yes to the good query `r` that comes, with whose item no items
-    // fall but those of `fall`. What was enough stays so. Nothing more is where p cannot fall, or
-    // where it was a state that does not break `r`.
+    // What is kept of it under a Yes to the good query `r` that comes, with whose item no items fall
+    // but those of `fall`. What was enough stays so. Nothing more is where p cannot fall, or where
+    // it was a state that does not break `r`.
     fn after_yes<I: Interior, L: Ledger>(
         &self,
         f: &I,
@@ -235,15 +237,12 @@ impl StandingNo {
         };
         let is_state = self.stays_state(r);
         if !is_state && fall.has(self.no.query.q) {
-            let all = ItemSet::full(f.items());
-            let among = gained_among(all, self, r, witnesses);
             if self.is_state {
+                let all = ItemSet::full(f.items());
                 let known = reaching(closures, all, self.no.query.q).union(self.enough);
-                return StandingNo::between(
-                    f, self.no, closed, known, among, closures, witnesses, steps,
-                );
+                return StandingNo::between(f, self.no, closed, known, closures, witnesses, steps);
             }
-            return self.with_closed(f, closed, among, closures, witnesses, steps);
+            return self.with_closed(f, closed, closures, witnesses, steps);
         }
         StandingNo {
             closed,

@@ -7,13 +7,13 @@ use Rattle.ls_laws.proofs.Breaks.{good-from}
 use Rattle.ls_laws.proofs.ClosureChanges.{closure_holds}
 use Rattle.ls_infer.specs.Changes.{IsChange}
 use Rattle.ls_infer.specs.declared.yes_change.YesChange.TheVariants as YesChange
-use Rattle.ls_infer.specs.Tables.{enough_for, standing, AreStates}
+use Rattle.ls_infer.specs.Tables.{enough_for, standing}
 use Rattle.ls_infer.proofs.Places.{alone-closures}
-use Rattle.ls_infer.proofs.States.{enough-within, good-item, reached}
+use Rattle.ls_infer.proofs.States.{good-item, reached}
 use Rattle.ls_infer.proofs.Standing.{kept-parts, kept-again, after-again, after-lack, after-known, after-state, after-fall, after-no_state}
 use Rattle.ls_infer.proofs.standing_no.StandingNo.after_yes.Given as given
 use Rattle.ls_infer.proofs.standing_no.StandingNo.after_yes.Goals as goal
-use Rattle.ls_infer.proofs.standing_no.StandingNo.after_yes.Goals.{Joined-is_within, After-gained_among-among, then-is_within, else-is_within, else-not-is_state-via-then-not-is_state+else-has, else-not-is_state-via-else-not-is_state}
+use Rattle.ls_infer.proofs.standing_no.StandingNo.after_yes.Goals.{Joined-is_within, then-is_within, else-is_within, else-not-is_state-via-then-not-is_state+else-has, else-not-is_state-via-else-not-is_state}
 
 -- the closure is that in the family after the change
 closed_is : (g : given.Over) (c : Joined-is_within g) → (before : List Items) → IsChange (YesChange.Added c.args.fall) (g.I.Interior.item_count c.args.f.now) c.args.r.now before (g.I.Interior.members c.args.f.now)
@@ -27,24 +27,6 @@ closed_is g c before change e =
       | then-is_within w ↦ after-again n before after r s c.if-is_within.closed change.0 c.requires.kept e (w.closed-is ∙ w.closure-closed.ensures.value)
       | else-is_within w ↦ w.closed-is ∙ after-lack n before after r s change.0 c.requires.good e (sym c.is_within.ensures ∙ w.if-is_within.false)
     ]
-
--- all that is enough in the family after the change is among what may be
-gained : (g : given.Over) (c : After-gained_among-among g) → (before : List Items) → IsChange (YesChange.Added c.args.fall) (g.I.Interior.item_count c.args.f.now) c.args.r.now before (g.I.Interior.members c.args.f.now)
-    → AreStates (g.I.Interior.members c.args.f.now) c.args.witnesses.now → c.args.self.now ≡ standing (g.I.Interior.item_count c.args.f.now) before c.args.self.now.no
-    → IsWithin (enough_for (g.I.Interior.item_count c.args.f.now) (g.I.Interior.members c.args.f.now) c.if-is_within.closed c.args.self.now.no.query.q) c.gained_among-among.result
-gained g c before change states e =
-    let n = g.I.Interior.item_count c.args.f.now in
-    let after = g.I.Interior.members c.args.f.now in
-    let r = c.args.r.now in
-    let s = c.args.self.now in
-    let all : c.full-all.result ≡ full n = c.full-all.ensures ∙ ap full c.items.ensures.count in
-    elim c.if-is_within.branch [
-      | then-is_within w ↦ rw (c.gained_among-among.ensures.whole (sym c.is_within.ensures ∙ w.if-is_within.true), all) (enough-within n after c.if-is_within.closed s.no.query.q)
-      | else-is_within w ↦ rw w.closed-is (c.gained_among-among.ensures.gained n before after all change.0 c.requires.good states e (sym c.is_within.ensures ∙ w.if-is_within.false))
-    ]
-
-pub gained_among-among-requires : goal.gained_among-among-requires
-gained_among-among-requires g c = rw (c.full-all.ensures, c.items.ensures.count) (kept-parts _ c.args.self.now c.requires.kept).enough
 
 pub closure-closed-requires : goal.closure-closed-requires
 closure-closed-requires g c = (kept-parts _ c.args.self.now c.requires.kept).closed
@@ -64,7 +46,7 @@ returns-then-has-clause-value g c = λ before k change kept_closures states e.
     let closed = c.if-is_within.closed in
     let made = closed_is g (goal.at.returns-then-has-clause-value g c).Joined-is_within before change e in
     let none : (s.is_state && not (breaks s.enough r)) ≡ false = sym c.stays_state-is_state.ensures ∙ c.if-not-is_state.true in
-    c.with_closed.ensures.value made (alone-closures n k after c.args.closures.now kept_closures) states (after-known n before after r s closed change.0 e made) (gained g (goal.at.returns-then-has-clause-value g c).After-gained_among-among before change states e) (after-no_state n before after r s change.0 e none)
+    c.with_closed.ensures.value made (alone-closures n k after c.args.closures.now kept_closures) states (after-known n before after r s closed change.0 e made) (after-no_state n before after r s change.0 e none)
 
 pub returns-then-has-clause-states : goal.returns-then-has-clause-states
 returns-then-has-clause-states g c = λ before k change kept_closures e. c.with_closed.ensures.states (closed_is g (goal.at.returns-then-has-clause-states g c).Joined-is_within before change e) (alone-closures _ k _ c.args.closures.now kept_closures)
@@ -135,7 +117,6 @@ returns-then-self-clause-value g c = λ before k change kept_closures states e.
     let alone = reached n after closed s.no.query.q c.reaching.result part (c.reaching.ensures.closures n k after (rw all (λ i h. h)) kept_closures) in
     c.between.ensures.value made (alone-closures n k after c.args.closures.now kept_closures) states
     (rw c.union-known.ensures (union-within c.reaching.result s.enough (enough_for n after closed s.no.query.q) alone (after-known n before after r s closed change.0 e made)))
-    (gained g (goal.at.returns-then-self-clause-value g c).After-gained_among-among before change states e)
 
 pub returns-then-self-clause-cost : goal.returns-then-self-clause-cost
 returns-then-self-clause-cost g c =

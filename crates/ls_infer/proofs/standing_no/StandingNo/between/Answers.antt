@@ -1,30 +1,30 @@
 use Rattle.std.proofs.Common.{◌≡◌, true, ◌∙◌, ap, refl, sym, arith}
-use Rattle.ls_set.specs.ItemSet.{with, has, is_among, is_within}
+use Rattle.ls_set.specs.ItemSet.{full, with, has, is_among, is_within}
 use Rattle.ls_theory.specs.Families.{interior}
 use Rattle.ls_laws.proofs.Breaks.{good-from}
 use Rattle.ls_laws.proofs.Families.{family_sets}
 use Rattle.ls_laws.proofs.Interiors.{is_within-interior}
 use Rattle.ls_infer.proofs.Kept.{with-within}
 use Rattle.ls_infer.proofs.Outside.{outside-member}
-use Rattle.ls_infer.proofs.States.{with-itself, good-several}
+use Rattle.ls_infer.proofs.States.{enough-within, with-itself, good-several}
 use Rattle.ls_infer.proofs.Standing.{kept-from, standing-from, standing-only}
 use Rattle.ls_infer.proofs.standing_no.StandingNo.between.Goals as goal
 use Rattle.ls_infer.proofs.standing_no.StandingNo.between.Goals.{then-not-has+else-has, else-not-has}
 
 pub with-known-requires : goal.with-known-requires
-with-known-requires g c = let item = (good-from _ c.args.no.query c.requires.good).item in omega (arith, item, c.requires.few)
+with-known-requires g c = let item = (good-from _ c.args.no.query c.requires.good).item in omega (arith, item, c.items.ensures.count, c.items.ensures.few)
 
 pub has-requires : goal.has-requires
-has-requires g c = let item = (good-from _ c.args.no.query c.requires.good).item in omega (arith, item, c.requires.few)
+has-requires g c = let item = (good-from _ c.args.no.query c.requires.good).item in omega (arith, item, c.items.ensures.count, c.items.ensures.few)
 
 pub interior-left-requires : goal.interior-left-requires
 interior-left-requires g c = rw c.with-known.ensures (with-within _ c.args.known c.args.no.query.q c.requires.known (good-from _ c.args.no.query c.requires.good).item)
 
 pub has-requires-then-not-has : goal.has-requires-then-not-has
-has-requires-then-not-has g c = let item = (good-from _ c.args.no.query c.requires.good).item in omega (arith, item, c.requires.few)
+has-requires-then-not-has g c = let item = (good-from _ c.args.no.query c.requires.good).item in omega (arith, item, c.items.ensures.count, c.items.ensures.few)
 
 pub returns-then-has-clause-value : goal.returns-then-has-clause-value
-returns-then-has-clause-value g c = λ made closures states sound all.
+returns-then-has-clause-value g c = λ made closures states sound.
     let n = g.I.Interior.item_count c.args.f.now in
     let f = g.I.Interior.members c.args.f.now in
     let q = c.args.no.query.q in
@@ -46,13 +46,15 @@ pub enough_between-enough-requires-clause-known : goal.enough_between-enough-req
 enough_between-enough-requires-clause-known g c = rw c.with-known.ensures (with-within _ c.args.known c.args.no.query.q c.requires.known (good-from _ c.args.no.query c.requires.good).item)
 
 pub returns-clause-value : goal.returns-clause-value
-returns-clause-value g c = λ made closures states sound all.
+returns-clause-value g c = λ made closures states sound.
     let n = g.I.Interior.item_count c.args.f.now in
     let f = g.I.Interior.members c.args.f.now in
     let a = c.args.no in
+    let all : c.full-all.result ≡ full n = c.full-all.ensures ∙ ap full c.items.ensures.count in
     c.of.ensures.value ∙ standing-from n f a c.args.closed c.enough_between-enough.result _ made
     (c.enough_between-enough.ensures.value (rw made (outside-member n f a.query.a (family_sets n f (g.met.I.Interior.is_family c.args.f.now)))) closures states
-    (rw c.with-known.ensures (with-itself n f c.args.closed a.query.q c.args.known (good-from n a.query c.requires.good).item sound)) all) refl
+    (rw c.with-known.ensures (with-itself n f c.args.closed a.query.q c.args.known (good-from n a.query c.requires.good).item sound))
+    (rw all (enough-within n f _ _))) refl
 
 pub returns-clause-states : goal.returns-clause-states
 returns-clause-states g c = λ made.

@@ -3,7 +3,7 @@ use Rattle.ls_set.specs.ItemSet.{full, IsWithin}
 use Rattle.ls_set.proofs.Sets.{minus-within}
 use Rattle.ls_laws.proofs.Breaks.{good-from}
 use Rattle.ls_laws.proofs.ClosureChanges.{closure_holds}
-use Rattle.ls_infer.proofs.States.{enough-within, good-item, reached}
+use Rattle.ls_infer.proofs.States.{good-item, reached}
 use Rattle.ls_infer.proofs.standing_no.StandingNo.shared.Goals as goal
 
 pub closure-closed-requires : goal.closure-closed-requires
@@ -18,9 +18,6 @@ between-requires-clause-within g c = rw c.closure-closed.ensures.value (minus-wi
 pub between-requires-clause-known : goal.between-requires-clause-known
 between-requires-clause-known g c = rw (c.full-all.ensures, c.items.ensures.count) at c.reaching-known.ensures.part
 
-pub between-requires-clause-among : goal.between-requires-clause-among
-between-requires-clause-among g c = rw (c.full-all.ensures, c.items.ensures.count) (λ i h. h)
-
 pub returns-clause-value : goal.returns-clause-value
 returns-clause-value g c = λ k kept_closures alone states.
     let n = g.I.Interior.item_count c.args.f.now in
@@ -29,7 +26,6 @@ returns-clause-value g c = λ k kept_closures alone states.
     let part : IsWithin c.reaching-known.result (full n) = rw all at c.reaching-known.ensures.part in
     c.between.ensures.value c.closure-closed.ensures.value alone states
     (reached n f c.closure-closed.result c.args.answer.now.query.q c.reaching-known.result part (c.reaching-known.ensures.closures n k f (rw all (λ i h. h)) kept_closures))
-    (rw all (enough-within n f _ _))
 
 pub returns-clause-cost : goal.returns-clause-cost
 returns-clause-cost g c =
