@@ -45,7 +45,7 @@ none-chosen : (b : Bool) (x : Items) → cond b (Some x) None ≡ None → b ≡
 none-chosen true x h = cc
 none-chosen false x h = refl
 
-some-chosen : (b : Bool) (x k : Items) → cond b (Some x) None ≡ Some k → (b ≡ true) × (k ≡ x)
+pub some-chosen : (b : Bool) (x k : Items) → cond b (Some x) None ≡ Some k → (b ≡ true) × (k ≡ x)
 some-chosen true x k h = (refl, cc)
 some-chosen false x k h = cc
 

@@ -1,14 +1,10 @@
 -- What may still be enough, as states tell it.
---     narrowed items q kept      of the items those that a state may leave: those that it has, if it has q
 --     owed rest      the steps that may still be taken: one for each item that is left, and the spare ones
 --     IsNarrowed n f outside q before after      items are left out, none that is enough for q with the closed set
-use Rattle.std.specs.Prelude.{ℕ, ◌+◌, if◌then◌else◌, ◌≡◌, true, List}
-use Rattle.ls_set.specs.ItemSet.{Items, has, full, meet, minus, len, IsWithin}
+use Rattle.std.specs.Prelude.{ℕ, ◌+◌, ◌≡◌, true, List}
+use Rattle.ls_set.specs.ItemSet.{Items, has, full, minus, len, IsWithin}
 use Rattle.ls_infer.specs.declared.narrowing.Rest.{Rest}
 use Rattle.ls_infer.specs.Tables.{enough_for}
-
-abbrev pub narrowed : Items → ℕ → Items → Items
-narrowed items q kept = if has kept q then meet items kept else items
 
 abbrev pub owed : Rest → ℕ
 owed rest = len rest.items + rest.spare

@@ -1,15 +1,17 @@
 // What may still be enough, as states tell it.
 ghost use Rattle.std.specs.Prelude.{◌≡◌, ◌+◌, ◌<◌, ◌≤◌, ℕ, true, List};
 ghost use Rattle.ls_set.specs.ItemSet.{Items, full, has, meet, is_among, IsWithin};
-ghost use Rattle.ls_theory.specs.Families.{interior};
 ghost use Rattle.ls_laws.specs.Families.{IsFamily};
-ghost use Rattle.ls_infer.specs.Narrowing.{narrowed, owed, IsNarrowed};
+ghost use Rattle.ls_infer.specs.Narrowing.{owed, IsNarrowed};
 ghost use Rattle.ls_infer.specs.Tables.{AreStates};
 
 use crate::witnesses::{Witnesses, keep_witness, take_turn};
 use ls_interior::{Interior, Steps};
 use ls_set::{ItemSet, PLACES};
 use std::sync::ledger::Ledger;
+
+/// With how many items of a state the item of a No falls before no more are tried.
+const MOST_MISSES: u32 = 2;
 
 /// The items that may still be enough, and the steps that may be taken beside one for each of them.
 #[derive(Clone, Copy, Debug)]
@@ -28,31 +30,6 @@ impl Rest {
         self.spare = self.spare.saturating_add(self.items.len() - left.len());
         self.items = left;
     }
-}
-
-// The interior of a set. Where it has `q`, items that it lacks are not enough. It takes a spare
-// step.
-fn try_set<I: Interior, L: Ledger>(
-    f: &I,
-    set: ItemSet,
-    q: u32,
-    rest: &mut Rest,
-    steps: &mut Steps<L>,
-) -> ItemSet
-    requires within { IsWithin set (full (I.item_count f.now)) }
-    requires item { q < PLACES }
-    requires spare { 0 < rest.old.spare }
-    ensures value { result ≡ interior (I.members f.now) set }
-    ensures items { rest.new.items ≡ narrowed rest.old.items q result }
-    ensures fewer { owed rest.new < owed rest.old }
-    ensures cost { steps.new + owed rest.new ≤ steps.old + owed rest.old }
-{
-    let inside = f.interior(set, steps);
-    rest.spare -= 1;
-    if inside.has(q) {
-        rest.leave(inside);
-    }
-    inside
 }
 
 // Whether a state shows that an item of the rest is not enough.
@@ -83,19 +60,9 @@ pub fn narrow(outside: ItemSet, q: u32, witnesses: &[Witnesses], rest: &mut Rest
     }
 }
 
-// The greatest items of a set, half of them, or else the others.
-fn half(items: ItemSet, greatest: bool) -> ItemSet {
-    let mut left = items;
-    for _item in 0..items.len() / 2 {
-        if let Some(item) = left.least() {
-            left = left.without(item);
-        }
-    }
-    if greatest { left } else { items.minus(left) }
-}
-
-// A state with `q` within the given one that lacks more of the rest, where one is found by leaving
-// out half of it after half. What it lacks is left out of the rest.
+// A state with `q` within the given one that lacks more of the rest, where one is found by taking
+// out one item of the rest after another; where `q` falls with some of them, no more are tried. What
+// it lacks is left out of the rest.
 fn lessen<I: Interior, L: Ledger>(
     f: &I,
     outside: ItemSet,
@@ -107,27 +74,30 @@ fn lessen<I: Interior, L: Ledger>(
     requires within { IsWithin outside (full (I.item_count f.now)) }
     requires part { IsWithin state outside }
     requires item { q < PLACES }
-    ensures narrowed { let n = I.item_count f.now in
+    ensures narrowed { let n = I.item_count f.now in is_among (I.members f.now) state ≡ true →
         IsNarrowed n (I.members f.now) outside q rest.old.items rest.new.items }
     ensures member { is_among (I.members f.now) state ≡ true →
         is_among (I.members f.now) result ≡ true }
+    ensures part { IsWithin rest.new.items rest.old.items }
     ensures cost { steps.new + owed rest.new ≤ steps.old + owed rest.old }
 {
+    let keep = ItemSet::empty().with(q);
     let mut state = state;
-    let mut greatest = true;
-    while rest.spare > 0 {
-        let part = half(rest.items, greatest);
-        if part.least().is_none() {
+    let mut left = rest.items;
+    let mut misses = 0;
+    while rest.spare > 0 && misses < MOST_MISSES {
+        let Some(item) = left.least() else {
             return state;
-        }
-        let inside = try_set(f, state.minus(part), q, rest, steps);
-        if inside.has(q) {
-            state = inside;
-            greatest = true;
-        } else if greatest {
-            greatest = false;
-        } else {
-            return state;
+        };
+        left = left.without(item);
+        rest.spare -= 1;
+        match f.interior_without(state, item, keep, steps) {
+            Some(smaller) => {
+                left = left.meet(smaller);
+                rest.leave(smaller);
+                state = smaller;
+            }
+            None => misses += 1,
         }
     }
     state
@@ -147,8 +117,9 @@ pub fn keep_smaller<I: Interior, L: Ledger>(
     requires within { IsWithin outside (full (I.item_count f.now)) }
     requires part { IsWithin state outside }
     requires item { q < PLACES }
-    ensures narrowed { let n = I.item_count f.now in
+    ensures narrowed { let n = I.item_count f.now in is_among (I.members f.now) state ≡ true →
         IsNarrowed n (I.members f.now) outside q rest.old.items rest.new.items }
+    ensures part { IsWithin rest.new.items rest.old.items }
     ensures states { is_among (I.members f.now) state ≡ true →
         AreStates (I.members f.now) witnesses.old → AreStates (I.members f.now) witnesses.new }
     ensures cost { steps.new + owed rest.new ≤ steps.old + owed rest.old }

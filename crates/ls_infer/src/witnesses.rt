@@ -18,7 +18,7 @@ const FOR_EACH_NO: usize = 128;
 
 /// How many states are made smaller where the Yes answers change by one, in equal parts for the
 /// items; where a table is built, for all its Nos together; and for a No that comes.
-const MOST_TURNS: usize = 2048;
+const MOST_TURNS: usize = 4096;
 
 // For how many states there is room for an item.
 fn room_for(nos: usize, items: usize) -> usize {

@@ -38,7 +38,7 @@ loop-r-init g c =
 pub loop-r-smaller-in-Some-interior_without : goal.loop-r-smaller-in-Some-interior_without
 loop-r-smaller-in-Some-interior_without g c =
     let fewer = fewer-miss c.loop-r.rest.items c.without-rest.result c.in-Some-interior_without.missed c.leave.new.self.items c.in-Some.r c.in-Some.ensures.value c.without-rest.ensures c.leave.ensures.items in
-    let few : len c.keep_smaller.new.rest.items ≤ len c.leave.new.self.items = len-within c.keep_smaller.new.rest.items c.leave.new.self.items c.keep_smaller.ensures.narrowed.part in
+    let few : len c.keep_smaller.new.rest.items ≤ len c.leave.new.self.items = len-within c.keep_smaller.new.rest.items c.leave.new.self.items c.keep_smaller.ensures.part in
     omega (arith, fewer, few)
 
 pub loop-r-preserved-in-Some-interior_without : goal.loop-r-preserved-in-Some-interior_without
@@ -62,13 +62,14 @@ loop-r-preserved-in-Some-interior_without g c =
           let shared = found-miss n f c.args.closed q r found left missed p.0 p.1 (c.loop-r.invariant.found member closures losses states known all) in
           let here : IsFound (enough_for n f c.args.closed q) found next = subst (λ s. IsFound (enough_for n f c.args.closed q) found s) (sym c.leave.ensures.items)
           (subst (λ s. IsFound (enough_for n f c.args.closed q) found (meet s missed)) (sym c.without-rest.ensures) shared) in
-          found-narrowed n f c.args.closed c.minus-outside.result q found next c.keep_smaller.new.rest.items outside c.keep_smaller.ensures.narrowed here;
+          let is_state = inside-member n f (without (minus (full n) c.args.closed) r) missed (family_sets n f (g.met.I.Interior.is_family c.args.f.now)) p.1 in
+          found-narrowed n f c.args.closed c.minus-outside.result q found next c.keep_smaller.new.rest.items outside (c.keep_smaller.ensures.narrowed is_state) here;
       states = λ member closures losses states.
           let p = miss n f c.args.closed (minus (full n) c.args.closed) c.with-keep.result q r missed c.requires.item refl keep (told c.args.rest.items member closures losses asked) in
           let is_state = inside-member n f (without (minus (full n) c.args.closed) r) missed (family_sets n f (g.met.I.Interior.is_family c.args.f.now)) p.1 in
           c.keep_smaller.ensures.states is_state (c.loop-r.invariant.states member closures losses states);
       small = c.loop-r.invariant.small;
-      within = λ i h. left-miss c.args.rest.items left c.without-rest.result missed next r c.loop-r.invariant.within c.without-rest.ensures c.leave.ensures.items i (c.keep_smaller.ensures.narrowed.part i h);
+      within = λ i h. left-miss c.args.rest.items left c.without-rest.result missed next r c.loop-r.invariant.within c.without-rest.ensures c.leave.ensures.items i (c.keep_smaller.ensures.part i h);
       cost = omega (arith, fewer, c.leave.ensures.fewer, c.interior_without.ensures.cost, c.keep_smaller.ensures.cost, c.loop-r.invariant.cost);
     }
 

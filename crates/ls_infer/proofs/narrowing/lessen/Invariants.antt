@@ -3,12 +3,13 @@ use Rattle.ls_set.specs.ItemSet.{is_among, IsWithin}
 use Rattle.ls_infer.specs.Narrowing.{owed, IsNarrowed}
 use Rattle.ls_infer.proofs.narrowing.lessen.Given as goal
 
--- what is left of the rest, and the steps
+-- what is left of the rest, where the state that was given is one, and the steps
 abbrev pub invariant-loop-rest : goal.invariant-loop-rest
 invariant-loop-rest g l = record {
-  narrowed : IsNarrowed (g.I.Interior.item_count l.f) (g.I.Interior.members l.f) l.fn.outside l.q l.fn.rest.items l.rest.items;
-  part : IsWithin l.state l.fn.outside;
+  narrowed : is_among (g.I.Interior.members l.f) l.fn.state ≡ true → IsNarrowed (g.I.Interior.item_count l.f) (g.I.Interior.members l.f) l.fn.outside l.q l.fn.rest.items l.rest.items;
   member : is_among (g.I.Interior.members l.f) l.fn.state ≡ true → is_among (g.I.Interior.members l.f) l.state ≡ true;
+  part : IsWithin l.state l.fn.outside;
+  fewer : IsWithin l.rest.items l.fn.rest.items;
   cost : l.steps + owed l.rest ≤ l.fn.steps + owed l.fn.rest;
 }
 
