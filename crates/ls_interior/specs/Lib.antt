@@ -1,3 +1,2 @@
-pub mod Closures
 pub mod Keeping
 pub mod Listed

@@ -33,8 +33,6 @@ impl<F: Inside> Interior for Counted<'_, F> {
 
     ghost members = { λ f. F.members f };
 
-    ghost are_losses = { λ f. F.are_losses f };
-
     ghost is_family = { λ f. F.is_family f };
 
     fn items(&self) -> u32 {
@@ -55,29 +53,5 @@ impl<F: Inside> Interior for Counted<'_, F> {
     ) -> Option<ItemSet> {
         steps.tick();
         self.family.inside_without(member, item, keep)
-    }
-
-    fn find_losses(
-        &self,
-        member: ItemSet,
-        items: ItemSet,
-        closures: &[ItemSet],
-        losses: &mut [ItemSet],
-    ) -> bool {
-        self.family.find_losses(member, items, closures, losses)
-    }
-
-    fn interior_by_losses<L: Ledger>(
-        &self,
-        member: ItemSet,
-        item: u32,
-        keep: ItemSet,
-        closures: &[ItemSet],
-        losses: &[ItemSet],
-        steps: &mut Steps<L>,
-    ) -> Option<ItemSet> {
-        steps.tick();
-        self.family
-            .inside_by_losses(member, item, keep, closures, losses)
     }
 }

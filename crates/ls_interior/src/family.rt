@@ -1,9 +1,8 @@
 // Families that are known by their interiors.
 ghost use Rattle.std.specs.Prelude.{◌≡◌, ℕ, ◌+◌, ◌<◌, ◌≤◌, true, List, IfSome};
-ghost use Rattle.ls_set.specs.ItemSet.{Items, full, has, without, is_among, IsWithin};
+ghost use Rattle.ls_set.specs.ItemSet.{Items, full, without, is_among, IsWithin};
 ghost use Rattle.ls_theory.specs.Families.{interior, closure};
 ghost use Rattle.ls_laws.specs.Families.{IsFamily};
-ghost use Rattle.ls_interior.specs.Closures.{AreClosures, untold};
 ghost use Rattle.ls_interior.specs.Keeping.{interior_keeping};
 
 use crate::steps::Steps;
@@ -52,47 +51,6 @@ pub trait Inside {
         }
     }
 
-    /// What `find_losses` finds, for a member and some items by their closures.
-    ghost are_losses: { Self → Items → Items → List Items → List Items → Type 0 } = { untold };
-
-    /// Finds for each of some items what of a member falls at once where the item's closure is taken
-    /// out. `closures` has at an item's number the closure of the item alone, where that is known,
-    /// and `losses` takes what is found at the same places. It forms no interior. A family that
-    /// gains nothing by this finds nothing, and the result is false.
-    fn find_losses(
-        &self,
-        member: ItemSet,
-        items: ItemSet,
-        closures: &[ItemSet],
-        losses: &mut [ItemSet],
-    ) -> bool
-        ensures { result ≡ true → is_among (members self.now) member ≡ true →
-            AreClosures (item_count self.now) (members self.now) closures.now →
-            are_losses self.now member items closures.now losses.new }
-    {
-        false
-    }
-
-    /// As `inside_without`, for one of the items for which it was found what falls at once.
-    fn inside_by_losses(
-        &self,
-        member: ItemSet,
-        item: u32,
-        keep: ItemSet,
-        closures: &[ItemSet],
-        losses: &[ItemSet],
-    ) -> Option<ItemSet>
-        requires within { IsWithin member (full (item_count self.now)) }
-        requires item { item < PLACES }
-        ensures value { (items : Items) → is_among (members self.now) member ≡ true →
-            AreClosures (item_count self.now) (members self.now) closures.now →
-            are_losses self.now member items closures.now losses.now → has items item ≡ true →
-            result ≡ interior_keeping (members self.now) (without member item) keep }
-        ensures part { IfSome result (λ k. IsWithin k member) }
-    {
-        self.inside_without(member, item, keep)
-    }
-
     /// The members are a family on the items.
     ghost is_family: { (f : Self) → IsFamily (item_count f) (members f) };
 }
@@ -130,44 +88,6 @@ pub trait Interior {
         requires within { IsWithin member (full (item_count self.now)) }
         requires item { item < PLACES }
         ensures value { is_among (members self.now) member ≡ true →
-            result ≡ interior_keeping (members self.now) (without member item) keep }
-        ensures part { IfSome result (λ k. IsWithin k member) }
-        ensures cost { steps.new ≡ steps.old + 1 };
-
-    /// What `find_losses` finds, for a member and some items by their closures.
-    ghost are_losses: { Self → Items → Items → List Items → List Items → Type 0 };
-
-    /// Finds for each of some items what of a member falls at once where the item's closure is taken
-    /// out. `closures` has at an item's number the closure of the item alone, where that is known,
-    /// and `losses` takes what is found at the same places. It takes no step. Where nothing is found
-    /// the result is false.
-    fn find_losses(
-        &self,
-        member: ItemSet,
-        items: ItemSet,
-        closures: &[ItemSet],
-        losses: &mut [ItemSet],
-    ) -> bool
-        ensures { result ≡ true → is_among (members self.now) member ≡ true →
-            AreClosures (item_count self.now) (members self.now) closures.now →
-            are_losses self.now member items closures.now losses.new };
-
-    /// As `interior_without`, for one of the items for which it was found what falls at once. It
-    /// counts as one step.
-    fn interior_by_losses<L: Ledger>(
-        &self,
-        member: ItemSet,
-        item: u32,
-        keep: ItemSet,
-        closures: &[ItemSet],
-        losses: &[ItemSet],
-        steps: &mut Steps<L>,
-    ) -> Option<ItemSet>
-        requires within { IsWithin member (full (item_count self.now)) }
-        requires item { item < PLACES }
-        ensures value { (items : Items) → is_among (members self.now) member ≡ true →
-            AreClosures (item_count self.now) (members self.now) closures.now →
-            are_losses self.now member items closures.now losses.now → has items item ≡ true →
             result ≡ interior_keeping (members self.now) (without member item) keep }
         ensures part { IfSome result (λ k. IsWithin k member) }
         ensures cost { steps.new ≡ steps.old + 1 };
