@@ -8,7 +8,7 @@ ghost use Rattle.ls_theory.specs.Queries.{block_before, query_before};
 ghost use Rattle.ls_theory.specs.Pages.{comes_after};
 
 use crate::asking::{query_after, query_after_set};
-use crate::counting::{MOST_SETS, count_sets};
+use crate::counting::count_sets;
 use crate::moving::set_after;
 use crate::placing;
 use crate::walk::{BlockWalk, walk_at};
@@ -41,13 +41,13 @@ impl Model for Blocks {
 }
 
 impl Blocks {
-    ghost use Rattle.ls_theory.specs.Blocks.{made};
+    ghost use Rattle.ls_theory.specs.Blocks.{made, most_sets};
     ghost use Rattle.ls_theory.specs.declared.block_fault.BlockFault.TheVariants.{Memory};
     ghost use Rattle.ls_query.specs.Blocks.{sets_of, queries_of};
 
     /// The sets of 1 to `k` of `n` items. `BadBlock` comes exactly where `k` is 0, or above both 1
-    /// and `n - 1`; then `TooWide` exactly where they are more than [`MOST_SETS`], with the least
-    /// size up to which they are.
+    /// and `n - 1`; then `TooWide` exactly where they are more than 400,000, with the least size up
+    /// to which they are.
     pub fn new(n: u32, k: u32) -> Result<Blocks, BlockFault>
         requires some { 0 < n }
         requires items { n ≤ PLACES }
@@ -73,7 +73,7 @@ impl Blocks {
     /// How many sets there are.
     pub fn count(&self) -> u32
         ensures value { result ≡ length (sets_of self.now) }
-        ensures few { result ≤ MOST_SETS }
+        ensures few { result ≤ most_sets }
     {
         count_sets(self.n, self.k).unwrap()
     }

@@ -2,7 +2,7 @@
 ghost use Rattle.std.specs.Prelude.{◌≡◌, ◌<◌, ◌≤◌, ◌+◌, ◌*◌, ℕ, length, find, IfOk, OnOk, Ok, Err, None, Some};
 ghost use Rattle.ls_set.specs.ItemSet.{numbers_from};
 ghost use Rattle.ls_theory.specs.Queries.{blocks};
-ghost use Rattle.ls_theory.specs.Blocks.{is_too_wide};
+ghost use Rattle.ls_theory.specs.Blocks.{is_too_wide, most_sets};
 ghost use Rattle.ls_query.specs.Blocks.{choose};
 
 use ls_set::PLACES;
@@ -15,7 +15,7 @@ pub fn of_next_size(n: u32, size: u32, of_size: u32) -> u32
     requires items { n ≤ PLACES }
     requires size { size < PLACES }
     requires sets { of_size ≡ choose n size }
-    requires few { of_size ≤ MOST_SETS }
+    requires few { of_size ≤ most_sets }
     ensures value { result ≡ choose n (size + 1) }
     ensures small { result ≤ of_size * PLACES }
 {
@@ -28,7 +28,7 @@ pub fn count_sets(n: u32, k: u32) -> Result<u32, u32>
     requires items { n ≤ PLACES }
     requires sizes { k ≤ n }
     ensures sets { IfOk result (λ sets. sets ≡ length (blocks n k)) }
-    ensures few { IfOk result (λ sets. sets ≤ MOST_SETS) }
+    ensures few { IfOk result (λ sets. sets ≤ most_sets) }
     ensures all { OnOk result (find (is_too_wide n) (numbers_from 1 k) ≡ None) }
     ensures past { (size : ℕ) → result ≡ Err size →
         find (is_too_wide n) (numbers_from 1 k) ≡ Some size }

@@ -3,17 +3,18 @@ ghost use Rattle.std.specs.Prelude.{◌≡◌, ◌≤◌, ℕ, length};
 ghost use Rattle.std.specs.List.{position};
 ghost use Rattle.ls_set.specs.ItemSet.{full, IsWithin, is_same, items, len};
 ghost use Rattle.ls_theory.specs.Queries.{blocks};
+ghost use Rattle.ls_theory.specs.Blocks.{most_sets};
 ghost use Rattle.ls_query.specs.Blocks.{choose};
 ghost use Rattle.ls_query.specs.Places.{after_of};
 
-use crate::counting::{MOST_SETS, count_sets, of_next_size};
+use crate::counting::{count_sets, of_next_size};
 use ls_set::{ItemSet, PLACES};
 
 // How many sets of a size of `m` items there are.
 fn count_of_size(m: u32, size: u32) -> u32
     requires items { m ≤ PLACES }
     requires sizes { size ≤ PLACES }
-    requires few { (j : ℕ) → j ≤ size → choose m j ≤ MOST_SETS }
+    requires few { (j : ℕ) → j ≤ size → choose m j ≤ most_sets }
     ensures { result ≡ choose m size }
 {
     let mut sets = 1;
@@ -28,7 +29,7 @@ fn count_of_size(m: u32, size: u32) -> u32
 fn count_after(n: u32, a: ItemSet) -> u32
     requires items { n ≤ PLACES }
     requires within { IsWithin a (full n) }
-    requires few { (m j : ℕ) → m ≤ n → j ≤ len a → choose m j ≤ MOST_SETS }
+    requires few { (m j : ℕ) → m ≤ n → j ≤ len a → choose m j ≤ most_sets }
     ensures { result ≡ after_of n (items a) }
 {
     let mut after = 0;
@@ -44,7 +45,7 @@ fn count_after(n: u32, a: ItemSet) -> u32
 pub fn place_of(n: u32, k: u32, a: ItemSet) -> Option<u32>
     requires items { n ≤ PLACES }
     requires sizes { k ≤ n }
-    requires few { length (blocks n k) ≤ MOST_SETS }
+    requires few { length (blocks n k) ≤ most_sets }
     ensures { result ≡ position (is_same a) (blocks n k) }
 {
     let size = a.len();
