@@ -22,7 +22,7 @@ use Rattle.ls_query.proofs.Binomials.{choose-none, choose-more, choose-zero_more
 use Rattle.ls_query.proofs.BySize.{length-blocks_more, length-blocks_none}
 use Rattle.ls_query.proofs.Counted.{made-ok, none_too_wide}
 use Rattle.ls_infer.specs.Tables.{TableState, AreStates, table_of}
-use Rattle.ls_expert.specs.Held.{single_items, closures_of, IsHeld}
+use Rattle.ls_expert.specs.Held.{single_items, closures_of, IsStanding, IsHeld}
 
 -- ---- blocks of single items
 
@@ -68,6 +68,17 @@ none-distinct : IsDistinct is_same_query []
 unfolding IsDistinct
 none-distinct = tt
 
+pub standing-begun : (n : ℕ) (start : theory.Start) → IsStart n start → IsStanding (begun n start)
+standing-begun n start is_start = record {
+  sound = start-sound n start is_start;
+  good = refl;
+  distinct = none-distinct;
+  numbered = begun-numbered n start;
+  few_answers = omega arith;
+  some_number = omega arith;
+  numbers_left = omega arith;
+}
+
 pub held-begun : (n : ℕ) (start : theory.Start) (i : Interview) (rules : List Query) (t : TableState) → 0 < n → n ≤ PLACES → IsStart n start → begun n start ≡ i → rules ≡ [] → t ≡ closures_of i → IsHeld i rules t
 held-begun n start i rules t some few is_start e none table =
     subst (λ (j : Interview). t ≡ closures_of j → IsHeld j rules t) e (λ table. record {
@@ -75,15 +86,7 @@ held-begun n start i rules t some few is_start e none table =
       few_items = few;
       ruled = none;
       tabled = table;
-      standing = record {
-        sound = start-sound n start is_start;
-        good = refl;
-        distinct = none-distinct;
-        numbered = begun-numbered n start;
-        few_answers = omega arith;
-        some_number = omega arith;
-        numbers_left = omega arith;
-      };
+      standing = standing-begun n start is_start;
     }) table
 
 -- blocks that are made have some sizes
@@ -93,41 +96,42 @@ some-made n zero b e = absurd (cc e)
 some-made n (suc k) b e = omega arith
 
 -- other blocks; the table is the same
-pub held-blocks : (i : Interview) (k : ℕ) (rules : List Query) (t : TableState) → IsHeld i rules t → IsHeld (record i { block = k }) rules t
-held-blocks i k rules t h = record {
-  some_items = h.some_items;
-  few_items = h.few_items;
-  ruled = h.ruled;
-  tabled = h.tabled;
-  standing = record {
-    sound = record { some_fits = h.standing.sound.some_fits; are_good = h.standing.sound.are_good };
-    good = h.standing.good;
-    distinct = h.standing.distinct;
-    numbered = record { in_order = h.standing.numbered.in_order; below_next = h.standing.numbered.below_next };
-    few_answers = h.standing.few_answers;
-    some_number = h.standing.some_number;
-    numbers_left = h.standing.numbers_left;
-  };
+pub standing-blocks : (i : Interview) (k : ℕ) → IsStanding i → IsStanding (record i { block = k })
+standing-blocks i k h = record {
+  sound = record { some_fits = h.sound.some_fits; are_good = h.sound.are_good };
+  good = h.good;
+  distinct = h.distinct;
+  numbered = record { in_order = h.numbered.in_order; below_next = h.numbered.below_next };
+  few_answers = h.few_answers;
+  some_number = h.some_number;
+  numbers_left = h.numbers_left;
 }
 
+pub held-blocks : (i : Interview) (k : ℕ) (rules : List Query) (t : TableState) → IsHeld i rules t → IsHeld (record i { block = k }) rules t
+held-blocks i k rules t h =
+    record { some_items = h.some_items; few_items = h.few_items; ruled = h.ruled; tabled = h.tabled; standing = standing-blocks i k h.standing }
+
 -- another start, with its table
-pub held-start : (i : Interview) (start : theory.Start) (rules after : List Query) (t new : TableState) → IsHeld i rules t → i.answers ≡ [] → IsStart i.count start → after ≡ []
-    → new ≡ closures_of (record i { start = start }) → IsHeld (record i { start = start }) after new
-held-start i start rules after t new h none is_start no_rules table =
+pub standing-start : (i : Interview) (start : theory.Start) → IsStanding i → i.answers ≡ [] → IsStart i.count start → IsStanding (record i { start = start })
+standing-start i start h none is_start =
     let begins = start-sound i.count start is_start in
     record {
-      some_items = h.some_items;
-      few_items = h.few_items;
-      ruled = no_rules ∙ sym (ap yes_queries none);
-      tabled = table;
-      standing = record {
-        sound = subst (λ (answers : List Answer). IsSound (record { count = i.count; start = start; block = i.block; answers = answers; next = i.next })) (sym none)
-            (record { some_fits = begins.some_fits; are_good = begins.are_good });
-        good = h.standing.good;
-        distinct = h.standing.distinct;
-        numbered = record { in_order = h.standing.numbered.in_order; below_next = h.standing.numbered.below_next };
-        few_answers = h.standing.few_answers;
-        some_number = h.standing.some_number;
-        numbers_left = h.standing.numbers_left;
-      };
+      sound = subst (λ (answers : List Answer). IsSound (record { count = i.count; start = start; block = i.block; answers = answers; next = i.next })) (sym none)
+          (record { some_fits = begins.some_fits; are_good = begins.are_good });
+      good = h.good;
+      distinct = h.distinct;
+      numbered = record { in_order = h.numbered.in_order; below_next = h.numbered.below_next };
+      few_answers = h.few_answers;
+      some_number = h.some_number;
+      numbers_left = h.numbers_left;
     }
+
+pub held-start : (i : Interview) (start : theory.Start) (rules after : List Query) (t new : TableState) → IsHeld i rules t → i.answers ≡ [] → IsStart i.count start → after ≡ []
+    → new ≡ closures_of (record i { start = start }) → IsHeld (record i { start = start }) after new
+held-start i start rules after t new h none is_start no_rules table = record {
+  some_items = h.some_items;
+  few_items = h.few_items;
+  ruled = no_rules ∙ sym (ap yes_queries none);
+  tabled = table;
+  standing = standing-start i start h.standing none is_start;
+}

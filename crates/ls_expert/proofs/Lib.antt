@@ -1,8 +1,8 @@
 pub mod AnswerLists
 pub mod Ruling
-mod Holding
+pub mod Holding
 mod Asking
-mod Taking
-mod Retracting
+pub mod Taking
+pub mod Retracting
 mod Saving
 mod Leading

@@ -26,7 +26,7 @@ use Rattle.ls_laws.proofs.Accepting.{taken_out}
 use Rattle.ls_laws.proofs.Numbered.{retracted-numbered}
 use Rattle.ls_infer.specs.Tables.{TableState, AreStates, standing, table_of}
 use Rattle.ls_expert.specs.Steps.{closures_over}
-use Rattle.ls_expert.specs.Held.{single_items, closures_of, rules_before, IsHeld}
+use Rattle.ls_expert.specs.Held.{single_items, closures_of, rules_before, IsStanding, IsHeld}
 use Rattle.ls_expert.proofs.AnswerLists.{is_other, all-fewer, all-told, told-all, nos-others, rising, yes_queries-without_yes, yes_queries-without_no, nos-without_yes, rules_before-within}
 
 -- ---- what is kept
@@ -39,17 +39,28 @@ All-images P p g (x ∷ xs) h = elim (p x) as (λ b. AllByRecursion P (map g (co
   | false ↦ All-images P p g xs h.1
 ]
 
--- fewer queries are distinct too
-distinct-fewer : (p : Answer → Bool) (answers : List Answer) → IsDistinct is_same_query (map (λ a. a.query) answers) → IsDistinct is_same_query (map (λ a. a.query) (filter p answers))
+-- fewer images are distinct too
+pub distinct-fewer : {X Y : Type 0} (same : Y → Y → Bool) (g : X → Y) (p : X → Bool) (xs : List X) → IsDistinct same (map g xs) → IsDistinct same (map g (filter p xs))
 unfolding IsDistinct
-distinct-fewer p [] d = tt
-distinct-fewer p (x ∷ answers) d = elim (p x) as (λ b. IsDistinct is_same_query (map (λ a. a.query) (cond b (x ∷ filter p answers) (filter p answers)))) [
-  | true ↦ (All-images (λ y. is_same_query x.query y ≡ false) p (λ a. a.query) answers d.0, distinct-fewer p answers d.1)
-  | false ↦ distinct-fewer p answers d.1
+distinct-fewer same g p [] d = tt
+distinct-fewer same g p (x ∷ xs) d = elim (p x) as (λ b. IsDistinct same (map g (cond b (x ∷ filter p xs) (filter p xs)))) [
+  | true ↦ (All-images (λ y. same (g x) y ≡ false) p g xs d.0, distinct-fewer same g p xs d.1)
+  | false ↦ distinct-fewer same g p xs d.1
 ]
 
 length-fewer : (p : Answer → Bool) (answers : List Answer) → length (filter p answers) ≤ length answers
 length-fewer p answers = omega (arith, length-filter p answers, count_by-le-length p answers)
+
+pub standing-back : (i : Interview) (number : ℕ) → IsStanding i → IsStanding (retracted i number)
+standing-back i number h = record {
+  sound = taken_out i number h.sound;
+  good = all-fewer (λ x. is_good i.count x.query) (is_other number) i.answers h.good;
+  distinct = distinct-fewer is_same_query (λ a. a.query) (is_other number) i.answers h.distinct;
+  numbered = retracted-numbered i number h.numbered;
+  few_answers = let f = h.few_answers in omega (arith, length-fewer (is_other number) i.answers);
+  some_number = h.some_number;
+  numbers_left = h.numbers_left;
+}
 
 -- ---- interiors
 
@@ -87,21 +98,8 @@ module _ (i : Interview) (a : Answer) (rules : List Query) (t new : TableState) 
 
   -- an answer is taken back
   back : (others : List Query) → others ≡ yes_queries after.answers → new ≡ closures_of after → IsHeld after others new
-  back others ruled tabled = record {
-    some_items = h.some_items;
-    few_items = h.few_items;
-    ruled = ruled;
-    tabled = tabled;
-    standing = record {
-      sound = taken_out i a.number h.standing.sound;
-      good = all-fewer (λ x. is_good i.count x.query) (is_other a.number) i.answers h.standing.good;
-      distinct = distinct-fewer (is_other a.number) i.answers h.standing.distinct;
-      numbered = retracted-numbered i a.number h.standing.numbered;
-      few_answers = let f = h.standing.few_answers in omega (arith, length-fewer (is_other a.number) i.answers);
-      some_number = h.standing.some_number;
-      numbers_left = h.standing.numbers_left;
-    };
-  }
+  back others ruled tabled =
+      record { some_items = h.some_items; few_items = h.few_items; ruled = ruled; tabled = tabled; standing = standing-back i a.number h.standing }
 
   -- ---- a Yes
 

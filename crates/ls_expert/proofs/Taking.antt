@@ -34,7 +34,7 @@ use Rattle.ls_lists.proofs.Filters.{filter-all}
 use Rattle.ls_laws.proofs.Numbered.{accepted-numbered}
 use Rattle.ls_infer.specs.Changes.{CanFall}
 use Rattle.ls_infer.specs.Tables.{TableState, AreStates, table_of}
-use Rattle.ls_expert.specs.Held.{single_items, closures_of, IsHeld}
+use Rattle.ls_expert.specs.Held.{single_items, closures_of, IsStanding, IsHeld}
 use Rattle.ls_expert.proofs.AnswerLists.{yes_queries-yes, yes_queries-no, nos-yes, nos-no}
 
 -- ---- what a refusal that isn't found tells
@@ -91,56 +91,60 @@ free-no i r e = unopposed_no (is_forced_yes (spaces_of i) r) _ e
 all-last : (q : Answer → Bool) (answers : List Answer) (a : Answer) → list_all q answers ≡ true → q a ≡ true → list_all q (answers ++ a ∷ []) ≡ true
 all-last q answers a h e = list_all-append q answers (a ∷ []) ∙ and_from (list_all q answers) (q a && true) h (and-true (q a) ∙ e)
 
--- a query that was not answered is another than each that was
-other_queries : (answers : List Answer) (x : Query) (a : Answer) → AllByRecursion (λ y. is_same_query x y ≡ false) (map (λ a. a.query) answers) → is_same_query x a.query ≡ false
-    → AllByRecursion (λ y. is_same_query x y ≡ false) (map (λ a. a.query) (answers ++ a ∷ []))
-other_queries [] x a h e = (e, tt)
-other_queries (y ∷ answers) x a h e = (h.0, other_queries answers x a h.1 e)
+-- an image that is another than each of some, with one more
+others-last : {X Y : Type 0} (same : Y → Y → Bool) (g : X → Y) (xs : List X) (x : X) (z : Y) → AllByRecursion (λ y. same z y ≡ false) (map g xs) → same z (g x) ≡ false → AllByRecursion (λ y. same z y ≡ false) (map g (xs ++ x ∷ []))
+others-last same g [] x z h e = (e, tt)
+others-last same g (y ∷ xs) x z h e = (h.0, others-last same g xs x z h.1 e)
 
-distinct-last : (answers : List Answer) (a : Answer) → IsDistinct is_same_query (map (λ a. a.query) answers) → find (λ x. is_same_query x.query a.query) answers ≡ None
-    → IsDistinct is_same_query (map (λ a. a.query) (answers ++ a ∷ []))
+-- one more image is distinct too, where none is the same
+pub distinct-last : {X Y : Type 0} (same : Y → Y → Bool) (g : X → Y) (xs : List X) (x : X) → IsDistinct same (map g xs) → find (λ y. same (g y) (g x)) xs ≡ None → IsDistinct same (map g (xs ++ x ∷ []))
 unfolding IsDistinct
-distinct-last [] a d e = (tt, tt)
-distinct-last (x ∷ answers) a d e =
-    let parts = not_first (is_same_query x.query a.query) x (find (λ x. is_same_query x.query a.query) answers) e in
-    (other_queries answers x.query a d.0 parts.0, distinct-last answers a d.1 parts.1)
+distinct-last same g [] x d e = (tt, tt)
+distinct-last same g (y ∷ xs) x d e =
+    let parts = not_first (same (g y) (g x)) y (find (λ y. same (g y) (g x)) xs) e in
+    (others-last same g xs x (g y) d.0 parts.0, distinct-last same g xs x d.1 parts.1)
 
 -- there is room for one more answer and its number
 room_left : (i : Interview) → is_full i ≡ false → (length i.answers < most_answers) × (i.next ≤ most_number)
 room_left i e = grind (arith, nat_tests)
 
 -- an answer is taken
-taken : (i : Interview) (r : Query) (is_yes : Bool) (rules after : List Query) (t new : TableState) → IsHeld i rules t → Passes i r is_yes → IsSound (accepted i r is_yes)
-    → after ≡ yes_queries (accepted i r is_yes).answers → new ≡ closures_of (accepted i r is_yes) → IsHeld (accepted i r is_yes) after new
-taken i r is_yes rules after t new h p sound ruled tabled =
+taken : (i : Interview) (r : Query) (is_yes : Bool) → IsStanding i → Passes i r is_yes → IsSound (accepted i r is_yes) → IsStanding (accepted i r is_yes)
+taken i r is_yes h p sound =
+    let a : Answer = record { number = i.next; query = r; yes = is_yes } in
     let room = room_left i p.room in
     record {
-      some_items = h.some_items;
-      few_items = h.few_items;
-      ruled = ruled;
-      tabled = tabled;
-      standing = record {
-        sound = sound;
-        good = all-last (λ a. is_good i.count a.query) i.answers (record { number = i.next; query = r; yes = is_yes }) h.standing.good p.good;
-        distinct = distinct-last i.answers (record { number = i.next; query = r; yes = is_yes }) h.standing.distinct p.unanswered;
-        numbered = accepted-numbered i r is_yes h.standing.numbered;
-        few_answers = let l = length-append i.answers ((let a : Answer = record { number = i.next; query = r; yes = is_yes } in a) ∷ []) in omega (arith, room.0);
-        some_number = omega arith;
-        numbers_left = omega (arith, room.1);
-      };
+      sound = sound;
+      good = all-last (λ a. is_good i.count a.query) i.answers a h.good p.good;
+      distinct = distinct-last is_same_query (λ a. a.query) i.answers a h.distinct p.unanswered;
+      numbered = accepted-numbered i r is_yes h.numbered;
+      few_answers = let l = length-append i.answers (a ∷ []) in omega (arith, room.0);
+      some_number = omega arith;
+      numbers_left = omega (arith, room.1);
     }
+
+pub standing-taken : (i : Interview) (r : Query) (is_yes : Bool) → IsStanding i → refusal i r is_yes ≡ None → IsStanding (accepted i r is_yes)
+standing-taken i r true h e = let p = passes-from i r true e in taken i r true h p (yes_added i r h.sound p.good (free-yes i r h.sound.some_fits p.unopposed))
+standing-taken i r false h e = let p = passes-from i r false e in taken i r false h p (no_added i r h.sound p.good (free-no i r p.unopposed))
 
 module _ (i : Interview) (r : Query) (rules : List Query) (t new : TableState) (h : IsHeld i rules t) where
   pub held-yes : (after : List Query) → refusal i r true ≡ None → after ≡ rules ++ r ∷ [] → new ≡ closures_of (accepted i r true) → IsHeld (accepted i r true) after new
-  held-yes after e ruled tabled =
-      let p = passes-from i r true e in
-      taken i r true rules after t new h p (yes_added i r h.standing.sound p.good (free-yes i r h.standing.sound.some_fits p.unopposed))
-      (ruled ∙ ap (λ l. l ++ r ∷ []) h.ruled ∙ sym (yes_queries-yes i r)) tabled
+  held-yes after e ruled tabled = record {
+    some_items = h.some_items;
+    few_items = h.few_items;
+    ruled = ruled ∙ ap (λ l. l ++ r ∷ []) h.ruled ∙ sym (yes_queries-yes i r);
+    tabled = tabled;
+    standing = standing-taken i r true h.standing e;
+  }
 
   pub held-no : refusal i r false ≡ None → new ≡ closures_of (accepted i r false) → IsHeld (accepted i r false) rules new
-  held-no e tabled =
-      let p = passes-from i r false e in
-      taken i r false rules rules t new h p (no_added i r h.standing.sound p.good (free-no i r p.unopposed)) (h.ruled ∙ sym (yes_queries-no i r)) tabled
+  held-no e tabled = record {
+    some_items = h.some_items;
+    few_items = h.few_items;
+    ruled = h.ruled ∙ sym (yes_queries-no i r);
+    tabled = tabled;
+    standing = standing-taken i r false h.standing e;
+  }
 
 -- ---- tables
 

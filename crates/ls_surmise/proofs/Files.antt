@@ -102,7 +102,7 @@ clause-on names (w ∷ ws) h =
     below None e s = absurd (true≢false (sym s ∙ ap is_some e))
     below (Some i) e s = subst (λ k. k < length names) (sym (item_of-some names w i e)) (position-lt (bytes_eq w) names i e)
 
-clauses-on : (names : List Text) (wss : List (List Text)) → are_named names wss ≡ true → IsOn (length names) (map (items_of names) wss)
+pub clauses-on : (names : List Text) (wss : List (List Text)) → are_named names wss ≡ true → IsOn (length names) (map (items_of names) wss)
 clauses-on names [] h k c = absurd (true≢false (sym c))
 clauses-on names (ws ∷ wss) h k c =
     let p = and_parts (list_all (is_named names) ws) (are_named names wss) h in
@@ -111,7 +111,7 @@ clauses-on names (ws ∷ wss) h k c =
       | inr d ↦ clauses-on names wss p.1 k d
     ]
 
-row-named : (names : List Text) (table : Table) (w : Text) → list_all (λ row. is_named names row.0 && are_named names row.1) table ≡ true → are_named names (row_under table w) ≡ true
+pub row-named : (names : List Text) (table : Table) (w : Text) → list_all (λ row. is_named names row.0 && are_named names row.1) table ≡ true → are_named names (row_under table w) ≡ true
 row-named names [] w h = refl
 row-named names (row ∷ table) w h = step (bytes_eq w row.0) (and_parts (is_named names row.0) (are_named names row.1) p.0).1 (row-named names table w p.1)
   where

@@ -10,7 +10,7 @@ mod Walks
 mod Names
 mod Tables
 mod Orderings
-mod Files
+pub mod Files
 mod FaultItems
 mod Examples
 mod TextExamples

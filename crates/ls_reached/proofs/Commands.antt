@@ -1,0 +1,170 @@
+-- A command keeps a session whole where it has a domain.
+use Rattle.std.proofs.Common.{◌≡◌, ℕ, Bool, true, false, not, cond, eqb, List, [], ◌∷◌, ◌++◌, length, take, drop, Option, Some, None, Result, Ok, Err, refl, sym, ap, ◌∙◌, subst, option_map, option_and_then, true≢false}
+use Rattle.std.specs.Prelude.{⊤, slice_index_or}
+use Rattle.std.specs.List.{filter_map, cons_option, slice_get}
+use Rattle.std.proofs.lemmas.Option.{none-some, same_Some}
+use Rattle.ls_lines.specs.Lines.{Text, is_long, words}
+use Rattle.ls_lines.specs.Kinds.{is_of}
+use Rattle.ls_lines.specs.Forms.{parts, command, forms, one}
+use Rattle.ls_lines.specs.Commands.{cut, front, command_of}
+use Rattle.ls_lines.specs.declared.kind.Kind.{Kind}
+use Rattle.ls_lines.specs.declared.kind.Kind.TheVariants.{Name}
+use Rattle.ls_lines.specs.declared.keyword.Keyword.TheVariants as Keyword
+use Rattle.ls_lines.specs.declared.part.Part.{Part}
+use Rattle.ls_lines.specs.declared.part.Part.TheVariants.{Fixed, One}
+use Rattle.ls_lines.specs.declared.form.Form.{Form}
+use Rattle.ls_lines.specs.declared.form.Form.TheVariants as form
+use Rattle.ls_lines.specs.declared.setting_form.SettingForm.TheVariants as setting
+use Rattle.ls_lines.specs.declared.interview_form.InterviewForm.TheVariants as interview
+use Rattle.ls_lines.specs.declared.listing_form.ListingForm.TheVariants as listing
+use Rattle.ls_lines.specs.declared.structure_form.StructureForm.TheVariants as structure
+use Rattle.ls_lines.specs.declared.pupil_form.PupilForm.TheVariants as pupil_form
+use Rattle.ls_lines.specs.declared.command.Command.{Command}
+use Rattle.ls_lines.specs.declared.command.Command.TheVariants as command
+use Rattle.ls_domain.specs.Domains.{IsDomain, is_name, names_of_words, names_of_table}
+use Rattle.ls_domain.specs.declared.domain_fault.DomainFault.{DomainFault}
+use Rattle.ls_domain.proofs.Readings.{names_of_words-read, names_of_table-read}
+use Rattle.ls_saved.specs.Whole.{IsWhole}
+use Rattle.ls_saved.specs.Reading.{session_of}
+use Rattle.ls_saved.specs.declared.cause.Cause.{Cause}
+use Rattle.ls_saved.specs.Values.{session_text}
+use Rattle.ls_saved.proofs.Inverse.{chosen, map-some, then-some}
+use Rattle.ls_saved.proofs.Read.{read_whole}
+use Rattle.ls_reply.specs.Sessions.{Session, started, has_domain}
+use Rattle.ls_reply.specs.Scenes.{Calls, Fetched}
+use Rattle.ls_reply.specs.Meanings.{unnamed_places, request_of}
+use Rattle.ls_reply.specs.Effects.{Effect, stores}
+use Rattle.ls_reply.specs.Rows.{started_by, file_refusals, bytes_fetched, edit_row, start_row}
+use Rattle.ls_reply.specs.Saving.{opened_by}
+use Rattle.ls_reply.specs.Replies.{request_effect, asked_effect, unnamed_at, file_effect, command_effect, words_effect, line_effect}
+use Rattle.ls_reply.specs.declared.refusal.Refusal.{Refusal}
+use Rattle.ls_reply.specs.declared.request.Request.{Request}
+use Rattle.ls_reply.specs.declared.request.Request.TheVariants.{View, Edit, Setting, Pupil}
+use Rattle.ls_reply.specs.declared.request.StartFile.{StartFile}
+use Rattle.ls_reply.specs.declared.request.StartFile.TheVariants as start_file
+use Rattle.ls_reply.specs.declared.request.PupilRequest.TheVariants as pupil
+use Rattle.ls_reached.specs.Reached.{IsKept}
+use Rattle.ls_reached.proofs.Refusals.{changed-holds, none-both}
+use Rattle.ls_reached.proofs.Interviews.{started-whole, edited-whole, start-whole, set-whole}
+use Rattle.ls_reached.proofs.Pupils.{pupils-whole}
+
+-- ---- the words of a pupil's name
+
+-- the name of a pupil that begins is a name
+abbrev IsNamed : Command → Type 0
+IsNamed (command.Pupil name) = is_name name ≡ true
+IsNamed c = ⊤
+
+-- the words at the first part, and those at the others
+record IsCut (part : Part) (ps : List Part) (ws : List Text) (given : List (List Text)) : Type 0 where
+  many : ℕ
+  rest : List (List Text)
+  first : front part ws ≡ Some many
+  others : cut ps (drop many ws) ≡ Some rest
+  is : take many ws ∷ rest ≡ given
+
+cut-parts : (part : Part) (ps : List Part) (ws : List Text) (given : List (List Text)) → cut (part ∷ ps) ws ≡ Some given → IsCut part ps ws given
+unfolding cut
+cut-parts part ps ws given e =
+    let a = then-some (λ m. option_map (λ given. take m ws ∷ given) (cut ps (drop m ws))) (front part ws) given e in
+    let b = map-some (λ given. take a.0 ws ∷ given) (cut ps (drop a.0 ws)) given a.2 in
+    record { many = a.0; rest = b.0; first = a.1; others = b.1; is = b.2 }
+
+-- where one word of a kind stands, it is of the kind
+one-word : (kind : Kind) (ws : List Text) (m : ℕ) → front (One kind) ws ≡ Some m → is_of kind (slice_index_or (take m ws) 0 []) ≡ true
+one-word kind [] m e = absurd (cc e)
+one-word kind (w ∷ ws) m e = let a = chosen (is_of kind w) 1 m e in subst (λ k. is_of kind (slice_index_or (take k (w ∷ ws)) 0 []) ≡ true) a.0 a.1
+
+form-named : (f : Form) (ws : List Text) (given : List (List Text)) → cut (parts f) ws ≡ Some given → IsNamed (command f given)
+unfolding command parts
+form-named (form.Pupil pupil_form.Pupil) ws given e =
+    let a = cut-parts (Fixed Keyword.Pupil) (One Name ∷ []) ws given e in
+    let b = cut-parts (One Name) [] (drop a.many ws) a.rest a.others in
+    subst (λ all. is_name (one all 1) ≡ true) (ap (λ rest. take a.many ws ∷ rest) b.is ∙ a.is) (one-word Name (drop a.many ws) b.many b.first)
+form-named form.Nothing ws given e = tt
+form-named (form.Setting setting.Items) ws given e = tt
+form-named (form.Interview interview.Blocks) ws given e = tt
+form-named (form.Listing listing.States) ws given e = tt
+form-named (form.Structure structure.Test) ws given e = tt
+form-named f ws given e = tt
+
+-- the command that is read is the command of some form
+read-named : (ws : List Text) (fs : List Form) (c : Command) → slice_get (filter_map (λ f. option_map (command f) (cut (parts f) ws)) fs) 0 ≡ Some c → IsNamed c
+read-named ws [] c e = absurd (none-some c e)
+read-named ws (f ∷ fs) c e =
+    elim (cut (parts f) ws) as (λ o. cut (parts f) ws ≡ o → slice_get (cons_option (option_map (command f) o) (filter_map (λ g. option_map (command g) (cut (parts g) ws)) fs)) 0 ≡ Some c → IsNamed c) [
+      | None ↦ λ none e. read-named ws fs c e
+      | Some given ↦ λ made e. subst IsNamed (same_Some (command f given) c e) (form-named f ws given made)
+    ] refl e
+
+command-named : (ws : List Text) (c : Command) → command_of ws ≡ Some c → IsNamed c
+unfolding command_of
+command-named ws c e = read-named ws forms c e
+
+-- ---- what needs no domain
+
+started-kept : (s : Session) (refusals : List Refusal) (reading : Result (List Text) DomainFault) → IsKept s → ((names : List Text) → reading ≡ Ok names → IsDomain names) → IsKept (started_by s refusals reading).next
+started-kept s refusals (Ok names) kept domain = changed-holds IsKept s (started names) (refusals ++ []) _ kept (λ e some. started-whole names (domain names refl))
+started-kept s refusals (Err fault) kept domain = changed-holds IsKept s (started []) (refusals ++ _ ∷ []) _ kept (λ e. absurd (let no = (none-both refusals _ e).1 in cc no))
+
+opened-kept : (s : Session) (refusals : List Refusal) (reading : Result Session Cause) → IsKept s → ((read : Session) → reading ≡ Ok read → IsWhole read) → IsKept (opened_by s refusals reading).next
+opened-kept s refusals (Ok read) kept whole = changed-holds IsKept s read (refusals ++ []) _ kept (λ e some. whole read refl)
+opened-kept s refusals (Err cause) kept whole = changed-holds IsKept s s (refusals ++ _ ∷ []) _ kept (λ e. kept)
+
+-- ---- what needs one
+
+requested-kept : (s : Session) (r : Request) → IsWhole s → ((name : Text) → r ≡ Pupil name pupil.Begin → is_name name ≡ true) → IsWhole (request_effect s r).session
+requested-kept s (View view) h named = h
+requested-kept s (Edit edit) h named = edited-whole s h edit
+requested-kept s (Setting what) h named = set-whole s h what
+requested-kept s (Pupil name what) h named = pupils-whole s h name what (λ e. named name (ap (Pupil name) e))
+
+asked-kept : (s : Session) (places : List ℕ) (r : Option Request) → IsKept s → (places ≡ [] → has_domain s ≡ true) → ((name : Text) → r ≡ Some (Pupil name pupil.Begin) → is_name name ≡ true) → IsKept (asked_effect s places r).session
+asked-kept s places None kept domain named = kept
+asked-kept s (place ∷ places) (Some r) kept domain named = kept
+asked-kept s [] (Some r) kept domain named = λ some. requested-kept s r (kept (domain refl)) (λ name e. named name (ap Some e))
+
+all-named : (s : Session) (c : Command) → unnamed_at s c ≡ [] → has_domain s ≡ true
+all-named s c = by (has_domain s)
+  where
+    by : (b : Bool) → cond b (unnamed_places s.names c) (0 ∷ []) ≡ [] → b ≡ true
+    by true e = refl
+    by false e = absurd (cc e)
+
+either-kept : (b : Bool) (x y : Effect) → (b ≡ true → IsKept x.session) → IsKept y.session → IsKept (cond b x y).session
+either-kept true x y first second = first refl
+either-kept false x y first second = second
+
+started-at : (s : Session) (kind : StartFile) (fetched : Fetched) → IsKept s → IsKept (file_effect s (start_row kind s fetched)).session
+started-at s kind fetched kept = either-kept (has_domain s) _ _ (λ e some. start-whole s (kept e) kind fetched) kept
+
+stored-kept : (s : Session) (refusals : List Refusal) (name : Text) (bytes : List ℕ) → IsKept s → IsKept (stores s refusals name bytes).session
+stored-kept s [] name bytes kept = kept
+stored-kept s (refusal ∷ refusals) name bytes kept = kept
+
+-- ---- commands and lines
+
+command-kept : (s : Session) (calls : Calls) (c : Command) → IsKept s → IsNamed c → IsKept (command_effect s calls c).session
+unfolding command_effect
+command-kept s calls command.Nothing kept named = kept
+command-kept s calls (command.Items names) kept named = started-kept s _ (names_of_words names) kept (λ read e. (names_of_words-read names read e).0)
+command-kept s calls (command.LoadItems file) kept named =
+    let bytes = bytes_fetched (calls.file file) in started-kept s _ (names_of_table bytes) kept (λ read e. (names_of_table-read bytes read e).0)
+command-kept s calls (command.Reopen file) kept named = let bytes = bytes_fetched (calls.file file) in opened-kept s _ (session_of bytes) kept (read_whole bytes)
+command-kept s calls (command.StartSurmise file) kept named = started-at s start_file.Surmise (calls.file file) kept
+command-kept s calls (command.StartBase file) kept named = started-at s start_file.Base (calls.file file) kept
+command-kept s calls (command.Test file) kept named = kept
+command-kept s calls (command.Class file) kept named = kept
+command-kept s calls (command.Save file) kept named = either-kept (has_domain s) _ _ (λ e. stored-kept s _ file (session_text s) kept) kept
+command-kept s calls (command.Pupil name) kept named =
+    asked-kept s _ (Some (Pupil name pupil.Begin)) kept (all-named s (command.Pupil name)) (λ other e. subst (λ w. is_name w ≡ true) (let same : name ≡ other = cc e in same) named)
+command-kept s calls c kept named = asked-kept s (unnamed_at s c) (request_of s.names c) kept (all-named s c) (λ name e. absurd (cc e))
+
+words-kept : (s : Session) (calls : Calls) (ws : List Text) (o : Option Command) → IsKept s → ((c : Command) → o ≡ Some c → IsNamed c) → IsKept (words_effect s calls ws o).session
+words-kept s calls ws None kept named = kept
+words-kept s calls ws (Some c) kept named = command-kept s calls c kept (named c refl)
+
+pub line-kept : (s : Session) (calls : Calls) (line : List ℕ) → IsKept s → IsKept (line_effect s calls line).session
+unfolding line_effect
+line-kept s calls line kept =
+    either-kept (is_long line) _ _ (λ e. kept) (words-kept s calls (words line) (command_of (words line)) kept (command-named (words line)))

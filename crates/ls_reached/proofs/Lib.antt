@@ -1,0 +1,6 @@
+mod Refusals
+mod Starts
+mod Interviews
+mod Pupils
+mod Commands
+mod Reaching

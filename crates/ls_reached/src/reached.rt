@@ -1,0 +1,25 @@
+// The law of the sessions that scripts reach.
+ghost use Rattle.std.specs.Prelude.{◌≡◌, ℕ, true, List, Ok};
+ghost use Rattle.ls_saved.specs.Whole.{IsWhole};
+ghost use Rattle.ls_saved.specs.Values.{session_text};
+ghost use Rattle.ls_saved.specs.Reading.{session_of};
+ghost use Rattle.ls_edge.specs.Files.{Folder};
+ghost use Rattle.ls_reply.specs.Sessions.{Session, has_domain};
+ghost use Rattle.ls_reply.specs.Scenes.{Calls};
+ghost use Rattle.ls_reply.specs.Replies.{line_effect};
+ghost use Rattle.ls_reply.specs.Transcripts.{Marked, begun_over, world_after};
+ghost use Rattle.ls_reached.specs.Reached.{IsReached, IsKept};
+
+/// A line keeps a session whole where it has a domain, whatever its calls on the folder give. So
+/// each session with a domain that lines reach from the one that a script begins with is whole, and
+/// what is written for it is read as that session. Such is the session after the lines of each
+/// script, over any folder, whichever of its calls fail. Nothing is done.
+pub fn reached_sessions_are_whole()
+    ensures step { (s : Session) (calls : Calls) (line : List ℕ) →
+        IsKept s → IsKept (line_effect s calls line).session }
+    ensures reached { (s : Session) → IsReached s → has_domain s ≡ true → IsWhole s }
+    ensures saved { (s : Session) → IsReached s → has_domain s ≡ true →
+        session_of (session_text s) ≡ Ok s }
+    ensures scripts { (folder : Folder) (lines : List Marked) →
+        IsReached (world_after (begun_over folder) lines).session }
+{}
