@@ -1,13 +1,14 @@
--- The first open query was not answered, and nothing is known of it.
-use Rattle.std.proofs.Common.{ℕ, ◌≡◌, inl, inr, Bool, true, false, cond, not, List, [], ◌∷◌, filter, find, Some, None, refl, sym, ap, ap₂, ◌∙◌, true≢false}
+-- The first open query was not answered, and nothing is known of it; so an answer to it is not refused.
+use Rattle.std.proofs.Common.{ℕ, ◌≡◌, ◌<◌, ◌≤◌, inl, inr, Bool, true, false, cond, not, List, [], ◌∷◌, filter, find, length, Some, None, refl, sym, ap, ap₂, ◌∙◌, arith, true≢false}
 use Rattle.std.specs.List.{list_all}
 use Rattle.std.proofs.lemmas.Bool.{cases_Bool, and_parts, not-true, not_from_false, false_from_ne_true}
-use Rattle.std.proofs.lemmas.Bool.Decides.{Decides-eqb}
+use Rattle.std.proofs.lemmas.Bool.Decides.{Decides-eqb, nat_tests}
 use Rattle.ls_lists.specs.Lists.{IsIn}
 use Rattle.ls_lists.proofs.Elements.{in-filter, in-map, filter-in, each-in}
 use Rattle.ls_lists.proofs.Every.{list_all-All}
 use Rattle.ls_lists.proofs.Finds.{found-passes}
 use Rattle.ls_set.specs.ItemSet.{Items}
+use Rattle.ls_set.specs.Query.{is_good}
 use Rattle.ls_set.specs.declared.query.Query.{Query}
 use Rattle.ls_set.proofs.Sets.{Decides-is_same}
 use Rattle.ls_theory.specs.declared.answer.Answer.{Answer}
@@ -19,7 +20,7 @@ use Rattle.ls_theory.specs.Compatible.{is_compatible}
 use Rattle.ls_theory.specs.Fitting.{spaces_of}
 use Rattle.ls_theory.specs.Pages.{comes_after}
 use Rattle.ls_theory.specs.Forced.{is_forced_yes, is_forced_no, is_open, known, next_question}
-use Rattle.ls_theory.specs.Answering.{is_same_query}
+use Rattle.ls_theory.specs.Answering.{most_answers, most_number, is_same_query, is_full, refusal}
 use Rattle.ls_laws.proofs.Lists.{some-from}
 use Rattle.ls_laws.proofs.Answering.{FitsIn, forced_yes_search, forced_no_search}
 use Rattle.ls_laws.proofs.Compat.{among-compat}
@@ -92,3 +93,11 @@ unfolding known
 open-unsettled i r h =
     let p = and_parts (not (is_forced_yes (spaces_of i) r)) (not (is_forced_no (spaces_of i) r)) h in
     unsettled (is_forced_yes (spaces_of i) r) (is_forced_no (spaces_of i) r) _ (not-true (is_forced_yes (spaces_of i) r) p.0) (not-true (is_forced_no (spaces_of i) r) p.1)
+
+-- ---- an answer to it is not refused
+
+pub not-refused : (i : Interview) (r : Query) (y : Bool) → next_question i None ≡ Some r → is_good i.count r ≡ true → length i.answers < most_answers → i.next ≤ most_number → refusal i r y ≡ None
+not-refused i r y e good few left =
+    let o = question-open i r e in
+    let room : is_full i ≡ false = grind (arith, nat_tests) in
+    rw (good, open-unanswered i r o, open-unsettled i r o, room) refl

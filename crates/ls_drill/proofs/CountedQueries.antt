@@ -22,6 +22,7 @@ use Rattle.ls_lists.proofs.Elements.{get-in}
 use Rattle.ls_laws.proofs.Breaks.{good-to}
 use Rattle.ls_query.proofs.BlockSets.{blocks-in}
 use Rattle.ls_query.proofs.QuerySets.{queries-in, sorted-queries, query_before-asymmetric}
+use Rattle.ls_expert.specs.Held.{blocks_of}
 use Rattle.ls_drill.specs.Summaries.{is_yes, is_no, is_filled, is_filled_yes, is_filled_no}
 use Rattle.ls_query.specs.Blocks.{choose}
 use Rattle.ls_query.proofs.Binomials.{choose-none, choose-more, choose-zero_more}
@@ -102,13 +103,6 @@ module _ (i : Interview) (k : ℕ) (last : Option Query) (all yeses nos : ℕ) (
   pub next-good : is_good i.count r ≡ true
   next-good = good-to i.count r (queries-in i.count i.block r (get-in (queries i.count i.block) k r (sym h.turn ∙ q))).0
 
-  pub next-single : i.block ≡ 1 → len r.a ≡ 1
-  next-single e =
-      let b = blocks-in i.count i.block r.a (queries-in i.count i.block r (get-in (queries i.count i.block) k r (sym h.turn ∙ q))).1 in
-      let some' : 0 < len r.a = b.some in
-      let few' : len r.a ≤ i.block = b.few in
-      omega arith
-
   next-turn : find (query_before r) (queries i.count i.block) ≡ slice_get (queries i.count i.block) (k + 1)
   next-turn = find-next query_before (queries i.count i.block) k r (sorted-queries i.count i.block) query_before-asymmetric (sym h.turn ∙ q) ∙ ap (slice_get (queries i.count i.block)) (sym (add-one k))
 
@@ -160,34 +154,15 @@ counted-last i k last all yeses nos h e le =
     let same : length (queries i.count i.block) ≡ length (queries i.count 1) = ap (λ m. length (queries i.count m)) e in
     counted-end i k last all yeses nos h (get-none (queries i.count i.block) k (omega arith))
 
--- ---- blocks of single items
-
--- n sets of one item, which are never too many
-pub made-one : (n : ℕ) → 0 < n → n ≤ most_drilled → made n 1 ≡ Ok (record { item_count = n; largest = 1 })
-made-one n some few =
-    let sets = length-singles n in
-    let many : length (blocks n 1) ≤ most_sets = omega arith in
-    made-ok n 1 (λ e. cc) (omega arith) (none_too_wide n 1 many)
-
-pub one_block : (n : ℕ) (r : Result BlockRange BlockFault) (b : BlockRange) → 0 < n → n ≤ most_drilled → r ≡ made n 1 → r ≡ Ok b → b ≡ (let x : BlockRange = record { item_count = n; largest = 1 } in x)
-one_block n r b some few e f = let g : (let x : Result BlockRange BlockFault = Ok (record { item_count = n; largest = 1 }) in x) ≡ Ok b = sym (e ∙ made-one n some few) ∙ f in cc
-
 -- ---- what is met on the walk
 
 pub nothing_left : {X : Type 0} (o : Option X) → ((x : X) → o ≡ Some x → ⊥) → o ≡ None
 nothing_left None h = refl
 nothing_left (Some x) h = absurd (h x refl)
 
-module _ (i : Interview) (n : ℕ) (b : BlockRange) (last : Option Query) (found : Option Query) where
-  pub met-some : (r : Query) → n ≡ i.count → i.block ≡ 1 → b ≡ (let x : BlockRange = record { item_count = n; largest = 1 } in x) → found ≡ find (comes_after query_before last) (queries b.item_count b.largest) → found ≡ Some r
-      → find (comes_after query_before last) (queries i.count i.block) ≡ Some r
-  met-some r e one h f g =
-      ap₂ (λ m k. find (comes_after query_before last) (queries m k)) (sym (ap (λ (x : BlockRange). x.item_count) h ∙ e)) (one ∙ sym (ap (λ (x : BlockRange). x.largest) h)) ∙ sym f ∙ g
+module _ (i : Interview) (b : BlockRange) (last found : Option Query) (asked : b ≡ blocks_of i) (h : found ≡ find (comes_after query_before last) (queries b.item_count b.largest)) where
+  pub met : found ≡ find (comes_after query_before last) (queries i.count i.block)
+  met = h ∙ ap (λ (x : BlockRange). find (comes_after query_before last) (queries x.item_count x.largest)) asked
 
-  pub met-none : n ≡ i.count → i.block ≡ 1 → b ≡ (let x : BlockRange = record { item_count = n; largest = 1 } in x) → found ≡ find (comes_after query_before last) (queries b.item_count b.largest) → ((r : Query) → found ≡ Some r → ⊥)
-      → find (comes_after query_before last) (queries i.count i.block) ≡ None
-  met-none e one h f g =
-      ap₂ (λ m k. find (comes_after query_before last) (queries m k)) (sym (ap (λ (x : BlockRange). x.item_count) h ∙ e)) (one ∙ sym (ap (λ (x : BlockRange). x.largest) h)) ∙ sym f ∙ nothing_left found g
-
-pub enough : (i : Interview) (n k : ℕ) → n ≡ i.count → n * n ≤ k → i.count * i.count ≤ k
-enough i n k e le = subst (λ m. m * m ≤ k) e le
+  pub met-none : ((r : Query) → found ≡ Some r → ⊥) → find (comes_after query_before last) (queries i.count i.block) ≡ None
+  met-none none = sym met ∙ nothing_left found none

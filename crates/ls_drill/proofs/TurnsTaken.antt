@@ -1,5 +1,5 @@
 -- The turns of a drill, one after another, and what they keep.
-use Rattle.std.proofs.Common.{ℕ, zero, suc, ◌≡◌, ◌<◌, ◌≤◌, ◌+◌, ◌-◌, ◌*◌, true, filter, Some, None, refl, sym, ap, ◌∙◌, subst, arith}
+use Rattle.std.proofs.Common.{ℕ, zero, suc, ◌≡◌, ◌<◌, ◌≤◌, ◌+◌, ◌-◌, ◌*◌, true, filter, length, Some, None, refl, sym, ap, ◌∙◌, subst, arith, length-append}
 use Rattle.std.specs.Option.{option_map_or}
 use Rattle.std.specs.List.{AllByRecursion}
 use Rattle.ls_lists.proofs.Every.{All-append, All-map, All-filter}
@@ -37,10 +37,6 @@ turns-more number turns k i lt =
     let e : turns - k ≡ suc (turns - (k + 1)) = omega arith in
     ap (λ m. after_turns number m i) e
 
-pub first_turn : (n number : ℕ) → after_turns number (n * n - 0) (begun n Free) ≡ drilled n number
-unfolding drilled
-first_turn n number = let e : n * n - 0 ≡ n * n = omega arith in ap (λ m. after_turns number m (begun n Free)) e
-
 -- ---- what the turns keep
 
 question-single : (i : Interview) (r : Query) → i.block ≡ 1 → next_question i None ≡ Some r → len r.a ≡ 1
@@ -62,6 +58,9 @@ drill-turn n number i d =
       })
     ] refl
 
+begun_drill : (n : ℕ) → IsDrill n (begun n Free)
+begun_drill n = record { items = refl; start = refl; block = refl; single = tt }
+
 drill-turns : (n number turns : ℕ) (i : Interview) → IsDrill n i → IsDrill n (after_turns number turns i)
 unfolding after_turns
 drill-turns n number zero i d = d
@@ -69,11 +68,49 @@ drill-turns n number (suc turns) i d = drill-turns n number turns (after_turn nu
 
 pub drilled-is : (n number : ℕ) → IsDrill n (drilled n number)
 unfolding drilled
-drilled-is n number = drill-turns n number (n * n) (begun n Free) (record { items = refl; start = refl; block = refl; single = tt })
+drilled-is n number = drill-turns n number (n * n) (begun n Free) (begun_drill n)
 
 -- the Yes queries among them have one item each
 pub single-yeses : (n : ℕ) (i : Interview) → IsDrill n i → AllByRecursion (λ (r : Query). len r.a ≡ 1) (yes_queries i.answers)
 single-yeses n i d = All-map (λ (r : Query). len r.a ≡ 1) (λ (a : Answer). a.query) (filter (λ a. a.yes) i.answers) (All-filter (λ (a : Answer). len a.query.a ≡ 1) (λ a. a.yes) i.answers d.single)
+
+-- ---- so many turns were taken
+
+-- k turns were taken, and those that are left give the drill
+pub record IsAtTurn (n number k : ℕ) (i : Interview) : Type 0 where
+  pub drill : IsDrill n i
+  pub few : length i.answers ≤ k
+  pub numbered : i.next ≤ k + 1
+  pub turns : after_turns number (n * n - k) i ≡ drilled n number
+
+pub first_turn : (n number : ℕ) → IsAtTurn n number 0 (begun n Free)
+unfolding drilled
+first_turn n number = record {
+  drill = begun_drill n;
+  few = omega arith;
+  numbered = omega arith;
+  turns = let e : n * n - 0 ≡ n * n = omega arith in ap (λ m. after_turns number m (begun n Free)) e;
+}
+
+pub next_turn : (n number k : ℕ) (i : Interview) (r : Query) → IsAtTurn n number k i → k < n * n → next_question i None ≡ Some r → IsAtTurn n number (k + 1) (accepted i r (reply n number r))
+next_turn n number k i r h lt e =
+    let y = reply n number r in
+    let more : length (accepted i r y).answers ≡ length i.answers + 1 = length-append i.answers _ in
+    let turned : after_turn number i ≡ accepted i r y = turn-some number i r e ∙ ap (λ m. accepted i r (reply m number r)) h.drill.items in
+    record {
+      drill = subst (IsDrill n) turned (drill-turn n number i h.drill);
+      few = omega arith;
+      numbered = omega arith;
+      turns = ap (after_turns number (n * n - (k + 1))) (sym turned) ∙ sym (turns-more number (n * n) k i lt) ∙ h.turns;
+    }
+
+-- where no query is open, or all turns were taken, that is the drill
+pub settled_turn : (n number k : ℕ) (i : Interview) → IsAtTurn n number k i → next_question i None ≡ None → i ≡ drilled n number
+settled_turn n number k i h e = sym (turns-none number (n * n - k) i e) ∙ h.turns
+
+pub last_turn : (n number k : ℕ) (i : Interview) → IsAtTurn n number k i → n * n ≤ k → i ≡ drilled n number
+unfolding after_turns
+last_turn n number k i h le = let e : 0 ≡ n * n - k = omega arith in ap (λ m. after_turns number m i) e ∙ h.turns
 
 -- ---- the reply
 

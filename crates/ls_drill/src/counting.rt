@@ -1,12 +1,21 @@
 // How many queries were asked, and how many the answers force.
-ghost use Rattle.std.specs.Prelude.{◌≡◌, ◌<◌, ◌≤◌, ◌+◌, ◌^◌, not, if◌then◌else◌, length, count_by, Some, None};
-ghost use Rattle.ls_theory.specs.Queries.{queries};
-ghost use Rattle.ls_theory.specs.Answering.{most_answers};
-ghost use Rattle.ls_drill.specs.Summaries.{is_filled, is_filled_yes, is_filled_no};
+ghost use Rattle.std.specs.Prelude.{◌≡◌, ◌<◌, ◌≤◌, ◌+◌, ◌^◌, true, not, if◌then◌else◌, length, find, count_by};
+ghost use Rattle.std.specs.Option.{ForSome};
+ghost use Rattle.std.specs.List.{list_any};
+ghost use Rattle.ls_set.specs.Query.{is_good};
+ghost use Rattle.ls_theory.specs.Queries.{queries, query_before};
+ghost use Rattle.ls_theory.specs.Pages.{comes_after};
+ghost use Rattle.ls_theory.specs.Answering.{most_answers, is_same_query};
+ghost use Rattle.ls_query.specs.Blocks.{queries_of};
+ghost use Rattle.ls_drill.specs.HiddenOrders.{most_drilled};
+ghost use Rattle.ls_drill.specs.Summaries.{is_yes, is_no, is_filled, is_filled_yes, is_filled_no};
 
-use crate::standing::Standing;
-use crate::walking::{query_after, single_blocks};
+use ls_expert::{Inquiry, Known};
+use ls_interior::Steps;
+use ls_query::Blocks;
+use ls_set::Query;
 use ls_theory::Answer;
+use std::sync::ledger::Ledger;
 
 /// How many of the answers are Yes.
 pub fn count_yes(answers: &[Answer]) -> u32
@@ -33,37 +42,58 @@ pub struct Filled {
 }
 
 impl Filled {
-    // Counts a query, and whether a Yes or a No to it is forced.
-    fn add(&mut self, yes: bool, no: bool)
+    // Counts a query of which that is known.
+    fn add(&mut self, known: Known)
         requires all { self.old.all < 2 ^ 16 }
         requires yes { self.old.yes < 2 ^ 16 }
         requires no { self.old.no < 2 ^ 16 }
         ensures all { self.new.all ≡ self.old.all + 1 }
-        ensures yes { self.new.yes ≡ self.old.yes + (if yes then 1 else 0) }
-        ensures no { self.new.no ≡ self.old.no + (if no then 1 else 0) }
+        ensures yes { self.new.yes ≡ self.old.yes + (if is_yes known then 1 else 0) }
+        ensures no { self.new.no ≡ self.old.no + (if is_no known then 1 else 0) }
     {
         self.all += 1;
-        if yes {
-            self.yes += 1;
-        }
-        if no {
-            self.no += 1;
+        match known {
+            Known::Yes => self.yes += 1,
+            Known::No { .. } => self.no += 1,
+            Known::Unsettled => {}
         }
     }
 }
 
-/// How many queries of single items were not asked, and how many of these the answers force.
-pub fn count_filled(standing: &Standing) -> Filled
-    requires { 0 < standing.now.count }
-    ensures all { result.all
-        ≡ count_by (is_filled standing.now) (queries standing.now.count standing.now.block) }
-    ensures yes { result.yes
-        ≡ count_by (is_filled_yes standing.now) (queries standing.now.count standing.now.block) }
-    ensures no { result.no
-        ≡ count_by (is_filled_no standing.now) (queries standing.now.count standing.now.block) }
+// Whether the query was asked.
+#[tactic(auto, unfolding(ls_set::specs::ItemSet::is_same))]
+fn was_asked(answers: &[Answer], query: &Query) -> bool
+    ensures { result ≡ list_any (λ a. is_same_query a.query query.now) answers.now }
 {
-    let n = standing.items();
-    let blocks = single_blocks(n);
+    answers
+        .iter()
+        .any(|a| a.query.q == query.q && a.query.a == query.a)
+}
+
+// The first good query of the blocks that comes after the given one, or the first of all.
+fn query_after(blocks: &Blocks, last: Option<Query>) -> Option<Query>
+    requires { ForSome last (λ r. is_good blocks.now.item_count r ≡ true) }
+    ensures { result ≡ find (comes_after query_before last) (queries_of blocks.now) }
+{
+    match last {
+        Some(query) => blocks.next_query(Some(&query)),
+        None => blocks.next_query(None),
+    }
+}
+
+/// How many queries of single items were not asked, and how many of these the answers force.
+pub fn count_filled<L: Ledger>(inquiry: &Inquiry, steps: &mut Steps<L>) -> Filled
+    requires single { inquiry.now.block ≡ 1 }
+    requires few { inquiry.now.count ≤ most_drilled }
+    ensures all { result.all
+        ≡ count_by (is_filled inquiry.now) (queries inquiry.now.count inquiry.now.block) }
+    ensures yes { result.yes
+        ≡ count_by (is_filled_yes inquiry.now) (queries inquiry.now.count inquiry.now.block) }
+    ensures no { result.no
+        ≡ count_by (is_filled_no inquiry.now) (queries inquiry.now.count inquiry.now.block) }
+{
+    let n = inquiry.items();
+    let blocks = inquiry.blocks();
     let mut filled = Filled {
         all: 0,
         yes: 0,
@@ -74,8 +104,8 @@ pub fn count_filled(standing: &Standing) -> Filled
         let Some(query) = query_after(&blocks, last) else {
             return filled;
         };
-        if !standing.has_asked(&query) {
-            filled.add(standing.is_yes(&query), standing.is_no(&query));
+        if !was_asked(inquiry.standing(), &query) {
+            filled.add(inquiry.known(&query, steps).unwrap());
         }
         last = Some(query);
     }

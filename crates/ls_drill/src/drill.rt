@@ -25,11 +25,11 @@ pub fn run_drill<L: Ledger>(
     ensures { IfOk result (λ x. x ≡ summary_of n s) }
 {
     let hidden = Hidden::from_number(alloc, n, s)?;
-    let standing = interview(alloc, &hidden)?;
-    let filled = count_filled(&standing);
-    let base = base_of(alloc, &standing)?;
+    let inquiry = interview(alloc, &hidden, steps)?;
+    let filled = count_filled(&inquiry, steps);
+    let base = base_of(&inquiry)?;
     let states = count_states(alloc, &base, steps)?;
-    let answers = standing.answers();
+    let answers = inquiry.standing();
     Ok(Summary {
         n,
         number: s,

@@ -7,15 +7,11 @@ mod counting;
 mod drawing;
 mod drill;
 mod hidden;
-mod marking;
-mod refusing;
 mod settling;
-mod standing;
 mod states;
 mod summary;
 mod text;
 mod turns;
-mod walking;
 
 pub use drill::run_drill;
 pub use hidden::{Hidden, MOST_DRILLED};

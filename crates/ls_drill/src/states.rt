@@ -1,45 +1,33 @@
 // The states that a drill leaves, by their base.
 ghost use Rattle.std.specs.Prelude.{◌≡◌, ◌≤◌, length, IfOk};
-ghost use Rattle.ls_theory.specs.Interviews.{yes_queries};
 ghost use Rattle.ls_theory.specs.Compatible.{compatible_sets};
 ghost use Rattle.ls_theory.specs.Bases.{base};
 ghost use Rattle.ls_theory.specs.Verdict.{base_verdict};
 ghost use Rattle.ls_base.specs.Bases.{family};
 ghost use Rattle.ls_drill.specs.HiddenOrders.{most_drilled};
+ghost use Rattle.ls_drill.specs.Drills.{IsDrill};
 ghost use Rattle.ls_drill.specs.Summaries.{counted, is_learning};
 
-use crate::standing::Standing;
 use crate::summary::MOST_STATES;
 use ls_base::{Base, Followed};
 use ls_enum::{ListFault, list_all};
+use ls_expert::Inquiry;
 use ls_interior::{Counted, Steps};
-use ls_set::Query;
 use ls_space::test_base;
-use ls_theory::{Answer, BaseVerdict};
+use ls_theory::BaseVerdict;
 use std::alloc::{AllocError, Global};
 use std::sync::ledger::Ledger;
 
-// The queries that were answered Yes.
-fn yes_queries(alloc: Global, answers: &[Answer]) -> Result<Vec<Query>, AllocError>
-    ensures { IfOk result (λ v. v.items ≡ yes_queries answers.now) }
-{
-    answers
-        .iter()
-        .filter(|a| a.yes)
-        .map(|a| a.query)
-        .collect(alloc)
-}
-
 /// The base of the states. Where each Yes is on one item, each item has one atom, so the base is
 /// never past.
-pub fn base_of(alloc: Global, standing: &Standing) -> Result<Base, AllocError>
-    ensures sets { IfOk result (λ b. b.sets ≡ base (compatible_sets standing.now)) }
-    ensures family { IfOk result (λ b. family b ≡ compatible_sets standing.now) }
+pub fn base_of(inquiry: &Inquiry) -> Result<Base, AllocError>
+    requires drill { IsDrill inquiry.now.count inquiry.now }
+    requires few { inquiry.now.count ≤ most_drilled }
+    ensures sets { IfOk result (λ b. b.sets ≡ base (compatible_sets inquiry.now)) }
+    ensures family { IfOk result (λ b. family b ≡ compatible_sets inquiry.now) }
     ensures few { IfOk result (λ b. length b.sets ≤ most_drilled) }
 {
-    let first = Base::singletons(alloc, standing.items())?;
-    let yeses = yes_queries(alloc, standing.answers())?;
-    match Followed::over(first, &yeses)? {
+    match Followed::over(inquiry.first_base()?, inquiry.yes_queries())? {
         Followed::Within(base) => Ok(base),
         Followed::Past { .. } => unreachable!(),
     }

@@ -1,14 +1,16 @@
 // The interview of the simulated expert.
-ghost use Rattle.std.specs.Prelude.{◌≡◌, ◌<◌, ◌≤◌, true, length, IfOk};
+ghost use Rattle.std.specs.Prelude.{◌≡◌, ◌<◌, true, None, IfOk, OnOk};
 ghost use Rattle.ls_set.specs.Query.{is_good};
-ghost use Rattle.ls_theory.specs.Answering.{most_answers};
+ghost use Rattle.ls_theory.specs.Interviews.{accepted};
+ghost use Rattle.ls_theory.specs.Answering.{refusal};
 ghost use Rattle.ls_drill.specs.Drills.{reply, drilled};
 
 use crate::hidden::Hidden;
-use crate::standing::Standing;
-use crate::walking::{query_after, single_blocks};
+use ls_expert::{AnswerFault, Inquiry, Start};
+use ls_interior::Steps;
 use ls_set::Query;
 use std::alloc::{AllocError, Global};
+use std::sync::ledger::Ledger;
 
 // The expert's reply to a query of a single item.
 fn reply(hidden: &Hidden, query: &Query) -> bool
@@ -21,26 +23,41 @@ fn reply(hidden: &Hidden, query: &Query) -> bool
     }
 }
 
-/// Interviews the expert who knows the hidden order, until no question is open. What is known once
-/// stays known, so the first open query comes after all that were met.
-pub fn interview(alloc: Global, hidden: &Hidden) -> Result<Standing, AllocError>
+// Takes an answer that is not refused.
+fn take<L: Ledger>(
+    inquiry: &mut Inquiry,
+    query: Query,
+    yes: bool,
+    steps: &mut Steps<L>,
+) -> Result<(), AllocError>
+    requires { refusal inquiry.old query yes ≡ None }
+    ensures { OnOk result (inquiry.new ≡ accepted inquiry.old query yes) }
+{
+    match inquiry.answer(query, yes, steps) {
+        Ok(_) => Ok(()),
+        Err(AnswerFault::Memory(e)) => Err(e),
+        Err(_) => unreachable!(),
+    }
+}
+
+/// Interviews the expert who knows the hidden order, until no question is open.
+pub fn interview<L: Ledger>(
+    alloc: Global,
+    hidden: &Hidden,
+    steps: &mut Steps<L>,
+) -> Result<Inquiry, AllocError>
     requires { 0 < hidden.now.item_count }
-    ensures drilled { IfOk result (λ i.
-        i ≡ drilled hidden.now.item_count hidden.now.number) }
-    ensures few { IfOk result (λ i. length i.answers ≤ most_answers) }
+    ensures { IfOk result (λ i. i ≡ drilled hidden.now.item_count hidden.now.number) }
 {
     let n = hidden.items();
-    let blocks = single_blocks(n);
-    let mut standing = Standing::new(alloc, n)?;
-    let mut last = None;
+    let mut inquiry = Inquiry::new(alloc, n, Start::Free, steps)?;
     for _ in 0..n * n {
-        let Some(query) = query_after(&blocks, last) else {
-            return Ok(standing);
+        inquiry.seek();
+        let Some(query) = inquiry.next_question(None) else {
+            return Ok(inquiry);
         };
-        if standing.is_open(&query) {
-            standing.answer(query, reply(hidden, &query))?;
-        }
-        last = Some(query);
+        let yes = reply(hidden, &query);
+        take(&mut inquiry, query, yes, steps)?;
     }
-    Ok(standing)
+    Ok(inquiry)
 }

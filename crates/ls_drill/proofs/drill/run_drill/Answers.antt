@@ -1,11 +1,11 @@
-use Rattle.std.proofs.Common.{◌≡◌, List, not, length, sym, ap, refl, ◌∙◌, arith}
+use Rattle.std.proofs.Common.{◌≡◌, List, not, length, sym, ap, subst, refl, ◌∙◌, arith}
 use Rattle.std.specs.Prelude.{count_by}
 use Rattle.ls_set.specs.ItemSet.{Items}
 use Rattle.ls_theory.specs.declared.answer.Answer.{Answer}
 use Rattle.ls_theory.specs.Interviews.{Interview}
 use Rattle.ls_theory.specs.Verdict.{base_verdict}
 use Rattle.ls_drill.specs.HiddenOrders.{HiddenOrder}
-use Rattle.ls_drill.specs.Drills.{drilled}
+use Rattle.ls_drill.specs.Drills.{IsDrill, drilled}
 use Rattle.ls_drill.specs.Summaries.{is_learning, counted}
 use Rattle.ls_drill.proofs.TurnsTaken.{drilled-is}
 use Rattle.ls_drill.proofs.Summing.{summed-as}
@@ -13,16 +13,21 @@ use Rattle.ls_drill.proofs.drill.run_drill.Goals as goal
 
 pub count_filled-filled-requires : goal.count_filled-filled-requires
 count_filled-filled-requires g c =
-    let h = c.in_ok-hidden.hidden in
-    let e : c.in_ok-standing.standing.count ≡ c.args.n = ap (λ (i : Interview). i.count) c.in_ok-standing.ensures.drilled ∙ (drilled-is h.item_count h.number).items ∙ ap (λ (o : HiddenOrder). o.item_count) c.in_ok-hidden.ensures in
-    omega arith
+    let drill : c.in_ok-inquiry.inquiry ≡ drilled c.args.n c.args.s = c.in_ok-inquiry.ensures ∙ ap (λ (o : HiddenOrder). drilled o.item_count o.number) c.in_ok-hidden.ensures in
+    let d = subst (IsDrill c.args.n) (sym drill) (drilled-is c.args.n c.args.s) in
+    record { single = d.block; few = omega arith }
+
+pub base_of-requires : goal.base_of-requires
+base_of-requires g c =
+    let drill : c.in_ok-inquiry.inquiry ≡ drilled c.args.n c.args.s = c.in_ok-inquiry.ensures ∙ ap (λ (o : HiddenOrder). drilled o.item_count o.number) c.in_ok-hidden.ensures in
+    let d = subst (IsDrill c.args.n) (sym drill) (drilled-is c.args.n c.args.s) in
+    record { drill = record { items = refl; start = d.start; block = d.block; single = d.single }; few = omega arith }
 
 pub returns : goal.returns
 returns g c =
-    let h = c.in_ok-hidden.hidden in
-    let i = c.in_ok-standing.standing in
-    let drill : i ≡ drilled c.args.n c.args.s = c.in_ok-standing.ensures.drilled ∙ ap (λ (o : HiddenOrder). drilled o.item_count o.number) c.in_ok-hidden.ensures in
-    let answers = c.answers-answers.ensures.value in
+    let i = c.in_ok-inquiry.inquiry in
+    let drill : i ≡ drilled c.args.n c.args.s = c.in_ok-inquiry.ensures ∙ ap (λ (o : HiddenOrder). drilled o.item_count o.number) c.in_ok-hidden.ensures in
+    let answers = c.standing-answers.ensures.value in
     summed-as c.args.s i (drilled c.args.n c.args.s) _ refl drill (record {
       items = sym (ap (λ (i : Interview). i.count) drill ∙ (drilled-is c.args.n c.args.s).items);
       asked_all = ap length answers;
