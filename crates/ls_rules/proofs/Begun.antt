@@ -14,7 +14,7 @@ use Rattle.ls_set.proofs.Order.{Each-both}
 use Rattle.ls_theory.specs.Queries.{breaks, breaks_none}
 use Rattle.ls_laws.proofs.Breaks.{IsGood, Breaks-from, good-from}
 use Rattle.ls_rules.specs.Places.{PlaceList, places_at, IsIndexOf}
-use Rattle.ls_rules.proofs.Alone.{first_of-is, several-is, asked-has, asked-out}
+use Rattle.ls_rules.proofs.Alone.{several-is, asked-has, asked-out}
 use Rattle.ls_rules.specs.Parts.{first_of, several}
 use Rattle.ls_rules.specs.Sets.{set_at}
 use Rattle.ls_rules.specs.Followers.{Follows, AreFollowed}
