@@ -1,4 +1,4 @@
-use Rattle.std.proofs.Common.{◌≡◌, true, false, List, sym, ap, ◌∙◌, arith}
+use Rattle.std.proofs.Common.{◌≡◌, true, List, sym, ap, ◌∙◌, arith}
 use Rattle.ls_set.specs.ItemSet.{Items, full, has, IsWithin}
 use Rattle.ls_set.proofs.Sets.{minus-within, union-within, IsWithin-from}
 use Rattle.ls_theory.specs.Families.{closure}
