@@ -1,12 +1,12 @@
 -- What stays true of a table when it is built and changed.
-use Rattle.std.proofs.Common.{ℕ, ◌≡◌, true, false, ◌<◌, ◌&&◌, cond, not, eqb, lt-ltb, List, [], ◌∷◌, ◌++◌, map, filter, length, refl, sym, ap, ap₂, ◌∙◌, subst, arith}
+use Rattle.std.proofs.Common.{ℕ, ◌≡◌, true, false, cond, not, eqb, List, [], ◌∷◌, ◌++◌, map, filter, length, refl, sym, ap, ap₂, ◌∙◌, subst, arith}
 use Rattle.std.specs.List.{list_all, list_any}
 use Rattle.std.proofs.lemmas.Bool.{and_parts, and_from, or_parts, not-true}
 use Rattle.std.proofs.lemmas.List.Folds.{list_all-append}
 use Rattle.ls_lists.proofs.Every.{All-filter, All-list_all, list_all-All}
-use Rattle.ls_set.specs.ItemSet.{Items, has, empty, full, minus, is_within, is_among}
+use Rattle.ls_set.specs.ItemSet.{Items, has, full, is_within}
 use Rattle.ls_set.specs.Query.{is_good}
-use Rattle.ls_set.proofs.Sets.{has-empty, has-full, has-minus, same_set, is_within-from, minus-within}
+use Rattle.ls_set.proofs.Sets.{is_within-from, minus-within}
 use Rattle.ls_theory.specs.declared.no.No.{No}
 use Rattle.ls_set.specs.declared.query.Query.{Query}
 use Rattle.ls_theory.specs.Queries.{breaks, some_breaks}
@@ -18,7 +18,7 @@ use Rattle.ls_laws.proofs.Closures.{has-closure}
 use Rattle.ls_laws.proofs.Families.{family_sets}
 use Rattle.ls_query.specs.Blocks.{sets_of}
 use Rattle.ls_infer.specs.declared.standing_no.StandingNo.{StandingNo}
-use Rattle.ls_infer.specs.Changes.{CanFall, is_kept}
+use Rattle.ls_infer.specs.Changes.{is_kept}
 use Rattle.ls_infer.specs.Tables.{TableState, IsTable, standing, table_of}
 use Rattle.ls_infer.proofs.States.{enough-within}
 use Rattle.ls_infer.proofs.Standing.{kept-from}
@@ -93,18 +93,3 @@ unbroken-stays (k ∷ f) r h =
 -- where q is in the closure of A, no member breaks the query
 pub yes-given : (n : ℕ) (f : List Items) (r : Query) → IsFamily n f → IsGood n r → has (closure (full n) f r.a) r.q ≡ true → left_by r f ≡ f
 yes-given n f r family good h = unbroken-stays f r (not-true (some_breaks f r) (sym (has-closure n f r (family_sets n f family).small good.item) ∙ h))
-
--- ---- what can fall
-
--- all items can: what is left of a member is the empty set
-pub all-fall : (n : ℕ) (f : List Items) (i : ℕ) → IsFamily n f → i < n → CanFall f i (full n)
-all-fall n f i family l = (
-  has-full n i ∙ lt-ltb i n l,
-  λ k member.
-      let none : minus k (full n) ≡ empty = same_set (minus k (full n)) empty (λ j.
-      has-minus k (full n) j ∙ elim (has k j) as (λ b. has k j ≡ b → (b && not (has (full n) j)) ≡ has empty j) [
-        | true ↦ λ h. ap not (family.small k member j h) ∙ sym (has-empty j)
-        | false ↦ λ _. sym (has-empty j)
-      ] refl) in
-      subst (λ s. is_among f s ≡ true) (sym none) family.holds_empty,
-)

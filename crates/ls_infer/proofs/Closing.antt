@@ -84,7 +84,7 @@ first-images n m f before b closures i same l made =
 -- a closure that is not stale is the same after the change
 pub fresh_stays : (c : YesChange) (n : ℕ) (r : Query) (before after : List Items) (set : Items) → IsFamily n after → IsGood n r → IsChange c n r before after → is_stale c r (closure (full n) before set) ≡ false
     → closure (full n) after set ≡ closure (full n) before set
-fresh_stays (YesChange.Added fall) n r before after set family good change fresh = ap (λ f. closure (full n) f set) change.0.1 ∙ closure_stays n before r set (family_sets n before change.0.0) good fresh
+fresh_stays YesChange.Added n r before after set family good change fresh = ap (λ f. closure (full n) f set) change.1 ∙ closure_stays n before r set (family_sets n before change.0) good fresh
 fresh_stays YesChange.Removed n r before after set family good change fresh =
     sym (ap (λ f. closure (full n) f set) change ∙ closure_before_yes n after r set (family_sets n after family) good (ap (λ f. is_within r.a (closure (full n) f set)) (sym change) ∙ fresh))
 
@@ -104,7 +104,7 @@ fresh-first c n r before after sets closures (suc i) family good change l fresh 
 
 -- a stale closure has the items of A
 pub stale_has : (c : YesChange) (r : Query) (closed : Items) → is_stale c r closed ≡ true → is_within r.a closed ≡ true
-stale_has (YesChange.Added fall) r closed h = (and_parts (is_within r.a closed) (not (has closed r.q)) h).0
+stale_has YesChange.Added r closed h = (and_parts (is_within r.a closed) (not (has closed r.q)) h).0
 stale_has YesChange.Removed r closed h = h
 
 -- ---- one item at least

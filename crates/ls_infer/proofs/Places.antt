@@ -1,18 +1,14 @@
 -- Places in lists and in blocks.
-use Rattle.std.proofs.Common.{ℕ, zero, suc, ◌+◌, ◌<◌, ◌≤◌, ◌≡◌, Bool, true, false, cond, List, [], ◌∷◌, map, find, length, get_or, slice_get, Some, None, inl, inr, refl, sym, ap, ◌∙◌, arith, add-one, true≢false}
-use Rattle.std.proofs.lemmas.Bool.{cases_lt}
-use Rattle.std.proofs.lemmas.List.{get_or_past}
+use Rattle.std.proofs.Common.{ℕ, zero, suc, ◌+◌, ◌<◌, ◌≤◌, ◌≡◌, Bool, true, false, cond, List, [], ◌∷◌, map, find, length, slice_get, Some, None, refl, sym, ap, ◌∙◌, arith, add-one}
 use Rattle.std.proofs.lemmas.Option.{slice_get-get_or}
 use Rattle.ls_lists.proofs.Elements.{get-in}
 use Rattle.ls_lists.proofs.Finds.{find-any}
 use Rattle.ls_lists.proofs.Places.{get-map}
 use Rattle.ls_lists.proofs.Sorted.{find-next}
-use Rattle.ls_set.specs.ItemSet.{Items, has, empty, full, single, len, IsWithin}
-use Rattle.ls_set.proofs.Sets.{has-empty}
+use Rattle.ls_set.specs.ItemSet.{Items, empty, full, single, len, IsWithin}
 use Rattle.ls_theory.specs.Families.{closure}
 use Rattle.ls_theory.specs.Queries.{blocks, block_before}
 use Rattle.ls_theory.specs.Blocks.{BlockRange}
-use Rattle.ls_interior.specs.Closures.{AreClosures}
 use Rattle.ls_query.specs.Blocks.{sets_of}
 use Rattle.ls_query.proofs.BlockOrder.{before-asymmetric}
 use Rattle.ls_query.proofs.BlockSets.{sorted-blocks, blocks-in, first-blocks}
@@ -88,14 +84,3 @@ closed-alone n zero i f closures closed l made at =
 closed-alone n (suc k) i f closures closed l made at =
     let same : Some closed ≡ Some (closure (full n) f (single i)) = sym at ∙ ap (λ c. slice_get c i) made ∙ get-map (closure (full n) f) (blocks n (suc k)) i (single i) (of_blocks n k i l) in
     cc
-
--- and past the end of the list none is known
-pub alone-closures : (n k : ℕ) (f : List Items) (closures : List Items) → closures ≡ map (closure (full n) f) (blocks n k) → AreClosures n f closures
-alone-closures n k f closures made i l here = elim (cases_lt i (length closures)) [
-  | inl within ↦ closed-alone n k i f closures (get_or closures i empty) l made (slice_get-get_or closures i empty within)
-  | inr past ↦ absurd (true≢false (sym here ∙ ap (λ s. has s i) (get_or_past closures i empty past) ∙ has-empty i))
-]
-
--- where none are known
-pub no-closures : (n : ℕ) (f : List Items) → AreClosures n f []
-no-closures n f i l here = absurd (true≢false (sym here ∙ has-empty i))

@@ -22,11 +22,11 @@ use Rattle.ls_laws.proofs.ClosureChanges.{closure_holds, closure_grows, closure_
 use Rattle.ls_laws.proofs.Families.{family_sets}
 use Rattle.ls_infer.specs.declared.standing_no.StandingNo.{StandingNo}
 use Rattle.ls_infer.specs.declared.yes_change.YesChange.{YesChange}
-use Rattle.ls_infer.specs.Changes.{CanFall, IsAdded, IsChange, can_grow, is_kept, is_reached}
+use Rattle.ls_infer.specs.Changes.{IsChange, can_grow, is_kept, is_reached}
 use Rattle.ls_infer.specs.Tables.{enough_for, standing}
 use Rattle.ls_infer.proofs.Kept.{has-enough, with-within}
 use Rattle.ls_infer.proofs.Outside.{with-left, with-cases, outside-member}
-use Rattle.ls_infer.proofs.States.{with-itself, enough-apart, enough-only, enough-apart_from, enough-grows, enough-unbroken, enough-stays, unbroken-among}
+use Rattle.ls_infer.proofs.States.{with-itself, enough-apart, enough-only, enough-grows, enough-unbroken, enough-stays, unbroken-among}
 
 -- ---- closures that stay
 
@@ -148,7 +148,7 @@ standing-only n f a closed known is_state family l made sound lacks inside state
 
 -- ---- a Yes that comes
 
-pub after-closed : (n : ℕ) (before after : List Items) (r : Query) (s : StandingNo) → IsAdded n r before after → is_good n r ≡ true → is_kept n s ≡ true → s ≡ standing n before s.no → has s.closed r.q ≡ true
+pub after-closed : (n : ℕ) (before after : List Items) (r : Query) (s : StandingNo) → IsChange YesChange.Added n r before after → is_good n r ≡ true → is_kept n s ≡ true → s ≡ standing n before s.no → has s.closed r.q ≡ true
     → s ≡ standing n after s.no
 after-closed n before after r s change good kept e h =
     let b = s.no.query.a in
@@ -165,7 +165,7 @@ after-closed n before after r s change good kept e h =
           ∙ enough-unbroken n before (closure (full n) before b) q r (outside-member n before b family) (kept-parts n s kept).good.item good_r here));
     }))
 
-pub after-met : (n : ℕ) (before after : List Items) (r : Query) (s : StandingNo) (i : ℕ) → IsAdded n r before after → is_good n r ≡ true → s ≡ standing n before s.no
+pub after-met : (n : ℕ) (before after : List Items) (r : Query) (s : StandingNo) (i : ℕ) → IsChange YesChange.Added n r before after → is_good n r ≡ true → s ≡ standing n before s.no
     → is_within r.a s.closed ≡ false → has (meet r.a s.enough) i ≡ true → s ≡ standing n after s.no
 after-met n before after r s i change good e lacks h =
     let b = s.no.query.a in
@@ -182,50 +182,38 @@ after-met n before after r s i change good e lacks h =
       is_state = old.is_state ∙ sym (unbroken-among before r s.enough (false_from_ne_true (breaks s.enough r) (λ x. true≢false (sym p.0 ∙ (Breaks-from s.enough r x).apart i p.1))));
     }))
 
-pub after-again : (n : ℕ) (before after : List Items) (r : Query) (s : StandingNo) (closed : Items) → IsAdded n r before after → is_kept n s ≡ true → s ≡ standing n before s.no
+pub after-again : (n : ℕ) (before after : List Items) (r : Query) (s : StandingNo) (closed : Items) → IsChange YesChange.Added n r before after → is_kept n s ≡ true → s ≡ standing n before s.no
     → closed ≡ closure (full n) after s.closed → closed ≡ closure (full n) after s.no.query.a
 after-again n before after r s closed change kept e made =
     made ∙ ap (λ (t : StandingNo). closure (full n) after t.closed) e ∙ closure_from_old (full n) before after s.no.query.a (subst (λ g. IsPart g before) (sym change.1) (left-IsPart before r)) (kept-parts n s kept).good.small
 
-pub after-lack : (n : ℕ) (before after : List Items) (r : Query) (s : StandingNo) → IsAdded n r before after → is_good n r ≡ true → s ≡ standing n before s.no
+pub after-lack : (n : ℕ) (before after : List Items) (r : Query) (s : StandingNo) → IsChange YesChange.Added n r before after → is_good n r ≡ true → s ≡ standing n before s.no
     → is_within r.a s.closed ≡ false → s.closed ≡ closure (full n) after s.no.query.a
 after-lack n before after r s change good e lacks =
     ap (λ (t : StandingNo). t.closed) e
     ∙ sym (ap (λ g. closure (full n) g s.no.query.a) change.1 ∙ lack-stays n before r s.no.query.a (family_sets n before change.0) (good-from n r good) (ap (λ (t : StandingNo). is_within r.a t.closed) (sym e) ∙ lacks))
 
 -- what was enough stays so
-pub after-known : (n : ℕ) (before after : List Items) (r : Query) (s : StandingNo) (closed : Items) → IsAdded n r before after → s ≡ standing n before s.no → closed ≡ closure (full n) after s.no.query.a
+pub after-known : (n : ℕ) (before after : List Items) (r : Query) (s : StandingNo) (closed : Items) → IsChange YesChange.Added n r before after → s ≡ standing n before s.no → closed ≡ closure (full n) after s.no.query.a
     → IsWithin s.enough (enough_for n after closed s.no.query.q)
 after-known n before after r s closed change e made i h =
     subst (λ c. has (enough_for n after c s.no.query.q) i ≡ true) (sym made)
     (enough-grows n before after s.no.query.a s.no.query.q (subst (λ g. IsPart g before) (sym change.1) (left-IsPart before r)) i (ap (λ (t : StandingNo). has t.enough i) (sym e) ∙ h))
 
 -- and where it was a state that does not break the query, it is still one, and all that is enough
-pub after-state : (n : ℕ) (before after : List Items) (r : Query) (s : StandingNo) (closed : Items) (is_state : Bool) → IsAdded n r before after → is_kept n s ≡ true → s ≡ standing n before s.no → closed ≡ closure (full n) after s.no.query.a
-    → is_state ≡ (s.is_state && not (breaks s.enough r)) → is_state ≡ true → record { no = s.no; closed = closed; enough = s.enough; is_state = is_state } ≡ standing n after s.no
-after-state n before after r s closed is_state change kept e made state holds =
+pub after-state : (n : ℕ) (before after : List Items) (r : Query) (s : StandingNo) (closed : Items) → IsChange YesChange.Added n r before after → is_kept n s ≡ true → s ≡ standing n before s.no → closed ≡ closure (full n) after s.no.query.a
+    → s.is_state ≡ true → breaks s.enough r ≡ false → record { no = s.no; closed = closed; enough = s.enough; is_state = s.is_state } ≡ standing n after s.no
+after-state n before after r s closed change kept e made state unbroken =
     let old = stands n before s e in
-    let p = and_parts s.is_state (not (breaks s.enough r)) (sym state ∙ holds) in
-    let member : is_among after s.enough ≡ true = ap (λ g. is_among g s.enough) change.1 ∙ unbroken-among before r s.enough (not-true (breaks s.enough r) p.1) ∙ sym old.is_state ∙ p.0 in
-    standing-from n after s.no closed s.enough is_state made
+    let member : is_among after s.enough ≡ true = ap (λ g. is_among g s.enough) change.1 ∙ unbroken-among before r s.enough unbroken ∙ sym old.is_state ∙ state in
+    standing-from n after s.no closed s.enough s.is_state made
     (enough-stays n before after s.no.query.a closed s.enough s.no.query.q (family_sets n before change.0) (subst (λ g. IsPart g before) (sym change.1) (left-IsPart before r)) (kept-parts n s kept).good.item made old.enough member)
-    (holds ∙ sym member)
+    (state ∙ sym member)
 
--- and else it is none
-pub after-no_state : (n : ℕ) (before after : List Items) (r : Query) (s : StandingNo) → IsAdded n r before after → s ≡ standing n before s.no → (s.is_state && not (breaks s.enough r)) ≡ false → is_among after s.enough ≡ false
-after-no_state n before after r s change e h = ap (λ g. is_among g s.enough) change.1 ∙ among-left before r s.enough ∙ ap (λ b. b && not (breaks s.enough r)) (sym (stands n before s e).is_state) ∙ h
-
--- where p cannot fall, nothing more is enough
-pub after-fall : (n : ℕ) (before after : List Items) (r : Query) (s : StandingNo) (closed fall : Items) (is_state : Bool) → IsAdded n r before after → CanFall before r.q fall → is_kept n s ≡ true → s ≡ standing n before s.no → closed ≡ closure (full n) after s.no.query.a
-    → has fall s.no.query.q ≡ false → is_state ≡ (s.is_state && not (breaks s.enough r)) → record { no = s.no; closed = closed; enough = s.enough; is_state = is_state } ≡ standing n after s.no
-after-fall n before after r s closed fall is_state change can kept e made apart state =
-    let old = stands n before s e in
-    let item = (kept-parts n s kept).good.item in
-    let same : enough_for n after closed s.no.query.q ≡ s.enough =
-    ap (λ c. enough_for n after c s.no.query.q) made ∙ ap (λ g. enough_for n g (closure (full n) g s.no.query.a) s.no.query.q) change.1
-    ∙ enough-apart_from n before s.no.query.a s.no.query.q r fall (family_sets n before change.0) item can.0 can.1 apart ∙ sym old.enough in
-    standing-from n after s.no closed s.enough is_state made (sym same)
-    (state ∙ ap (λ b. b && not (breaks s.enough r)) old.is_state ∙ sym (among-left before r s.enough) ∙ ap (λ g. is_among g s.enough) (sym change.1))
+-- and where it was none, it is none
+pub after-no_state : (n : ℕ) (before after : List Items) (r : Query) (s : StandingNo) → IsChange YesChange.Added n r before after → s ≡ standing n before s.no → s.is_state ≡ false → is_among after s.enough ≡ false
+after-no_state n before after r s change e none =
+    ap (λ g. is_among g s.enough) change.1 ∙ among-left before r s.enough ∙ ap (λ b. b && not (breaks s.enough r)) (sym (stands n before s e).is_state ∙ none)
 
 -- ---- a Yes that is taken back
 
@@ -292,33 +280,25 @@ standing-next n before after nos ys i x y l made here next =
 
 -- ---- what no Yes reaches stays
 
-unreached-after : (n : ℕ) (before after : List Items) (r : Query) (s : StandingNo) (fall : Items) → IsAdded n r before after → CanFall before r.q fall → is_good n r ≡ true → is_kept n s ≡ true → s ≡ standing n before s.no
-    → is_within r.a s.closed ≡ false → can_grow fall r s ≡ false → s ≡ standing n after s.no
-unreached-after n before after r s fall change can good kept e lacks h =
-    let made = after-lack n before after r s change good e lacks in
-    let same : (b : Bool) → s.is_state ≡ b → s ≡ record { no = s.no; closed = s.closed; enough = s.enough; is_state = b } = λ b x. ap (λ y. record { no = s.no; closed = s.closed; enough = s.enough; is_state = y }) x in
-    elim (cases_Bool s.is_state) [
-      | inl state ↦
-          let whole : breaks s.enough r ≡ false = rw state at h in
-          same true state ∙ after-state n before after r s s.closed true change kept e made (rw (state, whole) refl) refl
-      | inr none ↦ elim (cases_Bool (has fall s.no.query.q)) [
-        | inl falls ↦
-            let meets : is_same (meet r.a s.enough) empty ≡ false = rw (none, falls) at h in
-            elim (some_item (meet r.a s.enough)) [
-              | inl empty ↦ absurd (true≢false (sym ((Decides-is_same (meet r.a s.enough) _).1 empty) ∙ meets))
-              | inr some ↦ after-met n before after r s some.0 change good e lacks some.1
-            ]
-        | inr stays ↦ same false none ∙ after-fall n before after r s s.closed fall false change can kept e made stays (rw none refl)
+unreached-after : (n : ℕ) (before after : List Items) (r : Query) (s : StandingNo) → IsChange YesChange.Added n r before after → is_good n r ≡ true → is_kept n s ≡ true → s ≡ standing n before s.no
+    → is_within r.a s.closed ≡ false → can_grow r s ≡ false → s ≡ standing n after s.no
+unreached-after n before after r s change good kept e lacks h = elim (cases_Bool s.is_state) [
+  | inl state ↦ after-state n before after r s s.closed change kept e (after-lack n before after r s change good e lacks) state (rw state at h)
+  | inr none ↦
+      let meets : is_same (meet r.a s.enough) empty ≡ false = rw none at h in
+      elim (some_item (meet r.a s.enough)) [
+        | inl empty ↦ absurd (true≢false (sym ((Decides-is_same (meet r.a s.enough) _).1 empty) ∙ meets))
+        | inr some ↦ after-met n before after r s some.0 change good e lacks some.1
       ]
-    ]
+]
 
 pub unreached : (n : ℕ) (before after : List Items) (r : Query) (s : StandingNo) (change : YesChange) → IsChange change n r before after → IsFamily n after → is_good n r ≡ true → is_kept n s ≡ true → s ≡ standing n before s.no
     → is_reached change r s ≡ false → s ≡ standing n after s.no
-unreached n before after r s (YesChange.Added fall) change family good kept e h = elim (cases_Bool (has s.closed r.q)) [
-  | inl here ↦ after-closed n before after r s change.0 good kept e here
+unreached n before after r s YesChange.Added change family good kept e h = elim (cases_Bool (has s.closed r.q)) [
+  | inl here ↦ after-closed n before after r s change good kept e here
   | inr out ↦
-      let p = or_parts (is_within r.a s.closed) (can_grow fall r s) (rw out at h) in
-      unreached-after n before after r s fall change.0 change.1 good kept e p.0 p.1
+      let p = or_parts (is_within r.a s.closed) (can_grow r s) (rw out at h) in
+      unreached-after n before after r s change good kept e p.0 p.1
 ]
 unreached n before after r s YesChange.Removed change family good kept e h =
     let p = or_parts (is_within r.a s.closed) (not (has s.closed r.q)) h in

@@ -1,6 +1,6 @@
 -- Which items are enough with a closed set for an item, and where they are a state.
 use Rattle.std.proofs.Common.{ℕ, ◌+◌, ◌<◌, ◌≤◌, ◌≡◌, ◌⊎◌, inl, inr, true, false, not, ◌&&◌, ◌||◌, eqb, ltb, List, refl, sym, ap, ◌∙◌, subst, arith, true≢false, eq-eqb, eqb-true, lt-ltb, ltb-true}
-use Rattle.std.proofs.lemmas.Bool.{cases_lt, and_parts, and_from, or_left, or_right, not_from_false, false_from_ne_true, true_from_ne_false}
+use Rattle.std.proofs.lemmas.Bool.{cases_lt, and_parts, and_from, or_left, or_right, false_from_ne_true, true_from_ne_false}
 use Rattle.ls_set.specs.ItemSet.{Items, has, empty, full, single, with, minus, len, is_among, IsWithin}
 use Rattle.ls_set.specs.declared.query.Query.{Query}
 use Rattle.ls_set.proofs.Sets.{has-single, has-with, has-full, same_within, minus-within, and-true, Decides-is_same}
@@ -9,9 +9,9 @@ use Rattle.ls_set.proofs.Sizes.{len-less}
 use Rattle.ls_theory.specs.Families.{interior, closure}
 use Rattle.ls_theory.specs.Queries.{breaks}
 use Rattle.ls_laws.specs.Spans.{IsPart, left_by}
-use Rattle.ls_laws.proofs.Interiors.{IsUnionFamily, interior-is, interior-within, interior-greatest, interior-member, interior_grows}
+use Rattle.ls_laws.proofs.Interiors.{IsUnionFamily, interior-within, interior-greatest, interior-member, interior_grows}
 use Rattle.ls_laws.proofs.Breaks.{IsGood, Breaks-from, full-unbroken, among-left}
-use Rattle.ls_laws.proofs.ClosureChanges.{closure_grows, closure_widens, left-IsPart}
+use Rattle.ls_laws.proofs.ClosureChanges.{closure_grows, closure_widens}
 use Rattle.ls_infer.specs.Tables.{enough_for}
 use Rattle.ls_infer.proofs.Kept.{has-enough, with-within}
 use Rattle.ls_infer.proofs.Outside.{out-parts, out-from, with-left, with-here, with-cases, outside-member}
@@ -105,37 +105,6 @@ enough-only n f closed p known sound apart inside = same_within known (enough_fo
       | inl y ↦ true≢false (sym y ∙ apart j a)
       | inr y ↦ true≢false (sym a ∙ ap (has known) y ∙ e)
     ]))) p inside) ∙ out)))
-
--- a Yes with whose item p cannot fall makes nothing more enough for p: a member that holds p is one without those that can
-pub enough-apart_from : (n : ℕ) (f : List Items) (b : Items) (p : ℕ) (r : Query) (fall : Items) → IsUnionFamily n f → p < n → has fall r.q ≡ true → ((k : Items) → is_among f k ≡ true → is_among f (minus k fall) ≡ true) → has fall p ≡ false
-    → enough_for n (left_by r f) (closure (full n) (left_by r f) b) p ≡ enough_for n f (closure (full n) f b) p
-enough-apart_from n f b p r fall family l holds can apart =
-    let g = left_by r f in
-    let old = closure (full n) f b in
-    let new = closure (full n) g b in
-    let more : IsWithin (enough_for n f old p) (enough_for n g new p) = enough-grows n f g b p (left-IsPart f r) in
-    same_within (enough_for n g new p) (enough_for n f old p) (λ i h.
-    let e = enough-parts n g new p i h in
-    let small : i < n = ltb-true i n e.0 in
-    enough-from n f old p i small (true_from_ne_false (has (closure (full n) f (with old i)) p) (λ lost.
-    let whole = full n in
-    let k = interior f (minus whole (with old i)) in
-    let member = (interior-is f family.holds_empty family.holds_unions (minus whole (with old i))).member in
-    let left = minus k fall in
-    let stays : is_among g left ≡ true = among-left f r left ∙ and_from (is_among f left) (not (breaks left r)) (can k member)
-    (not_from_false (breaks left r) (false_from_ne_true (breaks left r) (λ x. true≢false (sym holds ∙ (out-parts k fall r.q (Breaks-from left r x).has_q).1)))) in
-    let outside : IsWithin left (minus whole (with old i)) = λ j a. interior-within f (minus whole (with old i)) j (minus-within k fall j a) in
-    let off_b : IsWithin left (minus whole b) = λ j a.
-    let o = out-parts whole (with old i) j (outside j a) in
-    out-from whole b j o.0 (false_from_ne_true (has b j) (λ x. true≢false (sym (with-left old i j (held n f b j (ltb-true j n (sym (has-full n j) ∙ o.0)) x)) ∙ o.1))) in
-    let off_new : IsWithin left (minus whole (with new i)) = λ j a.
-    let o = out-parts whole (with old i) j (outside j a) in
-    out-from whole (with new i) j o.0 (false_from_ne_true (has (with new i) j) (λ x. elim (with-cases new i j x) [
-      | inl y ↦ true≢false (sym (interior-greatest g (minus whole b) left stays off_b j a) ∙ (out-parts whole (interior g (minus whole b)) j y).1)
-      | inr y ↦ true≢false (sym (subst (λ m. has (with old i) m ≡ true) (sym y) (with-here old i)) ∙ o.1)
-    ])) in
-    let kept_p : has left p ≡ true = out-from k fall p (true_from_ne_false (has k p) (λ x. true≢false (sym (out-from whole k p (has-full n p ∙ lt-ltb p n l) x) ∙ lost))) apart in
-    true≢false (sym (interior-greatest g (minus whole (with new i)) left stays off_new p kept_p) ∙ (out-parts whole (interior g (minus whole (with new i))) p e.1).1)))) more
 
 -- ---- where what is enough is a state
 

@@ -23,7 +23,7 @@ pub fn change_each<I: Interior, L: Ledger>(
     kept: &mut [StandingNo],
     f: &I,
     closures: &[ItemSet],
-    change: &YesChange,
+    change: YesChange,
     r: &Query,
     witnesses: &mut [Witnesses],
     steps: &mut Steps<L>,
@@ -33,19 +33,19 @@ pub fn change_each<I: Interior, L: Ledger>(
     requires item { r.now.q < PLACES }
     requires few { I.item_count f.now ≤ PLACES }
     ensures each { (before : List Items) (k : ℕ) (nos : List No) → let n = I.item_count f.now in
-        IsChange change.now n r.now before (I.members f.now) →
+        IsChange change n r.now before (I.members f.now) →
         closures.now ≡ map (closure (full n) (I.members f.now)) (blocks n k) →
         AreStates (I.members f.now) witnesses.old →
         kept.old ≡ map (standing n before) nos →
         kept.new ≡ map (standing n (I.members f.now)) nos }
     ensures states { (before : List Items) (k : ℕ) (nos : List No) → let n = I.item_count f.now in
-        IsChange change.now n r.now before (I.members f.now) →
+        IsChange change n r.now before (I.members f.now) →
         closures.now ≡ map (closure (full n) (I.members f.now)) (blocks n k) →
         AreStates (I.members f.now) witnesses.old →
         kept.old ≡ map (standing n before) nos → AreStates (I.members f.now) witnesses.new }
     ensures kept { list_all (is_kept (I.item_count f.now)) kept.new ≡ true }
     ensures cost { steps.new ≤ steps.old
-        + most_steps change.now (I.item_count f.now) * length kept.old }
+        + most_steps change (I.item_count f.now) * length kept.old }
 {
     for s in kept.iter_mut() {
         if s.is_reached(change, r) {

@@ -60,34 +60,32 @@ pub fn standing_of<I: Interior, L: Ledger>(
         closures.now ≡ map (closure (full n) (I.members f.now)) (blocks n k) →
         AreStates (I.members f.now) witnesses.old →
         IfOk result (λ v. v.items ≡ map (standing n (I.members f.now)) answers.now) }
-    ensures states { (k : ℕ) → let n = I.item_count f.now in
-        closures.now ≡ map (closure (full n) (I.members f.now)) (blocks n k) →
-        AreStates (I.members f.now) witnesses.old → AreStates (I.members f.now) witnesses.new }
+    ensures states { AreStates (I.members f.now) witnesses.old →
+        AreStates (I.members f.now) witnesses.new }
     ensures cost { steps.new ≤ steps.old + (I.item_count f.now + 1) * length answers.now }
 {
     let mut kept = Vec::new(alloc);
     for answer in answers {
-        let no = StandingNo::shared(f, closures, closures, answer, witnesses, steps);
-        kept.push(no)?;
+        kept.push(StandingNo::shared(f, closures, answer, witnesses, steps))?;
     }
     Ok(kept)
 }
 
 // Whether a closure from before the change can be another after it.
-fn is_stale(change: &YesChange, r: &Query, closed: &ItemSet) -> bool
+fn is_stale(change: YesChange, r: &Query, closed: &ItemSet) -> bool
     requires { r.now.q < PLACES }
-    ensures { result ≡ is_stale change.now r.now closed.now }
+    ensures { result ≡ is_stale change r.now closed.now }
 {
     match change {
-        YesChange::Added(_) => !closed.has(r.q) && r.a.is_within(*closed),
+        YesChange::Added => !closed.has(r.q) && r.a.is_within(*closed),
         YesChange::Removed => r.a.is_within(*closed),
     }
 }
 
 // The place of the first closure that can be another after the change.
-fn first_stale(change: &YesChange, r: &Query, closures: &[ItemSet]) -> Option<usize>
+fn first_stale(change: YesChange, r: &Query, closures: &[ItemSet]) -> Option<usize>
     requires { r.now.q < PLACES }
-    ensures { result ≡ position (is_stale change.now r.now) closures.now }
+    ensures { result ≡ position (is_stale change r.now) closures.now }
 {
     closures.iter().position(|c| is_stale(change, r, c))
 }
@@ -112,7 +110,7 @@ pub fn close_again<I: Interior, L: Ledger>(
     closures: &mut [ItemSet],
     blocks: Blocks,
     f: &I,
-    change: &YesChange,
+    change: YesChange,
     r: &Query,
     steps: &mut Steps<L>,
 )
@@ -121,7 +119,7 @@ pub fn close_again<I: Interior, L: Ledger>(
     requires each { length closures.old ≡ length (sets_of blocks) }
     requires within { list_all (λ c. is_within c (full (I.item_count f.now))) closures.old ≡ true }
     ensures each { (before : List Items) →
-        IsChange change.now (I.item_count f.now) r.now before (I.members f.now) →
+        IsChange change (I.item_count f.now) r.now before (I.members f.now) →
         closures.old ≡ map (closure (full (I.item_count f.now)) before) (sets_of blocks) →
         closures.new
         ≡ map (closure (full (I.item_count f.now)) (I.members f.now)) (sets_of blocks) }

@@ -1,11 +1,9 @@
 // The items that are enough with a closed set for an item.
 ghost use Rattle.std.specs.Prelude.{◌≡◌, ◌+◌, ◌<◌, ◌≤◌, ◌⊎◌, ℕ, true};
 ghost use Rattle.ls_set.specs.ItemSet.{full, has, minus, is_among, IsWithin};
-ghost use Rattle.ls_interior.specs.Closures.{AreClosures};
 ghost use Rattle.ls_infer.specs.Narrowing.{owed};
 ghost use Rattle.ls_infer.specs.Tables.{enough_for, AreStates};
 
-use crate::losses::{Told, interior_without};
 use crate::narrowing::{Rest, keep_smaller, narrow};
 use crate::witnesses::Witnesses;
 use ls_interior::{Interior, Steps};
@@ -36,42 +34,28 @@ pub fn enough_for<I: Interior, L: Ledger>(
     enough
 }
 
-// From how many items on it is told what falls with each of them before they are asked.
-const FEWEST_TOLD: u32 = 16;
-
-// The items that are enough: those that are known to be, and those of the rest that are, in a step
-// at most for each of the rest and the spare ones. What is not enough is shared: where `r` is not,
-// no item of the closure with `r` is. What shows that is kept where it is its item's turn.
-fn ask_each<I: Interior, L: Ledger>(
+/// The items that are enough: those that are known to be, and those of the rest that are, in a step
+/// at most for each of the rest and the spare ones. What is not enough is shared: where `r` is not,
+/// no item of the closure with `r` is. What shows that is kept where it is its item's turn.
+pub fn enough_among<I: Interior, L: Ledger>(
     f: &I,
     closed: ItemSet,
     q: u32,
     known: ItemSet,
     rest: Rest,
-    told: &Told,
     witnesses: &mut [Witnesses],
     steps: &mut Steps<L>,
 ) -> ItemSet
     requires item { q < I.item_count f.now }
     requires known { IsWithin known (full (I.item_count f.now)) }
     requires rest { IsWithin rest.items (full (I.item_count f.now)) }
-    ensures value { let n = I.item_count f.now in
-        let outside = minus (full n) closed in
-        is_among (I.members f.now) outside ≡ true →
-        AreClosures n (I.members f.now) told.now.closures.now →
-        (told.now.is_told ≡ true →
-        I.are_losses f.now outside rest.items told.now.closures.now told.now.losses.now) →
+    ensures value { is_among (I.members f.now) (minus (full (I.item_count f.now)) closed) ≡ true →
         AreStates (I.members f.now) witnesses.old →
-        IsWithin known (enough_for n (I.members f.now) closed q) →
-        ((r : ℕ) → has (enough_for n (I.members f.now) closed q) r ≡ true →
+        IsWithin known (enough_for (I.item_count f.now) (I.members f.now) closed q) →
+        ((r : ℕ) → has (enough_for (I.item_count f.now) (I.members f.now) closed q) r ≡ true →
         (has known r ≡ true) ⊎ (has rest.items r ≡ true)) →
-        result ≡ enough_for n (I.members f.now) closed q }
-    ensures states { let n = I.item_count f.now in
-        let outside = minus (full n) closed in
-        is_among (I.members f.now) outside ≡ true →
-        AreClosures n (I.members f.now) told.now.closures.now →
-        (told.now.is_told ≡ true →
-        I.are_losses f.now outside rest.items told.now.closures.now told.now.losses.now) →
+        result ≡ enough_for (I.item_count f.now) (I.members f.now) closed q }
+    ensures states { is_among (I.members f.now) (minus (full (I.item_count f.now)) closed) ≡ true →
         AreStates (I.members f.now) witnesses.old → AreStates (I.members f.now) witnesses.new }
     ensures within { IsWithin result (full (I.item_count f.now)) }
     ensures cost { steps.new ≤ steps.old + owed rest }
@@ -80,9 +64,10 @@ fn ask_each<I: Interior, L: Ledger>(
     let keep = ItemSet::empty().with(q);
     let mut enough = known;
     let mut rest = rest;
+    narrow(outside, q, witnesses, &mut rest);
     while let Some(r) = rest.items.least() {
         rest.items = rest.items.without(r);
-        match interior_without(f, outside, r, keep, told, steps) {
+        match f.interior_without(outside, r, keep, steps) {
             Some(missed) => {
                 rest.leave(missed);
                 keep_smaller(f, outside, q, missed, witnesses, &mut rest, steps);
@@ -93,66 +78,15 @@ fn ask_each<I: Interior, L: Ledger>(
     enough
 }
 
-/// The items that are enough: those that are known to be, and those of the rest that are, in a step
-/// at most for each of the rest and the spare ones. `closures` are those of single items, as far as
-/// they are known.
-pub fn enough_among<I: Interior, L: Ledger>(
-    f: &I,
-    closed: ItemSet,
-    q: u32,
-    known: ItemSet,
-    rest: Rest,
-    closures: &[ItemSet],
-    witnesses: &mut [Witnesses],
-    steps: &mut Steps<L>,
-) -> ItemSet
-    requires item { q < I.item_count f.now }
-    requires known { IsWithin known (full (I.item_count f.now)) }
-    requires rest { IsWithin rest.items (full (I.item_count f.now)) }
-    ensures value { is_among (I.members f.now) (minus (full (I.item_count f.now)) closed) ≡ true →
-        AreClosures (I.item_count f.now) (I.members f.now) closures.now →
-        AreStates (I.members f.now) witnesses.old →
-        IsWithin known (enough_for (I.item_count f.now) (I.members f.now) closed q) →
-        ((r : ℕ) → has (enough_for (I.item_count f.now) (I.members f.now) closed q) r ≡ true →
-        (has known r ≡ true) ⊎ (has rest.items r ≡ true)) →
-        result ≡ enough_for (I.item_count f.now) (I.members f.now) closed q }
-    ensures states { is_among (I.members f.now) (minus (full (I.item_count f.now)) closed) ≡ true →
-        AreClosures (I.item_count f.now) (I.members f.now) closures.now →
-        AreStates (I.members f.now) witnesses.old → AreStates (I.members f.now) witnesses.new }
-    ensures within { IsWithin result (full (I.item_count f.now)) }
-    ensures cost { steps.new ≤ steps.old + owed rest }
-{
-    let outside = ItemSet::full(f.items()).minus(closed);
-    let mut rest = rest;
-    narrow(outside, q, witnesses, &mut rest);
-    if rest.items.len() < FEWEST_TOLD {
-        let told = Told {
-            is_told: false,
-            closures,
-            losses: &[],
-        };
-        return ask_each(f, closed, q, known, rest, &told, witnesses, steps);
-    }
-    let mut losses = [ItemSet::empty(); PLACES as usize];
-    let is_told = f.find_losses(outside, rest.items, closures, &mut losses);
-    let told = Told {
-        is_told,
-        closures,
-        losses: &losses,
-    };
-    ask_each(f, closed, q, known, rest, &told, witnesses, steps)
-}
-
 /// The items that are enough, where those that are known to be, and only items of `among` are; in a
 /// step at most for each item but `q`, which always is, and one fewer where the closed set has an
-/// item. `closures` are those of single items, as far as they are known.
+/// item.
 pub fn enough_between<I: Interior, L: Ledger>(
     f: &I,
     closed: ItemSet,
     q: u32,
     known: ItemSet,
     among: ItemSet,
-    closures: &[ItemSet],
     witnesses: &mut [Witnesses],
     steps: &mut Steps<L>,
 ) -> ItemSet
@@ -160,13 +94,11 @@ pub fn enough_between<I: Interior, L: Ledger>(
     requires known { IsWithin known (full (I.item_count f.now)) }
     requires among { IsWithin among (full (I.item_count f.now)) }
     ensures value { is_among (I.members f.now) (minus (full (I.item_count f.now)) closed) ≡ true →
-        AreClosures (I.item_count f.now) (I.members f.now) closures.now →
         AreStates (I.members f.now) witnesses.old →
         IsWithin known (enough_for (I.item_count f.now) (I.members f.now) closed q) →
         IsWithin (enough_for (I.item_count f.now) (I.members f.now) closed q) among →
         result ≡ enough_for (I.item_count f.now) (I.members f.now) closed q }
     ensures states { is_among (I.members f.now) (minus (full (I.item_count f.now)) closed) ≡ true →
-        AreClosures (I.item_count f.now) (I.members f.now) closures.now →
         AreStates (I.members f.now) witnesses.old → AreStates (I.members f.now) witnesses.new }
     ensures within { IsWithin result (full (I.item_count f.now)) }
     ensures cost { steps.new + 1 ≤ steps.old + I.item_count f.now }
@@ -181,7 +113,7 @@ pub fn enough_between<I: Interior, L: Ledger>(
     let items = among.minus(known).minus(closed);
     let spare = f.items().saturating_sub(items.len()).saturating_sub(2);
     let rest = Rest { items, spare };
-    enough_among(f, closed, q, known, rest, closures, witnesses, steps)
+    enough_among(f, closed, q, known, rest, witnesses, steps)
 }
 
 /// Whether the set is a state, in one step. All its items are below `f.items()`.

@@ -8,7 +8,6 @@ mod enough;
 mod forcing;
 mod fronts;
 mod laws;
-mod losses;
 mod narrowing;
 mod reaching;
 mod search;

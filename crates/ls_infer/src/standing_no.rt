@@ -6,7 +6,6 @@ ghost use Rattle.ls_set.specs.declared.query.Query.{Query};
 ghost use Rattle.ls_theory.specs.Families.{closure};
 ghost use Rattle.ls_theory.specs.Queries.{blocks, breaks};
 ghost use Rattle.ls_theory.specs.declared.no.No.{No};
-ghost use Rattle.ls_interior.specs.Closures.{AreClosures};
 ghost use Rattle.ls_infer.specs.Changes.{IsChange, can_grow, is_kept, is_reached, most_steps};
 ghost use Rattle.ls_infer.specs.Tables.{enough_for, standing, forces, AreStates};
 ghost use Rattle.ls_infer.specs.declared.yes_change.YesChange.TheVariants as YesChange;
@@ -75,7 +74,6 @@ impl StandingNo {
         no: No,
         closed: ItemSet,
         known: ItemSet,
-        closures: &[ItemSet],
         witnesses: &mut [Witnesses],
         steps: &mut Steps<L>,
     ) -> StandingNo
@@ -84,13 +82,11 @@ impl StandingNo {
         requires known { IsWithin known (full (I.item_count f.now)) }
         ensures value { let n = I.item_count f.now in
             closed ≡ closure (full n) (I.members f.now) no.query.a →
-            AreClosures n (I.members f.now) closures.now →
             AreStates (I.members f.now) witnesses.old →
             IsWithin known (enough_for n (I.members f.now) closed no.query.q) →
             result ≡ standing n (I.members f.now) no }
         ensures states { let n = I.item_count f.now in
             closed ≡ closure (full n) (I.members f.now) no.query.a →
-            AreClosures n (I.members f.now) closures.now →
             AreStates (I.members f.now) witnesses.old → AreStates (I.members f.now) witnesses.new }
         ensures kept { is_kept (I.item_count f.now) result ≡ true }
         ensures cost { steps.new ≤ steps.old + (I.item_count f.now + 1) }
@@ -111,18 +107,16 @@ impl StandingNo {
                 };
             }
         }
-        let enough = enough_between(f, closed, q, known, all, closures, witnesses, steps);
+        let enough = enough_between(f, closed, q, known, all, witnesses, steps);
         StandingNo::of(f, no, closed, enough, steps)
     }
 
     /// What is kept of the answer, in a step at most for each item and one more. Items whose
     /// closures, by those that are kept of the block sets, have p are enough without a step, and
     /// what is not enough is shared. So it mostly takes fewer steps than `new`, which takes all.
-    /// `alone` are closures of single items, as far as they are known.
     pub fn shared<I: Interior, L: Ledger>(
         f: &I,
         closures: &[ItemSet],
-        alone: &[ItemSet],
         answer: &No,
         witnesses: &mut [Witnesses],
         steps: &mut Steps<L>,
@@ -130,18 +124,17 @@ impl StandingNo {
         requires { is_good (I.item_count f.now) answer.now.query ≡ true }
         ensures value { (k : ℕ) → let n = I.item_count f.now in
             closures.now ≡ map (closure (full n) (I.members f.now)) (blocks n k) →
-            AreClosures n (I.members f.now) alone.now →
             AreStates (I.members f.now) witnesses.old →
             result ≡ standing n (I.members f.now) answer.now }
-        ensures states { AreClosures (I.item_count f.now) (I.members f.now) alone.now →
-            AreStates (I.members f.now) witnesses.old → AreStates (I.members f.now) witnesses.new }
+        ensures states { AreStates (I.members f.now) witnesses.old →
+            AreStates (I.members f.now) witnesses.new }
         ensures kept { is_kept (I.item_count f.now) result ≡ true }
         ensures cost { steps.new ≤ steps.old + (I.item_count f.now + 1) }
     {
         let closed = closure(f, answer.query.a, steps);
         let all = ItemSet::full(f.items());
         let known = reaching(closures, all, answer.query.q);
-        StandingNo::between(f, *answer, closed, known, alone, witnesses, steps)
+        StandingNo::between(f, *answer, closed, known, witnesses, steps)
     }
 
     // What is kept of it with its closure, where what was enough stays so, but is no state.
@@ -149,7 +142,6 @@ impl StandingNo {
         &self,
         f: &I,
         closed: ItemSet,
-        closures: &[ItemSet],
         witnesses: &mut [Witnesses],
         steps: &mut Steps<L>,
     ) -> StandingNo
@@ -157,14 +149,12 @@ impl StandingNo {
         requires within { IsWithin closed (full (I.item_count f.now)) }
         ensures value { let n = I.item_count f.now in
             closed ≡ closure (full n) (I.members f.now) self.now.no.query.a →
-            AreClosures n (I.members f.now) closures.now →
             AreStates (I.members f.now) witnesses.old →
             IsWithin self.now.enough (enough_for n (I.members f.now) closed self.now.no.query.q) →
             is_among (I.members f.now) self.now.enough ≡ false →
             result ≡ standing n (I.members f.now) self.now.no }
         ensures states { let n = I.item_count f.now in
             closed ≡ closure (full n) (I.members f.now) self.now.no.query.a →
-            AreClosures n (I.members f.now) closures.now →
             AreStates (I.members f.now) witnesses.old → AreStates (I.members f.now) witnesses.new }
         ensures kept { is_kept (I.item_count f.now) result ≡ true }
         ensures cost { steps.new ≤ steps.old + I.item_count f.now }
@@ -178,7 +168,6 @@ impl StandingNo {
             self.no.query.q,
             self.enough,
             all,
-            closures,
             witnesses,
             steps,
         );
@@ -192,22 +181,12 @@ impl StandingNo {
         StandingNo::of(f, self.no, closed, enough, steps)
     }
 
-    // Whether what was enough is still a state where a Yes to `r` comes.
-    fn stays_state(&self, r: &Query) -> bool
-        requires { r.now.q < PLACES }
-        ensures { result ≡ (self.now.is_state && not (breaks self.now.enough r.now)) }
-    {
-        self.is_state && !breaks(self.enough, r)
-    }
-
-    // What is kept of it under a Yes to the good query `r` that comes, with whose item no items fall
-    // but those of `fall`. What was enough stays so. Nothing more is where p cannot fall, or where
-    // it was a state that does not break `r`.
+    // What is kept of it under a Yes to the good query `r` that comes. What was enough stays so, and
+    // where it was a state that does not break `r`, nothing more is.
     fn after_yes<I: Interior, L: Ledger>(
         &self,
         f: &I,
         closures: &[ItemSet],
-        fall: ItemSet,
         r: &Query,
         witnesses: &mut [Witnesses],
         steps: &mut Steps<L>,
@@ -217,14 +196,13 @@ impl StandingNo {
         requires item { r.now.q < PLACES }
         requires few { I.item_count f.now ≤ PLACES }
         ensures value { (before : List Items) (k : ℕ) → let n = I.item_count f.now in
-            IsChange (YesChange.Added fall) n r.now before (I.members f.now) →
+            IsChange YesChange.Added n r.now before (I.members f.now) →
             closures.now ≡ map (closure (full n) (I.members f.now)) (blocks n k) →
             AreStates (I.members f.now) witnesses.old →
             self.now ≡ standing n before self.now.no →
             result ≡ standing n (I.members f.now) self.now.no }
-        ensures states { (before : List Items) (k : ℕ) → let n = I.item_count f.now in
-            IsChange (YesChange.Added fall) n r.now before (I.members f.now) →
-            closures.now ≡ map (closure (full n) (I.members f.now)) (blocks n k) →
+        ensures states { (before : List Items) → let n = I.item_count f.now in
+            IsChange YesChange.Added n r.now before (I.members f.now) →
             self.now ≡ standing n before self.now.no →
             AreStates (I.members f.now) witnesses.old → AreStates (I.members f.now) witnesses.new }
         ensures kept { is_kept (I.item_count f.now) result ≡ true }
@@ -235,20 +213,15 @@ impl StandingNo {
         } else {
             self.closed
         };
-        let is_state = self.stays_state(r);
-        if !is_state && fall.has(self.no.query.q) {
-            if self.is_state {
-                let all = ItemSet::full(f.items());
-                let known = reaching(closures, all, self.no.query.q).union(self.enough);
-                return StandingNo::between(f, self.no, closed, known, closures, witnesses, steps);
-            }
-            return self.with_closed(f, closed, closures, witnesses, steps);
+        if !self.is_state {
+            return self.with_closed(f, closed, witnesses, steps);
         }
-        StandingNo {
-            closed,
-            is_state,
-            ..*self
+        if !breaks(self.enough, r) {
+            return StandingNo { closed, ..*self };
         }
+        let all = ItemSet::full(f.items());
+        let known = reaching(closures, all, self.no.query.q).union(self.enough);
+        StandingNo::between(f, self.no, closed, known, witnesses, steps)
     }
 
     // Whether what is enough is a state without a Yes to `r` exactly where it is one with it.
@@ -279,9 +252,8 @@ impl StandingNo {
             AreStates (I.members f.now) witnesses.old →
             self.now ≡ standing n before self.now.no →
             result ≡ standing n (I.members f.now) self.now.no }
-        ensures states { (before : List Items) (k : ℕ) → let n = I.item_count f.now in
+        ensures states { (before : List Items) → let n = I.item_count f.now in
             IsChange YesChange.Removed n r.now before (I.members f.now) →
-            closures.now ≡ map (closure (full n) (I.members f.now)) (blocks n k) →
             self.now ≡ standing n before self.now.no →
             AreStates (I.members f.now) witnesses.old → AreStates (I.members f.now) witnesses.new }
         ensures kept { is_kept (I.item_count f.now) result ≡ true }
@@ -294,37 +266,34 @@ impl StandingNo {
         };
         let q = self.no.query.q;
         let known = reaching(closures, self.enough, q);
-        let enough = enough_between(f, closed, q, known, self.enough, closures, witnesses, steps);
+        let enough = enough_between(f, closed, q, known, self.enough, witnesses, steps);
         if self.keeps_state(r) && self.enough.is_within(enough) {
             return StandingNo { closed, ..*self };
         }
         StandingNo::of(f, self.no, closed, enough, steps)
     }
 
-    // Whether more can be enough under a Yes to `r`, with whose item no items fall but those of
-    // `fall`.
+    // Whether more can be enough under a Yes to `r`.
     #[tactic(auto, unfolding(ls_set::specs::ItemSet::is_same))]
-    fn can_grow(&self, fall: ItemSet, r: &Query) -> bool
-        requires item { r.now.q < PLACES }
-        requires asked { self.now.no.query.q < PLACES }
-        ensures { result ≡ can_grow fall r.now self.now }
+    fn can_grow(&self, r: &Query) -> bool
+        requires { r.now.q < PLACES }
+        ensures { result ≡ can_grow r.now self.now }
     {
         if self.is_state {
             breaks(self.enough, r)
         } else {
-            fall.has(self.no.query.q) && r.a.meet(self.enough) == ItemSet::empty()
+            r.a.meet(self.enough) == ItemSet::empty()
         }
     }
 
     /// Whether a Yes to `r` that came or was taken back can change what is kept of it.
-    pub fn is_reached(&self, change: &YesChange, r: &Query) -> bool
-        requires item { r.now.q < PLACES }
-        requires asked { self.now.no.query.q < PLACES }
-        ensures { result ≡ is_reached change.now r.now self.now }
+    pub fn is_reached(&self, change: YesChange, r: &Query) -> bool
+        requires { r.now.q < PLACES }
+        ensures { result ≡ is_reached change r.now self.now }
     {
         match change {
-            YesChange::Added(fall) => {
-                !self.closed.has(r.q) && (r.a.is_within(self.closed) || self.can_grow(*fall, r))
+            YesChange::Added => {
+                !self.closed.has(r.q) && (r.a.is_within(self.closed) || self.can_grow(r))
             }
             YesChange::Removed => r.a.is_within(self.closed) || !self.closed.has(r.q),
         }
@@ -335,7 +304,7 @@ impl StandingNo {
         &self,
         f: &I,
         closures: &[ItemSet],
-        change: &YesChange,
+        change: YesChange,
         r: &Query,
         witnesses: &mut [Witnesses],
         steps: &mut Steps<L>,
@@ -345,21 +314,20 @@ impl StandingNo {
         requires item { r.now.q < PLACES }
         requires few { I.item_count f.now ≤ PLACES }
         ensures value { (before : List Items) (k : ℕ) → let n = I.item_count f.now in
-            IsChange change.now n r.now before (I.members f.now) →
+            IsChange change n r.now before (I.members f.now) →
             closures.now ≡ map (closure (full n) (I.members f.now)) (blocks n k) →
             AreStates (I.members f.now) witnesses.old →
             self.now ≡ standing n before self.now.no →
             result ≡ standing n (I.members f.now) self.now.no }
-        ensures states { (before : List Items) (k : ℕ) → let n = I.item_count f.now in
-            IsChange change.now n r.now before (I.members f.now) →
-            closures.now ≡ map (closure (full n) (I.members f.now)) (blocks n k) →
+        ensures states { (before : List Items) → let n = I.item_count f.now in
+            IsChange change n r.now before (I.members f.now) →
             self.now ≡ standing n before self.now.no →
             AreStates (I.members f.now) witnesses.old → AreStates (I.members f.now) witnesses.new }
         ensures kept { is_kept (I.item_count f.now) result ≡ true }
-        ensures cost { steps.new ≤ steps.old + most_steps change.now (I.item_count f.now) }
+        ensures cost { steps.new ≤ steps.old + most_steps change (I.item_count f.now) }
     {
         match change {
-            YesChange::Added(fall) => self.after_yes(f, closures, *fall, r, witnesses, steps),
+            YesChange::Added => self.after_yes(f, closures, r, witnesses, steps),
             YesChange::Removed => self.before_yes(f, closures, r, witnesses, steps),
         }
     }

@@ -61,7 +61,7 @@ impl Model for Table {
 }
 
 impl Table {
-    ghost use Rattle.ls_infer.specs.Changes.{IsChange, CanFall, most_steps};
+    ghost use Rattle.ls_infer.specs.Changes.{IsChange, most_steps};
     ghost use Rattle.ls_infer.specs.Tables.{table_of, standing, AreStates};
 
     /// The table of a family, for blocks of its items and the standing answers that are No, whose
@@ -112,25 +112,25 @@ impl Table {
     fn change<I: Interior, L: Ledger>(
         &mut self,
         f: &I,
-        change: &YesChange,
+        change: YesChange,
         r: &Query,
         steps: &mut Steps<L>,
     )
         requires items { I.item_count f.now ≡ self.old.table.blocks.item_count }
         requires good { is_good self.old.table.blocks.item_count r.now ≡ true }
         ensures kept { (before : List Items) (nos : List No) →
-            IsChange change.now self.old.table.blocks.item_count r.now before (I.members f.now) →
+            IsChange change self.old.table.blocks.item_count r.now before (I.members f.now) →
             AreStates (I.members f.now) self.old.witnesses →
             self.old.table ≡ table_of self.old.table.blocks before nos →
             self.new.table ≡ table_of self.old.table.blocks (I.members f.now) nos }
         ensures states { (before : List Items) (nos : List No) →
-            IsChange change.now self.old.table.blocks.item_count r.now before (I.members f.now) →
+            IsChange change self.old.table.blocks.item_count r.now before (I.members f.now) →
             AreStates (I.members f.now) self.old.witnesses →
             self.old.table ≡ table_of self.old.table.blocks before nos →
             AreStates (I.members f.now) self.new.witnesses }
         ensures cost { steps.new ≤ steps.old
             + (count_by (λ c. is_within r.now.a c) self.old.table.closures
-            + most_steps change.now self.old.table.blocks.item_count
+            + most_steps change self.old.table.blocks.item_count
             * length self.old.table.standing) }
         ensures blocks { self.new.table.blocks ≡ self.old.table.blocks }
     {
@@ -179,41 +179,8 @@ impl Table {
             + (self.old.table.blocks.item_count + 1) * length self.old.table.standing) }
         ensures blocks { self.new.table.blocks ≡ self.old.table.blocks }
     {
-        let all = ItemSet::full(f.items());
-        self.yes_added_within(f, all, r, steps);
-    }
-
-    /// The same, where it is known that with `r`'s item no items fall but those of `fall`: of each
-    /// member of the family before, these can be taken out together. What is kept of a standing No
-    /// whose item is none of them then costs at most one step.
-    pub fn yes_added_within<I: Interior, L: Ledger>(
-        &mut self,
-        f: &I,
-        fall: ItemSet,
-        r: &Query,
-        steps: &mut Steps<L>,
-    )
-        requires items { I.item_count f.now ≡ self.old.table.blocks.item_count }
-        requires good { is_good self.old.table.blocks.item_count r.now ≡ true }
-        ensures kept { (before : List Items) (nos : List No) →
-            IsFamily self.old.table.blocks.item_count before →
-            I.members f.now ≡ left_by r.now before → CanFall before r.now.q fall →
-            AreStates before self.old.witnesses →
-            self.old.table ≡ table_of self.old.table.blocks before nos →
-            self.new.table ≡ table_of self.old.table.blocks (I.members f.now) nos }
-        ensures states { (before : List Items) (nos : List No) →
-            IsFamily self.old.table.blocks.item_count before →
-            I.members f.now ≡ left_by r.now before → CanFall before r.now.q fall →
-            AreStates before self.old.witnesses →
-            self.old.table ≡ table_of self.old.table.blocks before nos →
-            AreStates (I.members f.now) self.new.witnesses }
-        ensures cost { steps.new ≤ steps.old
-            + (count_by (λ c. is_within r.now.a c) self.old.table.closures
-            + (self.old.table.blocks.item_count + 1) * length self.old.table.standing) }
-        ensures blocks { self.new.table.blocks ≡ self.old.table.blocks }
-    {
         self.let_go(r);
-        self.change(f, &YesChange::Added(fall), r, steps);
+        self.change(f, YesChange::Added, r, steps);
     }
 
     /// Keeps the table where a Yes to the good query `r` is taken back, of which `f` is the family
@@ -240,7 +207,7 @@ impl Table {
         if !self.standing.is_empty() && closure(f, r.a, steps).has(r.q) {
             return;
         }
-        self.change(f, &YesChange::Removed, r, steps);
+        self.change(f, YesChange::Removed, r, steps);
     }
 
     /// Makes room for one standing No, and where there is none left for the states of more, unless
@@ -293,8 +260,7 @@ impl Table {
         ensures cost { steps.new ≤ steps.old + (self.old.table.blocks.item_count + 1) }
     {
         renew(&mut self.witnesses, x.query.q);
-        let witnesses = &mut self.witnesses;
-        let kept = StandingNo::shared(f, &self.closures, &[], &x, witnesses, steps);
+        let kept = StandingNo::shared(f, &self.closures, &x, &mut self.witnesses, steps);
         self.standing.push_reserved(kept);
     }
 

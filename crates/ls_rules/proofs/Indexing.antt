@@ -159,84 +159,74 @@ followed-remove part sets (r ∷ rules) (suc m) h = (h.0, followed-remove part s
 
 -- ---- the rules and all that is kept of them after a change
 
-pub IsIndexed-push : (n : ℕ) (rules : List Query) (r : Query) (rest first : Items) (place : ℕ) (wakes starts wakes' starts' : List PlaceList) (singles singles' heads heads' followers followers' : List Items)
-    → IsIndexed n rules singles wakes starts heads followers → is_good n r ≡ true → rest ≡ several r.a → first ≡ first_of rest → place ≡ length rules
+pub IsIndexed-push : (n : ℕ) (rules : List Query) (r : Query) (rest first : Items) (place : ℕ) (wakes starts wakes' starts' : List PlaceList) (singles singles' heads heads' : List Items)
+    → IsIndexed n rules singles wakes starts heads → is_good n r ≡ true → rest ≡ several r.a → first ≡ first_of rest → place ≡ length rules
     → ((i : ℕ) → set_at singles' i ≡ cond (is_same r.a (single i)) (with (set_at singles i) r.q) (set_at singles i)) → length singles' ≡ length singles
     → ((i : ℕ) → places_at wakes' i ≡ cond (has rest i) (places_at wakes i ++ place ∷ []) (places_at wakes i)) → length wakes' ≡ length wakes
     → ((i : ℕ) → places_at starts' i ≡ cond (has first i) (places_at starts i ++ place ∷ []) (places_at starts i)) → length starts' ≡ length starts
     → Follows heads' first r.q → Grows heads heads' → length heads' ≡ length heads
-    → Follows followers' r.a r.q → Grows followers followers' → length followers' ≡ length followers
-    → IsIndexed n (rules ++ r ∷ []) singles' wakes' starts' heads' followers'
-IsIndexed-push n rules r rest first place wakes starts wakes' starts' singles singles' heads heads' followers followers' a good m f p t tl w wl s sl led grows hl after more al = record {
+    → IsIndexed n (rules ++ r ∷ []) singles' wakes' starts' heads'
+IsIndexed-push n rules r rest first place wakes starts wakes' starts' singles singles' heads heads' a good m f p t tl w wl s sl led grows hl = record {
   good = list_all-append (is_good n) rules (r ∷ []) ∙ and_from (list_all (is_good n) rules) (is_good n r && true) a.good (and-true (is_good n r) ∙ good);
   singles_are = AreSingles-push rules r singles singles' a.singles_are t;
   wakes_are = more_places rules (λ r. several r.a) r wakes wakes' a.wakes_are (λ i. w i ∙ ap₂ (λ (k : Items) q. cond (has k i) (places_at wakes i ++ q ∷ []) (places_at wakes i)) m p);
   starts_are = more_places rules (λ r. first_of (several r.a)) r starts starts' a.starts_are (λ i. s i ∙ ap₂ (λ (k : Items) q. cond (has k i) (places_at starts i ++ q ∷ []) (places_at starts i)) (f ∙ ap first_of m) p);
   headed = followed-push (λ r. first_of (several r.a)) heads heads' rules r grows a.headed (subst (λ k. Follows heads' k r.q) (f ∙ ap first_of m) led);
-  followed = followed-push (λ r. r.a) followers followers' rules r more a.followed after;
   few_wakes = rw wl a.few_wakes;
   few_starts = rw sl a.few_starts;
   singles_reach = rw (sl, tl) a.singles_reach;
   heads_reach = rw (sl, hl) a.heads_reach;
-  followers_reach = rw (sl, al) a.followers_reach;
   few_heads = rw hl a.few_heads;
 }
 
-pub IsIndexed-remove : (n : ℕ) (rules : List Query) (m : ℕ) (r : Query) (wakes starts wakes' starts' : List PlaceList) (singles singles' heads followers : List Items) → IsIndexed n rules singles wakes starts heads followers → m < length rules
+pub IsIndexed-remove : (n : ℕ) (rules : List Query) (m : ℕ) (r : Query) (wakes starts wakes' starts' : List PlaceList) (singles singles' heads : List Items) → IsIndexed n rules singles wakes starts heads → m < length rules
     → r ≡ get_or rules m r → ((i : ℕ) → set_at singles' i ≡ cond (is_same r.a (single i)) (asked_alone (remove rules m) i) (set_at singles i)) → length singles' ≡ length singles
     → ((i : ℕ) → places_at wakes' i ≡ lowered m (places_at wakes i)) → length wakes' ≡ length wakes → ((i : ℕ) → places_at starts' i ≡ lowered m (places_at starts i)) → length starts' ≡ length starts
-    → IsIndexed n (remove rules m) singles' wakes' starts' heads followers
-IsIndexed-remove n rules m r wakes starts wakes' starts' singles singles' heads followers a l e t tl w wl s sl = record {
+    → IsIndexed n (remove rules m) singles' wakes' starts' heads
+IsIndexed-remove n rules m r wakes starts wakes' starts' singles singles' heads a l e t tl w wl s sl = record {
   good = list_all-remove (is_good n) rules m a.good;
   singles_are = AreSingles-remove rules m r singles singles' l a.singles_are (λ i. t i ∙ ap (λ (x : Query). cond (is_same x.a (single i)) (asked_alone (remove rules m) i) (set_at singles i)) e);
   wakes_are = fewer_places rules (λ r. several r.a) m wakes wakes' l a.wakes_are w;
   starts_are = fewer_places rules (λ r. first_of (several r.a)) m starts starts' l a.starts_are s;
   headed = followed-remove (λ r. first_of (several r.a)) heads rules m a.headed;
-  followed = followed-remove (λ r. r.a) followers rules m a.followed;
   few_wakes = rw wl a.few_wakes;
   few_starts = rw sl a.few_starts;
   singles_reach = rw (sl, tl) a.singles_reach;
   heads_reach = rw sl a.heads_reach;
-  followers_reach = rw sl a.followers_reach;
   few_heads = a.few_heads;
 }
 
 -- where no rule is left nothing need follow
-pub IsIndexed-clear : (n : ℕ) (rules : List Query) (wakes starts : List PlaceList) (singles heads heads' followers followers' : List Items) → IsIndexed n rules singles wakes starts heads followers → rules ≡ []
-    → length heads' ≡ length heads → length followers' ≡ length followers → IsIndexed n rules singles wakes starts heads' followers'
-IsIndexed-clear n rules wakes starts singles heads heads' followers followers' a e hl al = record {
+pub IsIndexed-clear : (n : ℕ) (rules : List Query) (wakes starts : List PlaceList) (singles heads heads' : List Items) → IsIndexed n rules singles wakes starts heads → rules ≡ []
+    → length heads' ≡ length heads → IsIndexed n rules singles wakes starts heads'
+IsIndexed-clear n rules wakes starts singles heads heads' a e hl = record {
   good = a.good;
   singles_are = a.singles_are;
   wakes_are = a.wakes_are;
   starts_are = a.starts_are;
   headed = subst (AreFollowed heads' (λ r. first_of (several r.a))) (sym e) tt;
-  followed = subst (AreFollowed followers' (λ r. r.a)) (sym e) tt;
   few_wakes = a.few_wakes;
   few_starts = a.few_starts;
   singles_reach = a.singles_reach;
   heads_reach = rw hl a.heads_reach;
-  followers_reach = rw al a.followers_reach;
   few_heads = rw hl a.few_heads;
 }
 
-pub IsIndexed-reserve : (n : ℕ) (rules : List Query) (wakes starts wakes' starts' : List PlaceList) (singles singles' heads heads' followers followers' : List Items) → IsIndexed n rules singles wakes starts heads followers
+pub IsIndexed-reserve : (n : ℕ) (rules : List Query) (wakes starts wakes' starts' : List PlaceList) (singles singles' heads heads' : List Items) → IsIndexed n rules singles wakes starts heads
     → ((i : ℕ) → places_at wakes' i ≡ places_at wakes i) → length wakes' ≤ n → ((i : ℕ) → places_at starts' i ≡ places_at starts i) → length starts' ≤ n
     → ((i : ℕ) → set_at singles' i ≡ set_at singles i) → length starts' ≤ length singles'
     → ((i : ℕ) → set_at heads' i ≡ set_at heads i) → length starts' ≤ length heads' → length heads' ≤ most_items
-    → ((i : ℕ) → set_at followers' i ≡ set_at followers i) → length starts' ≤ length followers'
-    → IsIndexed n rules singles' wakes' starts' heads' followers'
-IsIndexed-reserve n rules wakes starts wakes' starts' singles singles' heads heads' followers followers' a w wl s sl t reach same heads_reach few kept followers_reach = record {
+    → IsIndexed n rules singles' wakes' starts' heads'
+IsIndexed-reserve n rules wakes starts wakes' starts' singles singles' heads heads' a w wl s sl t reach same heads_reach few = record {
   good = a.good;
   singles_are = λ i. t i ∙ a.singles_are i;
   wakes_are = λ i. w i ∙ a.wakes_are i;
   starts_are = λ i. s i ∙ a.starts_are i;
   headed = followed-grows (λ r. first_of (several r.a)) heads heads' rules (λ i j h. rw (same i) h) a.headed;
-  followed = followed-grows (λ r. r.a) followers followers' rules (λ i j h. rw (kept i) h) a.followed;
   few_wakes = wl;
   few_starts = sl;
   singles_reach = reach;
   heads_reach = heads_reach;
-  followers_reach = followers_reach;
   few_heads = few;
 }
 

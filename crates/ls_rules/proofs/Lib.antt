@@ -4,4 +4,3 @@ pub mod Rounds
 pub mod Begun
 pub mod Reaching
 pub mod Following
-pub mod Losing

@@ -1,28 +1,24 @@
 -- The interior under rules, round by round.
 use Rattle.std.proofs.Common.{ℕ, ◌<◌, ◌≡◌, inl, inr, true, false, not, List, [], ◌∷◌, filter, cond, Option, Some, None, unwrap_or, refl, sym, ap, ◌∙◌, true≢false, arith}
 use Rattle.std.specs.List.{AllByRecursion}
-use Rattle.std.specs.Option.{IfSome}
-use Rattle.std.proofs.lemmas.Bool.{cases_Bool, cases_eq, and_parts, and_from, not-true, false_from_ne_true}
-use Rattle.ls_set.specs.ItemSet.{Items, has, empty, full, single, meet, minus, without, is_within, is_among, len, IsWithin}
+use Rattle.std.proofs.lemmas.Bool.{and_parts, and_from, not-true, false_from_ne_true}
+use Rattle.ls_set.specs.ItemSet.{Items, empty, meet, minus, is_within, is_among, len, IsWithin}
 use Rattle.ls_set.specs.declared.query.Query.{Query}
 use Rattle.std.proofs.lemmas.Bool.Decides.{nat_tests}
-use Rattle.ls_set.proofs.Sets.{members, same_set, same_within, minus-within, without-within, IsWithin-from, is_within-from, empty-within}
+use Rattle.ls_set.proofs.Sets.{members, same_within, IsWithin-from, is_within-from, empty-within}
 use Rattle.ls_set.proofs.Members.{among-filter}
 use Rattle.ls_set.proofs.Sizes.{len-less}
 use Rattle.ls_theory.specs.Queries.{breaks, breaks_none}
-use Rattle.ls_set.proofs.Order.{Each-both}
-use Rattle.ls_theory.specs.Families.{interior, closure}
+use Rattle.ls_theory.specs.Families.{interior}
 use Rattle.ls_laws.specs.Families.{IsFamily}
 use Rattle.ls_laws.proofs.Breaks.{Breaks-from}
 use Rattle.ls_laws.proofs.Counts.{some_missing}
 use Rattle.ls_laws.proofs.Families.{ruled-IsFamily}
 use Rattle.ls_laws.proofs.Interiors.{is_within-interior, interior-is, interior-within, interior-greatest, IsInterior-interior}
 use Rattle.ls_interior.specs.Keeping.{interior_keeping}
-use Rattle.ls_rules.specs.Losses.{IsLoss}
 use Rattle.ls_rules.specs.Waking.{IsAwake, Settling, Settles, NoneKeeps}
 use Rattle.ls_rules.specs.declared.round.Round.{Round}
-use Rattle.ls_rules.proofs.Following.{left-in}
-use Rattle.ls_rules.proofs.Rounds.{kept, meets_rule, no_item, none_broken}
+use Rattle.ls_rules.proofs.Rounds.{meets_rule, no_item, none_broken}
 
 -- the round begins with what is lost of a settled set in its interior in the family, as far as it wakes a rule
 abbrev pub lost : Items → Items → Items → Round
@@ -142,7 +138,7 @@ fewer_kept f kept h =
     ]
 
 -- the interior under the rules of the interior in the family is that of the whole
-pub ruled_twice : (n : ℕ) (f : List Items) (rules : List Query) (s : Items) → IsFamily n f → interior (filter (breaks_none rules) f) (interior f s) ≡ interior (filter (breaks_none rules) f) s
+ruled_twice : (n : ℕ) (f : List Items) (rules : List Query) (s : Items) → IsFamily n f → interior (filter (breaks_none rules) f) (interior f s) ≡ interior (filter (breaks_none rules) f) s
 ruled_twice n f rules s family =
     let a = ruled_interior n f rules (interior f s) family in
     Reaches-done n f rules s (interior (filter (breaks_none rules) f) (interior f s)) family (record {
@@ -224,98 +220,6 @@ pub nothing_woken : (n : ℕ) (f : List Items) (rules : List Query) (keep member
 nothing_woken n f rules keep member fallen family e here a w =
     given_whole (filter (breaks_none rules) f) member keep member
     (Reaches-done n f rules member member family (record { within = λ i h. h; unbroken = none_broken (record { kept = member; fallen = fallen }) rules e a.awake; greatest = λ t _ _ x. x }) here) w
-
--- ---- where it is told what falls at once
-
--- what is told to fall wakes every rule that is still broken
-Settling-told : (rules : List Query) (items set member gone : Items) → AllByRecursion (λ r. IsWithin r.a items) rules → IsWithin member set → IsLoss rules set gone
-    → Settling rules member (record { kept = minus member gone; fallen = meet (minus set (minus member gone)) items })
-Settling-told rules items set member gone a w l =
-    let kept = minus member gone in
-    let round : Round = record { kept = kept; fallen = meet (minus set kept) items } in
-    record {
-      within = minus-within member gone;
-      awake = Each-both (λ r. IsWithin r.a items) (λ r. breaks set r ≡ true → has gone r.q ≡ true) (IsAwake round)
-          (λ r wakes falls b.
-          let q = (Breaks-from kept r b).has_q in
-          let here : has set r.q ≡ true = w r.q (minus-within member gone r.q q) in
-          let stays : has gone r.q ≡ false = grind (arith, members, nat_tests) in
-          let x = meets_rule set r here (false_from_ne_true (breaks set r) (λ h. true≢false (sym (falls h) ∙ stays))) in
-          let inside = x.1 in
-          let out = no_item kept r x.0 b x.2 in
-          let woken = wakes x.0 x.2 in
-          (x.0, x.2, grind (arith, members, nat_tests))) rules a l.broken;
-      greatest = λ t u v i h.
-          let here = v i h in
-          let stays : has gone i ≡ false = false_from_ne_true (has gone i) (λ g. true≢false (sym h ∙ l.gone t u (λ j x. w j (v j x)) i g)) in
-          grind (arith, members, nat_tests);
-    }
-
--- what the rules make of it is given
-pub told_settled : (n : ℕ) (f : List Items) (rules : List Query) (items set keep gone : Items) (settled : Option Items) → IsFamily n f → AllByRecursion (λ r. IsWithin r.a items) rules → IsLoss rules set gone
-    → let member = interior f set in let kept = minus member gone in is_within keep kept ≡ true
-    → (is_among f member ≡ true → Settling rules member (record { kept = kept; fallen = meet (minus set kept) items }) → IsWithin keep kept → settled ≡ interior_keeping (filter (breaks_none rules) f) member keep)
-    → settled ≡ interior_keeping (filter (breaks_none rules) f) set keep
-told_settled n f rules items set keep gone settled family a l keeps settles =
-    let member = interior f set in
-    settles (interior-is f family.holds_empty family.holds_unions set).member (Settling-told rules items set member gone a (interior-within f set) l) (IsWithin-from keep (minus member gone) keeps)
-    ∙ ap (λ inside. cond (is_within keep inside) (Some inside) None) (ruled_twice n f rules set family)
-
--- none is, where an item that is to be kept falls at once
-pub told_none : (n : ℕ) (f : List Items) (rules : List Query) (set keep gone : Items) → IsFamily n f → IsLoss rules set gone → is_within keep (minus (interior f set) gone) ≡ false
-    → None ≡ interior_keeping (filter (breaks_none rules) f) set keep
-told_none n f rules set keep gone family l h =
-    let inside = interior (filter (breaks_none rules) f) set in
-    let a = ruled_interior n f rules set family in
-    given_none (filter (breaks_none rules) f) set keep (λ k.
-    true≢false (sym (is_within-from keep (minus (interior f set) gone) (λ i x.
-    let here = k i x in
-    let member = interior-greatest f set inside a.0 a.2 i here in
-    let stays : has gone i ≡ false = false_from_ne_true (has gone i) (λ g. true≢false (sym here ∙ l.gone inside a.1 a.2 i g)) in
-    grind (arith, members, nat_tests))) ∙ h))
-
-pub some_within : (o : Option Items) (s t : Items) → IsWithin s t → IfSome o (λ k. IsWithin k s) → IfSome o (λ k. IsWithin k t)
-some_within None s t w h = tt
-some_within (Some k) s t w h = λ i x. w i (h i x)
-
--- ---- a member without the closure of an item
-
--- what is outside the closure of an item breaks no rule
-pub outside_unbroken : (n : ℕ) (f : List Items) (rules : List Query) (closed : Items) (i : ℕ) → IsFamily n f → closed ≡ closure (full n) (filter (breaks_none rules) f) (single i) → breaks_none rules (minus (full n) closed) ≡ true
-outside_unbroken n f rules closed i family e =
-    let a = ruled_interior n f rules (minus (full n) (single i)) family in
-    let inside = interior (filter (breaks_none rules) f) (minus (full n) (single i)) in
-    let whole : IsWithin inside (full n) = λ j h. minus-within (full n) (single i) j (a.2 j h) in
-    let same : minus (full n) closed ≡ inside = rw e (same_set (minus (full n) (minus (full n) inside)) inside (λ j. elim (cases_Bool (has inside j)) [
-      | inl x ↦ let y = whole j x in grind (arith, members, nat_tests)
-      | inr x ↦ grind (arith, members, nat_tests)
-    ])) in
-    rw same a.1
-
-not_alone : (s : Items) (i k : ℕ) → has (without s i) k ≡ true → has (single i) k ≡ false
-not_alone s i k h = grind (arith, members, nat_tests)
-
-taken_out : (s t : Items) (k : ℕ) → has t k ≡ true → has (minus s t) k ≡ false
-taken_out s t k h = grind (arith, members, nat_tests)
-
--- with the item its closure falls out of a member
-pub beside : (n : ℕ) (g : List Items) (member closed : Items) (i : ℕ) → IsFamily n g → is_among g member ≡ true → closed ≡ closure (full n) g (single i) → has closed i ≡ true
-    → interior g (minus member closed) ≡ interior g (without member i)
-beside n g member closed i family among e here =
-    let a = interior-is g family.holds_empty family.holds_unions (minus member closed) in
-    let inside = interior g (minus (full n) (single i)) in
-    IsInterior-interior g family.holds_empty family.holds_unions (without member i) (interior g (minus member closed)) (record {
-      member = a.member;
-      within = λ j h. let x = a.within j h in elim (cases_eq j i) [
-        | inl s ↦ absurd (true≢false (sym x ∙ taken_out member closed j (ap (has closed) s ∙ here)))
-        | inr s ↦ kept member j i (minus-within member closed j x) s
-      ];
-      greatest = λ t c w. a.greatest t c (λ j h.
-          let apart : IsWithin t (minus (full n) (single i)) = λ k y.
-          left-in (full n) (single i) k (family.small member among k (without-within member i k (w k y))) (not_alone member i k (w k y)) in
-          let fell : has closed j ≡ false = rw e (taken_out (full n) inside j (interior-greatest g (minus (full n) (single i)) t c apart j h)) in
-          left-in member closed j (without-within member i j (w j h)) fell);
-    })
 
 -- ---- where there is no rule
 

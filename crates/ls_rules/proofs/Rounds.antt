@@ -259,14 +259,14 @@ Settling-done rules from s e a = record { within = a.within; unbroken = none_bro
 
 -- ---- the loop over places
 
--- one more step is made at the rules at the places
-pub at-step : {S : Type 0} (step : S → Query → S) (rules : List Query) (places : List ℕ) (i p : ℕ) (r : Query) (s all : S) → i < length places → p ≡ get_or places i 0 → p < length rules → r ≡ get_or rules p r
-    → fold step s (rules_at rules (drop i places)) ≡ all → fold step (step s r) (rules_at rules (drop (i + 1) places)) ≡ all
-at-step step rules places i p r s all l e m q h =
+-- one more of the rules at the places is looked at
+pub look_at-step : (rules : List Query) (places : List ℕ) (i p : ℕ) (r : Query) (s all : Round) → i < length places → p ≡ get_or places i 0 → p < length rules → r ≡ get_or rules p r
+    → fold look s (rules_at rules (drop i places)) ≡ all → fold look (look s r) (rules_at rules (drop (i + 1) places)) ≡ all
+look_at-step rules places i p r s all l e m q h =
     let rest : drop i places ≡ p ∷ drop (i + 1) places = drop-cons places i 0 l ∙ ap₂ (λ x n. x ∷ drop n places) (sym e) (sym (add-one i)) in
     let found : slice_get rules p ≡ Some r = slice_get_read rules (length rules) p r refl m q in
-    let first : fold step s (rules_at rules (p ∷ drop (i + 1) places)) ≡ fold step (step s r) (rules_at rules (drop (i + 1) places)) = rw found refl in
-    sym first ∙ ap (λ ps. fold step s (rules_at rules ps)) (sym rest) ∙ h
+    let first : fold look s (rules_at rules (p ∷ drop (i + 1) places)) ≡ fold look (look s r) (rules_at rules (drop (i + 1) places)) = rw found refl in
+    sym first ∙ ap (λ ps. fold look s (rules_at rules ps)) (sym rest) ∙ h
 
 -- the item of a rule that is broken falls out
 pub look-broken : (s to : Round) (r : Query) → breaks s.kept r ≡ true → to.kept ≡ without s.kept r.q → to.fallen ≡ with s.fallen r.q → to ≡ look s r

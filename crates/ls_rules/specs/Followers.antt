@@ -1,7 +1,7 @@
 -- For each item, the items that follow it by a rule: where it falls, so may they.
 use Rattle.std.specs.Prelude.{ℕ, ◌≡◌, true, List}
 use Rattle.std.specs.List.{AllByRecursion}
-use Rattle.ls_set.specs.ItemSet.{Items, has, IsWithin}
+use Rattle.ls_set.specs.ItemSet.{Items, has}
 use Rattle.ls_set.specs.declared.query.Query.{Query}
 use Rattle.ls_rules.specs.Sets.{set_at}
 
@@ -16,11 +16,3 @@ AreFollowed sets part rules = AllByRecursion (λ r. Follows sets (part r) r.q) r
 -- no set has lost an item
 abbrev pub Grows : List Items → List Items → Type 0
 Grows old new = (i j : ℕ) → has (set_at old i) j ≡ true → has (set_at new i) j ≡ true
-
--- what follows an item of s is in s
-abbrev pub IsClosed : List Items → Items → Type 0
-IsClosed sets s = (i : ℕ) → has s i ≡ true → IsWithin (set_at sets i) s
-
--- s holds the rule's q where it holds an item of its A
-abbrev pub FallTogether : Items → Query → Type 0
-FallTogether s r = (i : ℕ) → has r.a i ≡ true → has s i ≡ true → has s r.q ≡ true

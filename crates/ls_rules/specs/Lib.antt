@@ -5,4 +5,3 @@ pub mod Sets
 pub mod Followers
 pub mod Singles
 pub mod Waking
-pub mod Losses

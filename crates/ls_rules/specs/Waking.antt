@@ -49,19 +49,17 @@ pub record Settling (rules : List Query) (from : Items) (s : Round) : Type 0 whe
   pub awake : AllByRecursion (IsAwake s) rules
   pub greatest : (t : Items) → breaks_none rules t ≡ true → IsWithin t from → IsWithin t s.kept
 
--- the rules can be asked about n items. The items of those with one item in A are kept by that item; of the others there are kept the places of their sets A, and of the least items of these, and for these their items; and of all rules the items by each item of A
-pub record IsIndexed (n : ℕ) (rules : List Query) (singles : List Items) (wakes starts : List PlaceList) (heads followers : List Items) : Type 0 where
+-- the rules can be asked about n items. The items of those with one item in A are kept by that item; of the others there are kept the places of their sets A, and of the least items of these, and for these their items
+pub record IsIndexed (n : ℕ) (rules : List Query) (singles : List Items) (wakes starts : List PlaceList) (heads : List Items) : Type 0 where
   pub good : list_all (is_good n) rules ≡ true
   pub singles_are : AreSingles singles rules
   pub wakes_are : IsIndexOf wakes (map (λ r. several r.a) rules)
   pub starts_are : IsIndexOf starts (map (λ r. first_of (several r.a)) rules)
   pub headed : AreFollowed heads (λ r. first_of (several r.a)) rules
-  pub followed : AreFollowed followers (λ r. r.a) rules
   pub few_wakes : length wakes ≤ n
   pub few_starts : length starts ≤ n
   pub singles_reach : length starts ≤ length singles
   pub heads_reach : length starts ≤ length heads
-  pub followers_reach : length starts ≤ length followers
   pub few_heads : length heads ≤ most_items
 
 -- the greatest set within the first that breaks no rule

@@ -1,8 +1,8 @@
 // For each item, the items that follow it by a rule.
 ghost use Rattle.std.specs.Prelude.{◌≡◌, ℕ, ◌<◌, ◌≤◌, [], true, not, length, OnOk};
-ghost use Rattle.ls_set.specs.ItemSet.{has, empty, meet, is_same, IsWithin};
+ghost use Rattle.ls_set.specs.ItemSet.{has, empty, meet, is_same};
 ghost use Rattle.ls_rules.specs.Sets.{set_at};
-ghost use Rattle.ls_rules.specs.Followers.{Follows, Grows, IsClosed};
+ghost use Rattle.ls_rules.specs.Followers.{Follows, Grows};
 
 use crate::sets::Sets;
 use ls_set::{ItemSet, PLACES};
@@ -88,20 +88,5 @@ impl Followers {
         ensures { result ≡ not (is_same (meet (set_at self.now i) kept) empty) }
     {
         self.sets.of(i).meet(kept) != ItemSet::empty()
-    }
-
-    /// The items, and all that follow them, one after another. Each item is looked at once.
-    pub fn all_with(&self, items: ItemSet) -> ItemSet
-        ensures grows { IsWithin items result }
-        ensures closed { IsClosed self.now result }
-    {
-        let mut all = items;
-        let mut left = items;
-        while let Some(i) = left.least() {
-            let next = self.sets.of(i);
-            left = left.without(i).union(next.minus(all));
-            all = all.union(next);
-        }
-        all
     }
 }

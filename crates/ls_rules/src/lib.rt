@@ -3,7 +3,6 @@
 
 mod followers;
 mod index;
-mod losses;
 mod parts;
 mod places;
 mod round;

@@ -1,21 +1,18 @@
 // Families with rules.
 ghost use Rattle.std.specs.Prelude.{◌≡◌, ◌<◌, ◌++◌, ◌∷◌, [], true, length, remove, filter};
 ghost use Rattle.std.specs.Prelude.{OnOk, IfSome};
-ghost use Rattle.ls_set.specs.ItemSet.{Items, full, has, minus, without, is_among, IsWithin};
+ghost use Rattle.ls_set.specs.ItemSet.{full, without, is_among, IsWithin};
 ghost use Rattle.ls_set.specs.Query.{is_good};
 ghost use Rattle.ls_theory.specs.Queries.{breaks_none};
 ghost use Rattle.ls_theory.specs.Families.{interior};
 ghost use Rattle.ls_interior.specs.Keeping.{interior_keeping};
-ghost use Rattle.ls_rules.specs.Losses.{IsLoss, AreLosses};
 ghost use Rattle.std.specs.List.{AllByRecursion};
 ghost use Rattle.ls_rules.specs.Waking.{Settling};
 
 use crate::followers::Followers;
 use crate::index::Index;
-use crate::losses::find_losses;
 use crate::parts::{first_of, several};
 use crate::round::Round;
-use crate::sets::set_at;
 use crate::singles::Singles;
 use crate::waking::{begin, settle};
 use ls_interior::Inside;
@@ -37,8 +34,6 @@ pub struct Ruled<F: Inside> {
     starts: Index,
     // the items q of these, and maybe more, by these least items
     heads: Followers,
-    // the items q of all rules, and maybe more, by each item of their sets A
-    followers: Followers,
     alloc: Global,
 }
 
@@ -59,8 +54,7 @@ impl<F: Inside> Model for Ruled<F> {
     } };
 
     ghost invariant = { λ r.
-        IsIndexed (F.item_count r.inner) r.rules.items r.singles r.wakes r.starts r.heads
-        r.followers };
+        IsIndexed (F.item_count r.inner) r.rules.items r.singles r.wakes r.starts r.heads };
 }
 
 impl<F: Inside> Ruled<F> {
@@ -76,7 +70,6 @@ impl<F: Inside> Ruled<F> {
             wakes: Index::new(alloc),
             starts: Index::new(alloc),
             heads: Followers::new(alloc),
-            followers: Followers::new(alloc),
             alloc,
         }
     }
@@ -90,7 +83,6 @@ impl<F: Inside> Ruled<F> {
         let n = self.inner.items();
         self.wakes.reserve(self.alloc, n)?;
         self.heads.reserve(n)?;
-        self.followers.reserve(n)?;
         self.singles.reserve(n)?;
         self.starts.reserve(self.alloc, n)?;
         self.rules.reserve(1)
@@ -110,12 +102,10 @@ impl<F: Inside> Ruled<F> {
         let first = first_of(several);
         self.starts.push(first, place);
         self.heads.push(first, r.q);
-        self.followers.push(r.a, r.q);
         self.rules.push(r).unwrap()
     }
 
-    /// Takes out the rule at a place, counted from 0. The others keep their order. Where none is
-    /// left nothing follows an item; else what followed by the rule may still be said to.
+    /// Takes out the rule at a place, counted from 0. The others keep their order.
     pub fn remove(&mut self, place: usize)
         requires { place < length self.old.rules }
         ensures rules { self.new.rules ≡ remove self.old.rules place }
@@ -128,7 +118,6 @@ impl<F: Inside> Ruled<F> {
         self.singles.remove(&r, n, &self.rules);
         if self.rules.is_empty() {
             self.heads.clear();
-            self.followers.clear();
         }
     }
 
@@ -144,19 +133,6 @@ impl<F: Inside> Ruled<F> {
         ensures { result.now ≡ self.now.inner }
     {
         &self.inner
-    }
-
-    /// Items that can be taken out of any member together, the given one among them. Each part of a
-    /// member of the inner family is one of its members. It takes no interior.
-    pub fn falling(&self, item: u32) -> ItemSet
-        requires item { item < PLACES }
-        requires parts { (k part : Items) → is_among (F.members self.now.inner) k ≡ true →
-            IsWithin part k → is_among (F.members self.now.inner) part ≡ true }
-        ensures item { has result item ≡ true }
-        ensures members { let f = filter (breaks_none self.now.rules) (F.members self.now.inner) in
-            (k : Items) → is_among f k ≡ true → is_among f (minus k result) ≡ true }
-    {
-        self.followers.all_with(ItemSet::empty().with(item))
     }
 
     // The items that wake a rule where they fall out, and maybe more.
@@ -245,23 +221,6 @@ impl<F: Inside> Ruled<F> {
         }
         self.settle_within(next, Round { kept: next, fallen }, keep)
     }
-
-    // That of a set, where it has all of `keep`, and where it is told what falls out of it at once.
-    #[inline(never)]
-    fn inside_losing(&self, set: ItemSet, lost: ItemSet, keep: ItemSet) -> Option<ItemSet>
-        requires { IsWithin set (full (F.item_count self.now.inner)) }
-        ensures value { IsLoss self.now.rules set lost → result ≡ interior_keeping
-            (filter (breaks_none self.now.rules) (F.members self.now.inner)) set keep }
-        ensures part { IfSome result (λ k. IsWithin k set) }
-    {
-        let member = self.inner.inside(set);
-        let kept = member.minus(lost);
-        if !keep.is_within(kept) {
-            return None;
-        }
-        let fallen = set.minus(kept).meet(self.waking_items());
-        self.settle_within(member, Round { kept, fallen }, keep)
-    }
 }
 
 impl<F: Inside> Inside for Ruled<F> {
@@ -270,9 +229,6 @@ impl<F: Inside> Inside for Ruled<F> {
     ghost item_count = { λ r. F.item_count r.inner };
 
     ghost members = { λ r. filter (breaks_none r.rules) (F.members r.inner) };
-
-    ghost are_losses = { λ r member items closures losses.
-        AreLosses (F.item_count r.inner) r.rules member items closures losses };
 
     ghost is_family = { λ r. ruled-IsFamily r.rules (F.is_family r.inner) };
 
@@ -293,34 +249,6 @@ impl<F: Inside> Inside for Ruled<F> {
             self.inner.inside_without(member, item, keep)
         } else {
             self.inside_ruled_without(member, item, keep)
-        }
-    }
-
-    fn find_losses(
-        &self,
-        member: ItemSet,
-        items: ItemSet,
-        closures: &[ItemSet],
-        losses: &mut [ItemSet],
-    ) -> bool {
-        let n = self.inner.items();
-        find_losses(&self.rules, &self.wakes, n, member, items, closures, losses);
-        true
-    }
-
-    fn inside_by_losses(
-        &self,
-        member: ItemSet,
-        item: u32,
-        keep: ItemSet,
-        closures: &[ItemSet],
-        losses: &[ItemSet],
-    ) -> Option<ItemSet> {
-        let closed = set_at(closures, item);
-        if item < self.inner.items() && (item as usize) < losses.len() && closed.has(item) {
-            self.inside_losing(member.minus(closed), set_at(losses, item), keep)
-        } else {
-            self.inside_without(member, item, keep)
         }
     }
 }

@@ -44,16 +44,6 @@ fn put(list: &mut [ItemSet], i: u32, items: ItemSet)
     list[i as usize] = items;
 }
 
-/// The set at an item's number, empty past the end of the list.
-pub fn set_at(list: &[ItemSet], i: u32) -> ItemSet
-    ensures { result ≡ set_at list.now i }
-{
-    match list.get(i as usize) {
-        Some(items) => *items,
-        None => ItemSet::empty(),
-    }
-}
-
 impl Sets {
     /// The empty set for each item. It takes no memory.
     pub fn new(alloc: Global) -> Sets
@@ -96,6 +86,9 @@ impl Sets {
     pub fn of(&self, i: u32) -> ItemSet
         ensures { result ≡ set_at self.now i }
     {
-        set_at(&self.list, i)
+        match self.list.get(i as usize) {
+            Some(items) => *items,
+            None => ItemSet::empty(),
+        }
     }
 }

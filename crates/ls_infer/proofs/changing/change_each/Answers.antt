@@ -30,7 +30,7 @@ loop-s-preserved g c =
         made = λ before k nos change closed states e.
             let so = v.made before k nos change closed states e in (
               standing-next n before after nos ys i x w.after.result (placed before nos e) so.0 (ap (get_or ys i) c.s-item.is) (w.after.ensures.value before k change closed so.1),
-              w.after.ensures.states before k change closed (standing-at n before after nos ys i x (placed before nos e) so.0 (ap (get_or ys i) c.s-item.is)) so.1,
+              w.after.ensures.states before change (standing-at n before after nos ys i x (placed before nos e) so.0 (ap (get_or ys i) c.s-item.is)) so.1,
             );
         cost = grind (arith, common_steps, v.cost, w.after.ensures.cost);
       })
@@ -39,7 +39,7 @@ loop-s-preserved g c =
         made = λ before k nos change closed states e.
             let so = v.made before k nos change closed states e in (
               standing-next n before after nos ys i x x (placed before nos e) so.0 (ap (get_or ys i) c.s-item.is)
-                  (λ old. unreached n before after c.args.r.now x c.args.change.now change (g.met.I.Interior.is_family c.args.f.now) c.requires.good is_one_kept old (sym c.is_reached.ensures ∙ w.if-is_reached.false)),
+                  (λ old. unreached n before after c.args.r.now x c.args.change change (g.met.I.Interior.is_family c.args.f.now) c.requires.good is_one_kept old (sym c.is_reached.ensures ∙ w.if-is_reached.false)),
               so.1,
             );
         cost = grind (arith, common_steps, v.cost);

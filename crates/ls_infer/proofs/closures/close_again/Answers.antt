@@ -19,7 +19,7 @@ use Rattle.ls_infer.proofs.closures.close_again.Goals as goal
 use Rattle.ls_infer.proofs.closures.close_again.Goals.{then-is_stale, else-is_stale}
 
 pub walk_before-walk-requires : goal.walk_before-walk-requires
-walk_before-walk-requires g c = omega (arith, c.requires.each, position-lt (is_stale c.args.change.now c.args.r.now) c.args.closures.now c.in-Some.start (sym c.first_stale.ensures ∙ c.in-Some.is))
+walk_before-walk-requires g c = omega (arith, c.requires.each, position-lt (is_stale c.args.change c.args.r.now) c.args.closures.now c.in-Some.start (sym c.first_stale.ensures ∙ c.in-Some.is))
 
 pub loop-place-init : goal.loop-place-init
 loop-place-init g c =
@@ -27,14 +27,14 @@ loop-place-init g c =
     let f = g.I.Interior.members c.args.f.now in
     let r = c.args.r.now in
     let start = c.in-Some.start in
-    let first = position-Some (is_stale c.args.change.now r) c.args.closures.now start empty (sym c.first_stale.ensures ∙ c.in-Some.is) in
+    let first = position-Some (is_stale c.args.change r) c.args.closures.now start empty (sym c.first_stale.ensures ∙ c.in-Some.is) in
     let below : start ≤ length (sets_of c.args.blocks) = omega (arith, c.requires.each, first.0) in
     record {
       of_blocks = c.walk_before-walk.ensures.blocks;
       place = c.walk_before-walk.ensures.next;
       within = c.requires.within;
       left = refl;
-      made = λ before change e. fresh-first c.args.change.now n r before f (sets_of c.args.blocks) c.args.closures.now start (g.met.I.Interior.is_family c.args.f.now) (good-from n r c.requires.good) change below first.2 e;
+      made = λ before change e. fresh-first c.args.change n r before f (sets_of c.args.blocks) c.args.closures.now start (g.met.I.Interior.is_family c.args.f.now) (good-from n r c.requires.good) change below first.2 e;
       front = λ before change e. c.new-front.ensures.front c.args.blocks.item_count f;
       cost = omega arith;
     }
@@ -55,7 +55,7 @@ loop-place-preserved g c =
     let at : slice_get (sets_of b) i ≡ Some s = came-within b c.loop-place.walk.blocks i c.loop-place.walk.set s c.advance.result v.of_blocks v.place c.advance.ensures.next inside in
     let old = left-at xs ys i x v.left c.index-closures-place.is in
     let counted = count-next (is_within r.a) xs i x c.loop-place-test.true old in
-    let told = ap (is_stale c.args.change.now r) c.index-closures-place.is in
+    let told = ap (is_stale c.args.change r) c.index-closures-place.is in
     let below : i ≤ length (sets_of b) = omega (arith, c.requires.each, c.loop-place-test.true) in
     elim c.if-is_stale.branch [
       | then-is_stale w ↦ record {
@@ -68,7 +68,7 @@ loop-place-preserved g c =
         front = λ before change e. subst (IsFront b.item_count f) (sym w.front-is)
             (w.close_block.ensures.front (first-images n b.item_count f before b ys i c.requires.items below (v.made before change e)) (v.front before change e));
         cost =
-            let one = ap (λ z. count_by (is_within r.a) (take i xs) + cond z 1 0) (stale_has c.args.change.now r x (told ∙ sym w.if-is_stale.ensures)) in
+            let one = ap (λ z. count_by (is_within r.a) (take i xs) + cond z 1 0) (stale_has c.args.change r x (told ∙ sym w.if-is_stale.ensures)) in
             omega (arith, counted, one, v.cost, w.close_block.ensures.cost, w.steps-is);
       }
       | else-is_stale w ↦ record {
@@ -79,7 +79,7 @@ loop-place-preserved g c =
         made = λ before change e.
             let closed = c.index-closures-place.is ∙ ap (λ l. get_or l i x) (v.made before change e) ∙ images-at (closure (full n) f) (closure (full n) before) (sets_of b) i s x at in
             w.closures-is ∙ images-stay (closure (full n) f) (closure (full n) before) (sets_of b) ys i s at (v.made before change e)
-            (fresh_stays c.args.change.now n r before f s (g.met.I.Interior.is_family c.args.f.now) (good-from n r c.requires.good) change (ap (is_stale c.args.change.now r) (sym closed) ∙ told ∙ sym w.if-is_stale.ensures));
+            (fresh_stays c.args.change n r before f s (g.met.I.Interior.is_family c.args.f.now) (good-from n r c.requires.good) change (ap (is_stale c.args.change r) (sym closed) ∙ told ∙ sym w.if-is_stale.ensures));
         front = λ before change e. subst (IsFront b.item_count f) (sym w.front-is) (v.front before change e);
         cost = omega (arith, counted, v.cost, w.steps-is);
       }
@@ -96,7 +96,7 @@ pub returns-in_default-clause-each : goal.returns-in_default-clause-each
 returns-in_default-clause-each g c = λ before change e.
     let n = g.I.Interior.item_count c.args.f.now in
     let f = g.I.Interior.members c.args.f.now in
-    let stale = is_stale c.args.change.now c.args.r.now in
+    let stale = is_stale c.args.change c.args.r.now in
     let none : list_any stale c.args.closures.now ≡ false = sym (is_some-position stale c.args.closures.now) ∙ ap is_some (sym c.first_stale.ensures ∙ c.in_default.is) in
-    e ∙ all_fresh c.args.change.now n c.args.r.now before f (sets_of c.args.blocks) (g.met.I.Interior.is_family c.args.f.now) (good-from n c.args.r.now c.requires.good) change
+    e ∙ all_fresh c.args.change n c.args.r.now before f (sets_of c.args.blocks) (g.met.I.Interior.is_family c.args.f.now) (good-from n c.args.r.now c.requires.good) change
     (ap (list_any stale) (sym e) ∙ none)

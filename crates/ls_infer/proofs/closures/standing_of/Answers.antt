@@ -3,7 +3,6 @@ use Rattle.std.proofs.lemmas.Grind.{common_steps}
 use Rattle.std.proofs.lemmas.Option.{slice_get-get_or}
 use Rattle.ls_lists.proofs.Places.{mapped-next}
 use Rattle.ls_infer.specs.Tables.{standing}
-use Rattle.ls_infer.proofs.Places.{alone-closures}
 use Rattle.ls_infer.proofs.closures.standing_of.Goals as goal
 
 pub loop-answer-preserved : goal.loop-answer-preserved
@@ -15,12 +14,8 @@ loop-answer-preserved g c =
     let v = c.loop-answer.invariant in
     let at : slice_get c.args.answers.now i ≡ Some a = slice_get-get_or c.args.answers.now i a c.loop-answer-test.true ∙ ap Some (sym c.answer-item.is) in
     record {
-      list = λ k closed states. c.in_ok-push.ensures.items ∙ ap₂ (λ l x. l ++ x ∷ []) (v.list k closed states) (c.shared-no.ensures.value k closed (alone-closures n k f c.args.closures.now closed) (v.states k closed states)) ∙ mapped-next (standing n f) c.args.answers.now i a at;
-      states = λ k closed states. c.shared-no.ensures.states (alone-closures n k f c.args.closures.now closed) (v.states k closed states);
+      list = λ k closed states. c.in_ok-push.ensures.items ∙ ap₂ (λ l x. l ++ x ∷ []) (v.list k closed states) (c.shared.ensures.value k closed (v.states states)) ∙ mapped-next (standing n f) c.args.answers.now i a at;
+      states = λ states. c.shared.ensures.states (v.states states);
       left = grind (arith, common_steps, v.left);
-      cost = grind (arith, common_steps, v.cost, c.shared-no.ensures.cost);
+      cost = grind (arith, common_steps, v.cost, c.shared.ensures.cost);
     }
-
-pub returns-in_err-push-clause-states : goal.returns-in_err-push-clause-states
-returns-in_err-push-clause-states g c = λ k closed states.
-    c.shared-no.ensures.states (alone-closures _ k _ c.args.closures.now closed) (c.loop-answer.invariant.states k closed states)

@@ -12,7 +12,7 @@ abbrev pub invariant-loop-answer : goal.invariant-loop-answer
 invariant-loop-answer g l = record {
   list : (k : ℕ) → l.closures ≡ map (closure (full (g.I.Interior.item_count l.f)) (g.I.Interior.members l.f)) (blocks (g.I.Interior.item_count l.f) k) → AreStates (g.I.Interior.members l.f) l.initial.witnesses
       → l.kept.items ≡ map (standing (g.I.Interior.item_count l.f) (g.I.Interior.members l.f)) (take l.answer-index l.answers);
-  states : (k : ℕ) → l.closures ≡ map (closure (full (g.I.Interior.item_count l.f)) (g.I.Interior.members l.f)) (blocks (g.I.Interior.item_count l.f) k) → AreStates (g.I.Interior.members l.f) l.initial.witnesses → AreStates (g.I.Interior.members l.f) l.witnesses;
+  states : AreStates (g.I.Interior.members l.f) l.initial.witnesses → AreStates (g.I.Interior.members l.f) l.witnesses;
   left : list_all (λ a. is_good (g.I.Interior.item_count l.f) a.query) (drop l.answer-index l.answers) ≡ true;
   cost : l.steps ≤ l.fn.steps + (g.I.Interior.item_count l.f + 1) * l.answer-index;
 }

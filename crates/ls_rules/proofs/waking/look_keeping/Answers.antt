@@ -1,6 +1,6 @@
 use Rattle.std.proofs.Common.{◌+◌, get_or, drop, refl, sym, ◌∙◌}
-use Rattle.ls_rules.specs.Waking.{look, rules_at}
-use Rattle.ls_rules.proofs.Rounds.{at-step, look-broken, look-unbroken, gone, keeps-without}
+use Rattle.ls_rules.specs.Waking.{rules_at}
+use Rattle.ls_rules.proofs.Rounds.{look_at-step, look-broken, look-unbroken, gone, keeps-without}
 use Rattle.ls_rules.proofs.waking.look_keeping.Goals as goal
 use Rattle.ls_rules.proofs.waking.look_keeping.Goals.{then-breaks+else-has, else-breaks}
 
@@ -10,7 +10,7 @@ returns-then-has c =
     let places = c.args.places.now in
     let r = c.index-rules-place.result in
     let s = c.loop-place.round in
-    let rest = at-step look c.args.rules.now places i (get_or places i 0) r s _ c.loop-place-test.true refl
+    let rest = look_at-step c.args.rules.now places i (get_or places i 0) r s _ c.loop-place-test.true refl
     (c.requires.places i 0 c.loop-place-test.true) c.index-rules-place.is c.loop-place.invariant.rest in
     (r.q, sym c.has.ensures ∙ c.if-has.true, gone s _ r (rules_at c.args.rules.now (drop (i + 1) places)) (sym c.breaks.ensures ∙ c.if-breaks.true) rest)
 
@@ -20,7 +20,7 @@ loop-place-preserved c =
     let places = c.args.places.now in
     let r = c.index-rules-place.result in
     let s = c.loop-place.round in
-    let rest = at-step look c.args.rules.now places i (get_or places i 0) r s _ c.loop-place-test.true refl
+    let rest = look_at-step c.args.rules.now places i (get_or places i 0) r s _ c.loop-place-test.true refl
     (c.requires.places i 0 c.loop-place-test.true) c.index-rules-place.is c.loop-place.invariant.rest in
     elim c.if-breaks.branch [
       | then-breaks+else-has w ↦

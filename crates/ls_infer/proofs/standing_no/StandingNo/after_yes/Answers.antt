@@ -1,22 +1,20 @@
-use Rattle.std.proofs.Common.{◌≡◌, ◌&&◌, not, true, false, List, sym, ap, ◌∙◌, arith}
+use Rattle.std.proofs.Common.{◌≡◌, true, List, sym, ap, ◌∙◌, arith}
 use Rattle.ls_set.specs.ItemSet.{Items, full, has, IsWithin}
 use Rattle.ls_set.proofs.Sets.{minus-within, union-within, IsWithin-from}
 use Rattle.ls_theory.specs.Families.{closure}
-use Rattle.ls_theory.specs.Queries.{breaks}
 use Rattle.ls_laws.proofs.Breaks.{good-from}
 use Rattle.ls_laws.proofs.ClosureChanges.{closure_holds}
 use Rattle.ls_infer.specs.Changes.{IsChange}
 use Rattle.ls_infer.specs.declared.yes_change.YesChange.TheVariants as YesChange
 use Rattle.ls_infer.specs.Tables.{enough_for, standing}
-use Rattle.ls_infer.proofs.Places.{alone-closures}
 use Rattle.ls_infer.proofs.States.{good-item, reached}
-use Rattle.ls_infer.proofs.Standing.{kept-parts, kept-again, after-again, after-lack, after-known, after-state, after-fall, after-no_state}
+use Rattle.ls_infer.proofs.Standing.{kept-parts, kept-again, after-again, after-lack, after-known, after-state, after-no_state}
 use Rattle.ls_infer.proofs.standing_no.StandingNo.after_yes.Given as given
 use Rattle.ls_infer.proofs.standing_no.StandingNo.after_yes.Goals as goal
-use Rattle.ls_infer.proofs.standing_no.StandingNo.after_yes.Goals.{Joined-is_within, then-is_within, else-is_within, else-not-is_state-via-then-not-is_state+else-has, else-not-is_state-via-else-not-is_state}
+use Rattle.ls_infer.proofs.standing_no.StandingNo.after_yes.Goals.{Joined-is_within, then-is_within, else-is_within}
 
 -- the closure is that in the family after the change
-closed_is : (g : given.Over) (c : Joined-is_within g) → (before : List Items) → IsChange (YesChange.Added c.args.fall) (g.I.Interior.item_count c.args.f.now) c.args.r.now before (g.I.Interior.members c.args.f.now)
+closed_is : (g : given.Over) (c : Joined-is_within g) → (before : List Items) → IsChange YesChange.Added (g.I.Interior.item_count c.args.f.now) c.args.r.now before (g.I.Interior.members c.args.f.now)
     → c.args.self.now ≡ standing (g.I.Interior.item_count c.args.f.now) before c.args.self.now.no → c.if-is_within.closed ≡ closure (full (g.I.Interior.item_count c.args.f.now)) (g.I.Interior.members c.args.f.now) c.args.self.now.no.query.a
 closed_is g c before change e =
     let n = g.I.Interior.item_count c.args.f.now in
@@ -24,8 +22,8 @@ closed_is g c before change e =
     let r = c.args.r.now in
     let s = c.args.self.now in
     elim c.if-is_within.branch [
-      | then-is_within w ↦ after-again n before after r s c.if-is_within.closed change.0 c.requires.kept e (w.closed-is ∙ w.closure-closed.ensures.value)
-      | else-is_within w ↦ w.closed-is ∙ after-lack n before after r s change.0 c.requires.good e (sym c.is_within.ensures ∙ w.if-is_within.false)
+      | then-is_within w ↦ after-again n before after r s c.if-is_within.closed change c.requires.kept e (w.closed-is ∙ w.closure-closed.ensures.value)
+      | else-is_within w ↦ w.closed-is ∙ after-lack n before after r s change c.requires.good e (sym c.is_within.ensures ∙ w.if-is_within.false)
     ]
 
 pub closure-closed-requires : goal.closure-closed-requires
@@ -37,49 +35,21 @@ with_closed-requires-clause-within g c = elim c.if-is_within.branch [
   | else-is_within w ↦ rw w.closed-is (kept-parts _ c.args.self.now c.requires.kept).closed
 ]
 
-pub returns-then-has-clause-value : goal.returns-then-has-clause-value
-returns-then-has-clause-value g c = λ before k change kept_closures states e.
+pub returns-then-not-self-clause-value : goal.returns-then-not-self-clause-value
+returns-then-not-self-clause-value g c = λ before k change kept_closures states e.
     let n = g.I.Interior.item_count c.args.f.now in
     let after = g.I.Interior.members c.args.f.now in
     let r = c.args.r.now in
     let s = c.args.self.now in
     let closed = c.if-is_within.closed in
-    let made = closed_is g (goal.at.returns-then-has-clause-value g c).Joined-is_within before change e in
-    let none : (s.is_state && not (breaks s.enough r)) ≡ false = sym c.stays_state-is_state.ensures ∙ c.if-not-is_state.true in
-    c.with_closed.ensures.value made (alone-closures n k after c.args.closures.now kept_closures) states (after-known n before after r s closed change.0 e made) (after-no_state n before after r s change.0 e none)
+    let made = closed_is g (goal.at.returns-then-not-self-clause-value g c).Joined-is_within before change e in
+    c.with_closed.ensures.value made states (after-known n before after r s closed change e made) (after-no_state n before after r s change e c.if-not-self.true)
 
-pub returns-then-has-clause-states : goal.returns-then-has-clause-states
-returns-then-has-clause-states g c = λ before k change kept_closures e. c.with_closed.ensures.states (closed_is g (goal.at.returns-then-has-clause-states g c).Joined-is_within before change e) (alone-closures _ k _ c.args.closures.now kept_closures)
+pub returns-then-not-self-clause-states : goal.returns-then-not-self-clause-states
+returns-then-not-self-clause-states g c = λ before change e. c.with_closed.ensures.states (closed_is g (goal.at.returns-then-not-self-clause-states g c).Joined-is_within before change e)
 
-pub returns-then-self-clause-states : goal.returns-then-self-clause-states
-returns-then-self-clause-states g c = λ before k change kept_closures e. c.between.ensures.states (closed_is g (goal.at.returns-then-self-clause-states g c).Joined-is_within before change e) (alone-closures _ k _ c.args.closures.now kept_closures)
-
-pub returns-clause-value : goal.returns-clause-value
-returns-clause-value g c = λ before k change kept_closures states e.
-    let n = g.I.Interior.item_count c.args.f.now in
-    let after = g.I.Interior.members c.args.f.now in
-    let r = c.args.r.now in
-    let s = c.args.self.now in
-    let closed = c.if-is_within.closed in
-    let made = closed_is g (goal.at.returns-clause-value g c).Joined-is_within before change e in
-    let is_state = c.stays_state-is_state.result in
-    elim c.else-not-is_state.branch [
-      | else-not-is_state-via-then-not-is_state+else-has w ↦ after-fall n before after r s closed c.args.fall is_state change.0 change.1 c.requires.kept e made (sym w.has.ensures ∙ w.if-has.false) c.stays_state-is_state.ensures
-      | else-not-is_state-via-else-not-is_state w ↦ after-state n before after r s closed is_state change.0 c.requires.kept e made c.stays_state-is_state.ensures w.if-not-is_state.false
-    ]
-
-pub returns-clause-kept : goal.returns-clause-kept
-returns-clause-kept g c =
-    let s = c.args.self.now in
-    let k = kept-parts _ s c.requires.kept in
-    let within : IsWithin c.if-is_within.closed (full (g.I.Interior.item_count c.args.f.now)) = elim c.if-is_within.branch [
-      | then-is_within w ↦ rw (w.closed-is, w.closure-closed.ensures.value) (minus-within _ _)
-      | else-is_within w ↦ rw w.closed-is k.closed
-    ] in
-    kept-again _ s c.if-is_within.closed s.enough c.stays_state-is_state.result c.requires.kept within k.enough
-
-pub returns-then-has-clause-cost : goal.returns-then-has-clause-cost
-returns-then-has-clause-cost g c =
+pub returns-then-not-self-clause-cost : goal.returns-then-not-self-clause-cost
+returns-then-not-self-clause-cost g c =
     let n = g.I.Interior.item_count c.args.f.now in
     let after = g.I.Interior.members c.args.f.now in
     let s = c.args.self.now in
@@ -93,6 +63,23 @@ returns-then-has-clause-cost g c =
       | else-is_within w ↦ omega (arith, w.steps-is, c.with_closed.ensures.cost)
     ]
 
+pub returns-then-not-breaks-clause-value : goal.returns-then-not-breaks-clause-value
+returns-then-not-breaks-clause-value g c = λ before k change kept_closures states e.
+    let n = g.I.Interior.item_count c.args.f.now in
+    let after = g.I.Interior.members c.args.f.now in
+    let made = closed_is g (goal.at.returns-then-not-breaks-clause-value g c).Joined-is_within before change e in
+    after-state n before after c.args.r.now c.args.self.now c.if-is_within.closed change c.requires.kept e made c.if-not-self.false (sym c.breaks.ensures ∙ c.if-not-breaks.true)
+
+pub returns-then-not-breaks-clause-kept : goal.returns-then-not-breaks-clause-kept
+returns-then-not-breaks-clause-kept g c =
+    let s = c.args.self.now in
+    let k = kept-parts _ s c.requires.kept in
+    let within : IsWithin c.if-is_within.closed (full (g.I.Interior.item_count c.args.f.now)) = elim c.if-is_within.branch [
+      | then-is_within w ↦ rw (w.closed-is, w.closure-closed.ensures.value) (minus-within _ _)
+      | else-is_within w ↦ rw w.closed-is k.closed
+    ] in
+    kept-again _ s c.if-is_within.closed s.enough s.is_state c.requires.kept within k.enough
+
 pub between-requires-clause-within : goal.between-requires-clause-within
 between-requires-clause-within g c = elim c.if-is_within.branch [
   | then-is_within w ↦ rw (w.closed-is, w.closure-closed.ensures.value) (minus-within _ _)
@@ -104,22 +91,25 @@ between-requires-clause-known g c =
     let all : c.full-all.result ≡ full (g.I.Interior.item_count c.args.f.now) = c.full-all.ensures ∙ ap full c.items.ensures.count in
     rw c.union-known.ensures (union-within c.reaching.result c.args.self.now.enough (full (g.I.Interior.item_count c.args.f.now)) (rw all at c.reaching.ensures.part) (kept-parts _ c.args.self.now c.requires.kept).enough)
 
-pub returns-then-self-clause-value : goal.returns-then-self-clause-value
-returns-then-self-clause-value g c = λ before k change kept_closures states e.
+pub returns-clause-value : goal.returns-clause-value
+returns-clause-value g c = λ before k change kept_closures states e.
     let n = g.I.Interior.item_count c.args.f.now in
     let after = g.I.Interior.members c.args.f.now in
     let r = c.args.r.now in
     let s = c.args.self.now in
     let closed = c.if-is_within.closed in
-    let made = closed_is g (goal.at.returns-then-self-clause-value g c).Joined-is_within before change e in
+    let made = closed_is g (goal.at.returns-clause-value g c).Joined-is_within before change e in
     let all : c.full-all.result ≡ full n = c.full-all.ensures ∙ ap full c.items.ensures.count in
     let part : IsWithin c.reaching.result (full n) = rw all at c.reaching.ensures.part in
     let alone = reached n after closed s.no.query.q c.reaching.result part (c.reaching.ensures.closures n k after (rw all (λ i h. h)) kept_closures) in
-    c.between.ensures.value made (alone-closures n k after c.args.closures.now kept_closures) states
-    (rw c.union-known.ensures (union-within c.reaching.result s.enough (enough_for n after closed s.no.query.q) alone (after-known n before after r s closed change.0 e made)))
+    c.between.ensures.value made states
+    (rw c.union-known.ensures (union-within c.reaching.result s.enough (enough_for n after closed s.no.query.q) alone (after-known n before after r s closed change e made)))
 
-pub returns-then-self-clause-cost : goal.returns-then-self-clause-cost
-returns-then-self-clause-cost g c =
+pub returns-clause-states : goal.returns-clause-states
+returns-clause-states g c = λ before change e. c.between.ensures.states (closed_is g (goal.at.returns-clause-states g c).Joined-is_within before change e)
+
+pub returns-clause-cost : goal.returns-clause-cost
+returns-clause-cost g c =
     let n = g.I.Interior.item_count c.args.f.now in
     let after = g.I.Interior.members c.args.f.now in
     let s = c.args.self.now in

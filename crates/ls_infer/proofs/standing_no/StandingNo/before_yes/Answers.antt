@@ -8,7 +8,6 @@ use Rattle.ls_infer.specs.Changes.{IsChange}
 use Rattle.ls_infer.specs.declared.yes_change.YesChange.TheVariants as YesChange
 use Rattle.ls_infer.specs.Tables.{standing}
 use Rattle.ls_infer.proofs.Outside.{outside-member}
-use Rattle.ls_infer.proofs.Places.{alone-closures}
 use Rattle.ls_infer.proofs.States.{good-item, good-several, reached}
 use Rattle.ls_infer.proofs.Standing.{kept-parts, kept-again, before-lack, before-among, before-state, standing-from}
 use Rattle.ls_infer.proofs.standing_no.StandingNo.before_yes.Given as given
@@ -52,7 +51,7 @@ returns-then-is_within-2-clause-value g c = λ before k change kept_closures sta
     let made = closed_is g (goal.at.returns-then-is_within-2-clause-value g c).Joined-is_within before change e in
     let small = (kept-parts n s c.requires.kept).enough in
     let known = reached n after closed s.no.query.q c.reaching-known.result (λ i h. small i (c.reaching-known.ensures.part i h)) (c.reaching-known.ensures.closures n k after small kept_closures) in
-    let all = c.enough_between-enough.ensures.value (rw made (outside-member n after s.no.query.a (family_sets n after family))) (alone-closures n k after c.args.closures.now kept_closures) states known (before-among n before after r s closed change e made) in
+    let all = c.enough_between-enough.ensures.value (rw made (outside-member n after s.no.query.a (family_sets n after family))) states known (before-among n before after r s closed change e made) in
     before-state n before after r s closed c.enough_between-enough.result change e made all (IsWithin-from s.enough c.enough_between-enough.result (sym c.is_within-then-keeps_state.ensures ∙ c.if-is_within-2.true)) (sym c.keeps_state.ensures ∙ c.if-keeps_state.true)
 
 pub returns-then-is_within-2-clause-kept : goal.returns-then-is_within-2-clause-kept
@@ -68,11 +67,11 @@ returns-then-is_within-2-clause-kept g c =
     kept-again n s c.if-is_within.closed s.enough s.is_state c.requires.kept within k.enough
 
 pub returns-then-is_within-2-clause-states : goal.returns-then-is_within-2-clause-states
-returns-then-is_within-2-clause-states g c = λ before k change kept_closures e.
+returns-then-is_within-2-clause-states g c = λ before change e.
     let n = g.I.Interior.item_count c.args.f.now in
     let after = g.I.Interior.members c.args.f.now in
     let made = closed_is g (goal.at.returns-then-is_within-2-clause-states g c).Joined-is_within before change e in
-    c.enough_between-enough.ensures.states (rw made (outside-member n after c.args.self.now.no.query.a (family_sets n after (g.met.I.Interior.is_family c.args.f.now)))) (alone-closures n k after c.args.closures.now kept_closures)
+    c.enough_between-enough.ensures.states (rw made (outside-member n after c.args.self.now.no.query.a (family_sets n after (g.met.I.Interior.is_family c.args.f.now))))
 
 pub of-requires : goal.of-requires
 of-requires g c = c.enough_between-enough.ensures.within
@@ -89,14 +88,14 @@ returns-clause-value g c = λ before k change kept_closures states e.
     let small = (kept-parts n s c.requires.kept).enough in
     let known = reached n after closed s.no.query.q c.reaching-known.result (λ i h. small i (c.reaching-known.ensures.part i h)) (c.reaching-known.ensures.closures n k after small kept_closures) in
     c.of.ensures.value ∙ standing-from n after s.no closed c.enough_between-enough.result _ made
-    (c.enough_between-enough.ensures.value (rw made (outside-member n after s.no.query.a (family_sets n after family))) (alone-closures n k after c.args.closures.now kept_closures) states known (before-among n before after r s closed change e made)) refl
+    (c.enough_between-enough.ensures.value (rw made (outside-member n after s.no.query.a (family_sets n after family))) states known (before-among n before after r s closed change e made)) refl
 
 pub returns-clause-states : goal.returns-clause-states
-returns-clause-states g c = λ before k change kept_closures e.
+returns-clause-states g c = λ before change e.
     let n = g.I.Interior.item_count c.args.f.now in
     let after = g.I.Interior.members c.args.f.now in
     let made = closed_is g (goal.at.returns-clause-states g c).Joined-is_within before change e in
-    c.enough_between-enough.ensures.states (rw made (outside-member n after c.args.self.now.no.query.a (family_sets n after (g.met.I.Interior.is_family c.args.f.now)))) (alone-closures n k after c.args.closures.now kept_closures)
+    c.enough_between-enough.ensures.states (rw made (outside-member n after c.args.self.now.no.query.a (family_sets n after (g.met.I.Interior.is_family c.args.f.now))))
 
 pub returns-clause-kept : goal.returns-clause-kept
 returns-clause-kept g c =

@@ -24,7 +24,7 @@ pub has-requires-then-not-has : goal.has-requires-then-not-has
 has-requires-then-not-has g c = let item = (good-from _ c.args.no.query c.requires.good).item in omega (arith, item, c.items.ensures.count, c.items.ensures.few)
 
 pub returns-then-has-clause-value : goal.returns-then-has-clause-value
-returns-then-has-clause-value g c = λ made closures states sound.
+returns-then-has-clause-value g c = λ made states sound.
     let n = g.I.Interior.item_count c.args.f.now in
     let f = g.I.Interior.members c.args.f.now in
     let q = c.args.no.query.q in
@@ -46,13 +46,13 @@ pub enough_between-enough-requires-clause-known : goal.enough_between-enough-req
 enough_between-enough-requires-clause-known g c = rw c.with-known.ensures (with-within _ c.args.known c.args.no.query.q c.requires.known (good-from _ c.args.no.query c.requires.good).item)
 
 pub returns-clause-value : goal.returns-clause-value
-returns-clause-value g c = λ made closures states sound.
+returns-clause-value g c = λ made states sound.
     let n = g.I.Interior.item_count c.args.f.now in
     let f = g.I.Interior.members c.args.f.now in
     let a = c.args.no in
     let all : c.full-all.result ≡ full n = c.full-all.ensures ∙ ap full c.items.ensures.count in
     c.of.ensures.value ∙ standing-from n f a c.args.closed c.enough_between-enough.result _ made
-    (c.enough_between-enough.ensures.value (rw made (outside-member n f a.query.a (family_sets n f (g.met.I.Interior.is_family c.args.f.now)))) closures states
+    (c.enough_between-enough.ensures.value (rw made (outside-member n f a.query.a (family_sets n f (g.met.I.Interior.is_family c.args.f.now)))) states
     (rw c.with-known.ensures (with-itself n f c.args.closed a.query.q c.args.known (good-from n a.query c.requires.good).item sound))
     (rw all (enough-within n f _ _))) refl
 

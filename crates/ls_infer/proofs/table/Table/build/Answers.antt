@@ -45,6 +45,5 @@ returns-clause-built g c =
 
 pub returns-clause-states : goal.returns-clause-states
 returns-clause-states g c =
-    let at = (goal.at.returns-clause-states g c).In_ok-standing in
     let long : length c.standing_of.new.witnesses ≡ c.in_ok-witnesses.witnesses.len = omega (arith, c.standing_of.auto.witnesses, c.deref_mut.ensures.len) in
-    rw (take_at c.standing_of.new.witnesses _ c.in_ok-witnesses.witnesses.len long) (c.in_ok-standing.ensures.states c.args.blocks.largest (closed g at) (begun g at))
+    rw (take_at c.standing_of.new.witnesses _ c.in_ok-witnesses.witnesses.len long) (c.in_ok-standing.ensures.states (begun g c))

@@ -1,24 +1,25 @@
-use Rattle.std.proofs.Common.{◌≡◌, List, sym, subst, ◌∙◌, ap}
-use Rattle.ls_set.specs.ItemSet.{Items, full}
+use Rattle.std.proofs.Common.{◌≡◌, List, subst}
+use Rattle.ls_set.specs.ItemSet.{Items}
 use Rattle.ls_laws.specs.Families.{IsFamily}
-use Rattle.ls_laws.proofs.Breaks.{good-from}
-use Rattle.ls_infer.specs.Changes.{CanFall}
-use Rattle.ls_infer.proofs.Changes.{all-fall}
+use Rattle.ls_laws.specs.Spans.{left_by}
+use Rattle.ls_infer.specs.Tables.{TableState, AreStates, table_of}
+use Rattle.ls_infer.proofs.KeptStates.{states-left}
 use Rattle.ls_infer.proofs.table.Table.yes_added.Given as given
 use Rattle.ls_infer.proofs.table.Table.yes_added.Goals as goal
-use Rattle.ls_infer.proofs.table.Table.yes_added.Goals.{After-yes_added_within}
+use Rattle.ls_infer.proofs.table.Table.yes_added.Goals.{After-let_go}
 
--- all the items can fall
-can : (g : given.Over) (c : After-yes_added_within g) (before : List Items) → IsFamily c.args.self.now.table.blocks.item_count before → CanFall before c.args.r.now.q c.full-all.result
-can g c before family =
-    let n = c.args.self.now.table.blocks.item_count in
-    let all : c.full-all.result ≡ full n = c.full-all.ensures ∙ ap full (c.items.ensures.count ∙ c.requires.items) in
-    subst (CanFall before c.args.r.now.q) (sym all) (all-fall n before c.args.r.now.q family (good-from n c.args.r.now c.requires.good).item)
+-- the states that the Yes leaves are members of the family that is left
+left : (g : given.Over) (c : After-let_go g) → (before : List Items) → g.I.Interior.members c.args.f.now ≡ left_by c.args.r.now before → AreStates before c.args.self.now.witnesses → AreStates (g.I.Interior.members c.args.f.now) c.let_go.new.self.witnesses
+left g c before family states =
+    rw (family, c.let_go.ensures.witnesses) (states-left before c.args.r.now c.args.self.now.witnesses states)
 
 pub returns-clause-kept : goal.returns-clause-kept
-returns-clause-kept g c = λ before nos family left states table.
-    c.yes_added_within.ensures.kept before nos family left (can g (goal.at.returns-clause-kept g c).After-yes_added_within before family) states table
+returns-clause-kept g c = λ before nos family left_family states table.
+    let after = g.I.Interior.members c.args.f.now in
+    subst (λ (t : TableState). IsFamily t.blocks.item_count before → t ≡ table_of t.blocks before nos → c.change.new.self.table ≡ table_of t.blocks after nos) c.let_go.ensures.table
+    (λ family table. c.change.ensures.kept before nos (family, left_family) (left g (goal.at.returns-clause-kept g c).After-let_go before left_family states) table) family table
 
 pub returns-clause-states : goal.returns-clause-states
-returns-clause-states g c = λ before nos family left states table.
-    c.yes_added_within.ensures.states before nos family left (can g (goal.at.returns-clause-states g c).After-yes_added_within before family) states table
+returns-clause-states g c = λ before nos family left_family states table.
+    subst (λ (t : TableState). IsFamily t.blocks.item_count before → t ≡ table_of t.blocks before nos → AreStates (g.I.Interior.members c.args.f.now) c.change.new.self.witnesses) c.let_go.ensures.table
+    (λ family table. c.change.ensures.states before nos (family, left_family) (left g (goal.at.returns-clause-states g c).After-let_go before left_family states) table) family table

@@ -54,37 +54,19 @@ push-requires-4-clause-item g c =
     let here = room_within c.self.inside.starts c.args.r.q (room.2 c.args.r.q good.item) in
     omega (arith, here, c.self.invariant.heads_reach, c.self.invariant.few_heads)
 
-pub push-requires-5-clause-room : goal.push-requires-5-clause-room
-push-requires-5-clause-room g c =
-    let n = g.F.Inside.item_count c.self.inside.inner in
-    let room = room_for n c.self.inside.starts c.self.inside.wakes _ (rw (← c.self.view_is) at c.requires.room) in
-    let good = good-from n c.args.r (rw (← c.self.view_is) at c.requires.good) in
-    λ i h.
-    let here = room_within c.self.inside.starts i (room.2 i (below n c.args.r.a i good.small h)) in
-    omega (arith, here, c.self.invariant.followers_reach)
-
-pub push-requires-5-clause-item : goal.push-requires-5-clause-item
-push-requires-5-clause-item g c =
-    let n = g.F.Inside.item_count c.self.inside.inner in
-    let room = room_for n c.self.inside.starts c.self.inside.wakes _ (rw (← c.self.view_is) at c.requires.room) in
-    let good = good-from n c.args.r (rw (← c.self.view_is) at c.requires.good) in
-    let here = room_within c.self.inside.starts c.args.r.q (room.2 c.args.r.q good.item) in
-    omega (arith, here, c.self.invariant.heads_reach, c.self.invariant.few_heads)
-
 pub unwrap-requires : goal.unwrap-requires
 unwrap-requires g c =
     let n = g.F.Inside.item_count c.self.inside.inner in
     let room = room_for n c.self.inside.starts c.self.inside.wakes _ (rw (← c.self.view_is) at c.requires.room) in
-    c.push-6.ensures.succeeds (omega (arith, room.0))
+    c.push-5.ensures.succeeds (omega (arith, room.0))
 
 pub invariant_of-self : goal.invariant_of-self
 invariant_of-self g c =
     let n = g.F.Inside.item_count c.self.inside.inner in
     let s = c.self.inside in
     let good = rw (← c.self.view_is) at c.requires.good in
-    let items = rw c.unwrap.ensures at c.push-6.ensures.items in
+    let items = rw c.unwrap.ensures at c.push-5.ensures.items in
     rw items
-    (IsIndexed-push n s.rules.items c.args.r c.several-several.result c.first_of-first.result c.len-place.result s.wakes s.starts c.push-2.new.self c.push-3.new.self s.singles c.push.new.self s.heads c.push-4.new.self s.followers c.push-5.new.self c.self.invariant good
+    (IsIndexed-push n s.rules.items c.args.r c.several-several.result c.first_of-first.result c.len-place.result s.wakes s.starts c.push-2.new.self c.push-3.new.self s.singles c.push.new.self s.heads c.push-4.new.self c.self.invariant good
     c.several-several.ensures c.first_of-first.ensures (omega arith) c.push.ensures.sets c.push.ensures.len c.push-2.ensures.places c.push-2.ensures.len c.push-3.ensures.places c.push-3.ensures.len
-    c.push-4.ensures.follows c.push-4.ensures.grows c.push-4.ensures.len
-    c.push-5.ensures.follows c.push-5.ensures.grows c.push-5.ensures.len)
+    c.push-4.ensures.follows c.push-4.ensures.grows c.push-4.ensures.len)

@@ -26,7 +26,7 @@ invariant_of-self-else-is_empty g c =
     let s = c.self.inside in
     let sets = rw (c.deref.ensures.value, c.remove-r.ensures.items) at c.remove-3.ensures.sets in
     rw c.remove-r.ensures.items
-    (IsIndexed-remove n s.rules.items c.args.place c.remove-r.result s.wakes s.starts c.remove.new.self c.remove-2.new.self s.singles c.remove-3.new.self s.heads s.followers c.self.invariant place
+    (IsIndexed-remove n s.rules.items c.args.place c.remove-r.result s.wakes s.starts c.remove.new.self c.remove-2.new.self s.singles c.remove-3.new.self s.heads c.self.invariant place
     c.remove-r.ensures.value sets c.remove-3.ensures.len c.remove.ensures.places c.remove.ensures.len c.remove-2.ensures.places c.remove-2.ensures.len)
 
 pub invariant_of-self : goal.invariant_of-self
@@ -35,8 +35,8 @@ invariant_of-self g c =
     let place = rw (← c.self.view_is) at c.requires in
     let s = c.self.inside in
     let sets = rw (c.deref.ensures.value, c.remove-r.ensures.items) at c.remove-3.ensures.sets in
-    let left = IsIndexed-remove n s.rules.items c.args.place c.remove-r.result s.wakes s.starts c.remove.new.self c.remove-2.new.self s.singles c.remove-3.new.self s.heads s.followers c.self.invariant place
+    let left = IsIndexed-remove n s.rules.items c.args.place c.remove-r.result s.wakes s.starts c.remove.new.self c.remove-2.new.self s.singles c.remove-3.new.self s.heads c.self.invariant place
     c.remove-r.ensures.value sets c.remove-3.ensures.len c.remove.ensures.places c.remove.ensures.len c.remove-2.ensures.places c.remove-2.ensures.len in
     let empty : length c.remove-r.new.self.items ≡ 0 = omega (arith, eqb-true _ 0 (sym c.is_empty.ensures ∙ c.if-is_empty.true)) in
     let none = nil_from_length (remove s.rules.items c.args.place) (rw c.remove-r.ensures.items at empty) in
-    rw c.remove-r.ensures.items (IsIndexed-clear n (remove s.rules.items c.args.place) c.remove.new.self c.remove-2.new.self c.remove-3.new.self s.heads c.clear.new.self s.followers c.clear-then-is_empty.new.self left none c.clear.ensures.len c.clear-then-is_empty.ensures.len)
+    rw c.remove-r.ensures.items (IsIndexed-clear n (remove s.rules.items c.args.place) c.remove.new.self c.remove-2.new.self c.remove-3.new.self s.heads c.clear.new.self left none c.clear.ensures.len)

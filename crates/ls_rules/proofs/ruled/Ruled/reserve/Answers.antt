@@ -6,49 +6,35 @@ pub invariant_of-self-in_err-reserve-2 : goal.invariant_of-self-in_err-reserve-2
 invariant_of-self-in_err-reserve-2 g c =
     let a = c.self.invariant in
     let s = c.self.inside in
-    IsIndexed-reserve _ _ s.wakes s.starts c.reserve.new.self s.starts s.singles s.singles s.heads c.reserve-2.new.self s.followers s.followers a
+    IsIndexed-reserve _ _ s.wakes s.starts c.reserve.new.self s.starts s.singles s.singles s.heads c.reserve-2.new.self a
     c.reserve.ensures.places (omega (arith, c.reserve.ensures.few, c.items-n.ensures.count)) (λ i. refl) a.few_starts
     (λ i. refl) a.singles_reach
     c.reserve-2.ensures.sets (omega (arith, a.heads_reach, c.reserve-2.ensures.len)) (c.reserve-2.ensures.few a.few_heads)
-    (λ i. refl) a.followers_reach
 
 pub invariant_of-self-in_err-reserve-3 : goal.invariant_of-self-in_err-reserve-3
 invariant_of-self-in_err-reserve-3 g c =
     let a = c.self.invariant in
     let s = c.self.inside in
-    IsIndexed-reserve _ _ s.wakes s.starts c.reserve.new.self s.starts s.singles s.singles s.heads c.reserve-2.new.self s.followers c.reserve-3.new.self a
+    IsIndexed-reserve _ _ s.wakes s.starts c.reserve.new.self s.starts s.singles c.reserve-3.new.self s.heads c.reserve-2.new.self a
     c.reserve.ensures.places (omega (arith, c.reserve.ensures.few, c.items-n.ensures.count)) (λ i. refl) a.few_starts
-    (λ i. refl) a.singles_reach
+    c.reserve-3.ensures.sets (omega (arith, a.singles_reach, c.reserve-3.ensures.len))
     c.reserve-2.ensures.sets (omega (arith, a.heads_reach, c.reserve-2.ensures.len)) (c.reserve-2.ensures.few a.few_heads)
-    c.reserve-3.ensures.sets (omega (arith, a.followers_reach, c.reserve-3.ensures.len))
 
 pub invariant_of-self-in_err-reserve-4 : goal.invariant_of-self-in_err-reserve-4
 invariant_of-self-in_err-reserve-4 g c =
     let a = c.self.invariant in
     let s = c.self.inside in
-    IsIndexed-reserve _ _ s.wakes s.starts c.reserve.new.self s.starts s.singles c.reserve-4.new.self s.heads c.reserve-2.new.self s.followers c.reserve-3.new.self a
-    c.reserve.ensures.places (omega (arith, c.reserve.ensures.few, c.items-n.ensures.count)) (λ i. refl) a.few_starts
-    c.reserve-4.ensures.sets (omega (arith, a.singles_reach, c.reserve-4.ensures.len))
-    c.reserve-2.ensures.sets (omega (arith, a.heads_reach, c.reserve-2.ensures.len)) (c.reserve-2.ensures.few a.few_heads)
-    c.reserve-3.ensures.sets (omega (arith, a.followers_reach, c.reserve-3.ensures.len))
-
-pub invariant_of-self-in_err-reserve-5 : goal.invariant_of-self-in_err-reserve-5
-invariant_of-self-in_err-reserve-5 g c =
-    let a = c.self.invariant in
-    let s = c.self.inside in
-    IsIndexed-reserve _ _ s.wakes s.starts c.reserve.new.self c.reserve-5.new.self s.singles c.reserve-4.new.self s.heads c.reserve-2.new.self s.followers c.reserve-3.new.self a
-    c.reserve.ensures.places (omega (arith, c.reserve.ensures.few, c.items-n.ensures.count)) c.reserve-5.ensures.places (omega (arith, c.reserve-5.ensures.few, c.items-n.ensures.count))
-    c.reserve-4.ensures.sets (omega (arith, c.reserve-5.ensures.few, c.in_ok-reserve-4.ensures.ok))
-    c.reserve-2.ensures.sets (omega (arith, c.reserve-5.ensures.few, c.in_ok-reserve-2.ensures.ok)) (c.reserve-2.ensures.few a.few_heads)
-    c.reserve-3.ensures.sets (omega (arith, c.reserve-5.ensures.few, c.in_ok-reserve-3.ensures.ok))
+    IsIndexed-reserve _ _ s.wakes s.starts c.reserve.new.self c.reserve-4.new.self s.singles c.reserve-3.new.self s.heads c.reserve-2.new.self a
+    c.reserve.ensures.places (omega (arith, c.reserve.ensures.few, c.items-n.ensures.count)) c.reserve-4.ensures.places (omega (arith, c.reserve-4.ensures.few, c.items-n.ensures.count))
+    c.reserve-3.ensures.sets (omega (arith, c.reserve-4.ensures.few, c.in_ok-reserve-3.ensures.ok))
+    c.reserve-2.ensures.sets (omega (arith, c.reserve-4.ensures.few, c.in_ok-reserve-2.ensures.ok)) (c.reserve-2.ensures.few a.few_heads)
 
 pub invariant_of-self-2 : goal.invariant_of-self-2
 invariant_of-self-2 g c =
     let a = c.self.invariant in
     let s = c.self.inside in
-    rw c.reserve-6.ensures.items
-    (IsIndexed-reserve _ _ s.wakes s.starts c.reserve.new.self c.reserve-5.new.self s.singles c.reserve-4.new.self s.heads c.reserve-2.new.self s.followers c.reserve-3.new.self a
-    c.reserve.ensures.places (omega (arith, c.reserve.ensures.few, c.items-n.ensures.count)) c.reserve-5.ensures.places (omega (arith, c.reserve-5.ensures.few, c.items-n.ensures.count))
-    c.reserve-4.ensures.sets (omega (arith, c.reserve-5.ensures.few, c.in_ok-reserve-4.ensures.ok))
-    c.reserve-2.ensures.sets (omega (arith, c.reserve-5.ensures.few, c.in_ok-reserve-2.ensures.ok)) (c.reserve-2.ensures.few a.few_heads)
-    c.reserve-3.ensures.sets (omega (arith, c.reserve-5.ensures.few, c.in_ok-reserve-3.ensures.ok)))
+    rw c.reserve-5.ensures.items
+    (IsIndexed-reserve _ _ s.wakes s.starts c.reserve.new.self c.reserve-4.new.self s.singles c.reserve-3.new.self s.heads c.reserve-2.new.self a
+    c.reserve.ensures.places (omega (arith, c.reserve.ensures.few, c.items-n.ensures.count)) c.reserve-4.ensures.places (omega (arith, c.reserve-4.ensures.few, c.items-n.ensures.count))
+    c.reserve-3.ensures.sets (omega (arith, c.reserve-4.ensures.few, c.in_ok-reserve-3.ensures.ok))
+    c.reserve-2.ensures.sets (omega (arith, c.reserve-4.ensures.few, c.in_ok-reserve-2.ensures.ok)) (c.reserve-2.ensures.few a.few_heads))

@@ -1,23 +1,18 @@
 use Rattle.std.proofs.Common.{◌≡◌, ◌+◌, ◌≤◌, ◌⊎◌, ℕ, true}
 use Rattle.ls_set.specs.ItemSet.{full, has, minus, len, is_among, IsWithin}
-use Rattle.ls_interior.specs.Closures.{AreClosures}
 use Rattle.ls_infer.specs.Narrowing.{owed}
 use Rattle.ls_infer.specs.Tables.{enough_for, AreStates}
 use Rattle.ls_infer.proofs.Sharing.{IsFound}
-use Rattle.ls_infer.proofs.enough.ask_each.Given as goal
+use Rattle.ls_infer.proofs.enough.enough_among.Given as goal
 
 -- what is found of the items that are enough, the states that are kept, and the steps that are still owed
 abbrev pub invariant-loop-r : goal.invariant-loop-r
 invariant-loop-r g l = record {
-  found : is_among (g.I.Interior.members l.f) (minus (full (g.I.Interior.item_count l.f)) l.fn.closed) ≡ true → AreClosures (g.I.Interior.item_count l.f) (g.I.Interior.members l.f) l.told.closures.now
-      → (l.told.is_told ≡ true → g.I.Interior.are_losses l.f (minus (full (g.I.Interior.item_count l.f)) l.fn.closed) l.fn.rest.items l.told.closures.now l.told.losses.now)
-      → AreStates (g.I.Interior.members l.f) l.fn.witnesses →
+  found : is_among (g.I.Interior.members l.f) (minus (full (g.I.Interior.item_count l.f)) l.fn.closed) ≡ true → AreStates (g.I.Interior.members l.f) l.fn.witnesses →
       IsWithin l.fn.known (enough_for (g.I.Interior.item_count l.f) (g.I.Interior.members l.f) l.fn.closed l.q) →
       ((r : ℕ) → has (enough_for (g.I.Interior.item_count l.f) (g.I.Interior.members l.f) l.fn.closed l.q) r ≡ true → (has l.fn.known r ≡ true) ⊎ (has l.fn.rest.items r ≡ true)) →
       IsFound (enough_for (g.I.Interior.item_count l.f) (g.I.Interior.members l.f) l.fn.closed l.q) l.enough l.rest.items;
-  states : is_among (g.I.Interior.members l.f) (minus (full (g.I.Interior.item_count l.f)) l.fn.closed) ≡ true → AreClosures (g.I.Interior.item_count l.f) (g.I.Interior.members l.f) l.told.closures.now
-      → (l.told.is_told ≡ true → g.I.Interior.are_losses l.f (minus (full (g.I.Interior.item_count l.f)) l.fn.closed) l.fn.rest.items l.told.closures.now l.told.losses.now)
-      → AreStates (g.I.Interior.members l.f) l.fn.witnesses → AreStates (g.I.Interior.members l.f) l.witnesses;
+  states : is_among (g.I.Interior.members l.f) (minus (full (g.I.Interior.item_count l.f)) l.fn.closed) ≡ true → AreStates (g.I.Interior.members l.f) l.fn.witnesses → AreStates (g.I.Interior.members l.f) l.witnesses;
   small : IsWithin l.enough (full (g.I.Interior.item_count l.f));
   within : IsWithin l.rest.items l.fn.rest.items;
   cost : l.steps + owed l.rest ≤ l.fn.steps + owed l.fn.rest;
