@@ -23,7 +23,7 @@ pub record IsBaseOf (i : Interview) (b : BaseState) : Type 0 where
   pub few : length b.sets ≤ most_drilled
 
 module _ (i : Interview) (d : IsDrill i.count i) (few : i.count ≤ most_drilled) (first : BaseState) (yeses : List Query) (items : first.item_count ≡ i.count) (sets : first.sets ≡ base (compat i.count i.start []))
-         (ruled : yeses ≡ yes_queries i.answers) (f : Followed) (h : (start : Start) → first.sets ≡ base (compat first.item_count start []) → IsFollowed first.item_count start yeses f) where
+    (ruled : yeses ≡ yes_queries i.answers) (f : Followed) (h : (start : Start) → first.sets ≡ base (compat first.item_count start []) → IsFollowed first.item_count start yeses f) where
   followed : (g : Followed) → f ≡ g → IsFollowed i.count i.start (yes_queries i.answers) g
   followed g e =
       subst (λ (m : ℕ). IsFollowed m i.start (yes_queries i.answers) g) items

@@ -1,15 +1,12 @@
 -- Queries counted one after another, and how many there are.
-use Rattle.std.proofs.Common.{ℕ, zero, suc, ◌≡◌, ◌<◌, ◌≤◌, ◌+◌, ◌*◌, Bool, true, false, cond, ◌&&◌, find, List, [], ◌∷◌, map, length, take, slice_get, Option, Some, None, refl, sym, ap, ap₂, ◌∙◌, subst, arith, add-one, add-zero, zero-add, length-append}
-use Rattle.std.specs.Prelude.{count_by, Result, Ok}
-use Rattle.ls_theory.specs.Blocks.{BlockRange, made, most_sets}
-use Rattle.ls_theory.specs.declared.block_fault.BlockFault.{BlockFault}
-use Rattle.ls_query.proofs.Counted.{made-ok, none_too_wide}
-use Rattle.ls_drill.specs.HiddenOrders.{most_drilled}
+use Rattle.std.proofs.Common.{ℕ, zero, suc, ◌≡◌, ◌≤◌, ◌+◌, ◌*◌, Bool, true, false, cond, ◌&&◌, find, List, [], ◌∷◌, map, length, take, slice_get, Option, Some, None, refl, sym, ap, ap₂, ◌∙◌, subst, arith, add-one, add-zero, zero-add, length-append}
+use Rattle.std.specs.Prelude.{count_by}
+use Rattle.ls_theory.specs.Blocks.{BlockRange}
 use Rattle.std.specs.Option.{ForSome}
 use Rattle.std.specs.List.{flat_map}
 use Rattle.std.proofs.lemmas.List.{length-map}
 use Rattle.std.proofs.lemmas.List.Sums.{length-filter, count_by-le-length, sum_by-cons}
-use Rattle.ls_set.specs.ItemSet.{Items, len, numbers_from}
+use Rattle.ls_set.specs.ItemSet.{Items, numbers_from}
 use Rattle.ls_set.specs.Query.{is_good}
 use Rattle.ls_set.specs.declared.query.Query.{Query}
 use Rattle.ls_theory.specs.Queries.{blocks, queries, query_before}
@@ -20,7 +17,6 @@ use Rattle.ls_lists.proofs.Finds.{find-any}
 use Rattle.ls_lists.proofs.Sorted.{find-next}
 use Rattle.ls_lists.proofs.Elements.{get-in}
 use Rattle.ls_laws.proofs.Breaks.{good-to}
-use Rattle.ls_query.proofs.BlockSets.{blocks-in}
 use Rattle.ls_query.proofs.QuerySets.{queries-in, sorted-queries, query_before-asymmetric}
 use Rattle.ls_expert.specs.Held.{blocks_of}
 use Rattle.ls_drill.specs.Summaries.{is_yes, is_no, is_filled, is_filled_yes, is_filled_no}

@@ -64,7 +64,7 @@ meet-right : (k l : Items) → IsWithin (meet k l) l
 meet-right k l i h = (and_parts (has k i) (has l i) (sym (has-meet k l i) ∙ h)).1
 
 module _ (n : ℕ) (yeses : List Query) (one : AllByRecursion (λ (r : Query). len r.a ≡ 1) yeses) where
-  pub among-meet : (k l : Items) → is_among (compat n Free yeses) k ≡ true → is_among (compat n Free yeses) l ≡ true → is_among (compat n Free yeses) (meet k l) ≡ true
+  among-meet : (k l : Items) → is_among (compat n Free yeses) k ≡ true → is_among (compat n Free yeses) l ≡ true → is_among (compat n Free yeses) (meet k l) ≡ true
   among-meet k l a b =
       let p = and_parts (is_within k (full n)) (true && breaks_none yeses k) (sym (among-compat n Free yeses k) ∙ a) in
       let q = and_parts (is_within l (full n)) (true && breaks_none yeses l) (sym (among-compat n Free yeses l) ∙ b) in

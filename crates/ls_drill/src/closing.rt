@@ -7,8 +7,8 @@ ghost use Rattle.ls_drill.specs.Draws.{IsPair, reached};
 use ls_set::{ItemSet, PLACES};
 use std::alloc::{AllocError, Global};
 
-/// No items for each of `n`.
-pub fn no_items(alloc: Global, n: u32) -> Result<Vec<ItemSet>, AllocError>
+// No items for each of `n`.
+fn no_items(alloc: Global, n: u32) -> Result<Vec<ItemSet>, AllocError>
     ensures { IfOk result (λ v. v.items ≡ replicate n empty) }
 {
     let mut after = Vec::new(alloc);

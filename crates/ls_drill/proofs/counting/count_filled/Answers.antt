@@ -1,7 +1,6 @@
-use Rattle.std.proofs.Common.{◌≡◌, ◌+◌, ◌*◌, ◌≤◌, List, not, cond, ap, Some, sym, ◌∙◌, true, subst, arith, rules}
+use Rattle.std.proofs.Common.{◌≡◌, ◌+◌, ◌*◌, ◌≤◌, List, not, cond, ap, Some, sym, ◌∙◌, true, subst, rules}
 use Rattle.std.specs.Prelude.{Result, IfOk}
 use Rattle.std.specs.List.{list_any}
-use Rattle.std.proofs.lemmas.Grind.{common_steps}
 use Rattle.ls_set.specs.Query.{is_good}
 use Rattle.ls_theory.specs.declared.answer.Answer.{Answer}
 use Rattle.ls_theory.specs.declared.known.Known.{Known}
@@ -31,7 +30,7 @@ unwrap-requires g c =
     let r = c.in-Some.query in
     let q = sym (met i c.blocks-blocks.result c.loop.last c.query_after.result c.blocks-blocks.ensures c.query_after.ensures) ∙ c.in-Some.is in
     let good : is_good i.count r ≡ true = next-good i c.loop.counter c.loop.last c.loop.filled.all c.loop.filled.yes c.loop.filled.no c.loop.invariant r q in
-    first_of (search rules, grind (arith, common_steps))
+    search rules
 
 pub loop-preserved : goal.loop-preserved
 loop-preserved g c =
