@@ -1,5 +1,5 @@
 -- A command keeps a session whole where it has a domain.
-use Rattle.std.proofs.Common.{◌≡◌, ℕ, Bool, true, false, not, cond, eqb, List, [], ◌∷◌, ◌++◌, length, take, drop, Option, Some, None, Result, Ok, Err, refl, sym, ap, ◌∙◌, subst, option_map, option_and_then, true≢false}
+use Rattle.std.proofs.Common.{◌≡◌, ℕ, Bool, true, false, cond, List, [], ◌∷◌, ◌++◌, take, drop, Option, Some, None, Result, Ok, Err, refl, ap, ◌∙◌, subst, option_map}
 use Rattle.std.specs.Prelude.{⊤, slice_index_or}
 use Rattle.std.specs.List.{filter_map, cons_option, slice_get}
 use Rattle.std.proofs.lemmas.Option.{none-some, same_Some}
@@ -34,7 +34,7 @@ use Rattle.ls_reply.specs.Sessions.{Session, started, has_domain}
 use Rattle.ls_reply.specs.Scenes.{Calls, Fetched}
 use Rattle.ls_reply.specs.Meanings.{unnamed_places, request_of}
 use Rattle.ls_reply.specs.Effects.{Effect, stores}
-use Rattle.ls_reply.specs.Rows.{started_by, file_refusals, bytes_fetched, edit_row, start_row}
+use Rattle.ls_reply.specs.Rows.{started_by, bytes_fetched, start_row}
 use Rattle.ls_reply.specs.Saving.{opened_by}
 use Rattle.ls_reply.specs.Replies.{request_effect, asked_effect, unnamed_at, file_effect, command_effect, words_effect, line_effect}
 use Rattle.ls_reply.specs.declared.refusal.Refusal.{Refusal}

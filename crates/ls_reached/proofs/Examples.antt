@@ -1,7 +1,6 @@
 -- Examples: sessions that lines reach.
 use Rattle.std.proofs.Common.{◌≡◌, refl, true, false, List, [], ◌∷◌, ℕ, map as map_of, codes}
-use Rattle.ls_set.specs.ItemSet.{Items, has, empty, full, with, union, meet, minus, single, differing, is_within, is_same, bound, items, least, comes_before, len}
-use Rattle.ls_set.specs.declared.query.Query.{Query}
+use Rattle.ls_set.specs.ItemSet.{has, empty, full, with, union, meet, minus, single, differing, is_within, is_same, bound, items, least, comes_before, len}
 use Rattle.ls_theory.specs.Starts.{Free}
 use Rattle.ls_theory.specs.Interviews.{begun, accepted}
 use Rattle.ls_theory.specs.Settings.{standard}
@@ -14,7 +13,7 @@ use Rattle.ls_lines.specs.Kinds.{is_of}
 use Rattle.ls_lines.specs.Forms.{spelling, parts, command, forms}
 use Rattle.ls_lines.specs.Commands.{cut, command_of}
 use Rattle.ls_domain.specs.Domains.{names_from}
-use Rattle.ls_reply.specs.Sessions.{Session, started}
+use Rattle.ls_reply.specs.Sessions.{started}
 use Rattle.ls_reply.specs.Scenes.{Missing}
 use Rattle.ls_reply.specs.Replies.{command_effect, line_effect}
 use Rattle.ls_reached.specs.Reached.{Called, session_after}

@@ -1,11 +1,10 @@
 -- A whole session stays whole when its interview or its settings change.
-use Rattle.std.proofs.Common.{◌≡◌, ℕ, ◌<◌, ◌≤◌, ◌&&◌, Bool, true, false, not, eqb, eqb-true, eq-eqb, List, [], ◌∷◌, ◌++◌, length, replicate, set, Option, Some, None, Result, Ok, Err, refl, sym, ap, ◌∙◌, subst, arith}
+use Rattle.std.proofs.Common.{◌≡◌, ℕ, Bool, true, false, not, eqb, eqb-true, eq-eqb, List, [], ◌∷◌, ◌++◌, length, replicate, set, Result, Ok, Err, refl, sym, ap, ◌∙◌, subst}
 use Rattle.std.specs.Result.{is_ok}
 use Rattle.std.specs.List.{list_all}
 use Rattle.std.proofs.lemmas.Bool.{and_parts, and_from, not-false}
 use Rattle.std.proofs.lemmas.List.{length-replicate, length-set, nil_from_length}
 use Rattle.ls_lists.proofs.Every.{list_all-set}
-use Rattle.ls_set.specs.declared.query.Query.{Query}
 use Rattle.ls_theory.specs.Starts.{Start, Free}
 use Rattle.ls_theory.specs.Interviews.{Interview, begun, accepted, retracted}
 use Rattle.ls_theory.specs.Blocks.{BlockRange, made}
@@ -26,7 +25,7 @@ use Rattle.ls_saved.specs.Whole.{IsStart, IsStanding, IsWhole}
 use Rattle.ls_reply.specs.Sessions.{Session, started}
 use Rattle.ls_reply.specs.Scenes.{Fetched}
 use Rattle.ls_reply.specs.Effects.{refuse}
-use Rattle.ls_reply.specs.Rows.{block_refusals, edit_row, start_refusals, start_read, start_row, starts_by, file_refusals, bytes_fetched}
+use Rattle.ls_reply.specs.Rows.{block_refusals, edit_row, start_read, start_row, starts_by, file_refusals, bytes_fetched}
 use Rattle.ls_reply.specs.Pupils.{setting_row}
 use Rattle.ls_reply.specs.declared.refusal.Refusal.{Refusal}
 use Rattle.ls_reply.specs.declared.refusal.Refusal.TheVariants as refusal_of

@@ -4,3 +4,4 @@ mod Interviews
 mod Pupils
 mod Commands
 mod Reaching
+mod Examples

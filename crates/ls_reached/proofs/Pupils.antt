@@ -1,8 +1,8 @@
 -- A whole session stays whole when its pupils change.
-use Rattle.std.proofs.Common.{◌≡◌, ℕ, suc, ◌+◌, ◌<◌, ◌≤◌, ◌&&◌, Bool, true, false, cond, not, eqb, ltb, leb, List, [], ◌∷◌, ◌++◌, map, filter, find, length, Option, Some, None, is_some, refl, sym, ap, ap₂, ◌∙◌, subst, arith, append_assoc, append-nil, length-append, le-leb, leb-true, ltb-false, leb-false}
+use Rattle.std.proofs.Common.{◌≡◌, ℕ, ◌<◌, ◌≤◌, Bool, true, false, cond, not, eqb, ltb, leb, List, [], ◌∷◌, ◌++◌, map, filter, length, Option, Some, None, is_some, refl, sym, ap, ap₂, ◌∙◌, subst, arith, append_assoc, append-nil, length-append, le-leb, leb-true, ltb-false, leb-false}
 use Rattle.std.specs.Prelude.{bytes_eq, is_none}
-use Rattle.std.specs.List.{AllByRecursion, list_all, IsDistinct}
-use Rattle.std.proofs.lemmas.Bool.{cases_Bool, and_parts, and_from}
+use Rattle.std.specs.List.{AllByRecursion, IsDistinct}
+use Rattle.std.proofs.lemmas.Bool.{and_parts, and_from}
 use Rattle.std.proofs.lemmas.List.{length-map}
 use Rattle.std.proofs.lemmas.Slice.Eq.{bytes_eq-Decides}
 use Rattle.ls_lists.proofs.Every.{each, All-append, All-map, All-filter}
@@ -25,7 +25,7 @@ use Rattle.ls_expert.proofs.Taking.{distinct-last}
 use Rattle.ls_expert.proofs.Retracting.{distinct-fewer}
 use Rattle.ls_lines.specs.Lines.{Text}
 use Rattle.ls_domain.specs.Domains.{is_name}
-use Rattle.ls_saved.specs.Standing.{are_apart, is_asked, follow, is_pupil, are_pupils}
+use Rattle.ls_saved.specs.Standing.{is_asked, follow, is_pupil, are_pupils}
 use Rattle.ls_saved.specs.Whole.{IsPupil, IsWhole}
 use Rattle.ls_saved.proofs.Answers.{apart-from}
 use Rattle.ls_saved.proofs.Sound.{apart-distinct}

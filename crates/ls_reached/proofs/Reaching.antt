@@ -1,5 +1,5 @@
 -- Each session that lines reach is whole, where it has a domain.
-use Rattle.std.proofs.Common.{◌≡◌, ℕ, List, [], ◌∷◌, refl, subst}
+use Rattle.std.proofs.Common.{◌≡◌, List, [], ◌∷◌, refl, subst}
 use Rattle.ls_edge.specs.Files.{Folder}
 use Rattle.ls_reply.specs.Sessions.{Session, started}
 use Rattle.ls_reply.specs.Scenes.{calls_of}

@@ -1,6 +1,6 @@
 -- What it means that nothing refuses a change.
 use Rattle.std.proofs.Common.{◌≡◌, Bool, true, false, List, [], ◌∷◌, ◌++◌, Option, Some, None, refl}
-use Rattle.ls_reply.specs.Effects.{Change, changed, refuse, refuse_fault}
+use Rattle.ls_reply.specs.Effects.{changed, refuse, refuse_fault}
 use Rattle.ls_reply.specs.declared.refusal.Refusal.{Refusal}
 use Rattle.ls_reply.specs.declared.response.Response.{Response}
 

@@ -30,7 +30,6 @@ use Rattle.ls_saved.specs.Whole.{IsNarrow, IsStart}
 use Rattle.ls_saved.proofs.Starts.{base-small}
 use Rattle.ls_saved.proofs.Surmises.{narrow-read}
 use Rattle.ls_reply.specs.Rows.{start_of_clauses, start_of_base, start_of_sets, start_read}
-use Rattle.ls_reply.specs.declared.refusal.Refusal.{Refusal}
 use Rattle.ls_reply.specs.declared.request.StartFile.{StartFile}
 use Rattle.ls_reply.specs.declared.request.StartFile.TheVariants as start_file
 
