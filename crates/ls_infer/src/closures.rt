@@ -4,6 +4,7 @@ ghost use Rattle.std.specs.List.{list_all, position};
 ghost use Rattle.ls_set.specs.ItemSet.{Items, full, is_within};
 ghost use Rattle.ls_set.specs.Query.{is_good};
 ghost use Rattle.ls_theory.specs.Queries.{block_before, blocks};
+ghost use Rattle.ls_theory.specs.Blocks.{most_sets};
 ghost use Rattle.ls_theory.specs.Families.{closure};
 ghost use Rattle.ls_query.specs.Blocks.{sets_of};
 ghost use Rattle.ls_infer.specs.Changes.{IsChange, is_stale};
@@ -14,7 +15,7 @@ use crate::standing_no::StandingNo;
 use crate::witnesses::Witnesses;
 use crate::yes_change::YesChange;
 use ls_interior::{Interior, Steps};
-use ls_query::{BlockWalk, Blocks, MOST_SETS};
+use ls_query::{BlockWalk, Blocks};
 use ls_set::{ItemSet, PLACES, Query};
 use ls_theory::No;
 use std::alloc::{AllocError, Global};
@@ -31,7 +32,7 @@ pub fn closures_of<I: Interior, L: Ledger>(
     ensures list { IfOk result (λ v. v.items
         ≡ map (closure (full (I.item_count f.now)) (I.members f.now)) (sets_of blocks)) }
     ensures cost { steps.new ≤ steps.old + length (sets_of blocks) }
-    ensures few { length (sets_of blocks) ≤ MOST_SETS }
+    ensures few { length (sets_of blocks) ≤ most_sets }
 {
     let mut closures = Vec::new(alloc);
     let mut walk = blocks.walk_from(ItemSet::empty());
