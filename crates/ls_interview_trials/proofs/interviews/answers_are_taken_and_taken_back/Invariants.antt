@@ -1,4 +1,0 @@
-use Rattle.ls_interview_trials.proofs.interviews.answers_are_taken_and_taken_back.Given as goal
-
-abbrev pub ghosts-assert_interview : goal.ghosts-assert_interview
-ghosts-assert_interview g a = record { name = a.blank.name; parts = a.blank.parts }

@@ -1,2 +1,0 @@
-mod FirstItems
-mod Steps

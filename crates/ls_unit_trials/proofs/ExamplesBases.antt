@@ -1,0 +1,40 @@
+-- Examples: the sets that a list needs, and a surmise function of five items, of which three share clauses.
+use Rattle.std.proofs.Common.{ℕ, ◌≡◌, refl, List, [], ◌∷◌, Ok}
+use Rattle.ls_set.specs.ItemSet.{Items, has, empty, full, with, without, union, meet, minus, single, differing, is_within, is_same, bound, items, len, least, comes_before, set_of}
+use Rattle.ls_theory.specs.Families.{interior}
+use Rattle.ls_laws.specs.Spans.{needed, spanned}
+use Rattle.ls_base.specs.Bases.{BaseState}
+use Rattle.ls_surmise.specs.Surmises.{surmised}
+
+-- an example that opens this opens each word
+unfoldable words : ℕ
+unfolding has empty full with without union meet minus single differing is_within is_same bound items len least comes_before interior spanned
+words = 0
+
+abbrev set : List ℕ → Items
+set is = set_of is
+
+-- a union, a repeat and the empty set are left out
+left_out : needed (empty ∷ set (1 ∷ 2 ∷ []) ∷ set (0 ∷ 1 ∷ []) ∷ set (1 ∷ []) ∷ set (0 ∷ []) ∷ set (1 ∷ 2 ∷ []) ∷ [])
+    ≡ set (0 ∷ []) ∷ set (1 ∷ 2 ∷ []) ∷ set (1 ∷ []) ∷ []
+unfolding words
+left_out = refl
+
+abbrev a : Items
+a = set (0 ∷ [])
+
+abbrev bd : Items
+bd = set (1 ∷ 3 ∷ [])
+
+abbrev abc : Items
+abc = set (0 ∷ 1 ∷ 2 ∷ [])
+
+abbrev bce : Items
+bce = set (1 ∷ 2 ∷ 4 ∷ [])
+
+abbrev five : BaseState
+five = record { item_count = 5; sets = abc ∷ a ∷ bce ∷ bd ∷ [] }
+
+shared_clauses : surmised five ≡ Ok ((a ∷ []) ∷ (abc ∷ bce ∷ bd ∷ []) ∷ (abc ∷ bce ∷ []) ∷ (bd ∷ []) ∷ (bce ∷ []) ∷ [])
+unfolding words
+shared_clauses = refl

@@ -1,0 +1,4 @@
+mod ExamplesBases
+mod ExamplesSets
+mod ExamplesTables
+pub mod Weighable
