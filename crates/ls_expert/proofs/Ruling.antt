@@ -1,13 +1,13 @@
 -- The compatible sets as a family with rules, and the lists of an interview's answers.
 use Rattle.std.proofs.Common.{ℕ, ◌≡◌, inl, inr, Bool, true, false, cond, not, ◌&&◌, List, [], ◌∷◌, filter, find, Option, Some, None, IfSome, is_some, refl, sym, ap, ◌∙◌, subst, true≢false}
-use Rattle.std.proofs.lemmas.Bool.{and_parts, and_from, false_from_ne_true}
+use Rattle.std.proofs.lemmas.Bool.{and_from, false_from_ne_true}
 use Rattle.std.proofs.lemmas.List.Elements.{filter_agree}
 use Rattle.ls_lists.proofs.Filters.{filter-both}
 use Rattle.ls_lists.proofs.Options.{nothing}
-use Rattle.ls_set.specs.ItemSet.{Items, full, is_within, is_among, subsets, IsWithin}
+use Rattle.ls_set.specs.ItemSet.{Items, full, is_within, subsets, IsWithin}
 use Rattle.ls_set.specs.Query.{is_good}
 use Rattle.ls_set.specs.declared.query.Query.{Query}
-use Rattle.ls_set.proofs.Sets.{and-true, is_within-from, IsWithin-from}
+use Rattle.ls_set.proofs.Sets.{and-true, is_within-from}
 use Rattle.ls_theory.specs.Queries.{breaks_none, queries, query_before}
 use Rattle.ls_theory.specs.Interviews.{Interview, nos}
 use Rattle.ls_theory.specs.Starts as theory
@@ -50,12 +50,6 @@ all_pass (k ∷ f) = ap (λ l. k ∷ l) (all_pass f)
 pub free-inside : (n : ℕ) (s : Items) → IsWithin s (full n) → s ≡ interior (compat n theory.Free []) s
 free-inside n s w =
     sym (interior-member (compat n theory.Free []) s (among-compat n theory.Free [] s ∙ and_from (is_within s (full n)) true (is_within-from s (full n) w) refl))
-
--- each part of a set that meets it meets it
-pub free-parts : (n : ℕ) (k part : Items) → is_among (compat n theory.Free []) k ≡ true → IsWithin part k → is_among (compat n theory.Free []) part ≡ true
-free-parts n k part h w =
-    let whole = IsWithin-from k (full n) (and_parts (is_within k (full n)) true (sym (among-compat n theory.Free [] k) ∙ h)).0 in
-    among-compat n theory.Free [] part ∙ and_from (is_within part (full n)) true (is_within-from part (full n) (λ i x. whole i (w i x))) refl
 
 -- the sets that meet the start by a base are its family
 pub sets-family : (start : Start) (n : ℕ) (b : BaseState) → start ≡ Sets b → HasItems n start → family b ≡ compat n (start_of start) []

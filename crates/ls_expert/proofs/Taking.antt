@@ -32,7 +32,6 @@ use Rattle.ls_laws.proofs.Answering.{not_both, forced_yes_unbroken}
 use Rattle.ls_theory.specs.Queries.{breaks, some_breaks}
 use Rattle.ls_lists.proofs.Filters.{filter-all}
 use Rattle.ls_laws.proofs.Numbered.{accepted-numbered}
-use Rattle.ls_infer.specs.Changes.{CanFall}
 use Rattle.ls_infer.specs.Tables.{TableState, AreStates, table_of}
 use Rattle.ls_expert.specs.Held.{single_items, closures_of, IsStanding, IsHeld}
 use Rattle.ls_expert.proofs.AnswerLists.{yes_queries-yes, yes_queries-no, nos-yes, nos-no}
@@ -163,23 +162,23 @@ module _ (i : Interview) (r : Query) (old new : TableState) (kept_sets : List (L
       ∙ ap₂ (λ (k : List Items) (l : List No). table_of (single_items i.count) k l) (family ∙ sym (compatible-no i r)) (ap (λ y. nos i.answers ++ y ∷ []) e ∙ sym (nos-no i r))
 
   -- the table after a Yes
-  pub tabled-yes : (fall : Items) → CanFall (compatible_sets i) r.q fall → f ≡ compat i.count i.start (yes_queries i.answers ++ r ∷ [])
-      → ((before : List Items) (ns : List No) → IsFamily old.blocks.item_count before → f ≡ left_by r before → CanFall before r.q fall → AreStates before kept_sets → old ≡ table_of old.blocks before ns → new ≡ table_of old.blocks f ns) → new ≡ closures_of (accepted i r true)
-  tabled-yes fall can family kept =
+  pub tabled-yes : f ≡ compat i.count i.start (yes_queries i.answers ++ r ∷ [])
+      → ((before : List Items) (ns : List No) → IsFamily old.blocks.item_count before → f ≡ left_by r before → AreStates before kept_sets → old ≡ table_of old.blocks before ns → new ≡ table_of old.blocks f ns) → new ≡ closures_of (accepted i r true)
+  tabled-yes family kept =
       let left : f ≡ left_by r (compatible_sets i) = family ∙ compat-more i.count i.start (yes_queries i.answers) r in
       kept (compatible_sets i) (nos i.answers)
-      (subst (λ n. IsFamily n (compatible_sets i)) (ap (λ (t : TableState). t.blocks.item_count) (sym h)) (compat-IsFamily i.count i.start (yes_queries i.answers))) left can states (own (nos i.answers) (compatible_sets i) refl refl)
+      (subst (λ n. IsFamily n (compatible_sets i)) (ap (λ (t : TableState). t.blocks.item_count) (sym h)) (compat-IsFamily i.count i.start (yes_queries i.answers))) left states (own (nos i.answers) (compatible_sets i) refl refl)
       ∙ ap (λ (b : BlockRange). table_of b f (nos i.answers)) (ap (λ (t : TableState). t.blocks) h)
       ∙ ap₂ (λ (k : List Items) (l : List No). table_of (single_items i.count) k l) (left ∙ sym (compatible-yes i r)) (sym (nos-yes i r))
 
   -- the states that are kept after a Yes
-  pub states-yes : (fall : Items) (after : List (List Items)) → CanFall (compatible_sets i) r.q fall → f ≡ compat i.count i.start (yes_queries i.answers ++ r ∷ [])
-      → ((before : List Items) (ns : List No) → IsFamily old.blocks.item_count before → f ≡ left_by r before → CanFall before r.q fall → AreStates before kept_sets → old ≡ table_of old.blocks before ns → AreStates f after) → AreStates (compatible_sets (accepted i r true)) after
-  states-yes fall after can family kept =
+  pub states-yes : (after : List (List Items)) → f ≡ compat i.count i.start (yes_queries i.answers ++ r ∷ [])
+      → ((before : List Items) (ns : List No) → IsFamily old.blocks.item_count before → f ≡ left_by r before → AreStates before kept_sets → old ≡ table_of old.blocks before ns → AreStates f after) → AreStates (compatible_sets (accepted i r true)) after
+  states-yes after family kept =
       let left : f ≡ left_by r (compatible_sets i) = family ∙ compat-more i.count i.start (yes_queries i.answers) r in
       subst (λ g. AreStates g after) (left ∙ sym (compatible-yes i r))
       (kept (compatible_sets i) (nos i.answers)
-      (subst (λ n. IsFamily n (compatible_sets i)) (ap (λ (t : TableState). t.blocks.item_count) (sym h)) (compat-IsFamily i.count i.start (yes_queries i.answers))) left can states (own (nos i.answers) (compatible_sets i) refl refl))
+      (subst (λ n. IsFamily n (compatible_sets i)) (ap (λ (t : TableState). t.blocks.item_count) (sym h)) (compat-IsFamily i.count i.start (yes_queries i.answers))) left states (own (nos i.answers) (compatible_sets i) refl refl))
 
   -- and after a No
   pub states-no : (after : List (List Items)) → f ≡ compatible_sets i → (AreStates f kept_sets → AreStates f after) → AreStates (compatible_sets (accepted i r false)) after

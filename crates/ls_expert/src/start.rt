@@ -1,5 +1,5 @@
 // Starts of interviews.
-ghost use Rattle.std.specs.Prelude.{◌≡◌, ◌≤◌, [], true, IfOk};
+ghost use Rattle.std.specs.Prelude.{◌≡◌, ◌≤◌, [], IfOk};
 ghost use Rattle.ls_set.specs.ItemSet.{full, IsWithin};
 ghost use Rattle.ls_theory.specs.Families.{interior};
 ghost use Rattle.ls_theory.specs.Compatible.{compat};
@@ -22,7 +22,6 @@ pub enum Start {
 
 impl Start {
     ghost use Rattle.ls_expert.specs.Starts.{start_of, IsStartOn};
-    ghost use Rattle.ls_expert.specs.declared.start.Start.TheVariants as Start;
 
     /// The same start once more.
     pub fn copy(&self) -> Result<Start, AllocError>
@@ -33,13 +32,6 @@ impl Start {
             Start::Clauses(surmise) => Ok(Start::Clauses(surmise.copy()?)),
             Start::Sets(base) => Ok(Start::Sets(base.copy()?)),
         }
-    }
-
-    // Whether all sets meet it.
-    pub fn is_free(&self) -> bool
-        ensures { result ≡ true → self.now ≡ Start.Free }
-    {
-        matches!(self, Start::Free)
     }
 
     // The interior of a set of `n` items in the sets that meet the start.

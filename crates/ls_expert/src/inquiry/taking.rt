@@ -1,17 +1,15 @@
 // Answers that an inquiry takes and takes back.
-ghost use Rattle.std.specs.Prelude.{◌≡◌, ◌+◌, ◌<◌, ◌≤◌, true, false, Some, None, IfOk, IfErr, OnOk, OnErr};
+ghost use Rattle.std.specs.Prelude.{◌≡◌, ◌+◌, ◌≤◌, true, false, Some, None, IfOk, IfErr, OnOk, OnErr};
 ghost use Rattle.ls_theory.specs.Interviews.{accepted, retracted};
-ghost use Rattle.ls_theory.specs.Compatible.{compatible_sets};
 ghost use Rattle.ls_theory.specs.Forced.{known};
-ghost use Rattle.ls_infer.specs.Changes.{CanFall};
 ghost use Rattle.ls_theory.specs.declared.known.Known.TheVariants as Known;
 ghost use Rattle.ls_theory.specs.Answering.{refusal, standing_number, answer_with, is_full};
 ghost use Rattle.ls_expert.specs.Steps.{steps_back, most_steps};
 
 use crate::answers::{opposed, put_last, rules_before, take_out};
 use crate::inquiry::{Inquiry, MOST_ANSWERS, MOST_NUMBER};
-use ls_interior::{Counted, Inside, Steps};
-use ls_set::{ItemSet, Query};
+use ls_interior::{Counted, Steps};
+use ls_set::Query;
 use ls_theory::{Answer, AnswerFault, Known, No};
 use std::alloc::AllocError;
 use std::sync::ledger::Ledger;
@@ -92,19 +90,6 @@ impl Inquiry {
         }
     }
 
-    // Items that can be taken out of each compatible set together, the given one among them: where
-    // all sets meet the start, those that fall with it under the Yes answers, or else all.
-    fn falling(&self, item: u32) -> ItemSet
-        requires { item < self.now.count }
-        ensures { CanFall (compatible_sets self.now) item result }
-    {
-        if self.family.inner().start().is_free() {
-            self.family.falling(item)
-        } else {
-            ItemSet::full(self.family.items())
-        }
-    }
-
     // Takes a Yes that is not refused. One that the others force leaves the same sets, so what is
     // kept of them stays.
     fn take_yes<L: Ledger>(
@@ -121,18 +106,12 @@ impl Inquiry {
         ensures cost { steps.new + 1 ≤ steps.old + most_steps self.old query.now true }
         ensures refused { OnErr result (steps.new ≡ steps.old) }
     {
-        let forced = is_yes(told);
-        let fall = if forced {
-            ItemSet::empty()
-        } else {
-            self.falling(query.q)
-        };
         self.answers.reserve(1)?;
         self.family.reserve()?;
         self.family.push_reserved(*query);
-        if !forced {
+        if !is_yes(told) {
             self.table
-                .yes_added_within(&Counted::new(&self.family), fall, query, steps);
+                .yes_added(&Counted::new(&self.family), query, steps);
         }
         self.is_found = false;
         Ok(put_last(&mut self.answers, &mut self.next, query, true))
