@@ -1,12 +1,11 @@
 -- What an interview keeps when it takes an answer back.
-use Rattle.std.proofs.Common.{ℕ, zero, suc, subst, ◌-◌, ◌+◌, ◌*◌, ◌≤◌, ◌<◌, ◌≡◌, Bool, true, false, cond, not, ◌&&◌, eqb, length, List, [], ◌∷◌, map, filter, count_by, remove, Some, refl, sym, ap, ap₂, ◌∙◌, arith}
+use Rattle.std.proofs.Common.{ℕ, subst, ◌+◌, ◌*◌, ◌≤◌, ◌<◌, ◌≡◌, Bool, true, false, cond, not, ◌&&◌, eqb, length, List, [], ◌∷◌, map, filter, count_by, remove, Some, refl, sym, ap, ap₂, ◌∙◌, arith}
 use Rattle.std.specs.List.{AllByRecursion, IsDistinct, list_all}
 use Rattle.std.proofs.Math.Bool.{and_assoc}
 use Rattle.std.proofs.lemmas.Bool.{and_parts}
 use Rattle.std.proofs.lemmas.List.{length-map}
 use Rattle.std.proofs.lemmas.List.Recursion.{is_sum_by}
-use Rattle.std.proofs.lemmas.List.Sums.{length-filter, count_by-le-length, sum_by-cons, sum_by-append}
-use Rattle.ls_query.proofs.BySize.{of_size, blocks-more}
+use Rattle.std.proofs.lemmas.List.Sums.{length-filter, count_by-le-length, sum_by-cons}
 use Rattle.std.proofs.lemmas.List.Elements.{filter_agree}
 use Rattle.ls_lists.proofs.Filters.{filter-both}
 use Rattle.ls_set.specs.ItemSet.{Items, full, is_within, subsets}
@@ -67,18 +66,10 @@ standing-back i number h = record {
 count_by-images : {X Y : Type 0} (p : Y → Bool) (g : X → Y) (xs : List X) → count_by p (map g xs) ≡ count_by (λ x. p (g x)) xs
 count_by-images p g = is_sum_by (λ xs. count_by p (map g xs)) (λ x. cond (p (g x)) 1 0) refl (λ x xs. sum_by-cons (λ y. cond (p y) 1 0) (g x) (map g xs))
 
--- the sets of one item are some of the sets of the blocks
-fewer_sizes : (p : Items → Bool) (n k : ℕ) → count_by p (blocks n 1) ≤ count_by p (blocks n (suc k))
-fewer_sizes p n zero = omega arith
-fewer_sizes p n (suc k) =
-    let more : count_by p (blocks n (suc (suc k))) ≡ count_by p (blocks n (suc k)) + count_by p (of_size 0 n (suc (suc k))) =
-    ap (count_by p) (blocks-more n (suc k)) ∙ sum_by-append (λ x. cond (p x) 1 0) (blocks n (suc k)) (of_size 0 n (suc (suc k))) in
-    omega (arith, more, fewer_sizes p n k)
-
 -- what a change costs, told by a table
-pub steps-over : (i : Interview) (t : TableState) (a : Items) → t ≡ closures_of i → 0 < i.block
+pub steps-over : (i : Interview) (t : TableState) (a : Items) → t ≡ closures_of i
     → count_by (λ c. is_within a c) t.closures + (t.blocks.item_count + 1) * length t.standing ≤ closures_over i a + (i.count + 1) * length (nos i.answers)
-steps-over i t a h some =
+steps-over i t a h =
     let close = closure (full i.count) (compatible_sets i) in
     let p = λ (b : Items). is_within a (close b) in
     let by_ones : count_by (λ c. is_within a c) t.closures + (t.blocks.item_count + 1) * length t.standing ≡ count_by p (blocks i.count 1) + (i.count + 1) * length (nos i.answers) =
@@ -86,11 +77,7 @@ steps-over i t a h some =
     ∙ ap₂ (λ m k. m + (i.count + 1) * k)
     (count_by-images (λ c. is_within a c) close (blocks i.count 1))
     (length-map (nos i.answers) (standing i.count (compatible_sets i))) in
-    let fewer : count_by p (blocks i.count 1) ≤ count_by p (blocks i.count i.block) = subst (λ k. count_by p (blocks i.count 1) ≤ count_by p (blocks i.count k)) (suc_pred i.block some) (fewer_sizes p i.count (i.block - 1)) in
-    omega (arith, by_ones, fewer)
-  where
-    suc_pred : (k : ℕ) → 0 < k → suc (k - 1) ≡ k
-    suc_pred k l = omega arith
+    omega (arith, by_ones)
 
 module _ (i : Interview) (a : Answer) (rules : List Query) (t new : TableState) (h : IsHeld i rules t) (stands : answer_with i a.number ≡ Some a) where
   abbrev after : Interview

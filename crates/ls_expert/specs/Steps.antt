@@ -10,17 +10,17 @@ use Rattle.ls_theory.specs.Queries.{blocks}
 use Rattle.ls_theory.specs.Families.{closure}
 use Rattle.ls_theory.specs.Compatible.{compatible_sets}
 
--- how many of the block sets have a closure with all items of A
+-- how many items have a closure with all items of A
 abbrev pub closures_over : Interview → Items → ℕ
-closures_over i a = count_by (λ b. is_within a (closure (full i.count) (compatible_sets i) b)) (blocks i.count i.block)
+closures_over i a = count_by (λ b. is_within a (closure (full i.count) (compatible_sets i) b)) (blocks i.count 1)
 
--- The most interiors that an answer takes: one to test it. A No takes one for each item and one more; a Yes to a query (A, q) takes one for each block set whose
+-- The most interiors that an answer takes: one to test it. A No takes one for each item and one more; a Yes to a query (A, q) takes one for each item whose
 -- closure has the items of A, and as many as a No for each No that stands.
 abbrev pub most_steps : Interview → Query → Bool → ℕ
 most_steps i r true = 1 + (closures_over i r.a + (i.count + 1) * length (nos i.answers))
 most_steps i r false = i.count + 2
 
--- The most interiors that the retraction of an answer takes: none for a No; for a Yes to (A, q) one for each block set whose closure has the items of A, and for
+-- The most interiors that the retraction of an answer takes: none for a No; for a Yes to (A, q) one for each item whose closure has the items of A, and for
 -- each No that stands one for each item and one more.
 abbrev pub steps_back : Interview → Option Answer → ℕ
 steps_back i None = 0

@@ -16,7 +16,7 @@ pub returns-clause-cost : goal.returns-clause-cost
 returns-clause-cost g c =
     let i = interview_of c.self.inside.family.inner c.self.inside.block c.self.inside.answers.items c.self.inside.next in
     let a = c.args.answer.now in
-    let most = steps-over i c.self.inside.table.table a.query.a c.self.invariant.held.tabled c.self.invariant.some_sizes in
+    let most = steps-over i c.self.inside.table.table a.query.a c.self.invariant.held.tabled in
     rw (← c.self.view_is, c.requires.yes) (omega (arith, c.yes_removed.ensures.cost, most))
 
 pub remove-requires : goal.remove-requires

@@ -44,7 +44,7 @@ invariant_of-self-2 g c =
 pub returns-clause-cost : goal.returns-clause-cost
 returns-clause-cost g c =
     let i = interview_of c.self.inside.family.inner c.self.inside.block c.self.inside.answers.items c.self.inside.next in
-    let most = steps-over i c.self.inside.table.table c.args.query.now.a c.self.invariant.held.tabled c.self.invariant.some_sizes in
+    let most = steps-over i c.self.inside.table.table c.args.query.now.a c.self.invariant.held.tabled in
     rw (← c.self.view_is) (elim c.if-not-is_yes.branch [
       | then-not-is_yes w ↦ rw w.steps-is (omega (arith, w.yes_added.ensures.cost, most))
       | else-not-is_yes w ↦ rw w.steps-is (omega arith)
