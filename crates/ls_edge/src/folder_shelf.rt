@@ -96,6 +96,3 @@ impl<R: Files + AllocGlobal + Drop> Shelf for FolderShelf<R> {
         answer
     }
 }
-
-#[cfg(test)]
-mod tests;

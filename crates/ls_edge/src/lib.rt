@@ -27,6 +27,3 @@ pub use sure_sink::SureSink;
 pub use sure_source::SureSource;
 pub use traits::{Failed, FetchFault, LONGEST_FILE, Shelf, Sink, SinkFault, Source, StoreFault};
 pub use write::write_whole;
-
-#[cfg(test)]
-mod tests;

@@ -1,4 +1,4 @@
-//! Trials of the calls that the program doesn't make, of limits that no script reaches, and of the
+//! Trials of objects in memory, of the calls that the program doesn't make, of limits that no script reaches, and of the
 //! threads of a class. It has tests alone; worked rows of definitions are computed in proofs/.
 #![tactic(auto)]
 
@@ -14,6 +14,8 @@ mod gates;
 mod interviews;
 #[cfg(test)]
 mod lines;
+#[cfg(test)]
+mod objects;
 #[cfg(test)]
 mod printing;
 #[cfg(test)]

@@ -1,7 +1,7 @@
-// The objects in memory call by call, and each adapter used once.
-use crate::{
+// The objects in memory call by call.
+use ls_edge::{
     Failed, FetchFault, LONGEST_FILE, MemShelf, MemSink, MemSource, Shelf, Sink, SinkFault, Source,
-    StdSink, StdSource, StoreFault, SureShelf, SureSink, SureSource, write_whole,
+    StoreFault, SureShelf, SureSink, SureSource, write_whole,
 };
 use std::alloc::Global;
 use std::test::Fail;
@@ -97,7 +97,7 @@ fn sure_objects_never_fail(rt: HostRuntime) -> Result<(), Fail> {
 }
 
 // What the shelf has under a name, as `fetch` answers.
-pub(crate) fn holds<H: Shelf>(shelf: &mut H, name: &str, want: Result<&[u8], FetchFault>) -> bool {
+fn holds<H: Shelf>(shelf: &mut H, name: &str, want: Result<&[u8], FetchFault>) -> bool {
     match (shelf.fetch(name), want) {
         (Ok(bytes), Ok(want)) => bytes.as_slice() == want,
         (Err(fault), Err(want)) => fault == want,
@@ -106,7 +106,7 @@ pub(crate) fn holds<H: Shelf>(shelf: &mut H, name: &str, want: Result<&[u8], Fet
 }
 
 // Whether the shelf gives back the longest file, and refuses one of a byte more.
-pub(crate) fn limit_holds<H: Shelf>(alloc: Global, shelf: &mut H) -> Result<bool, Fail> {
+fn limit_holds<H: Shelf>(alloc: Global, shelf: &mut H) -> Result<bool, Fail> {
     let mut bytes = vec![in alloc; 7; LONGEST_FILE]?;
     shelf.store("long", &bytes)?;
     let whole = holds(shelf, "long", Ok(&bytes));
@@ -150,17 +150,4 @@ fn a_shelf_fails_where_listed(rt: HostRuntime) -> Result<(), Fail> {
     assert_eq!(rt; shelf.store("one", b"second"), Ok(()));
     assert!(rt; holds(&mut shelf, "one", Ok(b"second")));
     Ok(())
-}
-
-#[test]
-fn standard_input_is_read_to_its_end(rt: HostRuntime) -> Result<(), Fail> {
-    let mut source = StdSource::new(&rt);
-    let mut seen = Vec::new(rt.alloc());
-    read_all(&mut source, &mut seen)
-}
-
-#[test]
-fn standard_output_takes_bytes(rt: HostRuntime) {
-    let mut sink = StdSink::new(&rt);
-    assert_eq!(rt; write_whole(&mut sink, b"written\n"), Ok(()));
 }
