@@ -1,109 +1,66 @@
-// A run of the program over objects in memory.
+// Runs of the program over objects in memory, as a case gives them.
+use crate::case::{File, files_of, last_of, numbers_of, replies_of, script_of, tells, words_of};
+use crate::extent::{Extent, extent_of};
+use crate::trouble::Trouble;
 use ls_edge::{FetchFault, MemShelf, MemSink, MemSource, Shelf};
-use ls_shell::{Status, lspace};
-use std::alloc::{AllocError, Global};
-use std::process::Abort;
-use std::test::Fail;
+use ls_shell::lspace;
+use std::alloc::Global;
 use std::thread::Threads;
 
-/// The line that is written where the words of the command line aren't understood.
-pub const USAGE: &str = "usage: lspace [--script NAME | --drill N [--number S]]\n";
+// The statuses of a run whose source failed, and of one whose sink failed.
+const READ_FAULT: u64 = 3;
 
-/// What a run is given: the words after the program's name, the script, how many bytes one read and
-/// one write move at most, the files of the folder, and which reads, writes and calls on the folder
-/// fail, counted from 1. And what it is to write, how it is to end, and files that the folder is to
-/// have then.
+const WRITE_FAULT: u64 = 4;
+
+// The object of which a call fails.
 #[derive(Clone, Copy)]
-pub struct Trial<'a> {
-    pub words: &'a [&'a str],
-    pub script: &'a str,
-    pub piece: usize,
-    pub files: &'a [(&'a str, &'a str)],
-    pub failing_reads: &'a [u64],
-    pub failing_writes: &'a [u64],
-    pub failing_calls: &'a [u64],
-    pub replies: &'a str,
-    pub status: Status,
-    pub left: &'a [(&'a str, &'a str)],
+enum Side {
+    Source,
+    Sink,
 }
 
-/// An empty script, no file, and nothing that fails.
-pub const PLAIN: Trial = Trial {
-    words: &[],
-    script: "",
-    piece: 4096,
-    files: &[],
-    failing_reads: &[],
-    failing_writes: &[],
-    failing_calls: &[],
-    replies: "",
-    status: Status::Done,
-    left: &[],
-};
-
-/// What a run wrote, and how it ended.
-#[derive(Debug, Drop)]
-pub struct Outcome {
-    pub written: String,
-    pub status: Status,
+// How many bytes one read and one write move at most, and which of them fail.
+#[derive(Drop)]
+struct Setting {
+    piece: usize,
+    reads: Vec<u64>,
+    writes: Vec<u64>,
 }
 
-fn source_of(alloc: Global, trial: &Trial) -> Result<MemSource, AllocError> {
-    let script = trial.script.as_bytes().to_vec(alloc)?;
-    let failing = trial.failing_reads.to_vec(alloc)?;
-    Ok(MemSource::new(script, trial.piece.max(1), failing))
+// What a run is to write, how far it comes, and how it is to end.
+#[derive(Drop)]
+struct Wanted {
+    replies: Vec<u8>,
+    extent: Extent,
+    status: u64,
 }
 
-fn sink_of(alloc: Global, trial: &Trial) -> Result<MemSink, AllocError> {
-    let failing = trial.failing_writes.to_vec(alloc)?;
-    Ok(MemSink::new(alloc, trial.piece.max(1), failing))
+// Runs the case over the files of a folder, which are then as the run left them, and says whether
+// it wrote and ended as is wanted.
+fn meets<R: Threads + Sync + AllocGlobal>(
+    rt: &R,
+    case: &str,
+    setting: Setting,
+    shelf: &mut MemShelf,
+    wanted: &Wanted,
+) -> Result<bool, Trouble> {
+    let alloc = rt.alloc();
+    let piece = setting.piece.max(1);
+    let words = words_of(alloc, case)?;
+    let mut src = MemSource::new(script_of(alloc, case)?, piece, setting.reads);
+    let mut out = MemSink::new(alloc, piece, setting.writes);
+    let status = lspace(rt, alloc, &words, &mut src, &mut out, shelf).code();
+    let extent = extent_of(&wanted.replies, out.written());
+    Ok(extent == wanted.extent && u64::from(status) == wanted.status)
 }
 
-fn shelf_of(alloc: Global, trial: &Trial) -> Result<MemShelf, AllocError> {
-    let mut shelf = MemShelf::new(alloc, trial.failing_calls.to_vec(alloc)?);
-    for (name, text) in trial.files {
-        shelf.put(name, text.as_bytes())?;
+// The folder before the run, which has no more than so many bytes of each file.
+fn shelf_of(alloc: Global, case: &str, most: usize) -> Result<MemShelf, Trouble> {
+    let mut shelf = MemShelf::new(alloc, numbers_of(alloc, case, "! shelf")?);
+    for file in &files_of(alloc, case, "@")? {
+        shelf.put(file.name, file.front(most))?;
     }
     Ok(shelf)
-}
-
-fn text_of(alloc: Global, bytes: &[u8]) -> Result<String, Fail> {
-    Ok(String::from_utf8(bytes.to_vec(alloc)?)?)
-}
-
-// Runs it over the files of a folder, which are then as the run left them.
-fn run_over<R: Threads + Sync + AllocGlobal>(
-    rt: &R,
-    trial: &Trial,
-    shelf: &mut MemShelf,
-) -> Result<Outcome, Fail> {
-    let alloc = rt.alloc();
-    let mut src = source_of(alloc, trial)?;
-    let mut out = sink_of(alloc, trial)?;
-    let status = lspace(rt, alloc, trial.words, &mut src, &mut out, shelf);
-    let written = text_of(alloc, out.written())?;
-    Ok(Outcome { written, status })
-}
-
-pub fn run<R: Threads + Sync + AllocGlobal>(rt: &R, trial: &Trial) -> Result<Outcome, Fail> {
-    let mut shelf = shelf_of(rt.alloc(), trial)?;
-    run_over(rt, trial, &mut shelf)
-}
-
-/// A run over a script that is answered to its end by these replies.
-pub fn answered<'a>(script: &'a str, replies: &'a str) -> Trial<'a> {
-    let is_refused = replies.starts_with("no ") || replies.contains("\nno ");
-    let status = if is_refused {
-        Status::Refused
-    } else {
-        Status::Done
-    };
-    Trial {
-        script,
-        replies,
-        status,
-        ..PLAIN
-    }
 }
 
 // The file of that name. A call that is to fail is made again.
@@ -114,146 +71,188 @@ fn fetched(shelf: &mut MemShelf, name: &str) -> Result<Vec<u8>, FetchFault> {
     }
 }
 
-// Compares the files of a folder with those that it is to have.
-fn check_left<R: Threads + Sync + AllocGlobal + Abort>(
-    rt: &R,
-    shelf: &mut MemShelf,
-    left: &[(&str, &str)],
-) -> Result<(), Fail> {
-    for (name, text) in left {
-        let bytes = fetched(shelf, name)?;
-        let found = text_of(rt.alloc(), &bytes)?;
-        assert_eq!(rt; found.as_str(), *text, "in {name:?}");
+// Whether the folder has a file of these bytes. Of one that is too large the length is compared.
+fn has(shelf: &mut MemShelf, name: &str, bytes: &[u8]) -> bool {
+    match fetched(shelf, name) {
+        Ok(found) => found.as_slice() == bytes,
+        Err(FetchFault::TooLarge { bytes: length }) => length == bytes.len() as u64,
+        Err(_) => false,
     }
-    Ok(())
 }
 
-/// Runs a trial over the files of a folder, and compares what was written, how it ended, and which
-/// files are left. The label tells which trial failed.
-pub fn check_over<R: Threads + Sync + AllocGlobal + Abort>(
-    rt: &R,
-    label: &str,
-    trial: &Trial,
-    shelf: &mut MemShelf,
-) -> Result<(), Fail> {
-    let outcome = run_over(rt, trial, shelf)?;
-    assert_eq!(rt; outcome.written.as_str(), trial.replies, "for {label:?}");
-    assert_eq!(rt; outcome.status, trial.status, "for {label:?}");
-    check_left(rt, shelf, trial.left)
-}
-
-/// Does so over the files of the trial.
-pub fn check_as<R: Threads + Sync + AllocGlobal + Abort>(
-    rt: &R,
-    label: &str,
-    trial: &Trial,
-) -> Result<(), Fail> {
-    let mut shelf = shelf_of(rt.alloc(), trial)?;
-    check_over(rt, label, trial, &mut shelf)
-}
-
-/// Does so, with the script as the label.
-pub fn check<R: Threads + Sync + AllocGlobal + Abort>(rt: &R, trial: &Trial) -> Result<(), Fail> {
-    check_as(rt, trial.script, trial)
-}
-
-/// Does so in pieces of several sizes.
-pub fn check_in_pieces<R: Threads + Sync + AllocGlobal + Abort>(
-    rt: &R,
-    trial: &Trial,
-) -> Result<(), Fail> {
-    for piece in [1, 7, 12, 4096] {
-        check(rt, &Trial { piece, ..*trial })?;
+// Whether the folder has each of these files.
+fn has_all(shelf: &mut MemShelf, files: &[File], most: usize) -> bool {
+    let mut is_so = true;
+    for file in files {
+        is_so = is_so && has(shelf, file.name, file.front(most));
     }
-    Ok(())
+    is_so
 }
 
-/// Does so with each script and its replies.
-pub fn check_scripts<R: Threads + Sync + AllocGlobal + Abort>(
-    rt: &R,
-    scripts: &[(&str, &str)],
-) -> Result<(), Fail> {
-    for (script, replies) in scripts {
-        check_in_pieces(rt, &answered(script, replies))?;
+// Whether the folder lacks each file that the case says is missing then.
+fn lacks_all(shelf: &mut MemShelf, case: &str) -> bool {
+    let mut is_so = true;
+    for line in case.lines() {
+        if let Some(name) = line.strip_prefix("- ") {
+            is_so = is_so && matches!(fetched(shelf, name), Err(FetchFault::Missing));
+        }
     }
-    Ok(())
+    is_so
 }
 
-/// Does so with each script and its replies over the files of a folder, where the calls on the
-/// folder with these numbers fail.
-pub fn check_calls<'a, R: Threads + Sync + AllocGlobal + Abort>(
-    rt: &R,
-    files: &'a [(&'a str, &'a str)],
-    scripts: &'a [(&'a [u64], &'a str, &'a str)],
-) -> Result<(), Fail> {
-    for (failing_calls, script, replies) in scripts {
-        let trial = Trial {
-            files,
-            failing_calls: *failing_calls,
-            ..answered(script, replies)
-        };
-        check_in_pieces(rt, &trial)?;
+// Whether the folder is as the case says after a run: a file that it doesn't name is as before.
+fn is_left(alloc: Global, case: &str, shelf: &mut MemShelf, most: usize) -> Result<bool, Trouble> {
+    let mut before = files_of(alloc, case, "@")?;
+    before.retain(|file| !tells(case, file.name));
+    let after = files_of(alloc, case, "=")?;
+    let is_kept = has_all(shelf, &before, most);
+    Ok(is_kept && has_all(shelf, &after, usize::MAX) && lacks_all(shelf, case))
+}
+
+// The status that is wanted: where the case doesn't say it, it is told by the replies.
+fn status_of(case: &str, replies: &[u8]) -> Result<u64, Trouble> {
+    if let Some(status) = last_of(case, "?") {
+        return status.parse::<u64>().map_err(|_| Trouble::Form);
     }
-    Ok(())
+    let is_refused = replies
+        .split(|b| *b == b'\n')
+        .any(|line| line.starts_with(b"no "));
+    Ok(u64::from(is_refused))
 }
 
-/// Runs a script over each text as the file `f`: the replies are the front and what is told of the
-/// text, with a line end.
-pub fn check_files<R: Threads + Sync + AllocGlobal + Abort>(
+// Whether a run to the end holds, over no more than so many bytes of each file.
+fn whole_holds<R: Threads + Sync + AllocGlobal>(
     rt: &R,
-    script: &str,
-    front: &str,
-    texts: &[(&str, &str)],
-) -> Result<(), Fail> {
-    for (text, told) in texts {
-        let replies = format!(in rt.alloc(); "{front}{told}\n")?;
-        check_file(rt, text, script, &replies)?;
-    }
-    Ok(())
-}
-
-/// Runs a script of whose replies one is a refusal: what is written begins with a front, has these
-/// parts one after another, and ends with the last of them.
-pub fn check_parts<R: Threads + Sync + AllocGlobal + Abort>(
-    rt: &R,
-    script: &str,
-    front: &str,
-    parts: &[&str],
-) -> Result<(), Fail> {
-    let outcome = run(rt, &answered(script, ""))?;
-    assert_eq!(rt; outcome.status, Status::Refused);
-    let mut rest = outcome.written.as_str();
-    assert!(rt; rest.starts_with(front));
-    for part in parts {
-        let found = rest.split_once(*part);
-        assert!(rt; found.is_some(), "no {part:?}");
-        rest = found.map_or("", |(_, after)| after);
-    }
-    assert_eq!(rt; rest, "");
-    Ok(())
-}
-
-/// Runs a trial whose file `f` has so many bytes, all of them the letter a.
-pub fn check_length<R: Threads + Sync + AllocGlobal + Abort>(
-    rt: &R,
-    length: usize,
-    trial: &Trial,
-) -> Result<(), Fail> {
-    let text = "a".repeat(rt.alloc(), length)?;
-    let files = &[("f", text.as_str())];
-    check(rt, &Trial { files, ..*trial })
-}
-
-/// Runs a script over the file `f` of this text, which is the label.
-pub fn check_file<'a, R: Threads + Sync + AllocGlobal + Abort>(
-    rt: &R,
-    text: &'a str,
-    script: &'a str,
-    replies: &'a str,
-) -> Result<(), Fail> {
-    let trial = Trial {
-        files: &[("f", text)],
-        ..answered(script, replies)
+    case: &str,
+    setting: Setting,
+    most: usize,
+) -> Result<bool, Trouble> {
+    let alloc = rt.alloc();
+    let replies = replies_of(alloc, case, usize::MAX)?;
+    let status = status_of(case, &replies)?;
+    let wanted = Wanted {
+        replies,
+        extent: Extent::Whole,
+        status,
     };
-    check_as(rt, text, &trial)
+    let mut shelf = shelf_of(alloc, case, most)?;
+    let is_met = meets(rt, case, setting, &mut shelf, &wanted)?;
+    Ok(is_met && is_left(alloc, case, &mut shelf, most)?)
+}
+
+// Whether runs hold over each front of the files but the whole of the first.
+fn fronts_hold<R: Threads + Sync + AllocGlobal>(
+    rt: &R,
+    case: &str,
+    piece: usize,
+) -> Result<bool, Trouble> {
+    let alloc = rt.alloc();
+    let length = files_of(alloc, case, "@")?
+        .first()
+        .map_or(0, |file| file.bytes.len());
+    for most in 0..length {
+        let setting = Setting {
+            piece,
+            reads: Vec::new(alloc),
+            writes: Vec::new(alloc),
+        };
+        if !whole_holds(rt, case, setting, most)? {
+            return Ok(false);
+        }
+    }
+    Ok(true)
+}
+
+// The setting in which one call of the source or of the sink fails.
+fn failing(alloc: Global, piece: usize, side: Side, call: u64) -> Result<Setting, Trouble> {
+    let mut reads = Vec::new(alloc);
+    let mut writes = Vec::new(alloc);
+    match side {
+        Side::Source => reads.push(call)?,
+        Side::Sink => writes.push(call)?,
+    }
+    Ok(Setting {
+        piece,
+        reads,
+        writes,
+    })
+}
+
+// What is wanted where that call fails: the replies to the lines that were read before, or a front
+// of all replies.
+fn wanted_of(
+    alloc: Global,
+    case: &str,
+    piece: usize,
+    side: Side,
+    call: u64,
+) -> Result<Wanted, Trouble> {
+    let made = usize::try_from(call.saturating_sub(1)).map_err(|_| Trouble::Form)?;
+    let (taken, extent, status) = match side {
+        Side::Source => (piece.saturating_mul(made), Extent::Whole, READ_FAULT),
+        Side::Sink => (usize::MAX, Extent::Front, WRITE_FAULT),
+    };
+    Ok(Wanted {
+        replies: replies_of(alloc, case, taken)?,
+        extent,
+        status,
+    })
+}
+
+// Whether the run holds in which that call fails.
+fn failed_holds<R: Threads + Sync + AllocGlobal>(
+    rt: &R,
+    case: &str,
+    piece: usize,
+    side: Side,
+    call: u64,
+) -> Result<bool, Trouble> {
+    let alloc = rt.alloc();
+    let wanted = wanted_of(alloc, case, piece, side, call)?;
+    let setting = failing(alloc, piece, side, call)?;
+    let mut shelf = shelf_of(alloc, case, usize::MAX)?;
+    meets(rt, case, setting, &mut shelf, &wanted)
+}
+
+// Whether the runs hold in which each call fails in turn, and one with a call more, which no run
+// makes.
+fn each_holds<R: Threads + Sync + AllocGlobal>(
+    rt: &R,
+    case: &str,
+    piece: usize,
+    side: Side,
+    calls: &str,
+) -> Result<bool, Trouble> {
+    let calls = calls.parse::<u64>().map_err(|_| Trouble::Form)?;
+    for call in 1..=calls {
+        if !failed_holds(rt, case, piece, side, call)? {
+            return Ok(false);
+        }
+    }
+    let setting = failing(rt.alloc(), piece, side, calls.saturating_add(1))?;
+    whole_holds(rt, case, setting, usize::MAX)
+}
+
+/// Whether a case holds where one read and one write move at most so many bytes.
+pub fn holds<R: Threads + Sync + AllocGlobal>(
+    rt: &R,
+    case: &str,
+    piece: usize,
+) -> Result<bool, Trouble> {
+    let alloc = rt.alloc();
+    if last_of(case, "! cut").is_some() {
+        return fronts_hold(rt, case, piece);
+    }
+    if let Some(calls) = last_of(case, "! source-each") {
+        return each_holds(rt, case, piece, Side::Source, calls);
+    }
+    if let Some(calls) = last_of(case, "! sink-each") {
+        return each_holds(rt, case, piece, Side::Sink, calls);
+    }
+    let setting = Setting {
+        piece,
+        reads: numbers_of(alloc, case, "! source")?,
+        writes: numbers_of(alloc, case, "! sink")?,
+    };
+    whole_holds(rt, case, setting, usize::MAX)
 }
