@@ -1,9 +1,8 @@
 // What the lines of a case give. Each begins with a mark; a group's own lines stand before them.
-use crate::text::{push_line, push_open_lines};
-use crate::trouble::Trouble;
+use crate::text::{Trouble, number, push_line, push_open_lines};
 use std::alloc::{AllocError, Global};
 
-/// A line's mark, and what stands behind it.
+// A line's mark, and what stands behind it.
 fn parts(line: &str) -> (&str, &str) {
     line.split_once(' ').unwrap_or((line, ""))
 }
@@ -32,7 +31,7 @@ pub fn last_of<'a>(case: &'a str, words: &str) -> Option<&'a str> {
 pub fn numbers_of(alloc: Global, case: &str, words: &str) -> Result<Vec<u64>, Trouble> {
     let mut numbers = Vec::new(alloc);
     for word in last_of(case, words).unwrap_or("").split_whitespace() {
-        numbers.push(word.parse::<u64>().map_err(|_| Trouble::Form)?)?;
+        numbers.push(number(word)?)?;
     }
     Ok(numbers)
 }
@@ -42,9 +41,7 @@ pub fn words_of<'a>(alloc: Global, case: &'a str) -> Result<Vec<&'a str>, AllocE
     let mut words = Vec::new(alloc);
     for line in case.lines() {
         if let ("$", body) = parts(line) {
-            for word in body.split(' ') {
-                words.push(word)?;
-            }
+            words.extend(body.split(' '))?;
         }
     }
     Ok(words)
@@ -103,7 +100,10 @@ pub fn files_of<'a>(alloc: Global, case: &'a str, mark: &str) -> Result<Vec<File
                     files.push(File { name, bytes })?;
                 }
             }
-            ("|", body) if is_own => push_last(&mut files, case, body)?,
+            ("|", body) if is_own => {
+                let file: &mut File = files.last_mut().ok_or(Trouble::Form)?;
+                push_line(&mut file.bytes, case, body)?;
+            }
             _ => {}
         }
     }
@@ -113,14 +113,6 @@ pub fn files_of<'a>(alloc: Global, case: &'a str, mark: &str) -> Result<Vec<File
 /// Whether the case says what the file of that name is after the run, or that it is missing then.
 pub fn tells(case: &str, name: &str) -> bool {
     case.lines().any(|line| matches!(parts(line), ("=" | "-", told) if told == name))
-}
-
-// Pushes a line to the last file.
-fn push_last(files: &mut Vec<File>, case: &str, line: &str) -> Result<(), Trouble> {
-    match files.last_mut() {
-        Some(file) => push_line(&mut file.bytes, case, line),
-        None => Err(Trouble::Form),
-    }
 }
 
 // Whether a line has one of the forms. A line of a file has one of its own before.

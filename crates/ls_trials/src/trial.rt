@@ -1,33 +1,18 @@
 // Runs of the program over objects in memory, as a case gives them.
-use crate::case::{File, files_of, last_of, numbers_of, replies_of, script_of, tells, words_of};
+use crate::case::{
+    File, files_of, is_formed, last_of, numbers_of, replies_of, script_of, tells, words_of,
+};
 use crate::extent::{Extent, extent_of};
-use crate::trouble::Trouble;
+use crate::text::{Trouble, number};
 use ls_edge::{FetchFault, MemShelf, MemSink, MemSource, Shelf};
 use ls_shell::lspace;
 use std::alloc::Global;
 use std::thread::Threads;
 
-// The statuses of a run whose source failed, and of one whose sink failed.
-const READ_FAULT: u64 = 3;
+// How many bytes one read and one write move at most, where a case doesn't say it.
+const PIECES: [u64; 5] = [1, 2, 7, 12, 4096];
 
-const WRITE_FAULT: u64 = 4;
-
-// The object of which a call fails.
-#[derive(Clone, Copy)]
-enum Side {
-    Source,
-    Sink,
-}
-
-// How many bytes one read and one write move at most, and which of them fail.
-#[derive(Drop)]
-struct Setting {
-    piece: usize,
-    reads: Vec<u64>,
-    writes: Vec<u64>,
-}
-
-// What a run is to write, how far it comes, and how it is to end.
+// What a run is to write, how far it comes, and the status with which it is to end.
 #[derive(Drop)]
 struct Wanted {
     replies: Vec<u8>,
@@ -35,26 +20,26 @@ struct Wanted {
     status: u64,
 }
 
-// Runs the case over the files of a folder, which are then as the run left them, and says whether
-// it wrote and ended as is wanted.
+// Runs a case over the files of a folder, which are then as the run left them, and says whether it
+// wrote and ended as is wanted.
 fn meets<R: Threads + Sync + AllocGlobal>(
     rt: &R,
     case: &str,
-    setting: Setting,
+    piece: usize,
     shelf: &mut MemShelf,
     wanted: &Wanted,
 ) -> Result<bool, Trouble> {
     let alloc = rt.alloc();
-    let piece = setting.piece.max(1);
     let words = words_of(alloc, case)?;
-    let mut src = MemSource::new(script_of(alloc, case)?, piece, setting.reads);
-    let mut out = MemSink::new(alloc, piece, setting.writes);
+    let reads = numbers_of(alloc, case, "! source")?;
+    let mut src = MemSource::new(script_of(alloc, case)?, piece.max(1), reads);
+    let mut out = MemSink::new(alloc, piece.max(1), numbers_of(alloc, case, "! sink")?);
     let status = lspace(rt, alloc, &words, &mut src, &mut out, shelf).code();
     let extent = extent_of(&wanted.replies, out.written());
     Ok(extent == wanted.extent && u64::from(status) == wanted.status)
 }
 
-// The folder before the run, which has no more than so many bytes of each file.
+// The folder before a run, which has no more than so many bytes of each file.
 fn shelf_of(alloc: Global, case: &str, most: usize) -> Result<MemShelf, Trouble> {
     let mut shelf = MemShelf::new(alloc, numbers_of(alloc, case, "! shelf")?);
     for file in &files_of(alloc, case, "@")? {
@@ -109,35 +94,30 @@ fn is_left(alloc: Global, case: &str, shelf: &mut MemShelf, most: usize) -> Resu
     Ok(is_kept && has_all(shelf, &after, usize::MAX) && lacks_all(shelf, case))
 }
 
-// The status that is wanted: where the case doesn't say it, it is told by the replies.
-fn status_of(case: &str, replies: &[u8]) -> Result<u64, Trouble> {
-    if let Some(status) = last_of(case, "?") {
-        return status.parse::<u64>().map_err(|_| Trouble::Form);
-    }
-    let is_refused = replies
-        .split(|b| *b == b'\n')
-        .any(|line| line.starts_with(b"no "));
-    Ok(u64::from(is_refused))
+// What a run to the end is to write. Its status is told by the replies, where the case doesn't.
+fn whole_of(alloc: Global, case: &str) -> Result<Wanted, Trouble> {
+    let replies = replies_of(alloc, case, usize::MAX)?;
+    let mut lines = replies.split(|b| *b == b'\n');
+    let is_refused = lines.any(|line| line.starts_with(b"no "));
+    let status = last_of(case, "?").map_or(Ok(u64::from(is_refused)), number)?;
+    let extent = Extent::Whole;
+    Ok(Wanted {
+        replies,
+        extent,
+        status,
+    })
 }
 
 // Whether a run to the end holds, over no more than so many bytes of each file.
 fn whole_holds<R: Threads + Sync + AllocGlobal>(
     rt: &R,
     case: &str,
-    setting: Setting,
+    piece: usize,
     most: usize,
 ) -> Result<bool, Trouble> {
-    let alloc = rt.alloc();
-    let replies = replies_of(alloc, case, usize::MAX)?;
-    let status = status_of(case, &replies)?;
-    let wanted = Wanted {
-        replies,
-        extent: Extent::Whole,
-        status,
-    };
-    let mut shelf = shelf_of(alloc, case, most)?;
-    let is_met = meets(rt, case, setting, &mut shelf, &wanted)?;
-    Ok(is_met && is_left(alloc, case, &mut shelf, most)?)
+    let mut shelf = shelf_of(rt.alloc(), case, most)?;
+    let is_met = meets(rt, case, piece, &mut shelf, &whole_of(rt.alloc(), case)?)?;
+    Ok(is_met && is_left(rt.alloc(), case, &mut shelf, most)?)
 }
 
 // Whether runs hold over each front of the files but the whole of the first.
@@ -146,113 +126,103 @@ fn fronts_hold<R: Threads + Sync + AllocGlobal>(
     case: &str,
     piece: usize,
 ) -> Result<bool, Trouble> {
-    let alloc = rt.alloc();
-    let length = files_of(alloc, case, "@")?
-        .first()
-        .map_or(0, |file| file.bytes.len());
+    let files = files_of(rt.alloc(), case, "@")?;
+    let length = files.first().map_or(0, |file| file.bytes.len());
     for most in 0..length {
-        let setting = Setting {
-            piece,
-            reads: Vec::new(alloc),
-            writes: Vec::new(alloc),
-        };
-        if !whole_holds(rt, case, setting, most)? {
+        if !whole_holds(rt, case, piece, most)? {
             return Ok(false);
         }
     }
     Ok(true)
 }
 
-// The setting in which one call of the source or of the sink fails.
-fn failing(alloc: Global, piece: usize, side: Side, call: u64) -> Result<Setting, Trouble> {
-    let mut reads = Vec::new(alloc);
-    let mut writes = Vec::new(alloc);
-    match side {
-        Side::Source => reads.push(call)?,
-        Side::Sink => writes.push(call)?,
-    }
-    Ok(Setting {
-        piece,
-        reads,
-        writes,
-    })
-}
-
-// What is wanted where that call fails: the replies to the lines that were read before, or a front
-// of all replies.
-fn wanted_of(
-    alloc: Global,
-    case: &str,
-    piece: usize,
-    side: Side,
-    call: u64,
-) -> Result<Wanted, Trouble> {
-    let made = usize::try_from(call.saturating_sub(1)).map_err(|_| Trouble::Form)?;
-    let (taken, extent, status) = match side {
-        Side::Source => (piece.saturating_mul(made), Extent::Whole, READ_FAULT),
-        Side::Sink => (usize::MAX, Extent::Front, WRITE_FAULT),
+// What a run is to write of which so many calls were made before one of the source, or of the sink,
+// fails: the replies to the lines that were read whole, or a front of all replies.
+fn part_of(alloc: Global, case: &str, piece: usize, made: u64) -> Result<Wanted, Trouble> {
+    let made = usize::try_from(made).map_err(|_| Trouble::Form)?;
+    let is_read = last_of(case, "! source").is_some();
+    let (taken, extent, status) = if is_read {
+        (piece.saturating_mul(made), Extent::Whole, 3)
+    } else {
+        (usize::MAX, Extent::Front, 4)
     };
+    let replies = replies_of(alloc, case, taken)?;
     Ok(Wanted {
-        replies: replies_of(alloc, case, taken)?,
+        replies,
         extent,
         status,
     })
 }
 
-// Whether the run holds in which that call fails.
-fn failed_holds<R: Threads + Sync + AllocGlobal>(
+// Whether a run holds after so many calls of which the next one fails, as the case says.
+fn part_holds<R: Threads + Sync + AllocGlobal>(
     rt: &R,
     case: &str,
     piece: usize,
-    side: Side,
-    call: u64,
+    made: u64,
 ) -> Result<bool, Trouble> {
-    let alloc = rt.alloc();
-    let wanted = wanted_of(alloc, case, piece, side, call)?;
-    let setting = failing(alloc, piece, side, call)?;
-    let mut shelf = shelf_of(alloc, case, usize::MAX)?;
-    meets(rt, case, setting, &mut shelf, &wanted)
+    let wanted = part_of(rt.alloc(), case, piece, made)?;
+    let mut shelf = shelf_of(rt.alloc(), case, usize::MAX)?;
+    meets(rt, case, piece, &mut shelf, &wanted)
 }
 
-// Whether the runs hold in which each call fails in turn, and one with a call more, which no run
-// makes.
+// Whether the runs hold in which each of so many calls fails in turn, and one in which the call
+// after them would, which no run makes.
 fn each_holds<R: Threads + Sync + AllocGlobal>(
     rt: &R,
     case: &str,
     piece: usize,
-    side: Side,
-    calls: &str,
+    side: &str,
+    calls: u64,
 ) -> Result<bool, Trouble> {
-    let calls = calls.parse::<u64>().map_err(|_| Trouble::Form)?;
-    for call in 1..=calls {
-        if !failed_holds(rt, case, piece, side, call)? {
+    for made in 0..calls {
+        let call = made.saturating_add(1);
+        let failing = format!(in rt.alloc(); "{case}\n! {side} {call}")?;
+        if !part_holds(rt, &failing, piece, made)? {
             return Ok(false);
         }
     }
-    let setting = failing(rt.alloc(), piece, side, calls.saturating_add(1))?;
-    whole_holds(rt, case, setting, usize::MAX)
+    let call = calls.saturating_add(1);
+    let whole = format!(in rt.alloc(); "{case}\n! {side} {call}")?;
+    whole_holds(rt, &whole, piece, usize::MAX)
 }
 
-/// Whether a case holds where one read and one write move at most so many bytes.
-pub fn holds<R: Threads + Sync + AllocGlobal>(
+// Whether a case holds where one read and one write move at most so many bytes.
+fn holds<R: Threads + Sync + AllocGlobal>(
     rt: &R,
     case: &str,
     piece: usize,
 ) -> Result<bool, Trouble> {
-    let alloc = rt.alloc();
     if last_of(case, "! cut").is_some() {
-        return fronts_hold(rt, case, piece);
+        fronts_hold(rt, case, piece)
+    } else if let Some(calls) = last_of(case, "! source-each") {
+        each_holds(rt, case, piece, "source", number(calls)?)
+    } else if let Some(calls) = last_of(case, "! sink-each") {
+        each_holds(rt, case, piece, "sink", number(calls)?)
+    } else {
+        whole_holds(rt, case, piece, usize::MAX)
     }
-    if let Some(calls) = last_of(case, "! source-each") {
-        return each_holds(rt, case, piece, Side::Source, calls);
+}
+
+/// The first size of pieces in which a case doesn't hold.
+pub fn differing<R: Threads + Sync + AllocGlobal>(
+    rt: &R,
+    case: &str,
+) -> Result<Option<usize>, Trouble> {
+    if !is_formed(case) {
+        return Err(Trouble::Form);
     }
-    if let Some(calls) = last_of(case, "! sink-each") {
-        return each_holds(rt, case, piece, Side::Sink, calls);
-    }
-    let setting = Setting {
-        piece,
-        reads: numbers_of(alloc, case, "! source")?,
-        writes: numbers_of(alloc, case, "! sink")?,
+    let own = numbers_of(rt.alloc(), case, "%")?;
+    let pieces = if own.is_empty() {
+        &PIECES
+    } else {
+        own.as_slice()
     };
-    whole_holds(rt, case, setting, usize::MAX)
+    for piece in pieces {
+        let piece = usize::try_from(*piece).map_err(|_| Trouble::Form)?;
+        if !holds(rt, case, piece)? {
+            return Ok(Some(piece));
+        }
+    }
+    Ok(None)
 }
