@@ -31,23 +31,27 @@ fn is_page<L: Ledger>(
     }
 }
 
+// How many sets come after the given one.
+fn after<L: Ledger>(alloc: Global, f: &Free, set: ItemSet, steps: &mut Steps<L>) -> usize
+    requires { IsWithin set (full f.now) }
+{
+    match States::from_cursor(&Counted::new(f), set, steps).collect::<Vec<ItemSet>>(alloc) {
+        Ok(sets) => sets.len(),
+        Err(_) => 0,
+    }
+}
+
 // The first two sets, those after the second, how many there are, and how many after the first.
-fn listings<L: Ledger>(tally: &mut Tally, alloc: Global, f: &Counted<Free>, steps: &mut Steps<L>) {
-    let all = first(f, steps);
-    let second = next_after(f, all, steps);
-    tally.want(is_page(alloc, f, None, 2, (2, true), steps), "a page");
-    tally.want(
-        is_page(alloc, f, second, 7, (6, false), steps),
-        "the last page",
-    );
-    tally.want(
-        States::from_start(f, steps).count() == 8,
-        "the count of all",
-    );
-    tally.want(
-        States::from_cursor(f, all, steps).count() == 7,
-        "the count of others",
-    );
+fn listings<L: Ledger>(tally: &mut Tally, alloc: Global, steps: &mut Steps<L>) {
+    let free = Free::new(3);
+    let f = Counted::new(&free);
+    let all = first(&f, steps);
+    let second = next_after(&f, all, steps);
+    let front = is_page(alloc, &f, None, 2, (2, true), steps);
+    let rest = is_page(alloc, &f, second, 7, (6, false), steps);
+    tally.want(front && rest, "pages");
+    let count = States::from_start(&f, steps).count();
+    tally.want(count == 8 && after(alloc, &free, all, steps) == 7, "counts");
 }
 
 // The query of one item and another.
@@ -103,10 +107,9 @@ fn all_sets<L: Ledger>(tally: &mut Tally, alloc: Global, blank: Blank)
     requires one { blank.parts ≡ 1 }
 {
     let free = Free::new(3);
-    let f = Counted::new(&free);
     let mut steps = Steps::<L>::new(blank);
-    listings(tally, alloc, &f, &mut steps);
-    table(tally, alloc, &f, &mut steps);
+    listings(tally, alloc, &mut steps);
+    table(tally, alloc, &Counted::new(&free), &mut steps);
 }
 
 #[test]
