@@ -1,4 +1,5 @@
 use Rattle.std.proofs.Common.{◌≡◌, ◌∷◌, ◌++◌, [], List, true, arith, sym, ap, ap₂, ◌∙◌}
+use Rattle.ls_set.specs.ItemSet.{Items}
 use Rattle.ls_set.specs.declared.query.Query.{Query}
 use Rattle.ls_theory.specs.Interviews.{Interview, accepted}
 use Rattle.ls_theory.specs.Compatible.{compat, compatible_sets}
