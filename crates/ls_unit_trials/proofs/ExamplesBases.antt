@@ -1,24 +1,31 @@
--- Examples: the sets that a list needs, and a surmise function of five items, of which three share clauses.
-use Rattle.std.proofs.Common.{ℕ, ◌≡◌, refl, List, [], ◌∷◌, Ok}
+-- Examples: the base of listed sets, and a surmise function of five items, of which three share clauses.
+use Rattle.std.proofs.Common.{ℕ, ◌≡◌, refl, List, [], ◌∷◌, Ok, Err}
 use Rattle.ls_set.specs.ItemSet.{Items, has, empty, full, with, without, union, meet, minus, single, differing, is_within, is_same, bound, items, len, least, comes_before, set_of}
 use Rattle.ls_theory.specs.Families.{interior}
-use Rattle.ls_laws.specs.Spans.{needed, spanned}
+use Rattle.ls_theory.specs.Compatible.{compat}
+use Rattle.ls_theory.specs.Bases.{base, based}
+use Rattle.ls_theory.specs.declared.base_fault.BaseFault.TheVariants.{NotSpanning}
+use Rattle.ls_laws.specs.Spans.{spanned}
 use Rattle.ls_base.specs.Bases.{BaseState}
 use Rattle.ls_surmise.specs.Surmises.{surmised}
 
 -- an example that opens this opens each word
 unfoldable words : ℕ
-unfolding has empty full with without union meet minus single differing is_within is_same bound items len least comes_before interior spanned
+unfolding has empty full with without union meet minus single differing is_within is_same bound items len least comes_before interior compat base spanned
 words = 0
 
 abbrev set : List ℕ → Items
 set is = set_of is
 
--- a union, a repeat and the empty set are left out
-left_out : needed (empty ∷ set (1 ∷ 2 ∷ []) ∷ set (0 ∷ 1 ∷ []) ∷ set (1 ∷ []) ∷ set (0 ∷ []) ∷ set (1 ∷ 2 ∷ []) ∷ [])
-    ≡ set (0 ∷ []) ∷ set (1 ∷ 2 ∷ []) ∷ set (1 ∷ []) ∷ []
+-- a union, a repeat and the empty set are left out; an item that no set has is told
+left_out : based 3 (empty ∷ set (1 ∷ 2 ∷ []) ∷ set (0 ∷ 1 ∷ []) ∷ set (1 ∷ []) ∷ set (0 ∷ []) ∷ set (1 ∷ 2 ∷ []) ∷ [])
+    ≡ Ok (set (0 ∷ []) ∷ set (1 ∷ 2 ∷ []) ∷ set (1 ∷ []) ∷ [])
 unfolding words
 left_out = refl
+
+missing : based 3 (set (0 ∷ 1 ∷ []) ∷ set (1 ∷ []) ∷ []) ≡ Err (NotSpanning 2)
+unfolding words
+missing = refl
 
 abbrev a : Items
 a = set (0 ∷ [])
