@@ -105,20 +105,23 @@ fn answered(number: u64, a: u32, q: u32, yes: bool) -> Answer
     }
 }
 
+// The last of three answers, with which they stand or don't.
+fn last_of_three(stands: bool) -> Answer {
+    if stands {
+        return answered(4, 2, 0, true);
+    }
+    answered(4, 0, 2, false)
+}
+
 // Answers that stand give an interview, and others do not.
 fn resumed<L: Ledger>(tally: &mut Tally, alloc: Global, steps: &mut Steps<L>) {
-    let last = answered(4, 2, 0, true);
-    for (k, next, last, want) in [
-        (1, 5, last, None),
-        (0, 5, last, Some(StandingFault::BadBlock)),
-        (1, 4, last, Some(StandingFault::BadAnswers)),
-        (
-            1,
-            5,
-            answered(4, 0, 2, false),
-            Some(StandingFault::BadAnswers),
-        ),
+    for (k, next, stands, want) in [
+        (1, 5, true, None),
+        (0, 5, true, Some(StandingFault::BadBlock)),
+        (1, 4, true, Some(StandingFault::BadAnswers)),
+        (1, 5, false, Some(StandingFault::BadAnswers)),
     ] {
+        let last = last_of_three(stands);
         let answers = [answered(1, 0, 1, true), answered(3, 1, 2, true), last];
         let made = Interview::from_standing(alloc, 3, Start::Free, k, next, &answers, steps);
         tally.want(made.err() == want, "answers that stand");
