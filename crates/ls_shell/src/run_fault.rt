@@ -2,21 +2,17 @@
 
 use ls_session::StepFault;
 use std::alloc::AllocError;
-use thiserror::Error;
 
-/// Why a run ended before the end of its script.
-#[derive(Clone, Copy, Debug, PartialEq, Eq, Error)]
+/// Why a run ended before the end of its script. It is told as a status alone.
+#[derive(Clone, Copy)]
 pub enum RunFault {
     /// The script has more bytes than are read.
-    #[error("the script is too long")]
     Long,
     /// The source failed.
-    #[error("the read failed")]
     Read,
     /// The sink failed.
-    #[error("the write failed")]
     Write,
-    #[error("out of memory")]
+    /// Memory ran out.
     Memory(AllocError),
 }
 
