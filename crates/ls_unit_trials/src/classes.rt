@@ -145,20 +145,55 @@ fn never<R: Threads + AllocGlobal + Sync>(
 
 const NAMES: &[u8] = b"a\nb\nc\nd\ne\nf\ng\nh\ni\nj\nk\nl\n";
 
-// The odds 64 of each item are too heavy.
+// The standard settings of so many items.
+fn standard(alloc: Global, n: u32) -> Result<Settings, AllocError>
+    requires { n ≤ PLACES }
+    ensures { IfOk result (λ s. length s.ratios ≡ n) }
+{
+    Settings::standard(alloc, n)
+}
+
+// Settings that are too heavy: the odds 64 of each item.
+fn too_heavy(alloc: Global, n: u32) -> Result<Settings, Fail>
+    requires some { 0 < n }
+    requires few { n ≤ PLACES }
+    ensures { IfOk result (λ s. length s.ratios ≡ n) }
+{
+    let mut s = standard(alloc, n)?;
+    s.set_item(0, 64, 64)?;
+    s.set_all(64, 64)?;
+    Ok(s)
+}
+
+// All that is tried, over states that can be weighed by the settings of as many items.
+fn entering<R: Threads + AllocGlobal + CpuClock + Sync>(
+    tally: &mut Tally,
+    rt: &R,
+    domain: &Domain,
+    states: &SetList,
+    s: &Settings,
+    heavy: &Settings,
+) -> Result<(), AllocError>
+    requires weighable { (s : Settled) → length s.ratios ≡ length domain.now →
+        IsWeighable (length domain.now) states.now s }
+    requires standard { length s.now.ratios ≡ length domain.now }
+    requires heavy { length heavy.now.ratios ≡ length domain.now }
+{
+    at_once(tally, rt, domain, states, s);
+    once(tally, rt, domain, states, s)?;
+    first(tally, rt, domain, states, s);
+    never(tally, rt, domain, states, heavy)
+}
+
 #[test]
 fn pupils_enter_the_gate(rt: HostRuntime) -> Result<(), Fail> {
     let mut tally = Tally::new();
     let domain = Domain::from_csv(rt.alloc(), NAMES)?;
     let n = domain.count();
     let states = all_sets::<Brand>(rt.alloc(), n, Blank::new(1))?;
-    let mut s = Settings::standard(rt.alloc(), n)?;
-    at_once(&mut tally, &rt, &domain, &states, &s);
-    once(&mut tally, &rt, &domain, &states, &s)?;
-    first(&mut tally, &rt, &domain, &states, &s);
-    s.set_item(0, 64, 64)?;
-    s.set_all(64, 64)?;
-    never(&mut tally, &rt, &domain, &states, &s)?;
+    let s = standard(rt.alloc(), n)?;
+    let heavy = too_heavy(rt.alloc(), n)?;
+    entering(&mut tally, &rt, &domain, &states, &s, &heavy)?;
     assert_eq!(rt; tally.wrong, None);
     Ok(())
 }
