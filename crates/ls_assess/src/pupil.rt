@@ -15,7 +15,7 @@ use std::alloc::{AllocError, Global};
 use std::marker::Model;
 
 /// The assessment of one pupil. Contracts see the settings, the states and the replies.
-#[derive(Debug, Drop)]
+#[derive(Drop)]
 pub struct Pupil {
     weights: Weights,
 }

@@ -78,9 +78,6 @@ own-one s own sets i had one less =
       | inr n ↦ omega arith
     ]
 
-pub own-all : (s own : Items) (sets : List Items) (i : ℕ) → i ≡ 0 → IsOwn own s sets i → own ≡ minus s (union_below sets s)
-own-all s own sets i z had = had ∙ ap (λ j. minus s (union_below (drop j sets) s)) z
-
 -- ---- the sets of a base
 
 among-place : (f : List Items) (p : ℕ) (k : Items) → slice_get f p ≡ Some k → is_among f k ≡ true

@@ -1,10 +1,10 @@
 -- Trails: what their entries stand for, and which is the last.
-use Rattle.std.proofs.Common.{ℕ, suc, ◌+◌, ◌-◌, ◌<◌, ◌≤◌, ◌≡◌, inl, inr, true, false, cond, eqb, ltb, List, [], ◌∷◌, ◌++◌, length, take, drop, filter, get_or, slice_get, Some, IfSome, option_map, refl, sym, ap, ◌∙◌, arith, subst, length-append, ltb-true, eqb-true}
+use Rattle.std.proofs.Common.{ℕ, suc, ◌+◌, ◌-◌, ◌<◌, ◌≤◌, ◌≡◌, inl, inr, true, false, cond, ltb, List, [], ◌∷◌, ◌++◌, length, take, drop, filter, get_or, slice_get, Some, IfSome, option_map, refl, sym, ap, ◌∙◌, arith, subst, length-append, ltb-true}
 use Rattle.std.proofs.Math.Dec.{leb}
 use Rattle.std.proofs.Math.ListN.{set}
 use Rattle.std.specs.List.{All, list_all}
 use Rattle.std.specs.Option.{option_map_or}
-use Rattle.std.proofs.lemmas.Bool.{cases_lt, le-leb, leb-true, ltb-false}
+use Rattle.std.proofs.lemmas.Bool.{cases_lt, leb-true, ltb-false}
 use Rattle.std.proofs.lemmas.List.{take_more, take-take, take_all, take-append-le, length-take, length-take-le, length-set}
 use Rattle.std.proofs.lemmas.List.Elements.{All-set, All-push, All-append, All-take, All-drop, All-map, All-filter, All-weaker, All-from_recursion, filter_passes}
 use Rattle.std.proofs.lemmas.Option.{slice_get_within, slice_get_read, slice_get-get_or, get_or_from_slice_get}
@@ -13,7 +13,7 @@ use Rattle.ls_set.specs.Query.{is_good}
 use Rattle.ls_set.specs.declared.query.Query.{Query}
 use Rattle.ls_theory.specs.Starts.{Start}
 use Rattle.ls_base.specs.Followed.{IsFollowed, IsAskable}
-use Rattle.ls_base.specs.Trail.{IsEntry, IsTrail, EndsAt, AreAskable, last_entry, reached, is_begun, begins_at_none, cut, given_up}
+use Rattle.ls_base.specs.Trail.{IsEntry, IsTrail, EndsAt, AreAskable, last_entry, reached, begins_at_none, cut, given_up}
 use Rattle.ls_base.specs.declared.followed.Followed.{Followed}
 use Rattle.ls_base.specs.declared.trail.Entry.{Entry}
 use Rattle.ls_lists.proofs.Every.{list_all-All}
@@ -153,21 +153,6 @@ trail-given_up n start yeses others es count t same =
     let kept = All-filter p (IsEntry n start yeses) es t in
     let low = filter_passes p es in
     All-map (IsEntry n start others) (cut count) (filter p es) (λ k d l. entry-cut n start yeses others (get_or (filter p es) k d) count (kept k d l) same (leb-true (get_or (filter p es) k d).first count (low k d l)))
-
-cut-first : (count : ℕ) (e : Entry) → (cut count e).first ≡ e.first
-cut-first count e = elim (ltb count e.last) as (λ b. (cond b (record e { last = count }) e).first ≡ e.first) [ true ↦ refl | false ↦ refl ]
-
-pub given_up-begins : (count : ℕ) (es : List Entry) → begins_at_none es ≡ true → begins_at_none (given_up count es) ≡ true
-given_up-begins count [] h = refl
-given_up-begins count (e ∷ es) h =
-    let low : e.first ≡ 0 = eqb-true e.first 0 h in
-    rw (le-leb e.first count (omega arith)) (ap (λ m. eqb m 0) (cut-first count e) ∙ h)
-
-pub given_up-begun : (count : ℕ) (es : List Entry) → begins_at_none es ≡ true → is_begun (given_up count es) ≡ is_begun es
-given_up-begun count [] h = refl
-given_up-begun count (e ∷ es) h =
-    let low : e.first ≡ 0 = eqb-true e.first 0 h in
-    rw (le-leb e.first count (omega arith)) refl
 
 -- ---- one more Yes answer, and queries
 

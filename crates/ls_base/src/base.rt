@@ -24,7 +24,7 @@ pub const MOST_BASE_SETS: usize = 4096;
 
 /// A base: sets in their order, none of which is empty or a union of others. It means the family of
 /// all unions of its sets, and they are the atoms of that family.
-#[derive(Debug, Drop)]
+#[derive(Drop)]
 pub struct Base {
     n: u32,
     sets: Vec<ItemSet>,

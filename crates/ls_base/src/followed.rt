@@ -16,7 +16,7 @@ use std::alloc::AllocError;
 /// The base of the compatible sets under the first Yes answers of an interview; or, from the first
 /// of them on with which the base had too many sets, the number of that answer, counted from 1, and
 /// how many sets the base had then.
-#[derive(Debug, Drop)]
+#[derive(Drop)]
 pub enum Followed {
     Within(Base),
     Past { position: usize, count: usize },

@@ -13,7 +13,7 @@ use ls_set::{ItemSet, PLACES, Query};
 use std::alloc::{AllocError, Global};
 
 /// A base set that breaks a query, and the items at which it is an atom.
-#[derive(Clone, Copy, Debug)]
+#[derive(Clone, Copy)]
 pub struct Broken {
     set: ItemSet,
     items: ItemSet,

@@ -19,7 +19,7 @@ use std::marker::Model;
 pub const MOST_KEPT_SETS: usize = 65536;
 
 /// What is followed over each number of first Yes answers from `first` to `last`.
-#[derive(Debug, Drop)]
+#[derive(Drop)]
 pub struct Entry {
     first: usize,
     last: usize,
@@ -32,7 +32,7 @@ pub struct Entry {
 ///
 /// Where the entries keep more than [`MOST_KEPT_SETS`] sets in all, the oldest but the first are
 /// let go, until they don't. The first and the last are kept: they have no more than 8,192.
-#[derive(Debug, Drop)]
+#[derive(Drop)]
 pub struct Trail {
     entries: Vec<Entry>,
 }

@@ -1,16 +1,15 @@
 -- The atoms of what a Yes leaves: those that do not break the query stay, and the others are unions of one that does with a set that has an item of A.
 use Rattle.std.proofs.Common.{ℕ, ◌≡◌, ◌⊎◌, inl, inr, true, false, cond, not, ◌||◌, List, [], ◌∷◌, ◌++◌, filter, refl, sym, ap, ◌∙◌, subst, true≢false}
-use Rattle.std.proofs.lemmas.Bool.{cases_Bool, and_parts, and_from, not-true, not_from_false, false_from_ne_true}
+use Rattle.std.proofs.lemmas.Bool.{cases_Bool}
 use Rattle.ls_lists.proofs.Bools.{same_truth}
-use Rattle.ls_set.specs.ItemSet.{Items, has, empty, union, meet, is_same, is_among, IsWithin, IsInOrder}
+use Rattle.ls_set.specs.ItemSet.{Items, has, union, is_among, IsWithin, IsInOrder}
 use Rattle.ls_set.specs.declared.query.Query.{Query}
-use Rattle.ls_set.proofs.Sets.{has-empty, has-meet, union-left, union-right, union-within, Decides-is_same}
+use Rattle.ls_set.proofs.Sets.{union-left, union-right, union-within}
 use Rattle.ls_theory.specs.Queries.{breaks, some_breaks}
 use Rattle.ls_theory.specs.Bases.{is_atom_at, atoms_at, base}
 use Rattle.ls_laws.specs.Spans.{IsPart, left_by, touches}
 use Rattle.ls_laws.specs.Families.{IsUnionClosed}
 use Rattle.ls_laws.proofs.Lists.{same_members, IsInOrder-filter}
-use Rattle.ls_laws.proofs.Counts.{some_item}
 use Rattle.ls_laws.proofs.Atoms.{IsAtom, IsAtom-from, is_atom_at-from, among-base, base-atom, base-member, atom_within}
 use Rattle.ls_laws.proofs.Breaks.{Breaks-from, breaks-from, breaker, some_breaks-here, some_breaks-part, among-left_from, among-left_parts}
 use Rattle.ls_laws.proofs.Remains.{among-joins, from-joins, touches-at, common, spared, unbroken}
@@ -47,10 +46,6 @@ pub near_least-below : (f : List Items) (r : Query) → IsBelow (least_sets (nea
 near_least-below f r = below-through (least_sets (near (base f) r)) (near (base f) r) (near f r) (least-below (near (base f) r)) (near-below f r)
 
 -- ---- the atoms at an item
-
--- the atoms at an item lie within the members with it, and so do the base sets with it
-pub atoms-below : (f : List Items) (i : ℕ) → IsBelow (atoms_at f i) (having i f)
-atoms-below f i = subst (λ l. IsBelow l (having i f)) (sym (atoms-least f i)) (least-below (having i f))
 
 pub atom-stays : (f : List Items) (r : Query) (i : ℕ) (k : Items) → IsAtom f i k → breaks k r ≡ false → IsAtom (left_by r f) i k
 atom-stays f r i k a b = record { member = among-left_from f r k a.member b; has_q = a.has_q; least = λ l c w h. a.least l (among-left_parts f r l c).0 w h }

@@ -1,5 +1,5 @@
 -- The marks of a record, mark by mark.
-use Rattle.std.proofs.Common.{◌≡◌, ◌≢◌, ℕ, ◌+◌, true, false, ◌<◌, ◌≤◌, List, [], ◌∷◌, length, drop, get_or, slice_get, Option, Some, None, option_map, Bor, refl, ap, ap₂, sym, ◌∙◌, arith, eq-eqb, ne_eqb}
+use Rattle.std.proofs.Common.{◌≡◌, ℕ, ◌+◌, true, false, ◌<◌, ◌≤◌, List, [], ◌∷◌, length, drop, get_or, slice_get, Option, Some, None, option_map, Bor, refl, ap, ap₂, sym, ◌∙◌, arith, eq-eqb}
 use Rattle.std.specs.List.{list_all}
 use Rattle.std.specs.Option.{unwrap_or}
 use Rattle.std.proofs.lemmas.Bool.Decides.{nat_tests}
@@ -33,9 +33,6 @@ module _ (columns : List ℕ) (marks : List Text) (i item : ℕ) (mark : Text) (
 
   pub no_mark : is_mark mark ≡ false → list_all is_mark (drop i marks) ≡ false
   no_mark e = ap (list_all is_mark) is ∙ rw e refl
-
-pub marked-length : (columns : List ℕ) (marks : List Text) → length marks ≢ length columns → marked columns marks ≡ None
-marked-length columns marks ne = rw (ne_eqb (length marks) (length columns) ne) refl
 
 pub marked-bad : (columns : List ℕ) (marks : List Text) → list_all is_mark marks ≡ false → marked columns marks ≡ None
 marked-bad columns marks e = grind (arith, e)

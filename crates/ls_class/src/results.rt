@@ -10,7 +10,7 @@ use std::marker::Model;
 
 /// What is known of a pupil of a class when its assessment is over: how many replies it took, why
 /// it is over, and the leading state.
-#[derive(Debug, Drop)]
+#[derive(Drop)]
 pub struct ClassResult {
     pub name: Word,
     pub replies: u64,
@@ -19,7 +19,7 @@ pub struct ClassResult {
 }
 
 /// What is known of the pupils of a class, in the order of its table.
-#[derive(Debug, Drop)]
+#[derive(Drop)]
 pub struct Results {
     results: Vec<ClassResult>,
 }

@@ -34,7 +34,7 @@ pub fn count_no(answers: &[Answer]) -> u32
 }
 
 /// How many queries were not asked, and how many of these the answers force Yes and No.
-#[derive(Clone, Copy, Debug)]
+#[derive(Clone, Copy)]
 pub struct Filled {
     pub all: u32,
     pub yes: u32,

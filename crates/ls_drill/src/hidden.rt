@@ -13,7 +13,7 @@ pub const MOST_DRILLED: u32 = 48;
 
 /// An order on items that a number makes: which items are before which. Contracts see how many
 /// items there are, and the number.
-#[derive(Debug, Drop)]
+#[derive(Drop)]
 pub struct Hidden {
     n: u32,
     number: u64,

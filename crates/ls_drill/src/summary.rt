@@ -4,7 +4,7 @@
 pub const MOST_STATES: u32 = 65_536;
 
 /// What a drill came to.
-#[derive(Clone, Copy, Debug, PartialEq, Eq)]
+#[derive(Clone, Copy, PartialEq, Eq)]
 pub struct Summary {
     /// How many items there are.
     pub n: u32,

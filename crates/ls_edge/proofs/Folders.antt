@@ -1,6 +1,6 @@
 -- The files of a map in memory, by the bytes of their names.
-use Rattle.std.proofs.Common.{◌≡◌, ◌∙◌, ap, sym, cond, ℕ, List, [], ◌∷◌, Bool, true, false, None, Some, Ok, Err, IfOk, inl, inr, subst, Result, Vec, length, nat_lt, ◌<◌, ◌≤◌, refl, arith, Bor}
-use Rattle.std.proofs.lemmas.Bool.{lt-ltb, le-ltb, ltb-false, cases_Bool}
+use Rattle.std.proofs.Common.{◌≡◌, ◌∙◌, ap, sym, cond, ℕ, List, [], ◌∷◌, Bool, true, false, Some, Ok, Err, Result, Vec, length, nat_lt, ◌<◌, ◌≤◌, refl, arith, Bor}
+use Rattle.std.proofs.lemmas.Bool.{lt-ltb, le-ltb}
 use Rattle.std.proofs.lemmas.Map.Text.{btree_map_updates_text, is_eq-slice_cmp}
 use Rattle.std.specs.Cmp.{eq_by_cmp_equiv}
 use Rattle.std.specs.Cmp.Lexicographic.{slice_cmp, nat_list_cmp_total}
@@ -48,25 +48,9 @@ given_short file bytes is within =
     let no_more : nat_lt longest_file (length bytes) ≡ false = le-ltb _ _ within in
     rw (is, no_more) refl
 
--- what is given has no more
-pub given_within : (file : Option (List ℕ)) (bytes : List ℕ) → given file ≡ Ok bytes → length bytes ≤ longest_file
-given_within None bytes is = cc
-given_within (Some b) bytes is =
-    elim (cases_Bool (nat_lt longest_file (length b))) [
-      | inl more ↦ let other : Err (fetch.TooLarge (length b)) ≡ Ok bytes = rw more at is in cc
-      | inr no_more ↦
-          let same : Ok b ≡ Ok bytes = rw no_more at is in
-          let within : length b ≤ longest_file = ltb-false _ _ no_more in
-          subst (λ (r : Result (List ℕ) FetchFault). IfOk r (λ x. length x ≤ longest_file)) same within
-    ]
-
 -- a fetch that gives what it has to give
 pub fetched : (file : Option (List ℕ)) (bytes : List ℕ) (result : Result (Vec ℕ Global) FetchFault) → given file ≡ Ok bytes → GivesBytes bytes result → FetchedFrom file result
 fetched file bytes result is gives = rw is gives
-
--- a fetch that has none to give
-pub fetched_none : (file : Option (List ℕ)) (e : FetchFault) → given file ≡ Err e → FetchedFrom file (Err e)
-fetched_none file e is = rw is refl
 
 -- a name that is set in the map is set in the folder
 pub folder_of-insert : (old new : BTreeMap (String Global) (Vec ℕ Global)) (name : String Global) (v : Vec ℕ Global)

@@ -1,16 +1,13 @@
 -- What is left after a cursor, and what is left of a page.
-use Rattle.std.proofs.Common.{ℕ, suc, ◌+◌, ◌-◌, ◌*◌, ◌<◌, ◌≤◌, ◌≡◌, length, arith, true, false, cond, is_some, ltb, le-ltb, lt-ltb, ltb-true, List, [], ◌∷◌, ◌++◌, append_assoc, append-nil, filter, find, take, MatchOption, Option, Some, None, refl, sym, ap, ap₂, ◌∙◌}
-use Rattle.std.proofs.lemmas.Bool.{and_parts}
+use Rattle.std.proofs.Common.{ℕ, suc, ◌+◌, ◌-◌, ◌*◌, ◌<◌, ◌≤◌, ◌≡◌, length, arith, true, false, cond, is_some, ltb, le-ltb, lt-ltb, ltb-true, List, [], ◌∷◌, ◌++◌, append_assoc, filter, find, take, MatchOption, Option, Some, None, refl, sym, ap, ap₂, ◌∙◌}
 use Rattle.std.proofs.lemmas.List.{take_all}
 use Rattle.std.specs.List.{AllByRecursion}
 use Rattle.ls_lists.proofs.Bools.{same_truth}
 use Rattle.ls_lists.proofs.Filters.{filter-all}
 use Rattle.ls_lists.proofs.Finds.{found-holds}
-use Rattle.ls_set.specs.ItemSet.{Items, full, comes_before, is_among, IsWithin, IsInOrder}
+use Rattle.ls_set.specs.ItemSet.{Items, comes_before, IsInOrder}
 use Rattle.ls_set.proofs.Order.{comes_before-irreflexive, comes_before-asymmetric, comes_before-transitive}
-use Rattle.ls_set.proofs.Members.{among-here, among-filter}
 use Rattle.ls_theory.specs.Pages.{comes_after}
-use Rattle.ls_laws.specs.Families.{IsFamily}
 use Rattle.ls_enum.specs.Listings.{left_after}
 
 -- ---- the first that is left, and what is left behind it
@@ -54,14 +51,6 @@ left-none cursor (x ∷ xs) e =
 pub left-shorter : (cursor : Option Items) (f : List Items) (k : Items) → IsInOrder f → find (comes_after comes_before cursor) f ≡ Some k → length (left_after (Some k) f) < length (left_after cursor f)
 left-shorter cursor f k o e = rw (left-first cursor f k o e) (omega arith)
 
--- what is left is of the family
-pub left-among : (cursor : Option Items) (f : List Items) (k : Items) (rest : List Items) → left_after cursor f ≡ k ∷ rest → is_among f k ≡ true
-left-among cursor f k rest e =
-    (and_parts (is_among f k) (comes_after comes_before cursor k) (sym (among-filter (comes_after comes_before cursor) f k) ∙ ap (λ l. is_among l k) e ∙ among-here k k rest refl)).0
-
-pub left-small : (n : ℕ) (cursor : Option Items) (f : List Items) (k : Items) (rest : List Items) → IsFamily n f → left_after cursor f ≡ k ∷ rest → IsWithin k (full n)
-left-small n cursor f k rest family e = family.small k (left-among cursor f k rest e)
-
 -- ---- what is left of a page of `count` sets, of which `done` are given and `rest` would follow
 
 -- one more given: the sets of the page that are left
@@ -86,18 +75,12 @@ more-left rest next k count done e l =
 pub take-ended : (rest : List Items) (m : ℕ) → rest ≡ [] → take m rest ≡ []
 take-ended rest m e = ap (take m) e ∙ take_all m [] (omega arith)
 
-pub given-ended : (given rest all : List Items) (m : ℕ) → rest ≡ [] → given ++ take m rest ≡ all → given ≡ all
-given-ended given rest all m e h = sym (append-nil given) ∙ ap (λ l. given ++ l) (sym (take-ended rest m e)) ∙ h
-
 pub more-ended : (rest : List Items) (m : ℕ) → rest ≡ [] → ltb m (length rest) ≡ false
 more-ended rest m e = le-ltb m (length rest) (let q : length rest ≡ 0 = ap length e in omega arith)
 
 -- `count` sets are given, and so the page
 pub take-full : (rest : List Items) (count done : ℕ) → count ≤ done → take (count - done) rest ≡ []
 take-full rest count done l = ap (λ m. take m rest) (let q : count - done ≡ 0 = omega arith in q)
-
-pub given-full : (given rest all : List Items) (count done : ℕ) → count ≤ done → given ++ take (count - done) rest ≡ all → given ≡ all
-given-full given rest all count done l h = sym (append-nil given) ∙ ap (λ t. given ++ t) (sym (take-full rest count done l)) ∙ h
 
 -- `count` sets are given, and a further one is looked for
 pub more-full : (r : Option Items) (rest next : List Items) (count done : ℕ) → MatchOption r ((rest ≡ []) × (next ≡ [])) (λ x. rest ≡ x ∷ next) → count ≤ done → is_some r ≡ ltb (count - done) (length rest)

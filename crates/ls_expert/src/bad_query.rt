@@ -1,5 +1,5 @@
 // Queries that are not good.
 
 /// A query that is not good.
-#[derive(Clone, Copy, Debug, PartialEq, Eq)]
+#[derive(Clone, Copy, PartialEq, Eq)]
 pub struct BadQuery;

@@ -11,7 +11,7 @@ use std::alloc::{AllocError, Global};
 use std::marker::Model;
 
 /// A start with its number of items. It is the family of the sets that meet the start.
-#[derive(Debug, Drop)]
+#[derive(Drop)]
 pub struct OnItems {
     n: u32,
     start: Start,

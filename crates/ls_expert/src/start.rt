@@ -13,7 +13,7 @@ use std::alloc::{AllocError, Global};
 
 /// Which sets an interview begins with: all of them, those that meet the clauses of a surmise
 /// function, or the unions of the sets of a base.
-#[derive(Debug, Drop)]
+#[derive(Drop)]
 pub enum Start {
     Free,
     Clauses(Surmise),

@@ -14,7 +14,7 @@ use std::alloc::Global;
 use std::marker::Model;
 
 /// A family of sets of items: its sets stand in the order of sets, each once.
-#[derive(Debug, Drop)]
+#[derive(Drop)]
 pub struct Family {
     items: u32,
     members: Vec<ItemSet>,

@@ -1,5 +1,5 @@
 -- Surmise files: an object whose keys are the items' names, and whose values are arrays of clauses; a clause is an array of names.
-use Rattle.std.specs.Prelude.{ℕ, Bool, not, ◌&&◌, nat_lt, if◌then◌else◌, List, [], ◌∷◌, map, filter, length, bytes_eq, Option, Some, None, option_map, option_and_then, Result, Ok, Err, ⊤, ◌≡◌}
+use Rattle.std.specs.Prelude.{ℕ, Bool, ◌&&◌, nat_lt, if◌then◌else◌, List, [], ◌∷◌, map, filter, length, bytes_eq, Option, Some, None, option_map, option_and_then, Result, Ok, Err, ⊤, ◌≡◌}
 use Rattle.std.specs.List.{list_all}
 use Rattle.std.specs.Option.{option_map_or, option_or}
 use Rattle.std.specs.Map.{lookup}

@@ -1,5 +1,5 @@
 -- What stays true of a table when it is built and changed.
-use Rattle.std.proofs.Common.{ℕ, ◌≡◌, true, false, cond, not, eqb, List, [], ◌∷◌, ◌++◌, map, filter, length, refl, sym, ap, ap₂, ◌∙◌, subst, arith}
+use Rattle.std.proofs.Common.{ℕ, ◌≡◌, true, false, cond, not, eqb, List, [], ◌∷◌, ◌++◌, map, filter, refl, sym, ap, ap₂, ◌∙◌, subst}
 use Rattle.std.specs.List.{list_all, list_any}
 use Rattle.std.proofs.lemmas.Bool.{and_parts, and_from, or_parts, not-true}
 use Rattle.std.proofs.lemmas.List.Folds.{list_all-append}
@@ -19,7 +19,7 @@ use Rattle.ls_laws.proofs.Families.{family_sets}
 use Rattle.ls_query.specs.Blocks.{sets_of}
 use Rattle.ls_infer.specs.declared.standing_no.StandingNo.{StandingNo}
 use Rattle.ls_infer.specs.Changes.{is_kept}
-use Rattle.ls_infer.specs.Tables.{TableState, IsTable, standing, table_of}
+use Rattle.ls_infer.specs.Tables.{TableState, standing, table_of}
 use Rattle.ls_infer.proofs.States.{enough-within}
 use Rattle.ls_infer.proofs.Standing.{kept-from}
 
@@ -69,18 +69,6 @@ pub kept-added : (n m : ℕ) (f : List Items) (ss : List StandingNo) (x : No) �
 kept-added n m f ss x same h good =
     subst (λ k. list_all (is_kept n) (ss ++ standing k f x ∷ []) ≡ true) same
     (list_all-append (is_kept n) ss (standing n f x ∷ []) ∙ and_from (list_all (is_kept n) ss) (list_all (is_kept n) (standing n f x ∷ [])) h (standing-kept n f (x ∷ []) (and_from (is_good n x.query) true good refl)))
-
--- a table whose closures and standing Nos are changed
-pub table-changed : (m n : ℕ) (t : TableState) (cs : List Items) (ss : List StandingNo) → IsTable m t → n ≡ m → length cs ≡ length t.closures → list_all (λ c. is_within c (full n)) cs ≡ true
-    → list_all (is_kept n) ss ≡ true → IsTable m (record { blocks = t.blocks; closures = cs; standing = ss })
-table-changed m n t cs ss h same alike within kept = record {
-  items = h.items;
-  few = h.few;
-  each = alike ∙ h.each;
-  few_sets = omega (arith, alike, h.few_sets);
-  within = subst (λ j. list_all (λ c. is_within c (full j)) cs ≡ true) same within;
-  kept = subst (λ j. list_all (is_kept j) ss ≡ true) same kept;
-}
 
 -- ---- a Yes that is given without it
 

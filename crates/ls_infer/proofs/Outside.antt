@@ -1,6 +1,6 @@
 -- Complements, sets with one more item, and what is outside a closure.
 use Rattle.std.proofs.Common.{ℕ, ◌≡◌, ◌⊎◌, inl, inr, true, false, cond, not, ◌&&◌, ◌||◌, eqb, List, Option, Some, None, refl, sym, ap, ap₂, ◌∙◌, subst, arith, true≢false, eqb-true, eq-eqb}
-use Rattle.std.proofs.lemmas.Bool.{and_parts, and_from, or_cases, or_left, or_right, not-true, not_from_false, false_from_ne_true, true_from_ne_false}
+use Rattle.std.proofs.lemmas.Bool.{and_parts, and_from, or_cases, or_left, or_right, not-true, not_from_false, false_from_ne_true}
 use Rattle.std.proofs.lemmas.Bool.Decides.{nat_tests}
 use Rattle.ls_lists.proofs.Bools.{both_out}
 use Rattle.ls_set.specs.ItemSet.{Items, has, empty, full, single, with, without, minus, is_among, IsWithin}
@@ -18,9 +18,6 @@ out-parts whole s i h = let p = and_parts (has whole i) (not (has s i)) (sym (ha
 
 pub out-from : (whole s : Items) (i : ℕ) → has whole i ≡ true → has s i ≡ false → has (minus whole s) i ≡ true
 out-from whole s i w h = has-minus whole s i ∙ and_from (has whole i) (not (has s i)) w (not_from_false (has s i) h)
-
-pub in-from : (whole s : Items) (i : ℕ) → has whole i ≡ true → has (minus whole s) i ≡ false → has s i ≡ true
-in-from whole s i w h = true_from_ne_false (has s i) (λ e. true≢false (sym (out-from whole s i w e) ∙ h))
 
 pub minus_twice : (whole s : Items) → IsWithin s whole → minus whole (minus whole s) ≡ s
 minus_twice whole s w = same_set (minus whole (minus whole s)) s (λ i. has-minus whole (minus whole s) i ∙ ap (λ b. has whole i && not b) (has-minus whole s i) ∙ both_out (has whole i) (has s i) (w i))

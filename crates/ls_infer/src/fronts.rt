@@ -10,7 +10,7 @@ use ls_set::ItemSet;
 use std::sync::ledger::Ledger;
 
 /// A set and its closure, or the empty set and nothing more.
-#[derive(Clone, Copy, Debug)]
+#[derive(Clone, Copy)]
 pub struct Front {
     pub set: ItemSet,
     pub closed: ItemSet,

@@ -14,7 +14,7 @@ use std::sync::ledger::Ledger;
 const MOST_MISSES: u32 = 2;
 
 /// The items that may still be enough, and the steps that may be taken beside one for each of them.
-#[derive(Clone, Copy, Debug)]
+#[derive(Clone, Copy)]
 pub struct Rest {
     pub items: ItemSet,
     pub spare: u32,

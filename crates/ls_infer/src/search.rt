@@ -23,7 +23,7 @@ use ls_set::{ItemSet, Query};
 
 // What a search keeps from set to set: all items; the others of the set that it came to, with the
 // items outside their closure; and the place of the standing No at which nothing was left open.
-#[derive(Clone, Copy, Debug)]
+#[derive(Clone, Copy)]
 struct Search {
     all: ItemSet,
     others: ItemSet,

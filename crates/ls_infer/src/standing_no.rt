@@ -21,7 +21,7 @@ use ls_theory::No;
 use std::sync::ledger::Ledger;
 
 /// What is kept of a standing answer that is No, of a query (B, p).
-#[derive(Clone, Copy, Debug, PartialEq, Eq)]
+#[derive(Clone, Copy, PartialEq, Eq)]
 pub struct StandingNo {
     /// The answer.
     pub no: No,

@@ -1,7 +1,7 @@
 // Changes of the Yes answers.
 
 /// How the standing Yes answers change by one.
-#[derive(Clone, Copy, Debug, PartialEq, Eq)]
+#[derive(Clone, Copy, PartialEq, Eq)]
 pub enum YesChange {
     /// One comes.
     Added,

@@ -6,7 +6,7 @@ use ls_set::{ItemSet, PLACES};
 use std::marker::Model;
 
 /// The family of all sets of the items below a number, as which contracts see it.
-#[derive(Clone, Copy, Debug, PartialEq, Eq)]
+#[derive(Clone, Copy, PartialEq, Eq)]
 pub struct Free {
     count: u32,
 }

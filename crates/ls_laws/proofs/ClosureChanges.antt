@@ -1,5 +1,5 @@
 -- Closures: how they grow with the set and where members go, and what a Yes changes of them.
-use Rattle.std.proofs.Common.{ℕ, ◌≡◌, true, false, cond, not, ◌&&◌, List, refl, sym, ap, ◌∙◌, true≢false}
+use Rattle.std.proofs.Common.{ℕ, ◌≡◌, true, false, not, ◌&&◌, List, sym, ap, ◌∙◌, true≢false}
 use Rattle.std.proofs.lemmas.Bool.{and_parts, and_from, false_from_ne_true, not-true, not_from_false}
 use Rattle.ls_lists.proofs.Bools.{both_out}
 use Rattle.ls_set.specs.ItemSet.{Items, has, full, minus, is_within, IsWithin}
@@ -58,16 +58,6 @@ closure_from_old whole f g s part w =
 
 pub left-IsPart : (f : List Items) (r : Query) → IsPart (left_by r f) f
 left-IsPart f r k c = (among-left_parts f r k c).0
-
--- a closure that has the items of A, and not q, is closed again; any other stays
-pub closure_after_yes : (n : ℕ) (f : List Items) (r : Query) (s : Items) → IsUnionFamily n f → IsGood n r → IsWithin s (full n)
-    → cond (is_within r.a (closure (full n) f s) && not (has (closure (full n) f s) r.q)) (closure (full n) (left_by r f) (closure (full n) f s)) (closure (full n) f s) ≡ closure (full n) (left_by r f) s
-closure_after_yes n f r s family good w =
-    elim (is_within r.a (closure (full n) f s) && not (has (closure (full n) f s) r.q)) as (λ b. (is_within r.a (closure (full n) f s) && not (has (closure (full n) f s) r.q)) ≡ b
-    → cond b (closure (full n) (left_by r f) (closure (full n) f s)) (closure (full n) f s) ≡ closure (full n) (left_by r f) s) [
-      | true ↦ λ _. closure_from_old (full n) f (left_by r f) s (left-IsPart f r) w
-      | false ↦ λ e. sym (closure_stays n f r s family good e)
-    ] refl
 
 -- a closure that lacks an item of A is the same without the Yes
 pub closure_before_yes : (n : ℕ) (f : List Items) (r : Query) (s : Items) → IsUnionFamily n f → IsGood n r → is_within r.a (closure (full n) (left_by r f) s) ≡ false

@@ -84,10 +84,6 @@ spanned-has n g small k c =
 pub spanned-whole : (n : ℕ) (g : List Items) → Spans g (spanned n g)
 spanned-whole n g k c = (Decides-is_same (interior g k) k).0 (and_parts (is_within k (full n)) (is_same (interior g k) k) (sym (among-spanned n g k) ∙ c)).1
 
--- the base of what a list spans is, of its sets, those that are not the union of the others within them
-pub base-spanned : (n : ℕ) (g : List Items) → IsOn n g → (k : Items) → is_among (base (spanned n g)) k ≡ is_among (needed g) k
-base-spanned n g small = base-of (spanned n g) g (spanned-has n g small) (spanned-whole n g)
-
 -- members that span a family span nothing else
 pub spanned-same : (n : ℕ) (f g : List Items) → IsUnionFamily n f → IsPart g f → Spans g f
     → (k : Items) → is_among (spanned n g) k ≡ is_among f k

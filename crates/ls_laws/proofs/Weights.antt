@@ -9,7 +9,6 @@ use Rattle.ls_theory.specs.declared.ratio.Ratios.{Ratios}
 use Rattle.ls_theory.specs.declared.reply.Reply.{Reply}
 use Rattle.ls_theory.specs.declared.asked.Asked.TheVariants.{Item, Over}
 use Rattle.ls_theory.specs.declared.reason.Reason.TheVariants.{Share, Budget}
-use Rattle.ls_theory.specs.Words.{product}
 use Rattle.ls_theory.specs.Weights.{weight, factor, total, mass}
 use Rattle.ls_theory.specs.Settings.{Settings}
 use Rattle.ls_theory.specs.Assessment.{asked, has_share, half_split}
@@ -34,10 +33,6 @@ pub mass-rest : (ratios : List Ratios) (replies : List Reply) (f : List Items) (
 mass-rest ratios replies f q = sum_by-filter_both (λ k. has k q) (λ k. not (has k q)) (λ k. refl) (weight ratios replies) f
 
 -- ---- weights
-
-product-append : (xs ys : List ℕ) → product (xs ++ ys) ≡ product xs * product ys
-product-append [] ys = omega arith
-product-append (x ∷ xs) ys = rw (product-append xs ys) (omega arith)
 
 pub weight-more : (ratios : List Ratios) (replies : List Reply) (r : Reply) (k : Items) → weight ratios (replies ++ (r ∷ [])) k ≡ weight ratios replies k * factor ratios k r
 unfolding weight

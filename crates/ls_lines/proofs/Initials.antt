@@ -1,10 +1,10 @@
 -- The forms that may begin with the first word are all that are tried.
-use Rattle.std.proofs.Common.{ℕ, ◌+◌, ◌<◌, ◌≤◌, ◌≡◌, ◌∙◌, refl, sym, ap, arith, true, false, cond, ◌==◌, max, List, [], ◌∷◌, length, drop, filter, nat_le, Option, None, Some, option_map, get_or, bytes_eq}
+use Rattle.std.proofs.Common.{ℕ, ◌+◌, ◌<◌, ◌≤◌, ◌≡◌, ◌∙◌, refl, sym, ap, arith, true, false, cond, ◌==◌, max, List, [], ◌∷◌, length, drop, filter, nat_le, Option, None, option_map, get_or, bytes_eq}
 use Rattle.std.specs.List.{cons_option, slice_get, slice_index}
 use Rattle.std.specs.Cmp.Lexicographic.{same_text}
 use Rattle.std.proofs.lemmas.Bool.{leb-true}
 use Rattle.std.proofs.lemmas.Bool.Decides.{nat_tests}
-use Rattle.std.proofs.lemmas.List.{drop_more, drop_all}
+use Rattle.std.proofs.lemmas.List.{drop_more}
 use Rattle.ls_lines.specs.Lines.{Text}
 use Rattle.ls_lines.specs.Forms.{spelling, parts, command, forms}
 use Rattle.ls_lines.specs.Commands.{cut, command_of, fault_place}
@@ -69,14 +69,8 @@ unfolding command_of
 reading_starts [] lt = absurd (omega arith)
 reading_starts (w ∷ ws) lt = ap (λ l. slice_get l 0) (tried-readings forms w ws)
 
-pub form_reads : (fs : List Form) (i : ℕ) (d : Form) (ws : List Text) (given : List (List Text)) → i < length fs → cut (parts (get_or fs i d)) ws ≡ Some given → read_from fs i ws ≡ Some (command (get_or fs i d) given)
-form_reads fs i d ws given lt h = rw (drop_more fs i d lt, h) refl
-
 pub form_fails : (fs : List Form) (i : ℕ) (d : Form) (ws : List Text) → i < length fs → cut (parts (get_or fs i d)) ws ≡ None → read_from fs (i + 1) ws ≡ read_from fs i ws
 form_fails fs i d ws lt h = rw (drop_more fs i d lt, h) refl
-
-pub none_reads : (fs : List Form) (i : ℕ) (ws : List Text) → length fs ≤ i → read_from fs i ws ≡ None
-none_reads fs i ws le = rw (drop_all i fs le) refl
 
 pub fault_place-tried : (ws : List Text) → fault_place ws ≡ most_begun ws 0 (forms_from (initial ws)) + 1
 unfolding fault_place forms parts spelling

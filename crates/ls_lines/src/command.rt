@@ -3,7 +3,7 @@
 use crate::{Word, WordList};
 
 /// A command with its words.
-#[derive(Debug, Drop)]
+#[derive(Drop)]
 pub enum Command {
     /// An empty line or a note.
     Nothing,

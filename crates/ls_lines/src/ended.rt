@@ -1,7 +1,7 @@
 // How a line of a stream ended.
 
 /// How a line of a stream ended.
-#[derive(Clone, Copy, Debug, PartialEq, Eq)]
+#[derive(Clone, Copy, PartialEq, Eq)]
 pub enum Ended {
     /// The line has at most as many bytes as are read.
     Whole,

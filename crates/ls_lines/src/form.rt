@@ -8,7 +8,7 @@ use crate::{Command, InterviewForm, ListingForm, Part, PupilForm, SettingForm, S
 use std::alloc::AllocError;
 
 /// The forms.
-#[derive(Clone, Copy, Debug, PartialEq, Eq)]
+#[derive(Clone, Copy, PartialEq, Eq)]
 pub enum Form {
     Nothing,
     Setting(SettingForm),

@@ -8,7 +8,7 @@ use crate::{Command, Form, Keyword, Part};
 use std::alloc::AllocError;
 
 /// A form of a command of the interview.
-#[derive(Clone, Copy, Debug, PartialEq, Eq)]
+#[derive(Clone, Copy, PartialEq, Eq)]
 pub enum InterviewForm {
     Blocks,
     Yes,

@@ -6,7 +6,7 @@ use crate::number::number_up_to;
 
 /// What a word of a command can be. An item's name is a name; it has to be one of the domain's. The
 /// last kind has the two words `right` and `wrong`.
-#[derive(Clone, Copy, Debug, PartialEq, Eq)]
+#[derive(Clone, Copy, PartialEq, Eq)]
 pub enum Kind {
     Name,
     Item,

@@ -8,7 +8,7 @@ use crate::{Command, Form, Keyword, MOST_COUNTED, Part};
 use std::alloc::AllocError;
 
 /// A form of a command that lists states, base sets or a projection.
-#[derive(Clone, Copy, Debug, PartialEq, Eq)]
+#[derive(Clone, Copy, PartialEq, Eq)]
 pub enum ListingForm {
     States,
     StatesUpTo,

@@ -6,7 +6,7 @@ use crate::{Word, WordList};
 use std::alloc::{AllocError, Global};
 
 // What a command has at a part of its form that is no fixed word.
-#[derive(Debug, Drop)]
+#[derive(Drop)]
 pub(crate) enum Operand<'a> {
     One(&'a Word),
     Many(&'a WordList),

@@ -9,7 +9,7 @@ use crate::{Command, Form, Keyword, Part};
 use std::alloc::AllocError;
 
 /// A form of a command that assesses pupils.
-#[derive(Clone, Copy, Debug, PartialEq, Eq)]
+#[derive(Clone, Copy, PartialEq, Eq)]
 pub enum PupilForm {
     OddsAll,
     OddsItem,

@@ -8,7 +8,7 @@ use crate::{Command, Form, Keyword, Part};
 use std::alloc::AllocError;
 
 /// A form of a command that gives the items, the start or the saved session.
-#[derive(Clone, Copy, Debug, PartialEq, Eq)]
+#[derive(Clone, Copy, PartialEq, Eq)]
 pub enum SettingForm {
     Items,
     LoadItems,

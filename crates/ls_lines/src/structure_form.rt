@@ -8,7 +8,7 @@ use crate::{Command, Form, Keyword, Part};
 use std::alloc::AllocError;
 
 /// A form of a command on a family, fringes or learning paths.
-#[derive(Clone, Copy, Debug, PartialEq, Eq)]
+#[derive(Clone, Copy, PartialEq, Eq)]
 pub enum StructureForm {
     Test,
     Fringes,

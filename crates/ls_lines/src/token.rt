@@ -8,7 +8,7 @@ use std::alloc::AllocError;
 use std::marker::Model;
 
 /// A word of a line, seen as its bytes, which stay in the line.
-#[derive(Debug, Default, Drop)]
+#[derive(Default, Drop)]
 pub(crate) struct Token<'a> {
     bytes: &'a [u8],
 }

@@ -7,7 +7,7 @@ use std::alloc::{AllocError, Global};
 use std::marker::Model;
 
 /// A text of a script, seen as its list of bytes. A short one takes no memory.
-#[derive(Debug, Drop)]
+#[derive(Drop)]
 pub struct Word {
     text: WordText,
 }

@@ -8,7 +8,7 @@ use std::alloc::{AllocError, Global};
 use std::marker::Model;
 
 /// A list of words.
-#[derive(Debug, Drop)]
+#[derive(Drop)]
 pub struct WordList {
     words: Vec<Word>,
 }

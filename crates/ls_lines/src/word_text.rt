@@ -9,7 +9,7 @@ use std::alloc::{AllocError, Global};
 const SHORT: usize = 24;
 
 // The text of a word. A short one takes no memory.
-#[derive(Debug, Drop)]
+#[derive(Drop)]
 pub(crate) enum WordText {
     Short(ArrayString<SHORT>),
     Long(String),

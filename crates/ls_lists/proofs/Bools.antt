@@ -1,5 +1,5 @@
 -- Truth values.
-use Rattle.std.proofs.Common.{◌≡◌, ◌⊎◌, inl, inr, Bool, true, false, not, ◌&&◌, ◌||◌, refl, sym, ap, ◌∙◌, arith, true≢false}
+use Rattle.std.proofs.Common.{◌≡◌, ◌⊎◌, inl, inr, Bool, true, false, not, ◌&&◌, refl, sym, ap, ◌∙◌, arith, true≢false}
 use Rattle.std.specs.Cmp.{booleans_Decides}
 use Rattle.std.proofs.Math.Bool.{and-false}
 use Rattle.std.proofs.lemmas.Bool.{and_from, not-false}
@@ -71,8 +71,3 @@ left_out false b e = refl
 pub back_in : (a b : Bool) → a ≡ true → (a && not b) ≡ false → b ≡ true
 back_in a true h e = refl
 back_in a false h e = absurd (true≢false (sym (and_from a true h refl) ∙ e))
-
-pub only_first : (a b : Bool) → (a || not b) ≡ true → b ≡ true → a ≡ true
-only_first true b h k = refl
-only_first false true h k = never h
-only_first false false h k = never k

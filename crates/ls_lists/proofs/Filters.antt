@@ -1,8 +1,7 @@
 -- What a filter keeps.
-use Rattle.std.proofs.Common.{◌≡◌, ◌≤◌, ◌+◌, inl, inr, ℕ, Bool, true, false, cond, ◌&&◌, ◌||◌, List, [], ◌∷◌, map, filter, length, sum_by, refl, ap, ap₂, ◌∙◌, arith, true≢false}
+use Rattle.std.proofs.Common.{◌≡◌, ◌≤◌, ◌+◌, inl, inr, ℕ, Bool, true, false, cond, ◌&&◌, ◌||◌, List, [], ◌∷◌, map, filter, length, sum_by, refl, ap, ap₂, arith, true≢false}
 use Rattle.std.specs.List.{AllByRecursion}
 use Rattle.std.proofs.lemmas.Bool.{cases_Bool, false_from_ne_true}
-use Rattle.std.proofs.lemmas.List.{length-map}
 use Rattle.std.proofs.lemmas.List.Sums.{sum_by-cons}
 
 -- ---- all, none
@@ -44,9 +43,6 @@ filter-map q h (x ∷ xs) = elim (q (h x)) as (λ b. cond b (h x ∷ filter q (m
 ]
 
 -- ---- how much
-
-pub filter-images : {X Y : Type 0} (p : Y → Bool) (g : X → Y) (xs : List X) → length (filter p (map g xs)) ≡ length (filter (λ x. p (g x)) xs)
-filter-images p g xs = ap length (filter-map p g xs) ∙ length-map (filter (λ x. p (g x)) xs) g
 
 pub filter-fewer : {X : Type 0} (p q : X → Bool) → ((x : X) → p x ≡ true → q x ≡ true) → (xs : List X) → length (filter p xs) ≤ length (filter q xs)
 filter-fewer p q w [] = omega arith

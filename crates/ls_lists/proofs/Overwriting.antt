@@ -1,5 +1,5 @@
 -- Lists that a loop writes over, element by element.
-use Rattle.std.proofs.Common.{ℕ, zero, suc, ◌+◌, ◌<◌, ◌≤◌, ◌≡◌, Bool, true, cond, List, [], ◌∷◌, ◌++◌, map, take, drop, set, length, get_or, slice_get, Some, count_by, refl, sym, ap, ap₂, ◌∙◌, arith, add-one, true≢false}
+use Rattle.std.proofs.Common.{ℕ, zero, suc, ◌+◌, ◌<◌, ◌≤◌, ◌≡◌, Bool, true, cond, List, [], ◌∷◌, map, take, drop, set, length, get_or, slice_get, Some, count_by, refl, sym, ap, ap₂, ◌∙◌, arith, add-one, true≢false}
 use Rattle.std.specs.List.{list_all}
 use Rattle.std.proofs.lemmas.Bool.{true_from_ne_false}
 use Rattle.std.proofs.lemmas.Grind.{drop_more_same}
@@ -7,15 +7,6 @@ use Rattle.std.proofs.lemmas.List.{drop-set-lt, get_or-drop}
 use Rattle.std.proofs.lemmas.List.Folds.{list_all_at}
 use Rattle.std.proofs.lemmas.List.Sums.{sum_by_more}
 use Rattle.ls_lists.specs.Lists.{images}
-
--- what stands at the place is as it was
-pub old_at : {X : Type 0} (h : X → X) (xs : List X) (i : ℕ) (d : X) → i < length xs → get_or (map h (take i xs) ++ drop i xs) i d ≡ get_or xs i d
-old_at h [] i d l = absurd (omega arith)
-old_at h (x ∷ xs) zero d l = refl
-old_at h (x ∷ xs) (suc i) d l = old_at h xs i d (omega arith)
-
-pub old-at : {X : Type 0} (h : X → X) (xs ys : List X) (i : ℕ) (x : X) → ys ≡ map h (take i xs) ++ drop i xs → i < length xs → x ≡ get_or ys i x → x ≡ get_or xs i x
-old-at h xs ys i x made l e = e ∙ ap (λ zs. get_or zs i x) made ∙ old_at h xs i x l
 
 -- an element passes what all do
 pub all-at : {X : Type 0} (p : X → Bool) (xs : List X) (i : ℕ) (x : X) → list_all p xs ≡ true → i < length xs → x ≡ get_or xs i x → p x ≡ true

@@ -24,10 +24,6 @@ pub first-front : {X : Type 0} (xs ys : List X) (x : X) → slice_get xs 0 ≡ S
 first-front [] ys x e = absurd (cc e)
 first-front (z ∷ zs) ys x e = e
 
-pub first-rest : {X : Type 0} (xs ys : List X) → slice_get xs 0 ≡ None → slice_get (xs ++ ys) 0 ≡ slice_get ys 0
-first-rest [] ys e = refl
-first-rest (z ∷ zs) ys e = absurd (cc e)
-
 -- ---- one more element
 
 pub get-map : {X Y : Type 0} (h : X → Y) (xs : List X) (i : ℕ) (x : X) → slice_get xs i ≡ Some x → slice_get (map h xs) i ≡ Some (h x)

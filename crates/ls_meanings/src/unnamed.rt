@@ -3,7 +3,7 @@ use std::alloc::AllocError;
 
 /// The place of the first word that must name an item and doesn't, counted from 1 in the words of
 /// the line.
-#[derive(Clone, Copy, Debug)]
+#[derive(Clone, Copy)]
 pub struct Unnamed {
     pub place: usize,
 }

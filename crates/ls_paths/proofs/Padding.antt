@@ -33,10 +33,6 @@ grown-length most k n f s ys e l =
     let all : length zeros ≡ most = length-replicate most (let z : ℕ = 0 in z) in
     ap length e ∙ first-long n f (length (take k zeros)) s ∙ length-take-le k zeros (omega arith)
 
--- the same behind a list that is written over
-pub zeros-kept : (k : ℕ) (xs ys zeros : List ℕ) → length ys ≡ k → drop k xs ≡ zeros → drop k (ys ++ drop k xs) ≡ zeros
-zeros-kept k xs ys zeros e h = drop-append-drop k xs ys k (omega arith) e ∙ h
-
 -- ---- orders of all items
 
 pub order-within : (n : ℕ) (order : List ℕ) → is_order n order ≡ true → IsWithin (reached empty order) (full n)

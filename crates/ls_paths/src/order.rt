@@ -13,7 +13,7 @@ use std::marker::Model;
 
 /// An order of items, each a number: the order in which they are learned. Contracts see it as that
 /// list. It is stored in place, for the most items that there may be.
-#[derive(Clone, Copy, Debug)]
+#[derive(Clone, Copy)]
 pub struct Order {
     items: [u32; PLACES as usize],
     count: usize,

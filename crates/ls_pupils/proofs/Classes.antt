@@ -1,9 +1,9 @@
 -- The results of a class: their states are among the items, and what the row tells.
-use Rattle.std.proofs.Common.{◌≡◌, ◌≤◌, ℕ, Bool, true, false, cond, List, [], ◌∷◌, length, map, Option, Some, None, unwrap_or, find, refl, sym, ap}
-use Rattle.std.specs.List.{All, AllByRecursion}
+use Rattle.std.proofs.Common.{ℕ, Bool, true, false, cond, List, [], ◌∷◌, Some, unwrap_or, find, refl}
+use Rattle.std.specs.List.{All}
 use Rattle.std.proofs.lemmas.List.Elements.{All-map, All-from_recursion}
 use Rattle.ls_lists.proofs.Every.{All-given}
-use Rattle.ls_set.specs.ItemSet.{Items, empty, full, IsWithin, is_among}
+use Rattle.ls_set.specs.ItemSet.{Items, empty, full, IsWithin}
 use Rattle.ls_set.proofs.Sets.{empty-within}
 use Rattle.ls_set.proofs.Members.{among-here, among-there}
 use Rattle.ls_theory.specs.declared.reply.Reply.{Reply}

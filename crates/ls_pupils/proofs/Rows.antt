@@ -1,8 +1,7 @@
 -- What the rows of pupils come to.
-use Rattle.std.proofs.Common.{◌≡◌, ◌<◌, ◌≤◌, ℕ, ◌+◌, Bool, true, false, ltb, List, [], ◌∷◌, ◌++◌, slice_get, zero, suc, get_or, length, is_some, subst, arith, leb, Option, Some, None, Result, Ok, Err, IfOk, OnOk, refl, sym, ap, lt-ltb, le-ltb}
+use Rattle.std.proofs.Common.{◌≡◌, ◌<◌, ◌≤◌, ℕ, ◌+◌, Bool, true, List, [], ◌∷◌, ◌++◌, slice_get, zero, suc, get_or, length, subst, arith, Some, None, Result, Ok, Err, IfOk, OnOk, refl, ap, le-ltb}
 use Rattle.std.proofs.lemmas.Bool.{lt-leb, le-leb}
-use Rattle.std.specs.List.{All, AllByRecursion}
-use Rattle.ls_lists.proofs.Every.{All-append}
+use Rattle.std.specs.List.{All}
 use Rattle.std.specs.declared.alloc.AllocError.{AllocError}
 use Rattle.ls_theory.specs.Interviews.{Interview}
 use Rattle.ls_theory.specs.Compatible.{compatible_sets}
@@ -10,9 +9,8 @@ use Rattle.ls_theory.specs.Settings.{Settings, most_states, heavy_after}
 use Rattle.ls_weight.specs.Weighings.{Weighing}
 use Rattle.ls_weight.specs.declared.fault.WeightFault.{WeightFault}
 use Rattle.ls_weight.specs.declared.fault.WeightFault.TheVariants.{Heavy, Memory}
-use Rattle.ls_reply.specs.Effects.{changed, refuse, refuse_fault}
+use Rattle.ls_reply.specs.Effects.{changed}
 use Rattle.ls_reply.specs.Pupils.{weighing_refusals}
-use Rattle.ls_reply.specs.Refusals.{refusal_items}
 use Rattle.ls_reply.specs.declared.refusal.Refusal.{Refusal}
 use Rattle.ls_reply.specs.declared.refusal.Refusal.TheVariants as refusal
 use Rattle.ls_reply.specs.declared.response.Response.{Response}
@@ -45,9 +43,6 @@ changed-first old (x ∷ refusals) response next r h = let e : x ≡ r = cc h in
 
 pub light-none : (s : Settings) (count : ℕ) → count ≤ most_states → heavy_after s count ≡ None → weighing_refusals s count ≡ []
 light-none s count few light = rw (le-ltb most_states count few, light) refl
-
-pub many-first : (s : Settings) (count : ℕ) → most_states < count → slice_get (weighing_refusals s count) 0 ≡ Some refusal.ManyStates
-many-first s count many = rw (lt-ltb most_states count many) refl
 
 pub heavy-first : (s : Settings) (count r : ℕ) → count ≤ most_states → heavy_after s count ≡ Some r → slice_get (weighing_refusals s count) 0 ≡ Some (refusal.Heavy r)
 heavy-first s count r few heavy = rw (le-ltb most_states count few, heavy) refl
@@ -86,39 +81,6 @@ All-one P q h = λ i d few. subst (λ (x : ℕ). P x) (at i d few) h
     at : (i d : ℕ) → i < 1 → q ≡ get_or (q ∷ []) i d
     at zero d few = refl
     at (suc i) d few = absurd (omega (arith, few))
-
--- a refusal that names no item
-pub told-none : (n : ℕ) (r : Refusal) → refusal_items r ≡ [] → CanTell n (Refused r)
-told-none n r e = subst (All (λ q. q < n)) (sym e) (All-none_in (λ q. q < n))
-
-pub told-changed : {A : Type 0} (n : ℕ) (old : A) (refusals : List Refusal) (k : ℕ) (next : A) → AllByRecursion (λ r. refusal_items r ≡ []) refusals → CanTell n (changed old refusals (Done k) next).response
-told-changed n old [] k next h = tt
-told-changed n old (r ∷ rs) k next h = told-none n r h.0
-
-refuse-none : (r : Refusal) (b : Bool) → refusal_items r ≡ [] → AllByRecursion (λ r. refusal_items r ≡ []) (refuse r b)
-refuse-none r true e = (e, tt)
-refuse-none r false e = tt
-
-heavy-none : (o : Option ℕ) → AllByRecursion (λ r. refusal_items r ≡ []) (refuse_fault refusal.Heavy o)
-heavy-none None = tt
-heavy-none (Some r) = (refl, tt)
-
-weighing-none : (s : Settings) (count : ℕ) → AllByRecursion (λ r. refusal_items r ≡ []) (weighing_refusals s count)
-weighing-none s count =
-    All-append (λ r. refusal_items r ≡ []) (refuse refusal.ManyStates (ltb most_states count)) (refuse_fault refusal.Heavy (heavy_after s count))
-    (refuse-none refusal.ManyStates (ltb most_states count) refl) (heavy-none (heavy_after s count))
-
--- what is told of a pupil that begins names no item
-pub told-begin : (n : ℕ) (i : Interview) (s : Settings) (pupils : List Pupil) (name : List ℕ) → CanTell n (begin_row i s pupils name).response
-told-begin n i s pupils name =
-    let P = λ (r : Refusal). refusal_items r ≡ [] in
-    let count = length (compatible_sets i) in
-    let stands = refuse refusal.PupilStands (is_some (pupil_with pupils name)) in
-    let many = refuse refusal.ManyPupils (leb most_pupils (length pupils)) in
-    told-changed n pupils ((stands ++ many) ++ weighing_refusals s count) count (pupils ++ new_pupil name i s ∷ [])
-    (All-append P (stands ++ many) (weighing_refusals s count)
-    (All-append P stands many (refuse-none refusal.PupilStands (is_some (pupil_with pupils name)) refl) (refuse-none refusal.ManyPupils (leb most_pupils (length pupils)) refl))
-    (weighing-none s count))
 
 pub told-asked : (n : ℕ) (a : Asked) → ((q : ℕ) → a ≡ Item q → q < n) → CanTell n (Shown (shown.Asked a))
 told-asked n (Item q) h = h q refl

@@ -25,13 +25,6 @@ pub record Looked (n : ℕ) (a left : Items) (last : Option ℕ) : Type 0 where
   pub below : (j i : ℕ) → has a j ≡ true → has left j ≡ false → has left i ≡ true → j < i
   pub found : MatchOption last (NoneMoves n a left) (MovesLast n a left)
 
-pub Looked-first : (n : ℕ) (a : Items) → Looked n a a None
-Looked-first n a = record {
-  within = λ j h. h;
-  below = λ j i h out k. absurd (true≢false (sym h ∙ out));
-  found = λ j l h out. absurd (true≢false (sym h ∙ out));
-}
-
 -- ---- one item further
 
 -- an item that is out is that item, or was out

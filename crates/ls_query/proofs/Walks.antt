@@ -29,14 +29,6 @@ pub record Passed (a left : Items) (last : Option ℕ) : Type 0 where
   pub found : MatchOption last (left ≡ a) (λ i. (has a i ≡ true) × ((j : ℕ) → i < j → has a j ≡ true → has left j ≡ true))
   pub place : IfSome last (λ i. i < most_items)
 
-pub Passed-first : (a : Items) → Passed a a None
-Passed-first a = record {
-  within = λ j h. h;
-  below = λ j i h out k. absurd (true≢false (sym h ∙ out));
-  found = refl;
-  place = tt;
-}
-
 pub Passed-next : (a left : Items) (last : Option ℕ) (i : ℕ) → least left ≡ Some i → i < most_items → Passed a left last → Passed a (without left i) (Some i)
 Passed-next a left last i e place seen =
     let first = least-cases left i e in

@@ -21,7 +21,7 @@ use std::marker::Model;
 /// queries (A, q). Contracts see the number of items and the greatest size.
 ///
 /// The sets stand in the order of queries: by size, and those of one size by their ascending lists.
-#[derive(Clone, Copy, Debug, PartialEq, Eq)]
+#[derive(Clone, Copy, PartialEq, Eq)]
 pub struct Blocks {
     n: u32,
     k: u32,

@@ -12,7 +12,7 @@ use std::marker::Model;
 /// A walk through the sets of blocks, in their order. Contracts see the blocks, the set that was
 /// come to, and this set without its greatest item.
 // The next set mostly has the same others, and the item after the greatest.
-#[derive(Debug, Drop)]
+#[derive(Drop)]
 pub struct BlockWalk {
     blocks: Blocks,
     others: ItemSet,

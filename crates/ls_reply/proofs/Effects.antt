@@ -13,7 +13,7 @@ use Rattle.ls_reply.specs.Rows.{items_row, load_items_row, started_by, file_refu
 use Rattle.ls_reply.specs.Replies.{asked_effect, unnamed_at, command_effect, words_effect, line_effect}
 use Rattle.ls_reply.specs.declared.request.Request.{Request}
 use Rattle.ls_reply.specs.declared.request.Request.TheVariants.{View, Edit, Setting, Pupil}
-use Rattle.ls_reply.specs.declared.refusal.Refusal.TheVariants.{NoCommand, LongLine, DomainStands, Unnamed}
+use Rattle.ls_reply.specs.declared.refusal.Refusal.TheVariants.{NoCommand, LongLine, DomainStands}
 use Rattle.ls_reply.specs.declared.response.Response.TheVariants.{Refused}
 
 -- a domain stands where there are names
@@ -24,9 +24,6 @@ has_domain-some s some = ap not (ne_eqb (length s.names) 0 (λ e. omega arith))
 
 abbrev pub stands : Session → Change Session
 stands s = record { response = Refused DomainStands; next = s }
-
-pub items_row-stands : (s : Session) (names : List Text) → has_domain s ≡ true → items_row s names ≡ stands s
-items_row-stands s names e = ap (λ b. started_by s (refuse DomainStands b) (names_of_words names)) e
 
 pub items_row-begins : (s : Session) (names : List Text) → has_domain s ≡ false → items_row s names ≡ started_by s [] (names_of_words names)
 items_row-begins s names e = ap (λ b. started_by s (refuse DomainStands b) (names_of_words names)) e

@@ -6,7 +6,7 @@ use ls_set::{CursorFault, ItemSet};
 use ls_theory::{AnswerFault, BaseFault, BlockFault, ReplyFault, SurmiseFault};
 
 /// Why a line is refused.
-#[derive(Clone, Copy, Debug)]
+#[derive(Clone, Copy)]
 pub enum Refusal {
     /// The line is no command: no command begins with its words up to this place, counted from 1.
     NoCommand {

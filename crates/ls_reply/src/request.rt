@@ -5,7 +5,7 @@ use ls_theory::Ratios;
 
 /// What a command asks where a domain stands, in the items' numbers: to see or to change its
 /// interview, to change the settings, or something of the pupil of a name.
-#[derive(Debug, Drop)]
+#[derive(Drop)]
 pub enum Request {
     View(View),
     Edit(Edit),
@@ -14,7 +14,7 @@ pub enum Request {
 }
 
 /// What is asked of an interview that stays as it is.
-#[derive(Debug, Drop)]
+#[derive(Drop)]
 pub enum View {
     /// What the answers tell of a query.
     Known {
@@ -62,7 +62,7 @@ pub enum View {
 }
 
 /// How an interview is to change.
-#[derive(Clone, Copy, Debug)]
+#[derive(Clone, Copy)]
 pub enum Edit {
     /// Questions are asked of sets of 1 to `size` items.
     Blocks { size: u32 },
@@ -73,7 +73,7 @@ pub enum Edit {
 }
 
 /// How the settings are to change.
-#[derive(Clone, Copy, Debug)]
+#[derive(Clone, Copy)]
 pub enum Setting {
     /// Each item has the ratios.
     All { ratios: Ratios },
@@ -84,7 +84,7 @@ pub enum Setting {
 }
 
 /// What is asked of a pupil, or done with it.
-#[derive(Clone, Copy, Debug)]
+#[derive(Clone, Copy)]
 pub enum PupilRequest {
     /// The pupil begins.
     Begin,
@@ -99,7 +99,7 @@ pub enum PupilRequest {
 }
 
 /// What a file gives a start by.
-#[derive(Clone, Copy, Debug)]
+#[derive(Clone, Copy)]
 pub enum StartFile {
     /// The clauses of each item.
     Surmise,

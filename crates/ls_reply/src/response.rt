@@ -5,7 +5,7 @@ use ls_set::{ItemList, ItemSet, Query, SetList};
 use ls_theory::{Asked, BaseVerdict, FringePair, Known, Outcome, Verdict};
 
 /// What a line is answered. The lines of the reply follow from it and from the session.
-#[derive(Debug, Drop)]
+#[derive(Drop)]
 pub enum Response {
     /// No line.
     Silence,
@@ -30,7 +30,7 @@ impl Response {
 }
 
 /// What is shown of an interview, of a file or of a pupil.
-#[derive(Debug, Drop)]
+#[derive(Drop)]
 pub enum Shown {
     /// What the answers tell of a query.
     Known(Known),

@@ -11,7 +11,7 @@ use std::marker::Model;
 
 /// For each item the set of those that follow it, empty past the end. What was pushed follows; more
 /// may, since nothing is taken out but all at once.
-#[derive(Debug, Drop)]
+#[derive(Drop)]
 pub struct Followers {
     sets: Sets,
 }

@@ -9,7 +9,7 @@ use std::alloc::{AllocError, Global};
 use std::marker::Model;
 
 /// For each item, the places of the sets of a list that have it. Items past the end have none.
-#[derive(Debug, Drop)]
+#[derive(Drop)]
 pub struct Index {
     lists: Vec<Places>,
     // the items that have a place, and maybe more

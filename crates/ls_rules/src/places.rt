@@ -6,7 +6,7 @@ use std::alloc::{AllocError, Global};
 use std::marker::Model;
 
 /// Places in ascending order, with room for more.
-#[derive(Debug, Drop)]
+#[derive(Drop)]
 pub struct Places {
     list: Vec<usize>,
 }

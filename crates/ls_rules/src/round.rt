@@ -4,7 +4,7 @@ ghost use Rattle.std.specs.Prelude.{◌≡◌, ◌<◌};
 use ls_set::{ItemSet, PLACES, Query};
 
 /// What is kept of a set, and the items that fell out of it since their rules were looked at.
-#[derive(Clone, Copy, Debug)]
+#[derive(Clone, Copy)]
 pub struct Round {
     pub kept: ItemSet,
     pub fallen: ItemSet,

@@ -8,7 +8,7 @@ use std::alloc::{AllocError, Global};
 use std::marker::Model;
 
 /// A set of items for each item, empty past the end.
-#[derive(Debug, Drop)]
+#[derive(Drop)]
 pub struct Sets {
     list: Vec<ItemSet>,
 }

@@ -14,7 +14,7 @@ use std::marker::Model;
 
 /// For each item, the items q of the rules whose set A is that item alone: all of them fall out
 /// together where the item falls out. Items past the end have none.
-#[derive(Debug, Drop)]
+#[derive(Drop)]
 pub struct Singles {
     sets: Sets,
     // the items whose set is not empty, and maybe more

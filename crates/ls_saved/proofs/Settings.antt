@@ -17,9 +17,6 @@ use Rattle.ls_saved.proofs.Lists.{read_list-list_value, plain-list_value, read_p
 pub between-most : (low high n : ℕ) → is_between low high n ≡ true → n ≤ high
 between-most low high n h = leb-true n high (and_parts (leb low n) (leb n high) h).1
 
-pub between-least : (low high n : ℕ) → is_between low high n ≡ true → low ≤ n
-between-least low high n h = leb-true low n (and_parts (leb low n) (leb n high) h).0
-
 pub record AreSettings (n : ℕ) (s : Settings) : Type 0 where
   pub count : length s.ratios ≡ n
   pub ratios : AllByRecursion (λ r. are_ratios r ≡ true) s.ratios

@@ -16,7 +16,7 @@ const GREATEST_TOTAL: u128 = 1 << 120;
 
 /// The settings of an assessment: the ratios of each item, the most replies, and the share of the
 /// total, in hundredths, that ends it. Each is in its range.
-#[derive(Debug, Drop)]
+#[derive(Drop)]
 pub struct Settings {
     alloc: Global,
     ratios: Vec<Ratios>,

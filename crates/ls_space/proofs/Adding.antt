@@ -17,9 +17,6 @@ use Rattle.ls_spans.proofs.Fewer.{missing-apart}
 abbrev pub IsClean : List Items → List Items → List Items → Type 0
 IsClean f g ys = (y : Items) → is_among ys y ≡ true → list_any (is_missing f y) g ≡ false
 
-pub clean-none : (f g : List Items) → IsClean f g []
-clean-none f g y c = absurd (true≢false (sym c))
-
 pub clean-all : (f g : List Items) (i : ℕ) → length f ≤ i → IsClean f g (take i f) → find (λ k. list_any (is_missing f k) g) f ≡ None
 clean-all f g i l clean = find-none (λ k. list_any (is_missing f k) g) f (subst (IsClean f g) (take_all i f l) clean)
 

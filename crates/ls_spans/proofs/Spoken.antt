@@ -1,5 +1,5 @@
 -- Which sets and items a verdict speaks of.
-use Rattle.std.proofs.Common.{ℕ, zero, suc, ◌<◌, ◌≡◌, inl, inr, Bool, true, false, cond, not, ◌&&◌, List, [], ◌∷◌, ◌++◌, Option, length, filter, map, find, Some, None, refl, sym, ap, ◌∙◌, subst, arith, true≢false, nat_lt}
+use Rattle.std.proofs.Common.{ℕ, zero, suc, ◌<◌, ◌≡◌, inl, inr, Bool, true, false, cond, not, ◌&&◌, List, [], ◌∷◌, ◌++◌, Option, length, filter, map, find, Some, None, refl, sym, ap, ◌∙◌, subst, arith, true≢false}
 use Rattle.std.specs.Prelude.{slice_index}
 use Rattle.std.specs.List.{list_any, list_all}
 use Rattle.std.proofs.lemmas.Bool.{cases_Bool, and_parts, and_from}
@@ -13,7 +13,7 @@ use Rattle.ls_theory.specs.Bases.{base, is_atom_at, atom_items}
 use Rattle.ls_theory.specs.Verdict.{is_well_graded, double_atom, base_verdict, unclosed_pair, with_base, verdict_from, verdict}
 use Rattle.ls_theory.specs.declared.verdict.BaseVerdict.{BaseVerdict}
 use Rattle.ls_theory.specs.declared.verdict.BaseVerdict.TheVariants as of_base
-use Rattle.ls_theory.specs.declared.verdict.Verdict.TheVariants.{NoEmpty, NoFull, NotClosed, NotGraded, Learning}
+use Rattle.ls_theory.specs.declared.verdict.Verdict.TheVariants.{NoEmpty, NoFull, NotGraded, Learning}
 use Rattle.ls_laws.specs.Spans.{IsOn, IsPart, is_double}
 use Rattle.ls_theory.specs.Fringes.{inner_fringe, outer_fringe, state_of}
 use Rattle.ls_theory.specs.Projections.{projection}

@@ -1,5 +1,5 @@
 -- The states of a pupil, listed.
-use Rattle.std.proofs.Common.{◌≡◌, ℕ, ◌<◌, ◌≤◌, ◌&&◌, Bool, true, false, cond, leb, List, [], length, filter, Option, Some, None, leb-true, refl, sym, ap, ap₂, ◌∙◌, subst}
+use Rattle.std.proofs.Common.{◌≡◌, ℕ, ◌<◌, ◌≤◌, Bool, true, false, cond, leb, List, [], length, filter, Some, None, leb-true, refl, sym, ap, ◌∙◌, subst}
 use Rattle.std.proofs.lemmas.Bool.{lt-leb, le-leb}
 use Rattle.ls_set.specs.ItemSet.{Items, most_items}
 use Rattle.ls_set.specs.declared.query.Query.{Query}
@@ -38,13 +38,6 @@ kept-from sets f e = told (leb (length f) most_states) refl e
     told true t h = record { same = cc h; test = t }
     told false t h = absurd (cc h)
 
-pub lost-from : (f : List Items) → None ≡ only_if (λ g. leb (length g) most_states) (Some f) → leb (length f) most_states ≡ false
-lost-from f e = told (leb (length f) most_states) refl e
-  where
-    told : (b : Bool) → leb (length f) most_states ≡ b → (let none : Option (List Items) = None in none) ≡ cond b (Some f) None → leb (length f) most_states ≡ false
-    told true t h = absurd (cc h)
-    told false t h = t
-
 pub weighable : (n : ℕ) (start : Start) (own : List Query) (sets : List Items) (s : Settings) → AreKept (compat n start own) sets → 0 < n → n ≤ most_items → length s.ratios ≡ n → IsWeighable n sets s
 weighable n start own sets s kept some few each =
     let family : IsFamily n sets = subst (IsFamily n) (sym kept.same) (compat-IsFamily n start own) in
@@ -54,12 +47,3 @@ weighable n start own sets s kept some few each =
     few_enough m t = leb-true m most_states t
 
 -- ---- whether the pupil stands
-
-pub stands-not : (a b c : Bool) → a ≡ false → false ≡ (a && b && c)
-stands-not a b c e = sym (ap (λ x. x && b && c) e)
-
-pub stands-heavy : (a b c : Bool) → a ≡ true → b ≡ false → false ≡ (a && b && c)
-stands-heavy a b c e f = sym (ap₂ (λ x y. x && y && c) e f)
-
-pub stands-then : (a b c : Bool) → a ≡ true → b ≡ true → c ≡ (a && b && c)
-stands-then a b c e f = sym (ap₂ (λ x y. x && y && c) e f)

@@ -15,7 +15,7 @@ use std::collections::BTreeSet;
 use std::marker::Model;
 
 // A query as a key, compared by the order of its set, and then by its item.
-#[derive(Clone, Copy, Debug)]
+#[derive(Clone, Copy)]
 struct QueryKey {
     query: Query,
 }

@@ -1,5 +1,5 @@
 -- The surmise function of a file, step by step; and the items that a fault names.
-use Rattle.std.proofs.Common.{◌≡◌, inl, inr, ℕ, suc, ◌<◌, Bool, true, false, cond, ◌&&◌, List, [], ◌∷◌, map, length, Option, Some, None, is_some, Result, Ok, Err, refl, sym, ap, ap₂, ◌∙◌, subst, bytes_eq, true≢false}
+use Rattle.std.proofs.Common.{◌≡◌, inl, inr, ℕ, suc, ◌<◌, Bool, true, false, cond, ◌&&◌, List, [], ◌∷◌, map, length, Option, Some, None, is_some, Result, Ok, Err, refl, sym, ap, ◌∙◌, subst, bytes_eq, true≢false}
 use Rattle.std.specs.Prelude.{unwrap_or}
 use Rattle.std.specs.List.{list_all}
 use Rattle.std.specs.Map.{lookup}
@@ -86,9 +86,6 @@ wide-fault n clauses (NotClosed q j r) e w = of_both n clauses (Some (NotClosed 
 wide-fault n clauses (Comparable q i j) e w = of_both n clauses (Some (Comparable q i j)) e w
 wide-fault n clauses (Wide m) e w = of_both n clauses (Some (Wide m)) e w
 wide-fault n clauses (Memory e) h w = tt
-
-pub fault-as : (names : List Text) (bytes : List ℕ) (clauses : List (List Items)) (fault : SurmiseFault) → clauses_read names bytes ≡ Ok clauses → IsSurmiseFaultOf (surmise_from (length names) clauses) fault → IsSurmiseFaultOf (surmise_of names bytes) fault
-fault-as names bytes clauses fault e h = subst (λ (r : Result (List (List Items)) SurmiseFault). IsSurmiseFaultOf r fault) (sym (of_clauses names bytes clauses e)) h
 
 -- ---- what is read
 

@@ -1,5 +1,5 @@
 -- Searches through numbers, by what is left of them.
-use Rattle.std.proofs.Common.{ℕ, suc, ◌+◌, ◌-◌, ◌<◌, ◌≤◌, ◌≡◌, Bool, true, false, [], ◌∷◌, find, Option, Some, None, refl, sym, ap, ◌∙◌, arith}
+use Rattle.std.proofs.Common.{ℕ, suc, ◌+◌, ◌-◌, ◌<◌, ◌≡◌, Bool, false, ◌∷◌, find, Option, None, refl, sym, ap, ◌∙◌, arith}
 use Rattle.ls_set.specs.ItemSet.{numbers_from}
 use Rattle.ls_theory.specs.Clauses.{first_some}
 
@@ -8,9 +8,6 @@ numbers-next j end l =
     let e : end - j ≡ suc (end - (j + 1)) = omega arith in
     let s : suc j ≡ j + 1 = omega arith in
     ap (numbers_from j) e ∙ ap (λ k. j ∷ numbers_from k (end - (j + 1))) s
-
-numbers-none : (j end : ℕ) → end ≤ j → numbers_from j (end - j) ≡ []
-numbers-none j end l = ap (numbers_from j) (let e : end - j ≡ 0 = omega arith in e)
 
 -- ---- the first number that passes
 
@@ -23,14 +20,6 @@ found-next p j end whole l e h =
     let step : find p (j ∷ numbers_from (j + 1) (end - (j + 1))) ≡ find p (numbers_from (j + 1) (end - (j + 1))) = rw e refl in
     sym step ∙ ap (find p) (sym (numbers-next j end l)) ∙ h
 
-pub found-here : (p : ℕ → Bool) (j end : ℕ) (whole : Option ℕ) → j < end → p j ≡ true → FoundFrom p j end whole → Some j ≡ whole
-found-here p j end whole l e h =
-    let step : find p (j ∷ numbers_from (j + 1) (end - (j + 1))) ≡ Some j = rw e refl in
-    sym step ∙ ap (find p) (sym (numbers-next j end l)) ∙ h
-
-pub found-last : (p : ℕ → Bool) (j end : ℕ) (whole : Option ℕ) → end ≤ j → FoundFrom p j end whole → None ≡ whole
-found-last p j end whole l h = ap (find p) (sym (numbers-none j end l)) ∙ h
-
 -- ---- the first answer
 
 -- the first answer from j on is the first of all
@@ -41,11 +30,3 @@ pub first-next : {Y : Type 0} (answer : ℕ → Option Y) (j end : ℕ) (whole :
 first-next answer j end whole l e h =
     let step : first_some answer (j ∷ numbers_from (j + 1) (end - (j + 1))) ≡ first_some answer (numbers_from (j + 1) (end - (j + 1))) = rw e refl in
     sym step ∙ ap (first_some answer) (sym (numbers-next j end l)) ∙ h
-
-pub first-here : {Y : Type 0} (answer : ℕ → Option Y) (j end : ℕ) (whole : Option Y) (y : Y) → j < end → answer j ≡ Some y → FirstFrom answer j end whole → Some y ≡ whole
-first-here answer j end whole y l e h =
-    let step : first_some answer (j ∷ numbers_from (j + 1) (end - (j + 1))) ≡ Some y = rw e refl in
-    sym step ∙ ap (first_some answer) (sym (numbers-next j end l)) ∙ h
-
-pub first-last : {Y : Type 0} (answer : ℕ → Option Y) (j end : ℕ) (whole : Option Y) → end ≤ j → FirstFrom answer j end whole → None ≡ whole
-first-last answer j end whole l h = ap (first_some answer) (sym (numbers-none j end l)) ∙ h

@@ -1,6 +1,5 @@
 -- Lists of values and members of an object, read one after another.
-use Rattle.std.proofs.Common.{◌≡◌, ℕ, suc, ◌+◌, ◌<◌, ◌≤◌, Bool, true, false, List, [], ◌∷◌, ◌++◌, length, get_or, drop, Option, Some, None, is_some, refl, sym, ap, ◌∙◌, arith, option_map, option_and_then, append_assoc, drop-cons}
-use Rattle.std.proofs.lemmas.List.{drop_all}
+use Rattle.std.proofs.Common.{◌≡◌, ℕ, suc, ◌+◌, ◌<◌, Bool, List, [], ◌∷◌, ◌++◌, length, get_or, drop, Option, Some, None, is_some, refl, sym, ap, ◌∙◌, arith, option_map, option_and_then, append_assoc, drop-cons}
 use Rattle.serde_json.specs.Data.{Data, Items as Values}
 use Rattle.serde_json.specs.View.{view, items_view}
 use Rattle.serde_json.specs.declared.value.Value.{Value}
@@ -38,32 +37,3 @@ read-next f xs x vs i v whole l e is h =
 -- whether the rest can be read tells whether the whole can
 abbrev pub IsReadable : {X : Type 0} → (Data → Option X) → List Value → Bool → Type 0
 IsReadable f rest whole = is_some (read_each f (items_view rest)) ≡ whole
-
-pub readable-first : {X : Type 0} (f : Data → Option X) (vs : List Value) (o : Option Values) → Some (items_view vs) ≡ o → IsReadable f vs (is_some (option_and_then (read_each f) o))
-readable-first f vs o e = ap (λ p. is_some (option_and_then (read_each f) p)) e
-
-readable : {X : Type 0} (o : Option X) (r : Option (List X)) → is_some o ≡ true → is_some (option_and_then (λ x. option_map (λ xs. x ∷ xs) r) o) ≡ is_some r
-readable None r e = cc
-readable (Some x) None e = refl
-readable (Some x) (Some xs) e = refl
-
-unreadable : {X : Type 0} (o : Option X) (r : Option (List X)) → is_some o ≡ false → is_some (option_and_then (λ x. option_map (λ xs. x ∷ xs) r) o) ≡ false
-unreadable None r e = refl
-unreadable (Some x) r e = cc
-
-pub readable-next : {X : Type 0} (f : Data → Option X) (vs : List Value) (i : ℕ) (v : Value) (whole : Bool) → i < length vs → v ≡ get_or vs i v → is_some (f (view v)) ≡ true
-    → IsReadable f (drop i vs) whole → IsReadable f (drop (i + 1) vs) whole
-readable-next f vs i v whole l e is h =
-    sym (readable (f (view v)) (read_each f (items_view (drop (i + 1) vs))) is)
-    ∙ ap (λ ws. is_some (read_each f (items_view ws))) (sym (next-item vs i v l e))
-    ∙ h
-
-pub readable-none : {X : Type 0} (f : Data → Option X) (vs : List Value) (i : ℕ) (v : Value) (whole : Bool) → i < length vs → v ≡ get_or vs i v → is_some (f (view v)) ≡ false
-    → IsReadable f (drop i vs) whole → false ≡ whole
-readable-none f vs i v whole l e is h =
-    sym (unreadable (f (view v)) (read_each f (items_view (drop (i + 1) vs))) is)
-    ∙ ap (λ ws. is_some (read_each f (items_view ws))) (sym (next-item vs i v l e))
-    ∙ h
-
-pub readable-last : {X : Type 0} (f : Data → Option X) (vs : List Value) (i : ℕ) (whole : Bool) → length vs ≤ i → IsReadable f (drop i vs) whole → true ≡ whole
-readable-last f vs i whole l h = ap (λ ws. is_some (read_each f (items_view ws))) (sym (drop_all i vs l)) ∙ h

@@ -24,7 +24,7 @@ use std::marker::Model;
 
 /// A surmise function: the clauses of each item, in the order of sets. It means the family of the
 /// sets that meet them, and stands beside the base of that family, which has each clause once.
-#[derive(Debug, Drop)]
+#[derive(Drop)]
 pub struct Surmise {
     base: Base,
     clauses: Vec<SetList>,

@@ -98,9 +98,6 @@ says_failed a b i j p q xs whole r e fine err is_fault is h cause = record {
   lost = λ e is. absurd (cc (fine, is));
 }
 
-pub sends_lost : (a : Option (List ℕ)) (i : ℕ) (fault : Option SinkFault) (e : SinkFault) (whole : List ℕ) → fault ≡ Some e → Sends a i fault a i fault whole
-sends_lost a i fault e whole is = record { all = λ p q xs old new empty joined. says_lost a i p q xs e (old ∙ is) (new ∙ sym old) }
-
 pub sends_whole : (a b : Option (List ℕ)) (i j : ℕ) (fault : Option SinkFault) (whole : List ℕ) → fault ≡ None → Appends a b whole → i ≤ j → Sends a i fault b j None whole
 sends_whole a b i j fault whole none w l = record { all = λ p q xs old new empty joined. says_sent a b i j p q xs whole (old ∙ none) new empty joined w l }
 

@@ -1,19 +1,13 @@
 -- Which assessments a program of 128 bits can follow.
-use Rattle.std.specs.Prelude.{ℕ, zero, suc, ◌*◌, ◌^◌, ◌<◌, List}
+use Rattle.std.specs.Prelude.{◌*◌, ◌^◌, ◌<◌, List}
 use Rattle.ls_set.specs.ItemSet.{Items}
 use Rattle.ls_theory.specs.declared.reply.Reply.{Reply}
 use Rattle.ls_theory.specs.Weights.{weight, total}
 use Rattle.ls_theory.specs.Settings.{Settings}
-use Rattle.ls_theory.specs.Assessment.{asked, leader}
-use Rattle.ls_theory.specs.Classes.{turn}
+use Rattle.ls_theory.specs.Assessment.{leader}
 
 -- twice the total, the share times the total, and a hundred times the leader's weight have at most 128 bits
 pub record FitsNow (s : Settings) (f : List Items) (replies : List Reply) : Type 0 where
   pub twice : 2 * total s.ratios replies f < 2 ^ 128
   pub part : s.share * total s.ratios replies f < 2 ^ 128
   pub hundred : 100 * weight s.ratios replies (leader s.ratios replies f) < 2 ^ 128
-
--- now and after each of m more turns
-unfoldable pub FitsFor : ℕ → Settings → List Items → Items → List Reply → Type 0
-FitsFor zero s f right replies = FitsNow s f replies
-FitsFor (suc m) s f right replies = FitsNow s f replies × FitsFor m s f right (turn right (asked s f replies) replies)

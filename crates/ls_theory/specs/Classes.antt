@@ -1,13 +1,11 @@
 -- A class: each pupil's assessment, answered by a table.
-use Rattle.std.specs.Prelude.{ℕ, zero, suc, if◌then◌else◌, List, [], ◌∷◌, ◌++◌, map, length, string_bytes}
+use Rattle.std.specs.Prelude.{ℕ, zero, suc, if◌then◌else◌, List, [], ◌∷◌, ◌++◌, map, length}
 use Rattle.ls_set.specs.ItemSet.{Items, has}
 use Rattle.ls_theory.specs.declared.reply.Reply.{Reply}
 use Rattle.ls_theory.specs.declared.reason.Reason.{Reason}
 use Rattle.ls_theory.specs.declared.reason.Reason.TheVariants.{Share, Budget}
 use Rattle.ls_theory.specs.declared.asked.Asked.{Asked}
 use Rattle.ls_theory.specs.declared.asked.Asked.TheVariants.{Item, Over}
-use Rattle.ls_theory.specs.declared.listed_row.ListedRow.{ListedRow}
-use Rattle.ls_theory.specs.declared.listed_result.ListedResult.{ListedResult}
 use Rattle.ls_theory.specs.Settings.{Settings}
 use Rattle.ls_theory.specs.Assessment.{asked, has_share, leader}
 
@@ -15,10 +13,6 @@ use Rattle.ls_theory.specs.Assessment.{asked, has_share, leader}
 pub record Row : Type 0 where
   pub name : List ℕ
   pub right : Items
-
--- the row that a program's record gives
-abbrev pub row_of : ListedRow → Row
-row_of r = record { name = string_bytes r.name; right = r.right }
 
 -- one turn: the table answers a question, and nothing changes once the assessment is over
 abbrev pub turn : Items → Asked → List Reply → List Reply
@@ -36,10 +30,6 @@ pub record PupilResult : Type 0 where
   pub replies : ℕ
   pub reason : Reason
   pub state : Items
-
--- the line that a program's record gives
-abbrev pub result_of : ListedResult → PupilResult
-result_of r = record { name = string_bytes r.name; replies = r.replies; reason = r.reason; state = r.state }
 
 -- the number of replies when the assessment is over, the reason (by share, or else by budget), and the leader
 abbrev pub result_from : Settings → List Items → List ℕ → List Reply → PupilResult

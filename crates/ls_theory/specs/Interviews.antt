@@ -3,8 +3,7 @@ use Rattle.std.specs.Prelude.{ℕ, ◌+◌, Bool, not, ◌==◌, List, [], ◌�
 use Rattle.ls_set.specs.declared.query.Query.{Query}
 use Rattle.ls_theory.specs.declared.answer.Answer.{Answer}
 use Rattle.ls_theory.specs.declared.no.No.{No}
-use Rattle.ls_theory.specs.declared.listed_interview.ListedInterview.{ListedInterview}
-use Rattle.ls_theory.specs.Starts.{Start, start_of}
+use Rattle.ls_theory.specs.Starts.{Start}
 
 -- `count` items; the start; blocks of sets of up to `block` items; the standing answers in order of number; the next number
 pub record Interview : Type 0 where
@@ -37,7 +36,3 @@ nos answers = map (λ a. record { number = a.number; query = a.query }) (filter 
 -- the queries that were answered No
 abbrev pub no_queries : List Answer → List Query
 no_queries answers = map (λ a. a.query) (filter (λ a. not a.yes) answers)
-
--- the interview that a program's lists give
-abbrev pub interview_of : ListedInterview → Interview
-interview_of i = record { count = i.count; start = start_of i.start; block = i.block; answers = i.answers.items; next = i.next }

@@ -4,17 +4,12 @@ use Rattle.std.specs.List.{list_all}
 use Rattle.ls_set.specs.ItemSet.{numbers_from}
 use Rattle.ls_theory.specs.declared.ratio.Ratio.{Ratio}
 use Rattle.ls_theory.specs.declared.ratio.Ratios.{Ratios}
-use Rattle.ls_theory.specs.declared.listed_settings.ListedSettings.{ListedSettings}
 
 -- the ratios of each item in turn; the most replies; and the share that ends an assessment, in hundredths
 pub record Settings : Type 0 where
   pub ratios : List Ratios
   pub budget : ℕ
   pub share : ℕ
-
--- the settings that a program's lists give
-abbrev pub settings_of : ListedSettings → Settings
-settings_of s = record { ratios = s.ratios.items; budget = s.budget; share = s.share }
 
 -- ---- which can be set
 

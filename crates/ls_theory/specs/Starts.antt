@@ -2,8 +2,6 @@
 use Rattle.std.specs.Prelude.{Bool, true, List, [], slice_index_or}
 use Rattle.std.specs.List.{list_any, list_all}
 use Rattle.ls_set.specs.ItemSet.{Items, is_same, is_within, items}
-use Rattle.ls_theory.specs.declared.listed_start.ListedStart.{ListedStart}
-use Rattle.ls_theory.specs.declared.listed_start.ListedStart.TheVariants as Listed
 use Rattle.ls_theory.specs.Families.{interior}
 
 -- no restriction; for each item in turn, its clauses; or the listed sets
@@ -18,9 +16,3 @@ abbrev pub meets : Start → Items → Bool
 meets Free k = true
 meets (Clauses clauses) k = list_all (λ q. list_any (λ c. is_within c k) (slice_index_or clauses q [])) (items k)
 meets (Sets sets) k = is_same (interior sets k) k
-
--- the start that a program's lists give
-abbrev pub start_of : ListedStart → Start
-start_of Listed.Free = Free
-start_of (Listed.Clauses clauses) = Clauses clauses.items
-start_of (Listed.Sets sets) = Sets sets

@@ -2,7 +2,7 @@
 use ls_set::ItemSet;
 
 /// The two fringes of a state.
-#[derive(Clone, Copy, Debug, PartialEq, Eq)]
+#[derive(Clone, Copy, PartialEq, Eq)]
 pub struct FringePair {
     /// The items of the state whose removal gives a state.
     pub inner: ItemSet,

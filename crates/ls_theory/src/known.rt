@@ -2,7 +2,7 @@
 
 /// What the standing answers tell of a query: that it is Yes, that it is No by the answer with the
 /// number `by`, or neither.
-#[derive(Clone, Copy, Debug, PartialEq, Eq)]
+#[derive(Clone, Copy, PartialEq, Eq)]
 pub enum Known {
     Yes,
     No { by: u64 },

@@ -2,7 +2,7 @@
 use ls_set::SetList;
 
 /// A page: the sets, and whether a further one follows.
-#[derive(Debug, Drop)]
+#[derive(Drop)]
 pub struct Listing {
     pub sets: SetList,
     pub more: bool,

@@ -3,7 +3,7 @@ use ls_set::ItemSet;
 
 /// The first state of greatest weight, its weight, the weight of all states, and the number of
 /// replies.
-#[derive(Clone, Copy, Debug, PartialEq, Eq)]
+#[derive(Clone, Copy, PartialEq, Eq)]
 pub struct Outcome {
     pub state: ItemSet,
     pub weight: u128,

@@ -4,7 +4,7 @@ use ls_set::ItemSet;
 
 /// How an assessment ended: the number of replies, why it was over, and the first state of greatest
 /// weight.
-#[derive(Clone, Copy, Debug, PartialEq, Eq)]
+#[derive(Clone, Copy, PartialEq, Eq)]
 pub struct Replay {
     pub replies: u64,
     pub reason: Reason,

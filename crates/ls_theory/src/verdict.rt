@@ -2,7 +2,7 @@
 use ls_set::{ItemSet, SetList};
 
 /// What a family of sets is: the first of these that holds.
-#[derive(Debug, Drop)]
+#[derive(Drop)]
 pub enum Verdict {
     /// It lacks the empty set.
     NoEmpty,
@@ -26,7 +26,7 @@ pub enum Verdict {
 }
 
 /// Whether a space is a learning space.
-#[derive(Clone, Copy, Debug, PartialEq, Eq)]
+#[derive(Clone, Copy, PartialEq, Eq)]
 pub enum BaseVerdict {
     /// It is not: the set of its base is an atom at both items.
     NotGraded {

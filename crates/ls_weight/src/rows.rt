@@ -17,7 +17,7 @@ use std::marker::Model;
 ///
 /// For each state the items are kept as a row of bytes, eight items a byte, and for each item, how
 /// many states have it.
-#[derive(Debug, Drop)]
+#[derive(Drop)]
 pub(crate) struct StateRows {
     n: u32,
     states: SetList,

@@ -24,7 +24,7 @@ use std::rc::Rc;
 ///
 /// With the weights, the masses, the total and the heaviest state are kept. A reply is one pass
 /// over the states; the states of several pupils are kept once.
-#[derive(Debug, Drop)]
+#[derive(Drop)]
 pub struct Weights {
     alloc: Global,
     settings: Settings,

@@ -3,7 +3,7 @@
 use ls_lines::Word;
 
 /// What the program is asked to do.
-#[derive(Debug, Drop)]
+#[derive(Drop)]
 pub enum Mode {
     /// It answers the script that comes as its input.
     Input,
