@@ -2,9 +2,9 @@
 use Rattle.std.proofs.Common.{ℕ, zero, suc, ◌+◌, ◌<◌, ◌≤◌, ◌≡◌, Bool, true, false, nat_le, Some, refl, arith}
 use Rattle.std.specs.List.{list_all}
 use Rattle.std.proofs.lemmas.Bool.Decides.{nat_tests}
-use Rattle.ls_set.specs.ItemSet.{numbers_from}
+use Rattle.ls_set.specs.{numbers_from}
 use Rattle.ls_set.proofs.Ascending.{find_first}
-use Rattle.ls_theory.specs.Words.{first_least}
+use Rattle.ls_theory.specs.{first_least}
 
 -- a test that each number passes
 all-pass : (p : ℕ → Bool) (i m : ℕ) → ((j : ℕ) → i ≤ j → j < i + m → p j ≡ true) → list_all p (numbers_from i m) ≡ true

@@ -1,7 +1,6 @@
 // The half-split question and the leader.
 ghost use Rattle.std.specs.Prelude.{◌≡◌, ◌<◌, length, slice_get, Some};
-ghost use Rattle.ls_theory.specs.Weights.{total};
-ghost use Rattle.ls_theory.specs.Assessment.{imbalance, half_split, leader};
+ghost use Rattle.ls_theory.specs.{half_split, imbalance, leader, total};
 
 use ls_weight::Weights;
 

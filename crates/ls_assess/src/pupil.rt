@@ -1,9 +1,8 @@
 // The assessment of one pupil.
 ghost use Rattle.std.specs.Prelude.{◌≡◌, ◌<◌, ◌≤◌, ◌++◌, ◌∷◌, [], ℕ, length, nat_lt, true, Some, None, Err, IfOk, IfErr, OnOk, OnErr};
 ghost use Rattle.std.specs.List.{list_all};
-ghost use Rattle.ls_set.specs.ItemSet.{is_among};
-ghost use Rattle.ls_theory.specs.Settings.{heavy_after};
-ghost use Rattle.ls_theory.specs.Assessment.{has_share, asked, outcome, reply_fault};
+ghost use Rattle.ls_set.specs.{is_among};
+ghost use Rattle.ls_theory.specs.{asked, has_share, heavy_after, outcome, reply_fault};
 ghost use Rattle.ls_weight.specs.Weighings.{IsWeighable};
 
 use ls_ask::{half_split, leader};

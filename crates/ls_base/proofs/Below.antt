@@ -1,11 +1,5 @@
 -- The union of the sets of a list below a set.
-use Rattle.std.proofs.Common.{◌≡◌, true, false, not, List, [], ◌∷◌, filter, refl, sym, ap, ◌∙◌}
-use Rattle.std.proofs.lemmas.Bool.{and_parts}
-use Rattle.ls_set.specs.ItemSet.{Items, has, empty, union, is_among, is_same, is_within}
-use Rattle.ls_set.proofs.Sets.{same_within}
-use Rattle.ls_theory.specs.Families.{interior}
-use Rattle.ls_laws.specs.Spans.{is_proper, union_below}
-use Rattle.ls_laws.proofs.Interiors.{from-interior, to-interior, interior-whole, interior-within}
+use Rattle.ls_base.proofs.Vocabulary.{◌∙◌, ◌∷◌, ◌≡◌, Items, List, [], and_parts, ap, empty, false, filter, from-interior, has, interior, interior-whole, interior-within, is_among, is_proper, is_same, is_within, not, refl, same_within, sym, to-interior, true, union, union_below}
 use Rattle.ls_base.proofs.Turns.{Unites}
 
 -- ---- interiors in a list, set by set

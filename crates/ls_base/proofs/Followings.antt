@@ -1,19 +1,7 @@
 -- What follows one more Yes answer.
-use Rattle.std.proofs.Common.{ℕ, ◌+◌, ◌<◌, ◌≤◌, ◌≡◌, true, List, [], ◌∷◌, ◌++◌, length, get_or, refl, sym, ap, ◌∙◌, subst, lt-ltb, le-ltb, true≢false}
-use Rattle.std.specs.List.{list_all}
-use Rattle.std.proofs.lemmas.Bool.{true_from_ne_false}
+use Rattle.ls_base.proofs.Vocabulary.{◌++◌, ◌+◌, ◌<◌, ◌∙◌, ◌∷◌, ◌≡◌, ◌≤◌, BaseState, Followed, IsAskable, IsFollowed, IsFollowedBase, List, Query, Start, ℕ, [], ap, base, compat, family, get_or, is_good, le-ltb, left_by, length, list_all, lt-ltb, most_base_sets, refl, spanned-base, subst, sym, true, true_from_ne_false, true≢false}
 use Rattle.std.proofs.lemmas.List.Folds.{list_all_at}
-use Rattle.ls_set.specs.Query.{is_good}
-use Rattle.ls_set.specs.declared.query.Query.{Query}
-use Rattle.ls_theory.specs.Starts.{Start}
-use Rattle.ls_theory.specs.Compatible.{compat}
-use Rattle.ls_theory.specs.Bases.{base, most_base_sets}
-use Rattle.ls_laws.specs.Spans.{left_by}
 use Rattle.ls_laws.proofs.Compat.{compat-more, compat-in_order, compat-IsUnionFamily}
-use Rattle.ls_laws.proofs.Spans.{spanned-base}
-use Rattle.ls_base.specs.Bases.{BaseState, family}
-use Rattle.ls_base.specs.Followed.{IsFollowedBase, IsFollowed, IsAskable}
-use Rattle.ls_base.specs.declared.followed.Followed.{Followed}
 use Rattle.ls_base.specs.declared.followed.Followed.TheVariants.{Within, Past}
 use Rattle.ls_base.proofs.Peaks.{peak-begun, peak-new}
 

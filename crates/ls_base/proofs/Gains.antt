@@ -1,25 +1,9 @@
 -- The base of what a Yes leaves: the sets that stay, and what is gained at each item.
-use Rattle.std.proofs.Common.{ℕ, zero, suc, ◌<◌, ◌≡◌, inl, inr, Bool, true, false, cond, not, ◌&&◌, List, [], ◌∷◌, ◌++◌, map, filter, refl, sym, ap, ap₂, ◌∙◌, subst, arith, ltb-true, true≢false}
-use Rattle.std.specs.List.{list_any}
-use Rattle.std.proofs.lemmas.Bool.{cases_lt}
+use Rattle.ls_base.proofs.Vocabulary.{◌&&◌, ◌++◌, ◌<◌, ◌∙◌, ◌∷◌, ◌≡◌, Bool, IsBelow, IsInOrder, IsInOrder-filter, Items, List, Query, ℕ, [], ap, ap₂, arith, atoms_at, base, breaks, broken_at, broken_in, cases_lt, cond, false, filter, filter-both, filter_agree, gained, gained_at, gained_below, has, has-full, has-interior, has-minus, has_none_within, having, inl, inr, is_among, is_atom_at, is_gained, is_proper, is_same, is_within, joined, joins, least_beside, least_sets, left_by, list_any, ltb-true, map, minus, near, not, refl, some_breaks, spanned, spanned-IsUnionFamily, spanned-in_order, subst, suc, sym, true, true≢false, union_below, zero}
 use Rattle.std.proofs.Math.Bool.{and_comm}
-use Rattle.std.proofs.lemmas.List.Elements.{filter_agree}
-use Rattle.ls_lists.proofs.Filters.{filter-both}
-use Rattle.ls_set.specs.ItemSet.{Items, has, minus, is_among, is_same, is_within, IsInOrder}
-use Rattle.ls_set.specs.declared.query.Query.{Query}
-use Rattle.ls_set.proofs.Sets.{has-full, has-minus}
-use Rattle.ls_theory.specs.Queries.{breaks, some_breaks}
-use Rattle.ls_theory.specs.Bases.{base, is_atom_at, atoms_at}
-use Rattle.ls_laws.specs.Spans.{is_proper, spanned, left_by, joins}
-use Rattle.ls_laws.proofs.Lists.{IsInOrder-filter}
-use Rattle.ls_laws.proofs.Interiors.{has-interior}
-use Rattle.ls_laws.proofs.Spans.{spanned-IsUnionFamily, spanned-in_order}
 use Rattle.ls_laws.proofs.Closures.{left-IsUnionFamily}
-use Rattle.ls_changes.specs.Least.{least_sets, least_beside, has_none_within, having, near, joined, gained, IsBelow}
 use Rattle.ls_changes.proofs.Least.{among-either, among-left, among-right, some-filter, some-same}
 use Rattle.ls_changes.proofs.Atoms.{near_least-below, gained-where, base-list, base-same}
-use Rattle.ls_laws.specs.Spans.{union_below}
-use Rattle.ls_base.specs.Gains.{broken_in, broken_at, is_gained, gained_at, gained_below}
 use Rattle.ls_base.specs.declared.left.Broken.{Broken}
 use Rattle.ls_base.proofs.Spanned.{base-again, atoms_at-base}
 

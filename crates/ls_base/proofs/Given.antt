@@ -1,15 +1,6 @@
 -- The sets that are given for a base: whether they have each item, and the base of what they span.
-use Rattle.std.proofs.Common.{ℕ, ◌≤◌, ◌≡◌, Bool, true, List, length, filter, Some, None, Option, Ok, Err, refl, ap, ap₂, ◌∙◌, sym, subst, lt-ltb, le-ltb}
-use Rattle.ls_lists.proofs.Every.{list_all-All}
-use Rattle.ls_lists.proofs.Filters.{filter-all}
-use Rattle.ls_set.specs.ItemSet.{Items, full, is_among, is_within, minus, least}
-use Rattle.ls_set.proofs.Sets.{is_within-from}
-use Rattle.ls_theory.specs.Families.{unions, interior}
-use Rattle.ls_theory.specs.Bases.{base, first_missing, limited, based, most_base_sets}
-use Rattle.ls_laws.specs.Spans.{IsOn, spanned}
-use Rattle.ls_laws.proofs.Lists.{every-from}
+use Rattle.ls_base.proofs.Vocabulary.{◌∙◌, ◌≡◌, ◌≤◌, Bool, Err, IsFaultOf, IsOn, IsPastOf, Items, List, None, Ok, Option, Some, ℕ, ap, ap₂, base, base_fault, based, every-from, filter, filter-all, first_missing, full, interior, is_among, is_within, is_within-from, le-ltb, least, length, limited, list_all-All, lt-ltb, minus, most_base_sets, refl, spanned, subst, sym, true, unions}
 use Rattle.ls_laws.proofs.BaseStarts.{compat-sets}
-use Rattle.ls_base.specs.Bases.{base_fault, IsFaultOf, IsPastOf}
 use Rattle.ls_base.specs.declared.fault.PastFault.{PastFault}
 use Rattle.ls_base.specs.declared.fault.PastFault.TheVariants as Limit
 use Rattle.ls_theory.specs.declared.base_fault.BaseFault.TheVariants.{NotSpanning, Past}

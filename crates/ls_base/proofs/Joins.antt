@@ -1,12 +1,5 @@
 -- Joins below a set.
-use Rattle.std.proofs.Common.{ℕ, ◌<◌, ◌≤◌, ◌≡◌, inl, inr, Bool, true, false, not, ◌&&◌, ◌||◌, List, [], ◌∷◌, ◌++◌, map, min, refl, sym, ap, ap₂, ◌∙◌, arith, true≢false}
-use Rattle.std.specs.List.{list_any}
-use Rattle.std.proofs.lemmas.Bool.{and_parts, cases_lt, false_from_ne_true, not-true}
-use Rattle.ls_set.specs.ItemSet.{Items, len, union, is_same, is_within}
-use Rattle.ls_set.proofs.Sets.{union-left, Decides-is_same, IsWithin-from, is_within-from}
-use Rattle.ls_laws.specs.Spans.{is_proper, joins}
-use Rattle.ls_laws.proofs.Counts.{as_many}
-use Rattle.ls_base.specs.Gains.{least_size}
+use Rattle.ls_base.proofs.Vocabulary.{◌&&◌, ◌++◌, ◌<◌, ◌||◌, ◌∙◌, ◌∷◌, ◌≡◌, ◌≤◌, Bool, Decides-is_same, IsWithin-from, Items, List, ℕ, [], and_parts, ap, ap₂, arith, as_many, cases_lt, false, false_from_ne_true, inl, inr, is_proper, is_same, is_within, is_within-from, joins, least_size, len, list_any, map, min, not, not-true, refl, sym, true, true≢false, union, union-left}
 
 any-append : (p : Items → Bool) (xs ys : List Items) → list_any p (xs ++ ys) ≡ (list_any p xs || list_any p ys)
 any-append p [] ys = refl

@@ -1,17 +1,8 @@
 -- The order of sets compares any two sets; what is left of sets put in it, each once.
-use Rattle.std.proofs.Common.{ℕ, suc, ◌+◌, ◌<◌, ◌≡◌, ◌⊎◌, inl, inr, Bool, true, false, cond, ◌||◌, List, [], ◌∷◌, length, get_or, None, Some, refl, sym, ap, ◌∙◌, subst, arith, true≢false}
+use Rattle.ls_base.proofs.Vocabulary.{◌+◌, ◌<◌, ◌||◌, ◌∙◌, ◌∷◌, ◌≡◌, ◌⊎◌, AllByRecursion, Bool, Decides-is_same, IsInOrder, Items, List, None, Some, ℕ, [], among-cases, among-here, among-there, ap, arith, beq-cases, beq-same, comes_before, comes_before-asymmetric, comes_before-at, comes_before-transitive, cond, dedup, dedup_from, differing, false, false_from_ne_true, get_or, has, has-differing, has-empty, inl, inr, is_among, is_same, least, least-cases, len, len-zero, length, refl, same_set, subst, suc, sym, true, true≢false}
 use Rattle.std.specs.Cmp.{IsStrictWeakOrder}
-use Rattle.std.specs.List.{AllByRecursion, dedup, dedup_from}
 use Rattle.std.specs.List.Sorted.{IsSortedBy}
-use Rattle.std.proofs.lemmas.Bool.{false_from_ne_true}
-use Rattle.ls_lists.proofs.Bools.{beq-same, beq-cases}
-use Rattle.ls_set.specs.ItemSet.{Items, has, differing, len, least, is_among, is_same, comes_before, IsInOrder}
-use Rattle.ls_set.proofs.Sets.{has-differing, has-empty, same_set, Decides-is_same}
-use Rattle.ls_set.proofs.Members.{among-here, among-there, among-cases}
-use Rattle.ls_set.proofs.Ascending.{least-cases}
 use Rattle.ls_set.proofs.Firsts.{items-none}
-use Rattle.ls_set.proofs.Order.{comes_before-at, comes_before-asymmetric, comes_before-transitive}
-use Rattle.ls_laws.proofs.Counts.{len-zero}
 
 same_from_none : (s t : Items) → least (differing s t) ≡ None → s ≡ t
 unfolding len

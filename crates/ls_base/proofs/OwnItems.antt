@@ -1,24 +1,7 @@
 -- The items of a base set that no base set below it has: those at which it is an atom.
-use Rattle.std.proofs.Common.{ℕ, zero, suc, ◌+◌, ◌<◌, ◌≤◌, ◌≡◌, inl, inr, Bool, true, false, not, ◌&&◌, List, [], ◌∷◌, length, filter, drop, get_or, slice_get, take, length-drop, add-one, ◌-◌, Some, ltb, leb, refl, sym, ap, ◌∙◌, subst, arith, true≢false}
-use Rattle.std.specs.List.{list_any}
-use Rattle.std.proofs.lemmas.Bool.{cases_eq, and_parts, and_from, not_from_false, false_from_ne_true, true_from_ne_false, not-true}
+use Rattle.ls_base.proofs.Vocabulary.{◌&&◌, ◌+◌, ◌-◌, ◌<◌, ◌∙◌, ◌∷◌, ◌≡◌, ◌≤◌, Bool, Decides-is_same, IsInOrder, IsWithin, Items, List, Some, ℕ, [], add-one, among-filter, among-here, among-there, and_from, and_parts, ap, arith, as_many, atom_items, base, base-in_order, base-member, base-needed, base-spans, bound, bound-has, cases_eq, drop, drop-next, drop_all, empty, false, false_from_ne_true, filter, filter-both, from-interior, get_or, has, has-empty, has-interior, has-minus, inl, inr, interior-within, is_among, is_atom_at, is_proper, is_same, is_within, items, leb, len, len-zero, length, length-drop, list_any, ltb, members, minus, needed, not, not-true, not_from_false, numbers_from, refl, same_set, same_within, set_of, slice_get, slice_get_read, some-filter, some-same, subst, suc, sym, take, take_all, to-interior, true, true_from_ne_false, true≢false, union, union_below, zero}
 use Rattle.std.proofs.lemmas.Bool.Decides.{nat_tests}
-use Rattle.std.proofs.lemmas.List.{drop_all, take_all}
-use Rattle.std.proofs.lemmas.Option.{slice_get_read}
-use Rattle.ls_lists.proofs.Filters.{filter-both}
-use Rattle.ls_lists.proofs.Places.{drop-next}
-use Rattle.ls_set.specs.ItemSet.{Items, has, empty, bound, items, minus, union, len, set_of, numbers_from, is_among, is_same, is_within, IsWithin, IsInOrder}
-use Rattle.ls_set.proofs.Sets.{members, has-empty, has-minus, same_set, same_within, Decides-is_same}
-use Rattle.ls_set.proofs.Members.{among-here, among-there, among-filter}
 use Rattle.ls_set.proofs.Cursors.{has-set_of-filter}
-use Rattle.ls_set.proofs.Ascending.{bound-has}
-use Rattle.ls_theory.specs.Bases.{base, is_atom_at, atom_items}
-use Rattle.ls_laws.specs.Spans.{is_proper, union_below, needed}
-use Rattle.ls_laws.proofs.Lists.{some-filter, some-same}
-use Rattle.ls_laws.proofs.Counts.{as_many, len-zero}
-use Rattle.ls_laws.proofs.Interiors.{from-interior, to-interior, has-interior, interior-within}
-use Rattle.ls_laws.proofs.Atoms.{base-member, base-spans}
-use Rattle.ls_laws.proofs.Spans.{base-in_order, base-needed}
 use Rattle.ls_base.proofs.Below.{below-unites}
 use Rattle.ls_base.proofs.Spanned.{is_atom_at-base}
 use Rattle.ls_base.proofs.Reduced.{below-first, below-later}

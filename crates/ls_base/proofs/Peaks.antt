@@ -1,13 +1,7 @@
 -- Peaks: one more Yes answer keeps a peak; where there was none, it makes one or not.
-use Rattle.std.proofs.Common.{ℕ, zero, suc, ◌+◌, ◌<◌, ◌≤◌, ◌≡◌, Bool, true, false, cond, List, [], ◌∷◌, ◌++◌, length, take, find, ltb, le-ltb, Option, Some, None, refl, sym, ap, ◌∙◌, arith, length-append, option_map}
-use Rattle.std.proofs.lemmas.List.{take-append-le}
+use Rattle.ls_base.proofs.Vocabulary.{◌++◌, ◌+◌, ◌<◌, ◌∙◌, ◌∷◌, ◌≡◌, ◌≤◌, Bool, List, None, Option, Peak, Query, Some, Start, ℕ, [], ap, arith, base, base_size, compat, cond, false, find, le-ltb, length, length-append, ltb, numbers_from, option_map, peak, refl, suc, sym, take, take-append-le, true, zero}
 use Rattle.std.proofs.Math.Seq.{take-length}
 use Rattle.ls_lists.proofs.Options.{none_from_map, map-cond}
-use Rattle.ls_set.specs.ItemSet.{numbers_from}
-use Rattle.ls_set.specs.declared.query.Query.{Query}
-use Rattle.ls_theory.specs.Starts.{Start}
-use Rattle.ls_theory.specs.Compatible.{compat}
-use Rattle.ls_theory.specs.Bases.{base, base_size, Peak, peak}
 
 -- ---- a search among one number more
 

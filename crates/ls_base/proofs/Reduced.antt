@@ -1,20 +1,5 @@
 -- The sets of a list in order that are needed, told from the last set on.
-use Rattle.std.proofs.Common.{ℕ, zero, suc, ◌+◌, ◌<◌, ◌≤◌, ◌≡◌, inl, inr, Bool, true, false, not, ◌&&◌, List, [], ◌∷◌, ◌++◌, length, drop, reverse, get_or, filter, arith, refl, sym, ap, ◌∙◌, subst, true≢false}
-use Rattle.std.proofs.lemmas.Bool.{or_cases, and_parts, false_from_ne_true}
-use Rattle.std.proofs.lemmas.List.{drop_all, reverse-append}
-use Rattle.std.proofs.lemmas.List.Filters.{length-filter_both}
-use Rattle.std.proofs.lemmas.List.Sorted.{IsPermutation-reverse, list_any-IsPermutation}
-use Rattle.ls_lists.proofs.Places.{drop-next}
-use Rattle.ls_set.specs.ItemSet.{Items, is_among, is_same, is_within, comes_before, IsInOrder}
-use Rattle.ls_set.proofs.Sets.{Decides-is_same, IsWithin-from}
-use Rattle.ls_set.proofs.Members.{among-here, among-there, among-cases, among-filter, Each-among}
-use Rattle.ls_set.proofs.Order.{differs_first, either_first, comes_before-asymmetric}
-use Rattle.ls_theory.specs.Families.{interior}
-use Rattle.ls_theory.specs.Bases.{base}
-use Rattle.ls_laws.specs.Spans.{is_proper, union_below, needed, IsPart, Spans}
-use Rattle.ls_laws.proofs.Interiors.{interior-member}
-use Rattle.ls_laws.proofs.Atoms.{base-spans}
-use Rattle.ls_laws.proofs.Spans.{base-of, base-needed}
+use Rattle.ls_base.proofs.Vocabulary.{◌&&◌, ◌++◌, ◌+◌, ◌<◌, ◌∙◌, ◌∷◌, ◌≡◌, ◌≤◌, Bool, Decides-is_same, Each-among, IsInOrder, IsPart, IsPermutation-reverse, IsWithin-from, Items, List, Spans, ℕ, [], among-cases, among-filter, among-here, among-there, and_parts, ap, arith, base, base-needed, base-of, base-spans, comes_before, comes_before-asymmetric, differs_first, drop, drop-next, drop_all, either_first, false, false_from_ne_true, filter, get_or, inl, inr, interior, interior-member, is_among, is_proper, is_same, is_within, length, length-filter_both, list_any-IsPermutation, needed, not, or_cases, refl, reverse, reverse-append, subst, suc, sym, true, true≢false, union_below, zero}
 use Rattle.ls_base.proofs.Below.{interior-same, interior-through}
 
 -- a set that lies within another and is not the same comes after it

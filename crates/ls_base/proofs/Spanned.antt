@@ -1,22 +1,7 @@
 -- Bases and the families that they span.
-use Rattle.std.proofs.Common.{ℕ, zero, suc, ◌+◌, ◌<◌, ◌≤◌, ◌≡◌, inl, inr, Bool, true, not, ◌&&◌, ◌||◌, List, length, map, refl, sym, ap, ◌∙◌, subst, arith, true≢false, eqb, ltb-true, lt-ltb, eq-eqb, eqb-true}
-use Rattle.std.specs.List.{list_any, range_with_len}
+use Rattle.ls_base.proofs.Vocabulary.{◌&&◌, ◌+◌, ◌<◌, ◌||◌, ◌∙◌, ◌≡◌, ◌≤◌, Bool, Decides-is_same, IsAtom-from, IsInOrder, IsInOrder-filter, IsOn, IsPart, IsUnionFamily, IsWithin, IsWithin-from, Items, List, Spans, ℕ, among-base, among-cases, among-filter, among-here, among-subsets, among-there, and_from, and_parts, ap, arith, atom_within, atoms_at, base, base-in_order, base-member, base-needed, cases_eq, empty, eq-eqb, eqb, eqb-true, false_from_ne_true, from-interior, full, has, has-empty, has-full, has-with, inl, inr, interior, interior-whole, is_among, is_atom_at, is_same, is_within, is_within-from, length, list_any, lt-ltb, ltb-true, map, most_base_sets, needed, not, not-true, not_from_false, range_with_len, refl, same_members, same_truth, same_within, single_sets, some-among, some-from, spanned, spanned-IsUnionFamily, spanned-base, spanned-has, spanned-in_order, spanned-same, spanned-whole, subsets, subsets-IsUnionFamily, subsets_from-in_order, subst, suc, sym, to-interior, true, true≢false, with, zero}
 use Rattle.std.proofs.lemmas.List.FromFn.{length-map-range_with_len}
-use Rattle.std.proofs.lemmas.Bool.{cases_eq, and_parts, and_from, not_from_false, not-true, false_from_ne_true}
-use Rattle.ls_lists.proofs.Bools.{same_truth}
-use Rattle.ls_set.specs.ItemSet.{Items, has, empty, full, with, subsets, is_among, is_same, is_within, IsWithin, IsInOrder}
 use Rattle.ls_set.specs.declared.item_set.TheConstants.{PLACES}
-use Rattle.ls_set.proofs.Sets.{has-empty, has-full, has-with, same_within, Decides-is_same, IsWithin-from, is_within-from}
-use Rattle.ls_set.proofs.Members.{among-here, among-there, among-cases, among-filter}
-use Rattle.ls_set.proofs.Order.{among-subsets, subsets_from-in_order}
-use Rattle.ls_theory.specs.Families.{interior}
-use Rattle.ls_theory.specs.Bases.{base, is_atom_at, atoms_at, most_base_sets}
-use Rattle.ls_laws.specs.Spans.{IsOn, IsPart, Spans, needed, spanned}
-use Rattle.ls_laws.proofs.Lists.{some-among, some-from, IsInOrder-filter, same_members}
-use Rattle.ls_laws.proofs.Interiors.{IsUnionFamily, subsets-IsUnionFamily, from-interior, to-interior, interior-whole}
-use Rattle.ls_laws.proofs.Atoms.{IsAtom-from, atom_within, among-base, base-member}
-use Rattle.ls_laws.proofs.Spans.{spanned-has, spanned-whole, spanned-same, spanned-IsUnionFamily, spanned-in_order, spanned-base, base-in_order, base-needed}
-use Rattle.ls_base.specs.Bases.{single_sets}
 use Rattle.ls_base.proofs.Below.{interior-same}
 
 -- ---- what a base spans

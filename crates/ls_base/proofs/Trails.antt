@@ -1,22 +1,7 @@
 -- Trails: what their entries stand for, and which is the last.
-use Rattle.std.proofs.Common.{ℕ, suc, ◌+◌, ◌-◌, ◌<◌, ◌≤◌, ◌≡◌, inl, inr, true, false, cond, ltb, List, [], ◌∷◌, ◌++◌, length, take, drop, filter, get_or, slice_get, Some, IfSome, option_map, refl, sym, ap, ◌∙◌, arith, subst, length-append, ltb-true}
+use Rattle.ls_base.proofs.Vocabulary.{◌++◌, ◌+◌, ◌-◌, ◌<◌, ◌∙◌, ◌∷◌, ◌≡◌, ◌≤◌, All, All-append, All-drop, All-filter, All-from_recursion, All-map, All-push, All-set, All-take, All-weaker, AreAskable, EndsAt, Entry, Followed, IfSome, IsAskable, IsEntry, IsFollowed, IsTrail, List, Query, Some, Start, ℕ, [], ap, arith, begins_at_none, cases_lt, cond, cut, drop, false, filter, filter_passes, get_or, get_or_from_slice_get, given_up, inl, inr, is_good, last_entry, leb-true, length, length-append, length-set, length-take, length-take-le, list_all, list_all-All, ltb, ltb-false, ltb-true, option_map, option_map_or, reached, refl, set, slice_get, slice_get-get_or, slice_get_read, slice_get_within, subst, suc, sym, take, take-append-le, take-take, take_all, take_more, true}
 use Rattle.std.proofs.Math.Dec.{leb}
-use Rattle.std.proofs.Math.ListN.{set}
-use Rattle.std.specs.List.{All, list_all}
-use Rattle.std.specs.Option.{option_map_or}
-use Rattle.std.proofs.lemmas.Bool.{cases_lt, leb-true, ltb-false}
-use Rattle.std.proofs.lemmas.List.{take_more, take-take, take_all, take-append-le, length-take, length-take-le, length-set}
-use Rattle.std.proofs.lemmas.List.Elements.{All-set, All-push, All-append, All-take, All-drop, All-map, All-filter, All-weaker, All-from_recursion, filter_passes}
-use Rattle.std.proofs.lemmas.Option.{slice_get_within, slice_get_read, slice_get-get_or, get_or_from_slice_get}
 use Rattle.std.proofs.lemmas.Grind.{get_or-set_at}
-use Rattle.ls_set.specs.Query.{is_good}
-use Rattle.ls_set.specs.declared.query.Query.{Query}
-use Rattle.ls_theory.specs.Starts.{Start}
-use Rattle.ls_base.specs.Followed.{IsFollowed, IsAskable}
-use Rattle.ls_base.specs.Trail.{IsEntry, IsTrail, EndsAt, AreAskable, last_entry, reached, begins_at_none, cut, given_up}
-use Rattle.ls_base.specs.declared.followed.Followed.{Followed}
-use Rattle.ls_base.specs.declared.trail.Entry.{Entry}
-use Rattle.ls_lists.proofs.Every.{list_all-All}
 use Rattle.ls_base.proofs.Followings.{IsAskable-good}
 
 -- ---- the last entry

@@ -1,9 +1,5 @@
 -- Turns of loops over lists of sets.
-use Rattle.std.proofs.Common.{ℕ, ◌+◌, ◌<◌, ◌≤◌, ◌≡◌, Bool, true, false, List, [], ◌∷◌, length, drop, get_or, sym, ap, ap₂, ◌∙◌, subst}
-use Rattle.std.proofs.lemmas.List.{drop_all}
-use Rattle.ls_lists.proofs.Places.{drop-next}
-use Rattle.ls_set.specs.ItemSet.{Items, empty, union, IsWithin}
-use Rattle.ls_set.proofs.Sets.{union_assoc, union-empty_left, union-empty_right, union-left, union-within, same_within}
+use Rattle.ls_base.proofs.Vocabulary.{◌+◌, ◌<◌, ◌∙◌, ◌∷◌, ◌≡◌, ◌≤◌, Bool, IsWithin, Items, List, ℕ, [], ap, ap₂, drop, drop-next, drop_all, empty, false, get_or, length, same_within, subst, sym, true, union, union-empty_left, union-empty_right, union-left, union-within, union_assoc}
 
 -- ---- a union of what each set of a list gives
 

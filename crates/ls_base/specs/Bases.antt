@@ -1,8 +1,8 @@
 -- Bases: what contracts see of them.
 use Rattle.std.specs.Prelude.{ℕ, ◌≡◌, ◌<◌, ◌≤◌, List, map, length, Result, Err, ⊤}
 use Rattle.std.specs.List.{range_with_len}
-use Rattle.ls_set.specs.ItemSet.{Items, empty, with, set_of, most_items}
-use Rattle.ls_theory.specs.Bases.{base, atom_items, most_base_sets}
+use Rattle.ls_set.specs.{Items, empty, most_items, set_of, with}
+use Rattle.ls_theory.specs.{atom_items, base, most_base_sets}
 use Rattle.ls_laws.specs.Spans.{spanned}
 use Rattle.ls_base.specs.declared.fault.PastFault.{PastFault}
 use Rattle.ls_base.specs.declared.fault.PastFault.TheVariants as Limit

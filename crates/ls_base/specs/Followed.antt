@@ -1,12 +1,8 @@
 -- The base of the compatible sets, followed over the Yes answers.
 use Rattle.std.specs.Prelude.{ℕ, ◌≡◌, Bool, true, not, List, [], Some, None, ⊤}
-use Rattle.ls_set.specs.ItemSet.{Items}
-use Rattle.ls_set.specs.Query.{is_good}
+use Rattle.ls_set.specs.{Items, is_good}
 use Rattle.ls_set.specs.declared.query.Query.{Query}
-use Rattle.ls_theory.specs.Starts.{Start}
-use Rattle.ls_theory.specs.Queries.{some_breaks}
-use Rattle.ls_theory.specs.Compatible.{compat}
-use Rattle.ls_theory.specs.Bases.{base, peak, most_base_sets}
+use Rattle.ls_theory.specs.{Start, base, compat, most_base_sets, peak, some_breaks}
 use Rattle.ls_base.specs.Bases.{BaseState}
 use Rattle.ls_base.specs.declared.followed.Followed.{Followed}
 use Rattle.ls_base.specs.declared.followed.Followed.TheVariants.{Within, Past}

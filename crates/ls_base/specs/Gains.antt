@@ -1,7 +1,7 @@
 -- What the base after a Yes gains, of the base sets that break the query and those that stay.
 use Rattle.std.specs.Prelude.{ℕ, zero, suc, Bool, not, ◌&&◌, List, [], ◌∷◌, ◌++◌, map, filter, min}
 use Rattle.std.specs.List.{list_any}
-use Rattle.ls_set.specs.ItemSet.{Items, has, minus, len}
+use Rattle.ls_set.specs.{Items, has, len, minus}
 use Rattle.ls_laws.specs.Spans.{is_proper, joins}
 use Rattle.ls_changes.specs.Least.{having, has_none_within}
 use Rattle.ls_laws.specs.Spans.{union_below}

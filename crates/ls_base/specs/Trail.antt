@@ -2,9 +2,9 @@
 use Rattle.std.specs.Prelude.{ℕ, ◌-◌, ◌≡◌, ◌≤◌, Bool, true, false, ◌==◌, nat_lt, nat_le, if◌then◌else◌, List, [], ◌∷◌, map, filter, length, take, slice_get, Option, Some, option_map, IfSome}
 use Rattle.std.specs.List.{All}
 use Rattle.std.specs.Option.{option_map_or}
-use Rattle.ls_set.specs.ItemSet.{Items}
+use Rattle.ls_set.specs.{Items}
 use Rattle.ls_set.specs.declared.query.Query.{Query}
-use Rattle.ls_theory.specs.Starts.{Start}
+use Rattle.ls_theory.specs.{Start}
 use Rattle.ls_base.specs.Bases.{BaseState}
 use Rattle.ls_base.specs.Followed.{IsFollowed, IsAskable, followed_sets}
 use Rattle.ls_base.specs.declared.followed.Followed.{Followed}

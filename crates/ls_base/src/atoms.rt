@@ -1,8 +1,8 @@
 // Atoms among the sets of a list.
 ghost use Rattle.std.specs.Prelude.{◌≡◌, ◌<◌, ◌&&◌, not};
 ghost use Rattle.std.specs.List.{list_any};
-ghost use Rattle.ls_set.specs.ItemSet.{has, is_same, is_within};
-ghost use Rattle.ls_theory.specs.Bases.{is_atom_at};
+ghost use Rattle.ls_set.specs.{has, is_same, is_within};
+ghost use Rattle.ls_theory.specs.{is_atom_at};
 
 use ls_set::{ItemSet, PLACES};
 

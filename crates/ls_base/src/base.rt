@@ -1,7 +1,6 @@
 // Bases.
 ghost use Rattle.std.specs.Prelude.{◌≡◌, ◌<◌, ◌≤◌, true, not, Ok, length, slice_index_or, IsTrue, IfOk, IfErr, OnOk};
-ghost use Rattle.ls_set.specs.ItemSet.{empty, subsets};
-ghost use Rattle.ls_set.specs.Query.{is_good};
+ghost use Rattle.ls_set.specs.{empty, is_good, subsets};
 ghost use Rattle.ls_theory.specs.Queries.{some_breaks};
 ghost use Rattle.ls_theory.specs.Bases.{base, atom_sets, based, is_atom_at, atoms_at, most_base_sets};
 ghost use Rattle.ls_laws.specs.Spans.{IsOn, left_by, spanned};

@@ -1,11 +1,9 @@
 // The base of the compatible sets, followed over the Yes answers.
 ghost use Rattle.std.specs.Prelude.{◌≡◌, ◌+◌, ℕ, List, [], ◌∷◌, ◌++◌, true, length, IsTrue, IfOk};
 ghost use Rattle.std.specs.List.{list_all};
-ghost use Rattle.ls_set.specs.Query.{is_good};
+ghost use Rattle.ls_set.specs.{is_good};
 ghost use Rattle.ls_set.specs.declared.query.Query.{Query};
-ghost use Rattle.ls_theory.specs.Starts.{Start};
-ghost use Rattle.ls_theory.specs.Compatible.{compat};
-ghost use Rattle.ls_theory.specs.Bases.{base};
+ghost use Rattle.ls_theory.specs.{Start, base, compat};
 ghost use Rattle.ls_base.specs.Followed.{IsAskable, IsFollowed, followed_sets, is_unchanged};
 
 use crate::base::Base;

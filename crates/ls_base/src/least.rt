@@ -1,7 +1,7 @@
 // The least sets of a list, and the least joins of two lists.
 ghost use Rattle.std.specs.Prelude.{◌≡◌, ◌&&◌, ◌++◌, map, filter, IfOk, OnOk};
 ghost use Rattle.std.specs.List.{list_any};
-ghost use Rattle.ls_set.specs.ItemSet.{union, is_within};
+ghost use Rattle.ls_set.specs.{is_within, union};
 ghost use Rattle.ls_laws.specs.Spans.{is_proper, joins};
 ghost use Rattle.ls_changes.specs.Least.{least_sets};
 ghost use Rattle.ls_base.specs.Gains.{least_size, is_gained};

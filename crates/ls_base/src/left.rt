@@ -1,7 +1,6 @@
 // The base of what a Yes leaves of a space.
 ghost use Rattle.std.specs.Prelude.{◌≡◌, ◌<◌, ◌≤◌, ◌++◌, map, filter, IfOk, OnOk};
-ghost use Rattle.ls_theory.specs.Queries.{breaks, some_breaks};
-ghost use Rattle.ls_theory.specs.Bases.{base};
+ghost use Rattle.ls_theory.specs.{base, breaks, some_breaks};
 ghost use Rattle.ls_laws.specs.Spans.{touches, left_by, spanned};
 ghost use Rattle.ls_changes.specs.Least.{having};
 ghost use Rattle.ls_base.specs.Gains.{broken_in, broken_at, gained_at, gained_below};

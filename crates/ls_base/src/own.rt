@@ -1,6 +1,6 @@
 // The items of a set that no set of a list below it has.
 ghost use Rattle.std.specs.Prelude.{◌≡◌, false};
-ghost use Rattle.ls_set.specs.ItemSet.{is_same, minus};
+ghost use Rattle.ls_set.specs.{is_same, minus};
 ghost use Rattle.ls_laws.specs.Spans.{union_below};
 
 use crate::unions::is_proper;

@@ -2,8 +2,8 @@
 ghost use Rattle.std.specs.Prelude.{◌≡◌, ◌≤◌, ℕ, length, reverse, IfOk, IsPermutation};
 ghost use Rattle.std.specs.Ordering.{is_lt};
 ghost use Rattle.std.specs.List.Sorted.{IsSortedBy};
-ghost use Rattle.ls_set.specs.ItemSet.{Items, comes_before, is_among, IsInOrder};
-ghost use Rattle.ls_theory.specs.Bases.{base};
+ghost use Rattle.ls_set.specs.{IsInOrder, Items, comes_before, is_among};
+ghost use Rattle.ls_theory.specs.{base};
 ghost use Rattle.ls_laws.specs.Spans.{IsOn, needed, spanned};
 
 use crate::unions::is_union_of;

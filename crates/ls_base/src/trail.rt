@@ -3,9 +3,7 @@
 ghost use Rattle.std.specs.Prelude.{◌≡◌, ◌+◌, ◌<◌, ℕ, List, [], true, map, length, take, slice_get, Some, IfSome, OnOk, OnErr};
 ghost use Rattle.std.specs.Option.{option_copied};
 ghost use Rattle.ls_set.specs.declared.query.Query.{Query};
-ghost use Rattle.ls_theory.specs.Starts.{Start};
-ghost use Rattle.ls_theory.specs.Compatible.{compat};
-ghost use Rattle.ls_theory.specs.Bases.{base};
+ghost use Rattle.ls_theory.specs.{Start, base, compat};
 ghost use Rattle.ls_base.specs.Followed.{IsAskable};
 ghost use Rattle.ls_base.specs.Trail.{IsTrail, EndsAt, AreAskable, last_entry, last_followed, reached, is_begun, begins_at_none, begun_trail, cut, given_up, trail_sets};
 

@@ -1,7 +1,7 @@
 // Unions of the sets of a list that lie within a set.
 ghost use Rattle.std.specs.Prelude.{◌≡◌};
-ghost use Rattle.ls_set.specs.ItemSet.{is_same};
-ghost use Rattle.ls_theory.specs.Families.{interior};
+ghost use Rattle.ls_set.specs.{is_same};
+ghost use Rattle.ls_theory.specs.{interior};
 ghost use Rattle.ls_laws.specs.Spans.{is_proper, union_below};
 
 use ls_set::ItemSet;

@@ -2,11 +2,10 @@
 use Rattle.std.proofs.Common.{ℕ, ◌≡◌, ◌⊎◌, inl, inr, true, false, cond, not, ◌||◌, List, [], ◌∷◌, ◌++◌, filter, refl, sym, ap, ◌∙◌, subst, true≢false}
 use Rattle.std.proofs.lemmas.Bool.{cases_Bool}
 use Rattle.ls_lists.proofs.Bools.{same_truth}
-use Rattle.ls_set.specs.ItemSet.{Items, has, union, is_among, IsWithin, IsInOrder}
+use Rattle.ls_set.specs.{IsInOrder, IsWithin, Items, has, is_among, union}
 use Rattle.ls_set.specs.declared.query.Query.{Query}
 use Rattle.ls_set.proofs.Sets.{union-left, union-right, union-within}
-use Rattle.ls_theory.specs.Queries.{breaks, some_breaks}
-use Rattle.ls_theory.specs.Bases.{is_atom_at, atoms_at, base}
+use Rattle.ls_theory.specs.{atoms_at, base, breaks, is_atom_at, some_breaks}
 use Rattle.ls_laws.specs.Spans.{IsPart, left_by, touches}
 use Rattle.ls_laws.specs.Families.{IsUnionClosed}
 use Rattle.ls_laws.proofs.Lists.{same_members, IsInOrder-filter}

@@ -6,10 +6,10 @@ use Rattle.std.proofs.Math.Bool.{and_assoc}
 use Rattle.std.proofs.lemmas.List.Elements.{filter_agree}
 use Rattle.ls_lists.proofs.Bools.{same_truth}
 use Rattle.ls_lists.proofs.Filters.{filter-both}
-use Rattle.ls_set.specs.ItemSet.{Items, has, is_same, is_within, is_among, IsWithin}
+use Rattle.ls_set.specs.{IsWithin, Items, has, is_among, is_same, is_within}
 use Rattle.ls_set.proofs.Sets.{same_within, Decides-is_same, IsWithin-from, is_within-from}
 use Rattle.ls_set.proofs.Members.{among-append, among-filter}
-use Rattle.ls_theory.specs.Bases.{is_atom_at, atoms_at}
+use Rattle.ls_theory.specs.{atoms_at, is_atom_at}
 use Rattle.ls_laws.specs.Spans.{IsPart, is_proper}
 use Rattle.ls_laws.proofs.Lists.{some-among, some-from}
 pub use Rattle.ls_laws.proofs.Lists.{some-filter, some-same}

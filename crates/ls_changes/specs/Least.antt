@@ -6,10 +6,9 @@
 --     gained f r gs i      those least of these unions within which no base set with i lies that does not break r
 use Rattle.std.specs.Prelude.{ℕ, ◌≡◌, Bool, true, not, List, filter}
 use Rattle.std.specs.List.{list_any}
-use Rattle.ls_set.specs.ItemSet.{Items, has, is_among, is_within, IsWithin}
+use Rattle.ls_set.specs.{IsWithin, Items, has, is_among, is_within}
 use Rattle.ls_set.specs.declared.query.Query.{Query}
-use Rattle.ls_theory.specs.Queries.{breaks}
-use Rattle.ls_theory.specs.Bases.{base, atoms_at}
+use Rattle.ls_theory.specs.{atoms_at, base, breaks}
 use Rattle.ls_laws.specs.Spans.{IsPart, is_proper, left_by, touches, joins}
 
 abbrev pub least_sets : List Items → List Items

@@ -1,10 +1,8 @@
 // Laws of the base after a Yes, by its atoms.
 ghost use Rattle.std.specs.Prelude.{◌≡◌, ◌⊎◌, ℕ, true, false, List};
-ghost use Rattle.ls_set.specs.ItemSet.{Items, is_among};
+ghost use Rattle.ls_set.specs.{Items, is_among};
 ghost use Rattle.ls_set.specs.declared.query.Query.{Query};
-ghost use Rattle.ls_theory.specs.Queries.{some_breaks};
-ghost use Rattle.ls_theory.specs.Families.{is_union_closed};
-ghost use Rattle.ls_theory.specs.Bases.{atoms_at, base};
+ghost use Rattle.ls_theory.specs.{atoms_at, base, is_union_closed, some_breaks};
 ghost use Rattle.ls_laws.specs.Spans.{IsPart, left_by};
 ghost use Rattle.ls_changes.specs.Least.{least_sets, IsBelow, having, near, gained};
 

@@ -1,11 +1,6 @@
 -- Examples of class tables, as their records and as their bytes.
-use Rattle.std.proofs.Common.{◌≡◌, refl, ℕ, List, [], ◌∷◌, Ok, Err, codes}
+use Rattle.ls_class.proofs.Vocabulary.{◌∷◌, ◌≡◌, Err, List, Ok, Row, Text, ℕ, [], class_in, class_of, codes, columns_of, empty, full, is_of, is_same, next_row, refl, rows_from, single, union, with}
 use Rattle.csv.proofs.OnLiterals.{csv_on_literals}
-use Rattle.ls_set.specs.ItemSet.{empty, full, with, union, single, is_same}
-use Rattle.ls_lines.specs.Lines.{Text}
-use Rattle.ls_lines.specs.Kinds.{is_of}
-use Rattle.ls_theory.specs.Classes.{Row}
-use Rattle.ls_class.specs.Tables.{columns_of, next_row, rows_from, class_in, class_of}
 
 unfoldable reading : ℕ
 unfolding empty full with union single is_same is_of columns_of next_row rows_from class_in class_of

@@ -1,19 +1,7 @@
 -- The first record, column by column.
-use Rattle.std.proofs.Common.{◌≡◌, ◌≢◌, ℕ, zero, suc, ◌+◌, ◌<◌, Bool, true, false, List, [], ◌∷◌, ◌++◌, length, map, take, drop, get_or, slice_get, Some, None, option_and_then, refl, ap, ap₂, sym, ◌∙◌, arith, add-one, ◌==◌, eq-eqb, ne_eqb, inl, inr, true≢false}
-use Rattle.std.specs.List.{list_all}
-use Rattle.std.specs.Str.{IsUtf8, bytes_eq}
-use Rattle.std.proofs.lemmas.Bool.{cases_Bool}
+use Rattle.ls_class.proofs.Vocabulary.{◌++◌, ◌+◌, ◌<◌, ◌==◌, ◌∙◌, ◌∷◌, ◌≡◌, ◌≢◌, Bool, IsDomain, IsUtf8, Items, List, None, Some, Text, ℕ, [], add-one, ap, ap₂, arith, bytes_eq, cases_Bool, columns_of, drop, eq-eqb, false, field_at, full, get_or, get_or_from_slice_get, inl, inr, is_name, is_name-utf8, is_named, is_named-none, is_named-some, is_same, item_of, item_of-some, items_of, items_of-next, length, list_all, map, mapped-next, name_of-number_of, ne_eqb, none-some, number_of, option_and_then, position-lt, refl, slice_get, slice_get-get_or, slice_get_past, slice_get_within, suc, sym, take, take-next, true, true≢false, with, zero}
 use Rattle.std.proofs.Math.Bool.{and-false}
 use Rattle.std.proofs.lemmas.List.Folds.{list_all-append}
-use Rattle.std.proofs.lemmas.Option.{none-some, slice_get_past, slice_get_within, slice_get-get_or, get_or_from_slice_get}
-use Rattle.csv.specs.Records.{field_at}
-use Rattle.ls_set.specs.ItemSet.{Items, full, with, is_same}
-use Rattle.ls_lists.proofs.Places.{position-lt, take-next, mapped-next}
-use Rattle.ls_lines.specs.Lines.{Text}
-use Rattle.ls_domain.specs.Meanings.{is_named, number_of, item_of, items_of}
-use Rattle.ls_domain.specs.Domains.{IsDomain, is_name}
-use Rattle.ls_domain.proofs.Numbers.{is_name-utf8, name_of-number_of, is_named-some, is_named-none, item_of-some, items_of-next}
-use Rattle.ls_class.specs.Tables.{columns_of}
 
 -- ---- fields
 

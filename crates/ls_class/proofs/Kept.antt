@@ -1,17 +1,9 @@
 -- Rows, as a map from names keeps them.
-use Rattle.std.proofs.Common.{◌≡◌, inl, inr, true, false, List, [], ◌∷◌, ◌++◌, map, String, Global, string_bytes, refl, ap, ◌∙◌, true≢false, ◌||◌}
-use Rattle.std.specs.List.{list_any}
+use Rattle.ls_class.proofs.Vocabulary.{◌++◌, ◌||◌, ◌∙◌, ◌∷◌, ◌≡◌, Global, Items, List, Row, String, Text, [], ap, bytes_eq, cases_Bool, false, inl, inr, is_named, is_some, list_any, map, refl, string_bytes, true, true≢false}
 use Rattle.std.specs.Map.{keys_of, lookup}
-use Rattle.std.specs.Option.{is_some}
 use Rattle.std.proofs.lemmas.Map.Made.{is_some-lookup}
-use Rattle.std.specs.Str.{bytes_eq}
 use Rattle.std.specs.String.{string_eq}
-use Rattle.std.proofs.lemmas.Bool.{cases_Bool}
 use Rattle.indexmap.specs.IndexMap.{insert_entry}
-use Rattle.ls_set.specs.ItemSet.{Items}
-use Rattle.ls_lines.specs.Lines.{Text}
-use Rattle.ls_domain.specs.Meanings.{is_named}
-use Rattle.ls_theory.specs.Classes.{Row}
 
 abbrev pub Entry : Type 0
 Entry = String Global × Items

@@ -1,3 +1,4 @@
+mod Vocabulary
 mod Examples
 mod Headers
 mod Marked

@@ -1,18 +1,6 @@
 -- The marks of a record, mark by mark.
-use Rattle.std.proofs.Common.{◌≡◌, ℕ, ◌+◌, true, false, ◌<◌, ◌≤◌, List, [], ◌∷◌, length, drop, get_or, slice_get, Option, Some, None, option_map, Bor, refl, ap, ap₂, sym, ◌∙◌, arith, eq-eqb}
-use Rattle.std.specs.List.{list_all}
-use Rattle.std.specs.Option.{unwrap_or}
-use Rattle.std.proofs.lemmas.Bool.Decides.{nat_tests}
-use Rattle.std.proofs.lemmas.Grind.{get_or_default_zero}
-use Rattle.std.proofs.lemmas.List.{drop_all}
-use Rattle.std.proofs.lemmas.Option.{none-some, slice_get-get_or, get_or_from_slice_get}
-use Rattle.csv.specs.Records.{field_at}
-use Rattle.ls_lists.proofs.Places.{drop-next}
-use Rattle.ls_set.specs.ItemSet.{Items, with, union}
-use Rattle.ls_set.proofs.Sets.{members, same_set, union-empty_right}
-use Rattle.ls_lines.specs.Lines.{Text}
+use Rattle.ls_class.proofs.Vocabulary.{◌+◌, ◌<◌, ◌∙◌, ◌∷◌, ◌≡◌, ◌≤◌, Bor, Items, List, None, Option, Some, Text, ℕ, [], ap, ap₂, arith, drop, drop-next, drop_all, eq-eqb, false, field_at, get_or, get_or_default_zero, get_or_from_slice_get, is_mark, is_right, length, list_all, marked, members, nat_tests, none-some, option_map, refl, right_of, same_set, slice_get, slice_get-get_or, sym, true, union, union-empty_right, unwrap_or, with}
 use Rattle.ls_class.proofs.Headers.{field-behind}
-use Rattle.ls_class.specs.Tables.{is_right, is_mark, right_of, marked}
 
 union-with : (s t : Items) (i : ℕ) → union s (with t i) ≡ union (with s i) t
 union-with s t i = same_set _ _ (λ k. grind (arith, members, nat_tests))

@@ -1,18 +1,8 @@
 -- The reading of a table, record by record.
-use Rattle.std.proofs.Common.{◌≡◌, ℕ, zero, suc, ◌+◌, ◌<◌, ◌≤◌, inl, inr, true, false, List, [], ◌∷◌, ◌++◌, length, map, take, drop, get_or, slice_get, Some, None, Ok, Err, Result, IsErrAnd, IfErr, option_map, subst, refl, ap, sym, ◌∙◌, arith}
+use Rattle.ls_class.proofs.Vocabulary.{◌++◌, ◌+◌, ◌<◌, ◌∙◌, ◌∷◌, ◌≡◌, ◌≤◌, Err, IfErr, IsErrAnd, IsFaultOf, IsRowFault, Items, List, None, Ok, Result, Row, Some, Text, ℕ, [], ap, arith, cases_Bool, class_in, class_of, columns_of, drop, drop-next, false, get_or, inl, inr, is_name, is_named, is_next_name, length, map, marked, most_class_pupils, nat_tests, next_row, none-some, option_map, refl, rows_from, slice_get, subst, suc, sym, table_records, take, true, zero}
 use Rattle.std.specs.declared.option.Option.{Option}
-use Rattle.std.proofs.lemmas.Bool.{cases_Bool}
-use Rattle.std.proofs.lemmas.Bool.Decides.{nat_tests}
 use Rattle.std.proofs.lemmas.List.{length-append, drop_all}
-use Rattle.std.proofs.lemmas.Option.{none-some}
-use Rattle.ls_lists.proofs.Places.{drop-next}
-use Rattle.ls_set.specs.ItemSet.{Items}
-use Rattle.ls_lines.specs.Lines.{Text}
 use Rattle.csv.specs.Records as records
-use Rattle.ls_theory.specs.Classes.{Row}
-use Rattle.ls_domain.specs.Meanings.{is_named}
-use Rattle.ls_domain.specs.Domains.{is_name, table_records}
-use Rattle.ls_class.specs.Tables.{most_class_pupils, columns_of, is_next_name, marked, next_row, rows_from, class_in, class_of, IsFaultOf, IsRowFault}
 use Rattle.ls_class.specs.declared.class_fault.ClassFault.{ClassFault}
 use Rattle.ls_class.specs.declared.class_fault.ClassFault.TheVariants.{BadClass, Memory}
 

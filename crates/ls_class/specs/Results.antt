@@ -1,5 +1,5 @@
 -- What is known of a pupil of a class, as the definitions have it.
-use Rattle.ls_theory.specs.Classes.{PupilResult}
+use Rattle.ls_theory.specs.{PupilResult}
 use Rattle.ls_class.specs.declared.results.ClassResult.{ClassResult}
 
 abbrev pub result_of : ClassResult → PupilResult

@@ -2,11 +2,11 @@
 use Rattle.std.specs.Prelude.{◌≡◌, ℕ, ◌+◌, Bool, not, ◌&&◌, ◌||◌, ◌==◌, nat_lt, if◌then◌else◌, List, [], ◌∷◌, ◌++◌, map, length, bytes_eq, codes, Option, Some, None, option_map, Result, Ok, Err, ⊤}
 use Rattle.std.specs.List.{list_all}
 use Rattle.std.specs.Option.{option_map_or}
-use Rattle.ls_set.specs.ItemSet.{Items, empty, full, with, is_same}
-use Rattle.ls_lines.specs.Lines.{Text}
+use Rattle.ls_set.specs.{Items, empty, full, is_same, with}
+use Rattle.ls_lines.specs.{Text}
 use Rattle.ls_domain.specs.Meanings.{is_named, item_of, items_of}
 use Rattle.ls_domain.specs.Domains.{is_name, table_records}
-use Rattle.ls_theory.specs.Classes.{Row}
+use Rattle.ls_theory.specs.{Row}
 use Rattle.ls_class.specs.declared.class_fault.ClassFault.{ClassFault}
 use Rattle.ls_class.specs.declared.class_fault.ClassFault.TheVariants.{BadClass, Memory}
 

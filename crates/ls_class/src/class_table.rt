@@ -2,7 +2,7 @@
 ghost use Rattle.std.specs.Prelude.{◌≡◌, ◌<◌, ◌≤◌, ◌==◌, ◌+◌, ◌++◌, ◌∷◌, [], All, Ok, Some, false, length, map, slice_get, option_map, IfOk, IfErr, OnOk, OnErr};
 ghost use Rattle.csv.specs.Records.{fields_of};
 ghost use Rattle.ls_domain.specs.Meanings.{is_named};
-ghost use Rattle.ls_theory.specs.Classes.{Row};
+ghost use Rattle.ls_theory.specs.{Row};
 ghost use Rattle.ls_class.specs.Tables.{class_of, most_class_pupils, next_row, IsFaultOf, IsRowFault};
 
 use crate::ClassFault;
@@ -28,7 +28,7 @@ pub struct ClassTable {
 
 impl Model for ClassTable {
     ghost use Rattle.std.specs.Prelude.{List, map, length, string_bytes, ◌≤◌};
-    ghost use Rattle.ls_theory.specs.Classes.{Row};
+    ghost use Rattle.ls_theory.specs.{Row};
     ghost use Rattle.ls_class.specs.Tables.{most_class_pupils};
 
     ghost Value = { List Row };

@@ -26,7 +26,7 @@ pub struct Results {
 
 impl Model for Results {
     ghost use Rattle.std.specs.Prelude.{List, map};
-    ghost use Rattle.ls_theory.specs.Classes.{PupilResult};
+    ghost use Rattle.ls_theory.specs.{PupilResult};
     ghost use Rattle.ls_class.specs.Results.{result_of};
 
     ghost Value = { List PupilResult };

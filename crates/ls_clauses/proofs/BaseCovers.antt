@@ -1,22 +1,6 @@
 -- The base of sets that have each item has each item, and an item that no set has is one of the items.
-use Rattle.std.proofs.Common.{◌≡◌, ◌<◌, ℕ, true, false, not, cond, ltb, List, [], length, Some, None, Ok, Err, refl, sym, ◌∙◌, subst, ltb-true, lt-ltb}
-use Rattle.std.specs.Option.{option_map_or}
-use Rattle.std.proofs.lemmas.Bool.{and_parts}
-use Rattle.ls_set.specs.ItemSet.{Items, has, full, minus, is_among}
-use Rattle.ls_set.proofs.Sets.{has-full, has-minus}
-use Rattle.ls_set.proofs.Ascending.{least-cases}
-use Rattle.ls_theory.specs.Families.{unions}
-use Rattle.ls_theory.specs.Starts.{Sets}
-use Rattle.ls_theory.specs.Compatible.{compat}
-use Rattle.ls_theory.specs.Bases.{base, based, limited, first_missing, most_base_sets}
+use Rattle.ls_clauses.proofs.Vocabulary.{◌<◌, ◌∙◌, ◌≡◌, Err, IsCover, IsOn, Items, List, None, Ok, Sets, Some, ℕ, [], among-base, and_parts, atom_within, base, base-member, based, compat, compat-IsUnionFamily, compat-sets, cond, false, first_missing, full, has, has-full, has-minus, has-unions, is_among, least-cases, length, limited, lt-ltb, ltb, ltb-true, minus, most_base_sets, not, option_map_or, refl, some-among, subst, sym, true, unions}
 use Rattle.ls_theory.specs.declared.base_fault.BaseFault.TheVariants.{NotSpanning, Past}
-use Rattle.ls_laws.specs.Spans.{IsOn}
-use Rattle.ls_laws.proofs.Lists.{some-among}
-use Rattle.ls_laws.proofs.Interiors.{has-unions}
-use Rattle.ls_laws.proofs.Atoms.{atom_within, among-base, base-member}
-use Rattle.ls_laws.proofs.Compat.{compat-IsUnionFamily}
-use Rattle.ls_laws.proofs.BaseStarts.{compat-sets}
-use Rattle.ls_clauses.specs.Starts.{IsCover}
 use Rattle.ls_clauses.proofs.Covers.{cover-member, cover-least}
 
 base-cover : (n : ℕ) (sets : List Items) → IsCover n sets → IsCover n (base (compat n (Sets sets) []))

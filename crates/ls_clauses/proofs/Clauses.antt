@@ -1,27 +1,8 @@
 -- The sets that meet the clauses of a surmise function: they are the unions of clauses, and the clauses are their atoms.
-use Rattle.std.proofs.Common.{ℕ, zero, suc, ◌≡◌, ◌≢◌, inl, inr, true, false, ◌&&◌, List, [], ◌∷◌, refl, sym, ap, ◌∙◌, subst, true≢false, arith}
-use Rattle.std.proofs.lemmas.Bool.{and_parts, and_from, or_left, or_right, or_cases, cases_eq}
+use Rattle.ls_clauses.proofs.Vocabulary.{◌&&◌, ◌∙◌, ◌∷◌, ◌≡◌, ◌≢◌, Decides-is_same, IsAtom, IsAtom-from, IsInOrder, IsInOrder-filter, IsOn, IsSurmise, IsWithin, IsWithin-from, Items, List, Query, ℕ, [], all-items, all_clauses, among-append, among-base, among-compat, among-filter, among-here, and_from, and_parts, ap, arith, atoms_at, base, base-atom, base-in_order, breaks_none, cases_eq, clauses_of, compat, compat-in_order, compat-sets, false, from-interior, full, has, has_clause_within, inl, inr, interior, interior-member, interior-whole, interior_again, interior_grows, is_among, is_atom_at, is_atom_at-from, is_compatible, is_same, is_within, is_within-from, items-all, members, or_cases, or_left, or_right, refl, same_members, same_truth, same_within, some-among, some-from, spanned, subsets, subst, suc, sym, true, true≢false, without, without-within, zero}
 use Rattle.std.proofs.lemmas.Bool.Decides.{nat_tests}
 use Rattle.std.proofs.lemmas.List.Elements.{filter_agree}
-use Rattle.ls_set.specs.ItemSet.{Items, has, full, without, is_same, is_within, is_among, subsets, IsWithin, IsInOrder}
-use Rattle.ls_set.specs.declared.query.Query.{Query}
-use Rattle.ls_lists.proofs.Bools.{same_truth}
-use Rattle.ls_set.proofs.Sets.{members, same_within, without-within, Decides-is_same, IsWithin-from, is_within-from}
-use Rattle.ls_set.proofs.Members.{among-here, among-append, among-filter}
-use Rattle.ls_theory.specs.Families.{interior}
-use Rattle.ls_theory.specs.Queries.{breaks_none}
 use Rattle.ls_theory.specs.Starts.{Clauses, Sets, meets}
-use Rattle.ls_theory.specs.Compatible.{compat, is_compatible}
-use Rattle.ls_theory.specs.Bases.{atoms_at, is_atom_at, base}
-use Rattle.ls_laws.specs.Spans.{IsOn, spanned}
-use Rattle.ls_laws.proofs.Lists.{some-among, some-from, IsInOrder-filter, same_members}
-use Rattle.ls_laws.proofs.Interiors.{from-interior, interior-whole, interior-member, interior_grows, interior_again}
-use Rattle.ls_laws.proofs.Atoms.{IsAtom, IsAtom-from, is_atom_at-from, base-atom, among-base}
-use Rattle.ls_laws.proofs.Spans.{base-in_order}
-use Rattle.ls_laws.proofs.Compat.{all-items, items-all, among-compat, compat-in_order}
-use Rattle.ls_laws.proofs.BaseStarts.{compat-sets}
-use Rattle.ls_theory.specs.Clauses.{clauses_of, all_clauses, has_clause_within}
-use Rattle.ls_clauses.specs.Surmise.{IsSurmise}
 use Rattle.ls_clauses.proofs.Spanning.{interior-spanned}
 
 -- ---- lists of lists

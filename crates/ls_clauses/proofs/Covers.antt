@@ -1,28 +1,10 @@
 -- Sets that have each item, and the starts that an interview can have.
-use Rattle.std.proofs.Common.{ℕ, ◌≡◌, ◌↔◌, inl, inr, true, false, List, [], None, refl, sym, ap, ◌∙◌, true≢false, ltb-true, lt-ltb}
+use Rattle.ls_clauses.proofs.Vocabulary.{◌↔◌, ◌∙◌, ◌≡◌, Decides-is_same, IsCover, IsInOrder, IsOn, IsStart, Items, List, None, Query, ℕ, [], among-spanned, and_from, ap, base, base-needed, begun, cases_Bool, clauses_of, compat, compat-sets, compat-space, false, full, has, has-full, has-minus, has-unions, inl, inr, interior, interior-whole, is_among, is_good, is_same, is_space, is_within, is_within-from, least, least-none, lt-ltb, ltb-true, minus, needed, refl, some-from, spanned, spanned-has, spanned-in_order, spanned-whole, sym, true, true≢false, unions}
 use Rattle.std.specs.List.{list_all}
-use Rattle.std.proofs.lemmas.Bool.{cases_Bool, and_from}
-use Rattle.ls_set.specs.ItemSet.{Items, has, full, minus, least, is_same, is_within, is_among, IsInOrder}
-use Rattle.ls_set.specs.Query.{is_good}
-use Rattle.ls_set.specs.declared.query.Query.{Query}
-use Rattle.ls_set.proofs.Sets.{has-full, has-minus, Decides-is_same, is_within-from}
-use Rattle.ls_set.proofs.Ascending.{least-none}
 use Rattle.ls_set.proofs.Listed.{least-none_left}
-use Rattle.ls_theory.specs.Families.{unions, interior, is_space}
 use Rattle.ls_theory.specs.Starts.{Start, Free, Clauses, Sets, meets}
-use Rattle.ls_theory.specs.Interviews.{begun}
-use Rattle.ls_theory.specs.Compatible.{compat}
-use Rattle.ls_theory.specs.Bases.{base}
-use Rattle.ls_laws.specs.Spans.{IsOn, needed, spanned}
 use Rattle.ls_laws.specs.Forced.{IsSound}
-use Rattle.ls_laws.proofs.Lists.{some-from}
-use Rattle.ls_laws.proofs.Interiors.{has-unions, interior-whole}
-use Rattle.ls_laws.proofs.Spans.{among-spanned, spanned-has, spanned-whole, spanned-in_order, base-needed}
-use Rattle.ls_laws.proofs.Compat.{compat-space}
-use Rattle.ls_laws.proofs.BaseStarts.{compat-sets}
 use Rattle.ls_laws.proofs.Accepting.{begun-sound}
-use Rattle.ls_theory.specs.Clauses.{clauses_of}
-use Rattle.ls_clauses.specs.Starts.{IsCover, IsStart}
 use Rattle.ls_clauses.proofs.Spanning.{interior-spanned, spans-same, part-same}
 use Rattle.ls_clauses.proofs.Clauses.{some_set, within-clause, meets-from}
 

@@ -1,15 +1,6 @@
 -- Examples on the items a b c: a surmise function in which b has two clauses, flaws of others, and starts by base sets.
-use Rattle.std.proofs.Common.{◌≡◌, List, [], ◌∷◌, Some, None, false, refl}
-use Rattle.std.specs.declared.cmp.Ordering.TheVariants.{Greater}
-use Rattle.ls_set.specs.ItemSet.{Items, full, minus, least}
-use Rattle.ls_theory.specs.Families.{unions, interior}
+use Rattle.ls_clauses.proofs.Vocabulary.{◌∷◌, ◌≡◌, Comparable, Greater, Items, List, NoClause, None, NotClosed, Reflexive, Some, [], all_clauses, base, clauses_at, compat, false, flaw, full, has_clause_within, interior, least, minus, needed, order_of, refl, spanned, unions}
 use Rattle.ls_theory.specs.Starts.{Clauses, Sets}
-use Rattle.ls_theory.specs.Compatible.{compat}
-use Rattle.ls_theory.specs.Bases.{base}
-use Rattle.ls_laws.specs.Spans.{needed, spanned}
-use Rattle.ls_theory.specs.Clauses.{all_clauses, clauses_at, has_clause_within, flaw}
-use Rattle.ls_theory.specs.declared.surmise_fault.SurmiseFault.TheVariants.{NoClause, Reflexive, NotClosed, Comparable}
-use Rattle.ls_clauses.specs.Orderings.{order_of}
 use Rattle.ls_clauses.proofs.Small.{words, ∅, a, b, ab, c, ac, bc, abc}
 
 -- ---- a surmise function

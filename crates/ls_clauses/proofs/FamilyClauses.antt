@@ -1,24 +1,7 @@
 -- The surmise function of a family: its clauses are the atoms, and the sets that meet it are the members.
-use Rattle.std.proofs.Common.{ℕ, zero, suc, ◌+◌, ◌<◌, ◌≤◌, ◌≡◌, inl, inr, true, List, [], map, length, get_or, refl, sym, ap, ◌∙◌, subst, arith, true≢false, ltb-true, lt-ltb}
-use Rattle.std.proofs.lemmas.List.{same_lists, get_or_default}
-use Rattle.std.proofs.lemmas.Bool.{cases_lt}
-use Rattle.ls_set.specs.ItemSet.{Items, has, full, is_among, numbers_from, IsWithin, IsInOrder}
-use Rattle.ls_set.proofs.Sets.{has-full, Decides-is_same, IsWithin-from, is_within-from}
-use Rattle.ls_theory.specs.Families.{interior}
+use Rattle.ls_clauses.proofs.Vocabulary.{◌+◌, ◌<◌, ◌∙◌, ◌≡◌, ◌≤◌, Decides-is_same, IsAtom, IsCover, IsInOrder, IsInOrder-filter, IsOn, IsSurmise, IsWithin, IsWithin-from, Items, List, ℕ, [], ap, arith, atom_within, atoms_at, cases_lt, clauses_at, clauses_of, compat, compat-in_order, compat-sets, full, get_or, get_or_default, has, has-full, inl, inr, interior, interior-is, interior-whole, is_among, is_atom_at, is_within-from, length, lt-ltb, ltb-true, map, numbers_from, refl, same_lists, same_members, spanned, spanned-IsFamily, subst, suc, sym, true, true≢false, zero}
 use Rattle.ls_theory.specs.Starts.{Clauses, Sets}
-use Rattle.ls_theory.specs.Compatible.{compat}
-use Rattle.ls_theory.specs.Bases.{atoms_at, is_atom_at}
-use Rattle.ls_laws.specs.Spans.{IsOn, spanned}
 use Rattle.ls_laws.specs.Families.{IsFamily}
-use Rattle.ls_laws.proofs.Lists.{IsInOrder-filter, same_members}
-use Rattle.ls_laws.proofs.Interiors.{interior-whole, interior-is}
-use Rattle.ls_laws.proofs.Atoms.{IsAtom, atom_within}
-use Rattle.ls_laws.proofs.Families.{spanned-IsFamily}
-use Rattle.ls_laws.proofs.Compat.{compat-in_order}
-use Rattle.ls_laws.proofs.BaseStarts.{compat-sets}
-use Rattle.ls_theory.specs.Clauses.{clauses_of, clauses_at}
-use Rattle.ls_clauses.specs.Surmise.{IsSurmise}
-use Rattle.ls_clauses.specs.Starts.{IsCover}
 use Rattle.ls_clauses.proofs.Clauses.{within-clause, meets-clause, meets-from, member-parts, member-from, atom-among, among-atoms, atoms-clauses}
 use Rattle.ls_clauses.proofs.Covers.{cover-member}
 

@@ -1,21 +1,10 @@
 -- Clauses without a flaw are a surmise function once they are put in order, and a surmise function has no flaw.
-use Rattle.std.proofs.Common.{ℕ, zero, suc, ◌+◌, ◌-◌, ◌<◌, ◌≡◌, ◌≢◌, inl, inr, true, false, not, ◌==◌, List, [], ◌∷◌, length, find, Option, None, Some, option_map, refl, sym, ap, ap₂, ◌∙◌, subst, arith, true≢false, ne_eqb}
-use Rattle.std.specs.Option.{option_or}
-use Rattle.std.proofs.lemmas.Bool.{cases_order, or_left, or_right, or_cases, not-false, not_from_true, false_from_ne_true}
+use Rattle.ls_clauses.proofs.Vocabulary.{◌+◌, ◌-◌, ◌<◌, ◌==◌, ◌∙◌, ◌∷◌, ◌≡◌, ◌≢◌, Clauses, Comparable, Decides-is_same, IsOn, IsPutInOrder, IsSurmise, Items, List, NoClause, None, NotClosed, Option, Reflexive, Some, ℕ, [], ap, ap₂, are_comparable, arith, bound, cases_order, clause_at, clauses_of, comes_before, comes_before-irreflexive, comparable_at, comparable_in, false, false_from_ne_true, find, first_some, flaw, has, has_clause_within, inl, inr, is_among, is_same, is_within, items, lacking_in, length, meets, ne_eqb, no_clause, not, not-false, not_from_true, numbers_from, option_map, option_or, or_cases, or_left, or_right, places_after, places_of, refl, same_truth, subst, suc, sym, true, true≢false, unclosed_at, unclosed_in, zero}
 use Rattle.ls_lists.specs.Lists.{IsIn}
-use Rattle.ls_lists.proofs.Bools.{same_truth}
 use Rattle.ls_lists.proofs.Options.{none_from_map}
 use Rattle.ls_lists.proofs.Elements.{filter-in}
 use Rattle.ls_lists.proofs.Sorted.{find-no_element, find-none_is}
-use Rattle.ls_set.specs.ItemSet.{Items, has, bound, is_same, is_within, is_among, items, numbers_from, comes_before}
-use Rattle.ls_set.proofs.Sets.{Decides-is_same}
-use Rattle.ls_set.proofs.Order.{comes_before-irreflexive}
-use Rattle.ls_theory.specs.Starts.{Clauses, meets}
-use Rattle.ls_laws.specs.Spans.{IsOn}
 use Rattle.ls_laws.proofs.Listed.{in-numbers, numbers-in, in-items}
-use Rattle.ls_theory.specs.Clauses.{clauses_of, has_clause_within, first_some, clause_at, places_of, places_after, are_comparable, no_clause, lacking_in, unclosed_at, unclosed_in, comparable_at, comparable_in, flaw}
-use Rattle.ls_clauses.specs.Surmise.{IsSurmise, IsPutInOrder}
-use Rattle.ls_theory.specs.declared.surmise_fault.SurmiseFault.TheVariants.{NoClause, Reflexive, NotClosed, Comparable}
 use Rattle.ls_clauses.proofs.Places.{place-of, among-at, in_order-at}
 use Rattle.ls_clauses.proofs.Clauses.{some_set, clause-within, within-clause, meets-clause, meets-from}
 

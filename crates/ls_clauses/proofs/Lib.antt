@@ -1,3 +1,4 @@
+mod Vocabulary
 pub mod Spanning
 pub mod Places
 pub mod Clauses

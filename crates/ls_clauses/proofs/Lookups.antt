@@ -1,13 +1,7 @@
 -- A search by halves tells whether a list in order has a set.
-use Rattle.std.proofs.Common.{ℕ, ◌≤◌, ◌≡◌, inl, inr, true, List, length, get_or, Result, Ok, Err, is_ok, refl, sym, ap, ◌∙◌, subst, arith}
+use Rattle.ls_clauses.proofs.Vocabulary.{◌∙◌, ◌≡◌, ◌≤◌, Equal, Err, Greater, IsInOrder, Items, Less, List, Ok, Result, ℕ, ap, arith, cases_eq, cases_lt, comes_before, comes_before-asymmetric, comes_before-irreflexive, comes_before-transitive, empty, false_from_ne_true, get_or, get_or_default, inl, inr, is_among, is_ok, length, order_cases, order_of, refl, subst, sym, true}
 use Rattle.std.specs.Ordering.{ordering_index}
-use Rattle.std.specs.declared.cmp.Ordering.TheVariants.{Less, Equal, Greater}
 use Rattle.std.specs.List.Sorted.{IsBinarySearchResult, IsSearchInRange, IsNonDecreasingBy}
-use Rattle.std.proofs.lemmas.Bool.{cases_lt, cases_eq, false_from_ne_true}
-use Rattle.std.proofs.lemmas.List.{get_or_default}
-use Rattle.ls_set.specs.ItemSet.{Items, empty, is_among, comes_before, IsInOrder}
-use Rattle.ls_set.proofs.Order.{comes_before-irreflexive, comes_before-asymmetric, comes_before-transitive, order_cases}
-use Rattle.ls_clauses.specs.Orderings.{order_of}
 use Rattle.ls_clauses.proofs.Places.{place-of, among-at, in_order-at}
 
 -- ---- how two sets stand

@@ -1,7 +1,5 @@
 -- The sets of a list by their places.
-use Rattle.std.proofs.Common.{ℕ, zero, suc, ◌<◌, ◌≡◌, inl, inr, true, List, [], ◌∷◌, length, get_or, refl, sym, arith, true≢false}
-use Rattle.ls_set.specs.ItemSet.{Items, empty, is_among, comes_before, IsInOrder}
-use Rattle.ls_set.proofs.Members.{among-here, among-there, among-cases, Each-among}
+use Rattle.ls_clauses.proofs.Vocabulary.{◌<◌, ◌∷◌, ◌≡◌, Each-among, IsInOrder, Items, List, ℕ, [], among-cases, among-here, among-there, arith, comes_before, empty, get_or, inl, inr, is_among, length, refl, suc, sym, true, true≢false, zero}
 
 pub place-of : (f : List Items) (k : Items) → is_among f k ≡ true → (j : ℕ) × (j < length f) × (get_or f j empty ≡ k)
 place-of [] k h = absurd (true≢false (sym h))

@@ -1,10 +1,6 @@
 -- What the examples share: sets of the items a b c, and the words that they open.
 use Rattle.std.specs.Prelude.{ℕ}
-use Rattle.ls_set.specs.ItemSet.{Items, has, empty, full, with, without, union, meet, minus, single, differing, is_within, is_same, bound, items, len, least, comes_before}
-use Rattle.ls_theory.specs.Families.{interior}
-use Rattle.ls_theory.specs.Compatible.{compat}
-use Rattle.ls_theory.specs.Bases.{base}
-use Rattle.ls_laws.specs.Spans.{needed, spanned}
+use Rattle.ls_clauses.proofs.Vocabulary.{Items, base, bound, comes_before, compat, differing, empty, full, has, interior, is_same, is_within, items, least, len, meet, minus, needed, single, spanned, union, with, without}
 
 -- an example that opens this opens each word
 unfoldable pub words : ℕ

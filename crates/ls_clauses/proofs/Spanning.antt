@@ -1,11 +1,5 @@
 -- Interiors among what a list spans, and lists with the same sets.
-use Rattle.std.proofs.Common.{ℕ, ◌≡◌, List, sym, ap, ◌∙◌}
-use Rattle.ls_set.specs.ItemSet.{Items, has, is_among}
-use Rattle.ls_set.proofs.Sets.{same_within}
-use Rattle.ls_theory.specs.Families.{interior}
-use Rattle.ls_laws.specs.Spans.{IsOn, IsPart, Spans, spanned}
-use Rattle.ls_laws.proofs.Interiors.{from-interior, to-interior}
-use Rattle.ls_laws.proofs.Spans.{spanned-has, spanned-whole}
+use Rattle.ls_clauses.proofs.Vocabulary.{◌∙◌, ◌≡◌, IsOn, IsPart, Items, List, Spans, ℕ, ap, from-interior, has, interior, is_among, same_within, spanned, spanned-has, spanned-whole, sym, to-interior}
 
 -- the interior is the union of those within of any members that span
 interior-spanning : (f g : List Items) → IsPart g f → Spans g f → (s : Items) → interior g s ≡ interior f s

@@ -2,7 +2,7 @@
 use Rattle.std.specs.Prelude.{if◌then◌else◌}
 use Rattle.std.specs.declared.cmp.Ordering.{Ordering}
 use Rattle.std.specs.declared.cmp.Ordering.TheVariants.{Less, Equal, Greater}
-use Rattle.ls_set.specs.ItemSet.{Items, comes_before}
+use Rattle.ls_set.specs.{Items, comes_before}
 
 -- before the other, after it, or neither
 abbrev pub order_of : Items → Items → Ordering

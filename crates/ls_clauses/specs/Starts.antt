@@ -2,8 +2,8 @@
 --     IsCover n sets      sets of the n items, each of which is in some set
 --     IsStart n start      the start is on the n items: all sets, a surmise function, or such sets
 use Rattle.std.specs.Prelude.{ℕ, ◌<◌, ◌≡◌, true, List, ⊤}
-use Rattle.ls_set.specs.ItemSet.{Items, has}
-use Rattle.ls_theory.specs.Families.{unions}
+use Rattle.ls_set.specs.{Items, has}
+use Rattle.ls_theory.specs.{unions}
 use Rattle.ls_theory.specs.Starts.{Start, Free, Clauses, Sets}
 use Rattle.ls_laws.specs.Spans.{IsOn}
 use Rattle.ls_clauses.specs.Surmise.{IsSurmise}

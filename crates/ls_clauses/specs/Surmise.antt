@@ -2,8 +2,8 @@
 --     IsSurmise n clauses      the clauses of each of the n items make a surmise function
 --     IsPutInOrder clauses ordered      the same clauses, those of each item in the order of sets
 use Rattle.std.specs.Prelude.{ℕ, ◌<◌, ◌≡◌, ◌≢◌, true, List, [], length}
-use Rattle.ls_set.specs.ItemSet.{Items, has, is_within, is_among, is_same, IsInOrder}
-use Rattle.ls_theory.specs.Clauses.{clauses_of, has_clause_within}
+use Rattle.ls_set.specs.{IsInOrder, Items, has, is_among, is_same, is_within}
+use Rattle.ls_theory.specs.{clauses_of, has_clause_within}
 use Rattle.ls_laws.specs.Spans.{IsOn}
 
 -- Each of the n items has a clause, and its clauses are in order. Each clause of q has q, and for each item r of its own

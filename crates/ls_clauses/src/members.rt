@@ -1,7 +1,7 @@
 // The law of the search for a member.
 ghost use Rattle.std.specs.Prelude.{◌≡◌, ℕ, List, Result, length, is_ok};
 ghost use Rattle.std.specs.List.Sorted.{IsBinarySearchResult, IsSearchInRange};
-ghost use Rattle.ls_set.specs.ItemSet.{Items, is_among, IsInOrder};
+ghost use Rattle.ls_set.specs.{IsInOrder, Items, is_among};
 ghost use Rattle.ls_clauses.specs.Orderings.{order_of};
 
 /// A search by halves in a list in order tells whether the list has the set.

@@ -1,14 +1,9 @@
 // Laws of starts by base sets, and of all starts.
 ghost use Rattle.std.specs.Prelude.{◌≡◌, ◌↔◌, ℕ, true, List, [], None};
 ghost use Rattle.std.specs.List.{list_all};
-ghost use Rattle.ls_set.specs.ItemSet.{Items, full, minus, least, is_among, IsInOrder};
-ghost use Rattle.ls_set.specs.Query.{is_good};
+ghost use Rattle.ls_set.specs.{IsInOrder, Items, full, is_among, is_good, least, minus};
 ghost use Rattle.ls_set.specs.declared.query.Query.{Query};
-ghost use Rattle.ls_theory.specs.Starts.{Start, Sets};
-ghost use Rattle.ls_theory.specs.Families.{unions, interior, is_space};
-ghost use Rattle.ls_theory.specs.Interviews.{begun};
-ghost use Rattle.ls_theory.specs.Compatible.{compat};
-ghost use Rattle.ls_theory.specs.Bases.{base};
+ghost use Rattle.ls_theory.specs.{Sets, Start, base, begun, compat, interior, is_space, unions};
 ghost use Rattle.ls_laws.specs.Spans.{IsOn, needed};
 ghost use Rattle.ls_laws.specs.Families.{IsFamily};
 ghost use Rattle.ls_laws.specs.Forced.{IsSound};

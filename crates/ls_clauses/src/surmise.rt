@@ -1,14 +1,11 @@
 // Laws of surmise functions, and of clauses that are read.
 ghost use Rattle.std.specs.Prelude.{◌≡◌, ◌<◌, ℕ, true, false, List, [], length, None};
-ghost use Rattle.ls_set.specs.ItemSet.{Items, full, without, is_among, IsInOrder, IsWithin};
+ghost use Rattle.ls_set.specs.{IsInOrder, IsWithin, Items, full, is_among, without};
 ghost use Rattle.ls_set.specs.declared.query.Query.{Query};
 ghost use Rattle.ls_theory.specs.Starts.{Clauses, Sets, meets};
-ghost use Rattle.ls_theory.specs.Families.{interior, is_space};
-ghost use Rattle.ls_theory.specs.Compatible.{compat};
-ghost use Rattle.ls_theory.specs.Bases.{base, atoms_at};
+ghost use Rattle.ls_theory.specs.{all_clauses, atoms_at, base, clauses_at, clauses_of, compat, flaw, has_clause_within, interior, is_space};
 ghost use Rattle.ls_laws.specs.Spans.{IsOn, spanned};
 ghost use Rattle.ls_laws.specs.Families.{IsFamily};
-ghost use Rattle.ls_theory.specs.Clauses.{clauses_of, all_clauses, has_clause_within, clauses_at, flaw};
 ghost use Rattle.ls_clauses.specs.Surmise.{IsSurmise, IsPutInOrder};
 ghost use Rattle.ls_clauses.specs.Starts.{IsCover};
 

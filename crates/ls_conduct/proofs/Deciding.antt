@@ -1,26 +1,12 @@
 -- Commands that are carried out without the folder.
-use Rattle.std.proofs.Common.{◌≡◌, ◌==◌, ◌<◌, ℕ, true, false, not, ne_eqb, cond, ltb, List, [], ◌∷◌, length, Option, Some, None, Result, Ok, Err, IfOk, OnOk, OnErr, IsErrAnd, refl, sym, ap, ◌∙◌, subst, arith}
-use Rattle.std.specs.declared.alloc.AllocError.{AllocError}
+use Rattle.ls_conduct.proofs.Vocabulary.{◌<◌, ◌==◌, ◌∙◌, ◌∷◌, ◌≡◌, AllocError, Answer, Bytes, Calls, Change, Decides, Effect, Err, Failed, Folder, IfOk, IsDecided, IsErrAnd, List, Makes, Missing, NeedsDomain, None, Ok, OnErr, OnOk, Option, Refused, Response, Result, Sees, Session, Some, Text, TooLarge, Unnamed, ℕ, [], answers, ap, arith, asked_effect, calls_of, changes_interview, command_effect, command_effect-asked, cond, false, fetched_from, length, longest_file, ltb, ne_eqb, not, refl, request_of, started, subst, sym, true, unnamed_at}
 use Rattle.std.specs.FinMap as map
 use Rattle.std.proofs.lemmas.Bool.{true≢false}
-use Rattle.ls_edge.specs.Files.{longest_file, Folder}
-use Rattle.ls_theory.specs.declared.answer.Answer.{Answer}
-use Rattle.ls_theory.specs.Interviews.{Interview}
-use Rattle.ls_lines.specs.Lines.{Text}
+use Rattle.ls_theory.specs.{Interview}
 use Rattle.ls_lines.specs.declared.command.Command.{Command}
 use Rattle.ls_lines.specs.declared.command.Command.TheVariants as command
-use Rattle.ls_reply.specs.Scenes.{Calls, Bytes, Missing, TooLarge, Failed, fetched_from, calls_of}
-use Rattle.ls_reply.specs.Sessions.{Session, started}
-use Rattle.ls_reply.specs.Effects.{Effect, Change, answers, changes_interview}
-use Rattle.ls_reply.specs.Replies.{asked_effect, command_effect, unnamed_at}
-use Rattle.ls_reply.specs.Meanings.{request_of}
-use Rattle.ls_reply.proofs.Effects.{command_effect-asked}
 use Rattle.ls_reply.specs.declared.request.Request.{Request}
 use Rattle.ls_reply.specs.declared.request.Request.TheVariants.{View, Edit, Setting, Pupil}
-use Rattle.ls_reply.specs.declared.response.Response.{Response}
-use Rattle.ls_reply.specs.declared.response.Response.TheVariants.{Refused}
-use Rattle.ls_reply.specs.declared.refusal.Refusal.TheVariants.{Unnamed}
-use Rattle.ls_conduct.specs.Decides.{Makes, Decides, Sees, IsDecided, NeedsDomain}
 
 -- ---- what is seen of the folder where no call is made there
 

@@ -1,24 +1,11 @@
 -- What a fetch lets a command see, and a command that is carried out by it.
-use Rattle.std.proofs.Common.{◌≡◌, ◌==◌, ℕ, Bool, true, false, not, cond, ltb, List, [], ◌++◌, length, Option, Some, None, Result, Ok, Err, IsErrOf, MatchResult, Vec, refl, sym, ap, ◌∙◌, subst}
-use Rattle.std.specs.declared.alloc.AllocError.{AllocError}
+use Rattle.ls_conduct.proofs.Vocabulary.{◌++◌, ◌==◌, ◌∙◌, ◌≡◌, AllocError, Answer, AnswersStand, Bool, Bytes, Calls, Decides, Effect, Err, Failed, FetchCause, Fetched, FetchedFrom, Fetches, FileFailed, Folder, GivesBytes, IsErrOf, IsFetched, List, Makes, MatchResult, Missing, NoFile, None, Ok, Option, Refused, Response, Result, Sees, Session, Some, Stays, Text, TooLarge, Unnamed, Vec, ℕ, [], answers, ap, bytes_fetched, calls_of, changes_interview, cond, false, fetched_from, file_effect, file_refusals, file_shown, has_domain, length, longest_file, ltb, not, refl, refuse, start_read, start_row, starts_by, subst, sym, true}
 use Rattle.std.specs.declared.alloc.Global.{Global}
 use Rattle.std.specs.FinMap as map
 use Rattle.std.proofs.lemmas.Result.{on_ok_weaker, on_err_weaker}
-use Rattle.ls_edge.specs.Files.{longest_file, Folder, Fetches, FetchCause, FetchedFrom, GivesBytes, Stays}
 use Rattle.ls_edge.specs.declared.traits.FetchFault.{FetchFault}
 use Rattle.ls_edge.specs.declared.traits.FetchFault.TheVariants as fetch
-use Rattle.ls_theory.specs.declared.answer.Answer.{Answer}
-use Rattle.ls_lines.specs.Lines.{Text}
-use Rattle.ls_reply.specs.Scenes.{Calls, Fetched, Bytes, Missing, TooLarge, Failed, fetched_from, calls_of}
-use Rattle.ls_reply.specs.Sessions.{Session, has_domain}
-use Rattle.ls_reply.specs.Effects.{Effect, answers, changes_interview, refuse}
-use Rattle.ls_reply.specs.Rows.{start_row, starts_by, start_read, file_refusals, bytes_fetched}
-use Rattle.ls_reply.specs.Replies.{file_effect, file_shown}
-use Rattle.ls_reply.specs.declared.refusal.Refusal.TheVariants.{AnswersStand, Unnamed, NoFile, FileFailed}
 use Rattle.ls_reply.specs.declared.request.StartFile.{StartFile}
-use Rattle.ls_reply.specs.declared.response.Response.{Response}
-use Rattle.ls_reply.specs.declared.response.Response.TheVariants.{Refused}
-use Rattle.ls_conduct.specs.Decides.{Makes, Decides, Sees, IsFetched}
 use Rattle.ls_conduct.proofs.Deciding.{makes_as}
 
 abbrev is_failed : Result (Vec ℕ Global) FetchFault → Bool

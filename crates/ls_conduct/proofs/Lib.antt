@@ -1,3 +1,4 @@
+mod Vocabulary
 pub mod Deciding
 pub mod Fetching
 pub mod Storing

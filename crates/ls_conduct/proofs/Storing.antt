@@ -1,21 +1,9 @@
 -- A command that stores a file.
-use Rattle.std.proofs.Common.{◌≡◌, ◌≤◌, ℕ, Bool, true, false, cond, List, ◌++◌, length, Option, Some, None, Ok, Err, refl, sym, ap, ◌∙◌, le-ltb, lt-ltb, ◌<◌}
-use Rattle.std.specs.declared.alloc.AllocError.{AllocError}
+use Rattle.ls_conduct.proofs.Vocabulary.{◌++◌, ◌<◌, ◌∙◌, ◌≡◌, ◌≤◌, AllocError, Bool, Calls, Decides, Done, Effect, Err, FileFailed, Folder, LargeFile, List, Missing, None, Ok, Option, Refused, Sees, Session, Some, Stores, Text, Unnamed, ℕ, answers, ap, calls_of, cond, false, file_stored, has_domain, le-ltb, length, longest_file, lt-ltb, refl, refuse, save_row, session_text, stores, sym, true}
 use Rattle.std.specs.FinMap as map
 use Rattle.ls_edge.specs.Causes.{Rose}
-use Rattle.ls_edge.specs.Files.{Folder, Stores, longest_file}
 use Rattle.ls_edge.specs.declared.traits.StoreFault.{StoreFault}
 use Rattle.ls_edge.specs.declared.traits.StoreFault.TheVariants as store
-use Rattle.ls_lines.specs.Lines.{Text}
-use Rattle.ls_saved.specs.Values.{session_text}
-use Rattle.ls_reply.specs.Scenes.{Calls, Missing, calls_of}
-use Rattle.ls_reply.specs.Sessions.{Session, has_domain}
-use Rattle.ls_reply.specs.Effects.{Effect, answers, refuse, stores}
-use Rattle.ls_reply.specs.Saving.{save_row}
-use Rattle.ls_reply.specs.Replies.{file_stored}
-use Rattle.ls_reply.specs.declared.refusal.Refusal.TheVariants.{FileFailed, LargeFile, Unnamed}
-use Rattle.ls_reply.specs.declared.response.Response.TheVariants.{Refused, Done}
-use Rattle.ls_conduct.specs.Decides.{Decides, Sees}
 use Rattle.ls_conduct.proofs.Deciding.{calls_told, sees_told}
 
 -- what is seen of told files where the call failed

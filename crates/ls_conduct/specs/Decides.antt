@@ -7,13 +7,10 @@ use Rattle.ls_edge.specs.Causes.{Rose}
 use Rattle.ls_edge.specs.Files.{Folder}
 use Rattle.ls_edge.specs.declared.traits.FetchFault.{FetchFault}
 use Rattle.ls_edge.specs.declared.traits.FetchFault.TheVariants as fetch
-use Rattle.ls_lines.specs.Lines.{Text}
+use Rattle.ls_lines.specs.{Text}
 use Rattle.ls_lines.specs.declared.command.Command.{Command}
 use Rattle.ls_lines.specs.declared.command.Command.TheVariants as command
-use Rattle.ls_reply.specs.Scenes.{Calls, calls_of, Fetched, Bytes, Missing, TooLarge, Failed}
-use Rattle.ls_reply.specs.Sessions.{Session}
-use Rattle.ls_reply.specs.Effects.{Effect}
-use Rattle.ls_reply.specs.Transcripts.{folder_with}
+use Rattle.ls_reply.specs.{Bytes, Calls, Effect, Failed, Fetched, Missing, Session, TooLarge, calls_of, folder_with}
 use Rattle.ls_reply.specs.declared.response.Response.{Response}
 
 -- a command that needs a domain: any but the first four

@@ -1,6 +1,6 @@
 // What a command does where a domain stands.
 ghost use Rattle.std.specs.Prelude.{◌≡◌, ◌<◌, length, IfOk, Some};
-ghost use Rattle.ls_reply.specs.Replies.{command_effect};
+ghost use Rattle.ls_reply.specs.{command_effect};
 ghost use Rattle.ls_course.specs.States.{CanTell};
 ghost use Rattle.ls_conduct.specs.Decides.{Decides, NeedsDomain};
 

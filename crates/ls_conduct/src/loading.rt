@@ -1,12 +1,6 @@
 // Commands that fetch a file, where a domain stands.
 ghost use Rattle.std.specs.Prelude.{◌≡◌, ◌<◌, ◌∷◌, [], Err, IfOk, length};
-ghost use Rattle.ls_reply.specs.Scenes.{Fetched};
-ghost use Rattle.ls_reply.specs.Effects.{answers, changes_interview};
-ghost use Rattle.ls_reply.specs.Refusals.{refusal_items};
-ghost use Rattle.ls_reply.specs.Rows.{start_row, starts_by, start_read};
-ghost use Rattle.ls_reply.specs.Rows.{file_refusals, bytes_fetched, test_row};
-ghost use Rattle.ls_reply.specs.Pupils.{class_row};
-ghost use Rattle.ls_reply.specs.Replies.{file_effect, file_shown};
+ghost use Rattle.ls_reply.specs.{Fetched, answers, bytes_fetched, changes_interview, class_row, file_effect, file_refusals, file_shown, refusal_items, start_read, start_row, starts_by, test_row};
 ghost use Rattle.ls_course.specs.States.{CanTell};
 ghost use Rattle.ls_conduct.specs.Decides.{Decides, Makes, IsFetched};
 

@@ -1,9 +1,6 @@
 // The command that keeps the session in a file, where a domain stands.
 ghost use Rattle.std.specs.Prelude.{◌<◌, IfOk, length};
-ghost use Rattle.ls_reply.specs.Sessions.{Session};
-ghost use Rattle.ls_reply.specs.Effects.{refuse, stores};
-ghost use Rattle.ls_reply.specs.Saving.{save_row};
-ghost use Rattle.ls_reply.specs.Replies.{file_stored};
+ghost use Rattle.ls_reply.specs.{Session, file_stored, refuse, save_row, stores};
 ghost use Rattle.ls_reply.specs.declared.refusal.Refusal.TheVariants.{FileFailed};
 ghost use Rattle.ls_course.specs.States.{CourseState, CanTell};
 ghost use Rattle.ls_conduct.specs.Decides.{Decides};

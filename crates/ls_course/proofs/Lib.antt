@@ -1,2 +1,3 @@
+mod Vocabulary
 mod Trailed
 mod Told

@@ -1,16 +1,9 @@
 -- What a course answers.
-use Rattle.std.proofs.Common.{◌≡◌, ◌<◌, ℕ, length, Some, None, Ok, Err, OnOk, refl, subst}
+use Rattle.ls_course.proofs.Vocabulary.{◌<◌, ◌≡◌, CanSay, Err, Interview, Items, None, Ok, OnOk, Query, Some, Text, ℕ, accepted, answer_row, changed, length, names_none, refl, refusal, refuse_fault, subst}
 use Rattle.std.specs.declared.option.Option.{Option}
 use Rattle.std.specs.declared.result.Result.{Result}
-use Rattle.ls_set.specs.ItemSet.{Items}
 use Rattle.std.specs.Prelude.{List, Bool}
-use Rattle.ls_set.specs.declared.query.Query.{Query}
-use Rattle.ls_theory.specs.Interviews.{Interview, accepted}
-use Rattle.ls_theory.specs.Answering.{refusal}
 use Rattle.ls_theory.specs.declared.answer_fault.AnswerFault.{AnswerFault}
-use Rattle.ls_lines.specs.Lines.{Text}
-use Rattle.ls_reply.specs.Effects.{changed, refuse_fault}
-use Rattle.ls_reply.specs.Rows.{answer_row}
 use Rattle.ls_reply.specs.declared.refusal.Refusal.TheVariants as refusal_of
 use Rattle.ls_reply.specs.declared.response.Response.TheVariants.{Done}
 use Rattle.ls_theory.specs.declared.asked.Asked.TheVariants.{Item, Over}
@@ -18,8 +11,6 @@ use Rattle.ls_reply.specs.declared.response.Response.{Response}
 use Rattle.ls_reply.specs.declared.response.Response.TheVariants as response
 use Rattle.ls_reply.specs.declared.response.Shown.TheVariants as shown
 use Rattle.ls_pupils.specs.Cases as pupils
-use Rattle.ls_views.specs.Views.{CanSay}
-use Rattle.ls_views.proofs.Saying.{names_none}
 
 -- the response to an answer names no item
 pub told-answer : (names : List Text) (j : Interview) (sets : List Items) (i : Interview) (q : Query) (is_yes : Bool) → CanSay names j sets (answer_row i q is_yes).response

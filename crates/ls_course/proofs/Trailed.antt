@@ -1,22 +1,12 @@
 -- What is followed over the first Yes answers, where the interview changes.
-use Rattle.std.proofs.Common.{◌≡◌, ℕ, Bool, true, false, List, [], Option, Some, None, sym, ap, ◌∙◌, subst, take, arith}
+use Rattle.ls_course.proofs.Vocabulary.{◌∙◌, ◌≡◌, Bool, EndsAt, Interview, IsTrail, IsTrail-more, IsTrailOf, List, None, Option, Query, Some, ℕ, [], accepted, answer_with, ap, arith, base, compatible_sets, false, followed-base, last_followed, peak_of, retracted, rules_before, subst, sym, take, trail_sets, true, yes_queries}
 use Rattle.std.specs.Option.{option_map_or}
-use Rattle.ls_set.specs.declared.query.Query.{Query}
 use Rattle.ls_theory.specs.declared.answer.Answer.{Answer}
-use Rattle.ls_theory.specs.Interviews.{Interview, accepted, retracted, yes_queries}
-use Rattle.ls_theory.specs.Answering.{answer_with}
-use Rattle.ls_theory.specs.Compatible.{compatible_sets}
-use Rattle.ls_theory.specs.Bases.{base, peak_of}
 use Rattle.ls_laws.specs.Forced.{IsNumbered}
 use Rattle.ls_base.specs.Followed.{IsFollowed, followed_sets}
 use Rattle.ls_base.specs.declared.followed.Followed.{Followed}
-use Rattle.ls_base.specs.Trail.{IsTrail, EndsAt, last_followed, trail_sets}
 use Rattle.ls_base.specs.declared.trail.Entry.{Entry}
-use Rattle.ls_base.proofs.Trails.{IsTrail-more}
-use Rattle.ls_expert.specs.Held.{rules_before}
 use Rattle.ls_expert.proofs.AnswerLists.{yes_queries-yes, yes_queries-no, yes_queries-without_no, take-yes_queries-without_yes}
-use Rattle.ls_views.proofs.Saying.{followed-base}
-use Rattle.ls_course.specs.States.{IsTrailOf}
 
 pub trail-accepted : (i : Interview) (r : Query) (yes : Bool) (t : List Entry) → IsTrailOf i t → IsTrailOf (accepted i r yes) t
 trail-accepted i r true t h = subst (λ ys. IsTrail i.count i.start ys t) (sym (yes_queries-yes i r)) (IsTrail-more i.count i.start (yes_queries i.answers) r t h)

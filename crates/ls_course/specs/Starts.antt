@@ -1,7 +1,7 @@
 -- Starts that are read from files.
 use Rattle.std.specs.Prelude.{◌≡◌, List, length, Result, Ok, Err}
 use Rattle.ls_theory.specs.Starts as theory
-use Rattle.ls_lines.specs.Lines.{Text}
+use Rattle.ls_lines.specs.{Text}
 use Rattle.ls_expert.specs.Starts.{start_of, IsStartOn}
 use Rattle.ls_expert.specs.declared.start.Start.{Start}
 use Rattle.ls_reply.specs.declared.refusal.Refusal.{Refusal}

@@ -1,12 +1,12 @@
 -- What contracts see of a course, and which responses it can tell.
 use Rattle.std.specs.Prelude.{◌≡◌, ◌<◌, List, length}
-use Rattle.ls_set.specs.ItemSet.{Items}
-use Rattle.ls_theory.specs.Interviews.{Interview, yes_queries}
+use Rattle.ls_set.specs.{Items}
+use Rattle.ls_theory.specs.{Interview, yes_queries}
 use Rattle.ls_base.specs.Trail.{IsTrail}
 use Rattle.ls_base.specs.declared.trail.Entry.{Entry}
-use Rattle.ls_lines.specs.Lines.{Text}
+use Rattle.ls_lines.specs.{Text}
 use Rattle.ls_theory.specs.Settings.{Settings}
-use Rattle.ls_reply.specs.Sessions.{Session}
+use Rattle.ls_reply.specs.{Session}
 use Rattle.ls_pupils.specs.Cases.{pupils_of, ArePupils}
 use Rattle.ls_pupils.specs.declared.cases.PupilCase.{PupilCase}
 use Rattle.ls_spans.specs.Speaking.{IsVerdictOn}

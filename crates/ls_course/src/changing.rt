@@ -1,7 +1,7 @@
 // How the interview of a course changes, and what of its trail is kept.
 ghost use Rattle.std.specs.Prelude.{◌≡◌, IfOk, OnOk, OnErr, List};
 ghost use Rattle.ls_base.specs.declared.trail.Entry.{Entry};
-ghost use Rattle.ls_reply.specs.Rows.{blocks_row, answer_row, retract_row};
+ghost use Rattle.ls_reply.specs.{answer_row, blocks_row, retract_row};
 ghost use Rattle.ls_course.specs.States.{IsTrailOf};
 
 use ls_base::Trail;

@@ -1,18 +1,11 @@
 // A domain, the interview on its items, and its pupils.
 ghost use Rattle.std.specs.Prelude.{◌≡◌, ◌<◌, ◌==◌, true, not, [], length, Ok, IfOk, IfErr, OnOk, OnErr};
-ghost use Rattle.ls_theory.specs.Compatible.{compatible_sets};
+ghost use Rattle.ls_theory.specs.{compatible_sets};
 ghost use Rattle.ls_class.specs.Tables.{class_of};
-ghost use Rattle.ls_saved.specs.Values.{session_text};
-ghost use Rattle.ls_saved.specs.Reading.{session_of};
+ghost use Rattle.ls_saved.specs.{session_of, session_text};
 ghost use Rattle.ls_store.specs.Chains.{IsSessionFault};
-ghost use Rattle.ls_reply.specs.Texts.{bytes_of};
-ghost use Rattle.ls_reply.specs.Sessions.{started};
-ghost use Rattle.ls_reply.specs.Meanings.{request_of};
-ghost use Rattle.ls_reply.specs.Lines.{shown_lines};
-ghost use Rattle.ls_reply.specs.Rows.{view_row, edit_row, starts_by, start_read, tested_by};
-ghost use Rattle.ls_reply.specs.Pupils.{setting_row, pupil_row, classed_by};
+ghost use Rattle.ls_reply.specs.{asked_effect, bytes_of, classed_by, edit_row, pupil_row, request_of, setting_row, shown_lines, start_read, started, starts_by, tested_by, unnamed_at, view_row};
 ghost use Rattle.ls_files.specs.SetFiles.{sets_of};
-ghost use Rattle.ls_reply.specs.Replies.{asked_effect, unnamed_at};
 ghost use Rattle.ls_texts.specs.Rooms.{Says};
 ghost use Rattle.ls_meanings.specs.Asked.{IsOn, IsSettingOn};
 ghost use Rattle.ls_views.specs.Views.{CanShow, is_based};

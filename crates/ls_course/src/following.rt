@@ -1,6 +1,6 @@
 // The base of a course, followed when it is asked for, and its first open query.
 ghost use Rattle.std.specs.Prelude.{◌≡◌, true, OnOk};
-ghost use Rattle.ls_theory.specs.Interviews.{yes_queries};
+ghost use Rattle.ls_theory.specs.{yes_queries};
 ghost use Rattle.ls_base.specs.Trail.{EndsAt, is_begun};
 ghost use Rattle.ls_course.specs.States.{IsTrailOf};
 

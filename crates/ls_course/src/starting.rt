@@ -1,12 +1,11 @@
 // Interviews that begin with the start that a file gives.
 ghost use Rattle.std.specs.Prelude.{◌≡◌, [], length, IfOk, OnOk, OnErr};
-ghost use Rattle.ls_theory.specs.Compatible.{compat};
-ghost use Rattle.ls_theory.specs.Bases.{base, based};
+ghost use Rattle.ls_theory.specs.{base, based, compat};
 ghost use Rattle.ls_laws.specs.Spans.{IsOn};
 ghost use Rattle.ls_files.specs.SetFiles.{sets_of};
 ghost use Rattle.ls_files.specs.SurmiseFiles.{surmise_of};
 ghost use Rattle.ls_expert.specs.Starts.{start_of, IsStartOn};
-ghost use Rattle.ls_reply.specs.Rows.{start_of_clauses, start_of_sets, start_of_base, start_read};
+ghost use Rattle.ls_reply.specs.{start_of_base, start_of_clauses, start_of_sets, start_read};
 ghost use Rattle.ls_reply.specs.declared.response.Response.TheVariants.{Done};
 ghost use Rattle.ls_course.specs.Starts.{IsStartRead};
 ghost use Rattle.ls_course.specs.States.{IsTrailOf};

@@ -1,7 +1,7 @@
 // Families that files give, tested.
 ghost use Rattle.std.specs.Prelude.{◌≡◌, [], length, IfOk};
 ghost use Rattle.ls_files.specs.SetFiles.{sets_of};
-ghost use Rattle.ls_reply.specs.Rows.{tested_by};
+ghost use Rattle.ls_reply.specs.{tested_by};
 ghost use Rattle.ls_course.specs.States.{CanTestOn};
 
 use ls_domain::Domain;

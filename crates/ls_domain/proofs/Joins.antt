@@ -1,8 +1,5 @@
 -- Joining one more word.
-use Rattle.std.proofs.Common.{◌≡◌, ℕ, List, [], ◌∷◌, ◌++◌, map, ap, ap₂, ◌∙◌, append_assoc}
-use Rattle.std.specs.List.{join_with_byte}
-use Rattle.ls_lists.specs.Lists.{gap}
-use Rattle.ls_lists.proofs.Joins.{join_more}
+use Rattle.ls_domain.proofs.Vocabulary.{◌++◌, ◌∙◌, ◌∷◌, ◌≡◌, List, ℕ, [], ap, append_assoc, ap₂, gap, join_more, join_with_byte, map}
 
 -- what was there, then the gap, then the word
 pub word_joined : {X : Type 0} (f : X → List ℕ) (xs : List X) (y : X) (before old parted new between word : List ℕ) → old ≡ before ++ join_with_byte 32 (map f xs)

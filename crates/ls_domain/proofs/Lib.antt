@@ -1,3 +1,4 @@
+mod Vocabulary
 pub mod Numbers
 pub mod NamedSets
 pub mod Rows

@@ -1,18 +1,7 @@
 -- The names of a set's items are read as the set.
-use Rattle.std.proofs.Common.{◌≡◌, ℕ, ◌<◌, inl, inr, true, false, not, List, [], ◌∷◌, map, length, None, refl, sym, ap, ap₂, ◌∙◌, arith, ltb-true, lt-ltb, le-ltb, zero-add}
-use Rattle.std.specs.List.{AllByRecursion, IsDistinct, list_all, list_any}
-use Rattle.std.specs.Str.{bytes_eq}
-use Rattle.std.proofs.lemmas.Bool.{and_from, and_parts, cases_lt, le-leb}
-use Rattle.ls_lists.proofs.Every.{All-given, All-kept}
-use Rattle.ls_lists.proofs.Options.{nothing}
-use Rattle.ls_lists.proofs.Places.{is_some-position}
-use Rattle.ls_set.specs.ItemSet.{Items, full, has, items, bound, set_of, numbers_from, IsWithin}
-use Rattle.ls_set.proofs.Sets.{same_set, has-full}
+use Rattle.ls_domain.proofs.Vocabulary.{◌<◌, ◌∙◌, ◌∷◌, ◌≡◌, All-given, All-kept, AllByRecursion, IsDistinct, IsWithin, Items, List, None, Text, ℕ, [], and_from, and_parts, ap, ap₂, arith, bound, bytes_eq, cases_lt, false, first_unnamed, full, has, has-full, inl, inr, is_named, is_some-position, item_of, items, items_of, le-leb, le-ltb, length, list_all, list_any, lt-ltb, ltb-true, map, name_of, names_of_set, not, nothing, numbers_from, refl, same_set, set_of, sym, true, zero-add}
 use Rattle.ls_set.proofs.Ascending.{has-above}
 use Rattle.ls_set.proofs.Cursors.{has-set_of-filter}
-use Rattle.ls_lines.specs.Lines.{Text}
-use Rattle.ls_domain.specs.Texts.{name_of, names_of_set}
-use Rattle.ls_domain.specs.Meanings.{is_named, item_of, items_of, first_unnamed}
 use Rattle.ls_domain.proofs.Numbers.{number_of-name_of, item_of-some, is_named-some}
 
 -- the items of a set of items below n are below n

@@ -1,31 +1,16 @@
 -- Names and their numbers.
-use Rattle.std.proofs.Common.{◌≡◌, ◌≢◌, ℕ, ◌+◌, ◌<◌, inl, inr, true, false, List, [], ◌∷◌, ◌++◌, length, map, take, get_or, Some, None, is_some, refl, ap, ap₂, sym, ◌∙◌, arith, length-append, string_bytes, String, ltb, ltb-true}
-use Rattle.std.specs.List.{position_or_len, IsDistinct, AllZip}
-use Rattle.std.specs.Str.{IsAscii, IsUtf8, bytes_eq}
-use Rattle.std.proofs.lemmas.Bool.{cases_Bool}
-use Rattle.std.proofs.lemmas.Bool.Decides.{nat_tests}
-use Rattle.std.proofs.lemmas.Cmp.{nat_list_eq_equiv}
-use Rattle.std.proofs.lemmas.List.{map-append, take_more}
+use Rattle.ls_domain.proofs.Vocabulary.{◌++◌, ◌+◌, ◌<◌, ◌∙◌, ◌∷◌, ◌≡◌, ◌≢◌, AllZip, AreNames, IsAscii, IsDistinct, IsUtf8, IsWithin, Items, List, None, PLACES, Some, String, Text, ℕ, [], ap, ap₂, arith, bytes_eq, cases_Bool, false, full, get_or, has, has-full, inl, inr, is_name, is_named, is_some, is_some-position, item_of, items, items_of, length, length-append, list_all-append, ltb, ltb-true, map, map-append, members, name_of, nat_list_eq_equiv, nat_tests, number_of, position_or_len, refl, same_set, set_of, string_bytes, sym, take, take_more, true, with}
 use Rattle.std.proofs.lemmas.List.Elements.{All-head}
-use Rattle.std.proofs.lemmas.List.Folds.{list_all-append}
 use Rattle.std.proofs.lemmas.List.Quantifiers.{position-Some}
 use Rattle.std.proofs.lemmas.List.Sums.{position_or_len_is}
 use Rattle.std.proofs.lemmas.Map.Keys.{IsDistinct-push}
 use Rattle.std.proofs.lemmas.Map.Made.{AllPairs-from_IsDistinct}
 use Rattle.std.proofs.lemmas.Slice.Eq.{bytes_eq-Decides}
 use Rattle.std.proofs.lemmas.Str.{IsUtf8-from_ascii}
-use Rattle.ls_set.specs.ItemSet.{Items, has, full, with, set_of, items, IsWithin}
-use Rattle.ls_set.specs.declared.item_set.TheConstants.{PLACES}
-use Rattle.ls_set.proofs.Sets.{members, same_set, has-full}
 use Rattle.ls_set.proofs.Firsts.{listed-has}
-use Rattle.ls_lists.proofs.Places.{is_some-position}
-use Rattle.ls_lines.specs.Lines.{Text}
 use Rattle.ls_lines.specs.declared.part.Part.TheVariants.{One}
 use Rattle.ls_lines.specs.declared.kind.Kind.TheVariants.{Name}
 use Rattle.ls_lines.proofs.Ascii.{front-ascii}
-use Rattle.ls_domain.specs.Texts.{name_of}
-use Rattle.ls_domain.specs.Meanings.{is_named, number_of, item_of, items_of}
-use Rattle.ls_domain.specs.Domains.{is_name, AreNames}
 
 -- ---- one to one
 

@@ -1,18 +1,5 @@
 -- What is read is a domain, and a domain is read from its names.
-use Rattle.std.proofs.Common.{◌≡◌, ℕ, ◌+◌, ◌<◌, inl, inr, false, List, [], ◌∷◌, ◌++◌, length, map, Some, None, Ok, refl, ap, ap₂, sym, ◌∙◌, subst, arith, length-append, append_assoc, append-nil, ◌==◌}
-use Rattle.std.specs.List.{list_all, AllByRecursion, IsDistinct}
-use Rattle.std.specs.Str.{bytes_eq}
-use Rattle.std.proofs.lemmas.Bool.{cases_Bool}
-use Rattle.std.proofs.lemmas.Cmp.{nat_list_eq_equiv}
-use Rattle.std.proofs.lemmas.List.{map-append, map-id}
-use Rattle.std.proofs.lemmas.List.Folds.{list_all-append}
-use Rattle.std.proofs.lemmas.Option.{none-some, same_Some}
-use Rattle.ls_set.specs.declared.item_set.TheConstants.{PLACES}
-use Rattle.ls_lists.proofs.Options.{same_Ok, ok-err}
-use Rattle.ls_lines.specs.Lines.{Text}
-use Rattle.std.proofs.lemmas.Bool.{and_parts}
-use Rattle.ls_domain.specs.Meanings.{is_named}
-use Rattle.ls_domain.specs.Domains.{AreNames, IsDomain, FirstField, first_field, is_name, name_fault, names_from, names_of, names_of_table, names_of_words, even_field, first_fields, table_records, width_of}
+use Rattle.ls_domain.proofs.Vocabulary.{◌++◌, ◌+◌, ◌<◌, ◌==◌, ◌∙◌, ◌∷◌, ◌≡◌, AllByRecursion, AreNames, FirstField, IsDistinct, IsDomain, List, None, Ok, PLACES, Some, Text, ℕ, [], and_parts, ap, append-nil, append_assoc, ap₂, arith, bytes_eq, cases_Bool, even_field, false, first_field, first_fields, inl, inr, is_name, is_named, length, length-append, list_all, list_all-append, map, map-append, map-id, name_fault, names_from, names_of, names_of_table, names_of_words, nat_list_eq_equiv, none-some, ok-err, refl, same_Ok, same_Some, subst, sym, table_records, width_of}
 use Rattle.ls_domain.proofs.Numbers.{AreNames-nil, AreNames-push}
 use Rattle.ls_domain.proofs.Rows.{fault-none, free, length-names_from, names_from-bad, names_from-fault, names_from-next, names_from-nil}
 

@@ -1,19 +1,9 @@
 -- The reading of rows, row by row.
-use Rattle.std.proofs.Common.{◌≡◌, ◌≢◌, ℕ, zero, suc, ◌+◌, ◌<◌, ◌≤◌, inl, inr, true, false, List, [], ◌∷◌, ◌++◌, length, map, take, drop, get_or, slice_get, eq-eqb, ne_eqb, ◌==◌, Some, None, Ok, Err, Result, refl, ap, ap₂, sym, ◌∙◌, arith, nat_le}
-use Rattle.std.specs.declared.option.Option.{Option}
-use Rattle.std.proofs.lemmas.Bool.{cases_Bool}
-use Rattle.std.proofs.lemmas.Bool.Decides.{nat_tests}
+use Rattle.ls_domain.proofs.Vocabulary.{◌++◌, ◌+◌, ◌<◌, ◌==◌, ◌∙◌, ◌∷◌, ◌≡◌, ◌≢◌, ◌≤◌, BadCsv, BadName, Err, FirstField, IsFaultOf, IsNameFault, List, Memory, NoItems, None, Ok, Option, PLACES, Repeat, Result, Some, Text, TooMany, ℕ, [], ap, ap₂, arith, cases_Bool, drop, eq-eqb, even_field, false, first_field, first_fields, get_or, inl, inr, is_name, is_named, item_of, length, map, name_fault, names_from, names_of, names_of_table, names_of_words, nat_le, nat_tests, ne_eqb, none-some, number_of, ok-err, refl, same_Ok, slice_get, suc, sym, table_records, take, true, zero}
 use Rattle.std.proofs.lemmas.List.{length-append, length-map, take-map, drop_more, drop_all}
-use Rattle.std.proofs.lemmas.Option.{none-some}
 use Rattle.std.proofs.lemmas.Simd.{map-map}
 use Rattle.csv.specs.Records as records
-use Rattle.ls_set.specs.declared.item_set.TheConstants.{PLACES}
-use Rattle.ls_lists.proofs.Options.{same_Ok, ok-err}
-use Rattle.ls_lines.specs.Lines.{Text}
-use Rattle.ls_domain.specs.Meanings.{is_named, number_of, item_of}
-use Rattle.ls_domain.specs.Domains.{is_name, FirstField, IsNameFault, IsFaultOf, name_fault, names_from, names_of, names_of_words, names_of_table, table_records, first_field, even_field, first_fields}
 use Rattle.ls_domain.specs.declared.domain_fault.DomainFault.{DomainFault}
-use Rattle.ls_domain.specs.declared.domain_fault.DomainFault.TheVariants.{NoItems, BadCsv, BadName, Repeat, TooMany, Memory}
 use Rattle.ls_domain.proofs.Numbers.{is_named-some, item_of-some}
 
 -- ---- one row

@@ -3,9 +3,8 @@ use Rattle.std.specs.Prelude.{◌≡◌, ◌<◌, ◌≤◌, ℕ, ◌+◌, Bool,
 use Rattle.std.specs.List.{IsDistinct, list_all}
 use Rattle.std.specs.Option.{option_map_or}
 use Rattle.csv.specs.Reading.{default_config, records, strip_bom}
-use Rattle.ls_set.specs.ItemSet.{most_items}
-use Rattle.ls_lines.specs.Lines.{Text}
-use Rattle.ls_lines.specs.Kinds.{is_of}
+use Rattle.ls_set.specs.{most_items}
+use Rattle.ls_lines.specs.{Text, is_of}
 use Rattle.ls_lines.specs.declared.kind.Kind.TheVariants.{Name}
 use Rattle.ls_domain.specs.Meanings.{is_named, item_of}
 use Rattle.ls_domain.specs.declared.domain_fault.DomainFault.{DomainFault}

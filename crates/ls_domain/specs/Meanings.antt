@@ -1,8 +1,8 @@
 -- What words mean, where a list of names gives the items.
 use Rattle.std.specs.Prelude.{ℕ, Bool, not, List, map, Option, position, bytes_eq, unwrap_or}
 use Rattle.std.specs.List.{list_any}
-use Rattle.ls_set.specs.ItemSet.{Items, set_of}
-use Rattle.ls_lines.specs.Lines.{Text}
+use Rattle.ls_set.specs.{Items, set_of}
+use Rattle.ls_lines.specs.{Text}
 
 -- whether the word is one of the names
 abbrev pub is_named : List Text → Text → Bool

@@ -1,8 +1,8 @@
 -- The texts of items and sets, where a list of names gives the items.
 use Rattle.std.specs.Prelude.{ℕ, List, [], ◌∷◌, ◌++◌, map, slice_index_or}
 use Rattle.std.specs.List.{join_with_byte}
-use Rattle.ls_set.specs.ItemSet.{Items, items}
-use Rattle.ls_lines.specs.Lines.{Text}
+use Rattle.ls_set.specs.{Items, items}
+use Rattle.ls_lines.specs.{Text}
 
 -- the name of an item
 abbrev pub name_of : List Text → ℕ → Text

@@ -1,7 +1,7 @@
 // Domains.
 ghost use Rattle.std.specs.Prelude.{◌≡◌, ◌<◌, ◌≤◌, ◌++◌, None, Some, Ok, length, IfOk, IfErr, IfSome, OnOk, OnErr};
 ghost use Rattle.std.specs.Io.{StartsWith};
-ghost use Rattle.ls_set.specs.ItemSet.{full, IsWithin};
+ghost use Rattle.ls_set.specs.{IsWithin, full};
 ghost use Rattle.ls_domain.specs.Texts.{name_of, joined_names, set_text};
 ghost use Rattle.ls_domain.specs.Meanings.{number_of, items_of, first_unnamed};
 ghost use Rattle.ls_domain.specs.Domains.{IsDomain, IsFaultOf, names_of_words, names_of_table};

@@ -1,29 +1,6 @@
 -- The first open query was not answered, and nothing is known of it; so an answer to it is not refused.
-use Rattle.std.proofs.Common.{ℕ, ◌≡◌, ◌<◌, ◌≤◌, inl, inr, Bool, true, false, cond, not, List, [], ◌∷◌, filter, find, length, Some, None, refl, sym, ap, ap₂, ◌∙◌, arith, true≢false}
-use Rattle.std.specs.List.{list_all}
-use Rattle.std.proofs.lemmas.Bool.{cases_Bool, and_parts, not-true, not_from_false, false_from_ne_true}
-use Rattle.std.proofs.lemmas.Bool.Decides.{Decides-eqb, nat_tests}
-use Rattle.ls_lists.specs.Lists.{IsIn}
-use Rattle.ls_lists.proofs.Elements.{in-filter, in-map, filter-in, each-in}
-use Rattle.ls_lists.proofs.Every.{list_all-All}
-use Rattle.ls_lists.proofs.Finds.{found-passes}
-use Rattle.ls_set.specs.ItemSet.{Items}
-use Rattle.ls_set.specs.Query.{is_good}
-use Rattle.ls_set.specs.declared.query.Query.{Query}
-use Rattle.ls_set.proofs.Sets.{Decides-is_same}
-use Rattle.ls_theory.specs.declared.answer.Answer.{Answer}
-use Rattle.ls_theory.specs.declared.known.Known.{Known}
-use Rattle.ls_theory.specs.Queries.{breaks, some_breaks, query_before, queries}
-use Rattle.ls_theory.specs.Starts.{meets}
-use Rattle.ls_theory.specs.Interviews.{Interview, yes_queries, no_queries}
-use Rattle.ls_theory.specs.Compatible.{is_compatible}
-use Rattle.ls_theory.specs.Fitting.{spaces_of}
-use Rattle.ls_theory.specs.Pages.{comes_after}
-use Rattle.ls_theory.specs.Forced.{is_forced_yes, is_forced_no, is_open, known, next_question}
-use Rattle.ls_theory.specs.Answering.{most_answers, most_number, is_same_query, is_full, refusal}
+use Rattle.ls_drill.proofs.Vocabulary.{◌<◌, ◌∙◌, ◌∷◌, ◌≡◌, ◌≤◌, Answer, Bool, Decides-eqb, Decides-is_same, FitsIn, Interview, IsIn, Items, Known, List, None, Query, Some, ℕ, [], among-compat, and_parts, ap, ap₂, arith, breaks, cases_Bool, comes_after, cond, each-in, false, false_from_ne_true, filter, filter-in, find, forced_no_search, forced_yes_search, found-passes, in-filter, in-map, inl, inr, is_compatible, is_forced_no, is_forced_yes, is_full, is_good, is_open, is_same_query, known, length, list_all, list_all-All, meets, most_answers, most_number, nat_tests, next_question, no_queries, not, not-true, not_from_false, queries, query_before, refl, refusal, some_breaks, spaces_of, sym, true, true≢false, yes_queries}
 use Rattle.ls_laws.proofs.Lists.{some-from}
-use Rattle.ls_laws.proofs.Answering.{FitsIn, forced_yes_search, forced_no_search}
-use Rattle.ls_laws.proofs.Compat.{among-compat}
 
 found-in : {X : Type 0} (p : X → Bool) (xs : List X) (x : X) → find p xs ≡ Some x → IsIn x xs
 found-in p [] x e = cc

@@ -1,19 +1,11 @@
 -- The base that is followed over the Yes answers of a drill is that of its states, and it is never past.
-use Rattle.std.proofs.Common.{ℕ, ◌≡◌, ◌≤◌, List, [], length, Some, None, sym, ap, ap₂, ◌∙◌, subst, arith}
-use Rattle.ls_set.specs.declared.query.Query.{Query}
-use Rattle.ls_theory.specs.Starts.{Start, Free}
-use Rattle.ls_theory.specs.Interviews.{Interview, yes_queries}
-use Rattle.ls_theory.specs.Compatible.{compat, compatible_sets}
-use Rattle.ls_theory.specs.Bases.{Peak, base, peak, most_base_sets}
+use Rattle.ls_drill.proofs.Vocabulary.{◌∙◌, ◌≡◌, ◌≤◌, Free, Interview, IsDrill, List, None, Peak, Query, Some, Start, ℕ, [], ap, ap₂, arith, base, compat, compat-IsUnionFamily, compat-in_order, compatible_sets, length, most_base_sets, most_drilled, peak, subst, sym, yes_queries}
 use Rattle.ls_laws.specs.Spans.{spanned}
 use Rattle.ls_laws.proofs.Spans.{spanned-base}
-use Rattle.ls_laws.proofs.Compat.{compat-in_order, compat-IsUnionFamily}
 use Rattle.ls_base.specs.Bases.{BaseState, family}
 use Rattle.ls_base.specs.Followed.{IsFollowed}
 use Rattle.ls_base.specs.declared.followed.Followed.{Followed}
 use Rattle.ls_base.specs.declared.followed.Followed.TheVariants.{Within, Past}
-use Rattle.ls_drill.specs.HiddenOrders.{most_drilled}
-use Rattle.ls_drill.specs.Drills.{IsDrill}
 use Rattle.ls_drill.proofs.TurnsTaken.{single-yeses}
 use Rattle.ls_drill.proofs.OneAtom.{base-few, no-peak}
 

@@ -1,15 +1,5 @@
 -- Chains of pairs in order: what is followed from the last pair on is all that a chain of any pairs reaches.
-use Rattle.std.proofs.Common.{ℕ, zero, suc, ◌≡◌, ◌<◌, ◌≤◌, ◌+◌, ◌%◌, Bool, true, false, cond, eqb, ◌&&◌, ◌||◌, List, [], ◌∷◌, ◌++◌, map, refl, sym, ap, ap₂, ◌∙◌, subst, arith}
-use Rattle.std.specs.List.{All, AllByRecursion, list_any}
-use Rattle.std.proofs.lemmas.Bool.{false_from_ne_true}
-use Rattle.std.proofs.lemmas.Bool.Decides.{Decides-eqb}
-use Rattle.rand_pcg.specs.Lcg.{Lcg}
-use Rattle.rand_pcg.specs.Pcg.{pcg32}
-use Rattle.ls_lists.proofs.Every.{each, All-append, All-map}
-use Rattle.ls_set.specs.ItemSet.{numbers_from}
-use Rattle.ls_theory.specs.Words.{pairs}
-use Rattle.ls_drill.specs.HiddenOrders.{generator_of, item_pairs, related, is_chained, implied}
-use Rattle.ls_drill.specs.Draws.{drawn, IsPair, reached}
+use Rattle.ls_drill.proofs.Vocabulary.{◌%◌, ◌&&◌, ◌++◌, ◌+◌, ◌<◌, ◌||◌, ◌∙◌, ◌∷◌, ◌≡◌, ◌≤◌, All, All-append, All-map, AllByRecursion, Bool, Decides-eqb, IsPair, Lcg, List, ℕ, [], ap, ap₂, arith, cond, drawn, each, eqb, false, false_from_ne_true, generator_of, implied, is_chained, item_pairs, list_any, map, numbers_from, pairs, pcg32, reached, refl, related, subst, suc, sym, true, zero}
 use Rattle.ls_drill.proofs.DrawnPairs.{related-drawn}
 
 -- ---- lists

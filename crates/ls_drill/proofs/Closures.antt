@@ -1,13 +1,5 @@
 -- What stands after each item while the pairs are put in, the last pair first.
-use Rattle.std.proofs.Common.{ℕ, zero, suc, ◌≡◌, ◌≢◌, ◌<◌, ◌≤◌, ◌+◌, Bool, true, false, eqb, ◌&&◌, ◌||◌, List, [], ◌∷◌, length, get_or, drop, refl, sym, ap, ap₂, ◌∙◌, subst, arith, add-one, drop-cons, inl, inr}
-use Rattle.std.proofs.Math.ListN.{replicate, set}
-use Rattle.std.proofs.lemmas.List.{get_or-set_same, get_or-set_other, length-set}
-use Rattle.std.proofs.lemmas.Bool.{cases_Bool}
-use Rattle.std.proofs.lemmas.Bool.Decides.{Decides-eqb}
-use Rattle.ls_set.specs.ItemSet.{Items, has, empty, union, with}
-use Rattle.ls_set.proofs.Sets.{has-empty, has-union, has-with}
-use Rattle.ls_drill.specs.HiddenOrders.{most_drilled, related}
-use Rattle.ls_drill.specs.Draws.{IsPair, IsKept, reached}
+use Rattle.ls_drill.proofs.Vocabulary.{◌&&◌, ◌+◌, ◌<◌, ◌||◌, ◌∙◌, ◌∷◌, ◌≡◌, ◌≢◌, ◌≤◌, Bool, Decides-eqb, IsKept, IsPair, Items, List, ℕ, [], add-one, ap, ap₂, arith, cases_Bool, drop, drop-cons, empty, eqb, false, get_or, get_or-set_other, get_or-set_same, has, has-empty, has-union, has-with, inl, inr, length, length-set, most_drilled, reached, refl, related, replicate, set, subst, suc, sym, true, union, with, zero}
 use Rattle.ls_drill.proofs.Chains.{reached-implied}
 
 pub none-of : (n a : ℕ) → get_or (replicate n empty) a empty ≡ empty

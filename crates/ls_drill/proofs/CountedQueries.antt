@@ -1,25 +1,7 @@
 -- Queries counted one after another, and how many there are.
-use Rattle.std.proofs.Common.{ℕ, zero, suc, ◌≡◌, ◌≤◌, ◌+◌, ◌*◌, Bool, true, false, cond, ◌&&◌, find, List, [], ◌∷◌, map, length, take, slice_get, Option, Some, None, refl, sym, ap, ap₂, ◌∙◌, subst, arith, add-one, add-zero, zero-add, length-append}
-use Rattle.std.specs.Prelude.{count_by}
-use Rattle.ls_theory.specs.Blocks.{BlockRange}
-use Rattle.std.specs.Option.{ForSome}
-use Rattle.std.specs.List.{flat_map}
-use Rattle.std.proofs.lemmas.List.{length-map}
-use Rattle.std.proofs.lemmas.List.Sums.{length-filter, count_by-le-length, sum_by-cons}
-use Rattle.ls_set.specs.ItemSet.{Items, numbers_from}
-use Rattle.ls_set.specs.Query.{is_good}
-use Rattle.ls_set.specs.declared.query.Query.{Query}
-use Rattle.ls_theory.specs.Queries.{blocks, queries, query_before}
-use Rattle.ls_theory.specs.Interviews.{Interview}
-use Rattle.ls_theory.specs.Pages.{comes_after}
-use Rattle.ls_theory.specs.Forced.{known}
-use Rattle.ls_lists.proofs.Finds.{find-any}
+use Rattle.ls_drill.proofs.Vocabulary.{◌&&◌, ◌*◌, ◌+◌, ◌∙◌, ◌∷◌, ◌≡◌, ◌≤◌, BlockRange, Bool, ForSome, Interview, Items, List, None, Option, Query, Some, ℕ, [], add-one, add-zero, ap, ap₂, arith, blocks, comes_after, cond, count_by, count_by-le-length, false, find, find-any, flat_map, get-in, good-to, is_filled, is_filled_no, is_filled_yes, is_good, is_no, is_yes, known, length, length-append, length-filter, length-map, map, numbers_from, queries, queries-in, query_before, query_before-asymmetric, refl, slice_get, sorted-queries, subst, suc, sum_by-cons, sym, take, true, zero, zero-add}
 use Rattle.ls_lists.proofs.Sorted.{find-next}
-use Rattle.ls_lists.proofs.Elements.{get-in}
-use Rattle.ls_laws.proofs.Breaks.{good-to}
-use Rattle.ls_query.proofs.QuerySets.{queries-in, sorted-queries, query_before-asymmetric}
 use Rattle.ls_expert.specs.Held.{blocks_of}
-use Rattle.ls_drill.specs.Summaries.{is_yes, is_no, is_filled, is_filled_yes, is_filled_no}
 use Rattle.ls_query.specs.Blocks.{choose}
 use Rattle.ls_query.proofs.Binomials.{choose-none, choose-more, choose-zero_more}
 use Rattle.ls_query.proofs.BySize.{length-blocks_more, length-blocks_none}

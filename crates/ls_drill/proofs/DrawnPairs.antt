@@ -1,14 +1,5 @@
 -- The related pairs are drawn row by row.
-use Rattle.std.proofs.Common.{ℕ, suc, ◌≡◌, ◌≢◌, ◌<◌, ◌≤◌, ◌+◌, ◌-◌, ◌%◌, Bool, true, false, cond, eqb, List, [], ◌∷◌, ◌++◌, map, filter, length, refl, sym, ap, ap₂, ◌∙◌, arith, append_assoc, append-nil, add-one}
-use Rattle.std.proofs.lemmas.Bool.{false_from_ne_true}
-use Rattle.std.proofs.lemmas.Bool.Decides.{Decides-eqb}
-use Rattle.std.specs.List.{zip}
-use Rattle.rand_pcg.specs.Lcg.{Lcg}
-use Rattle.rand_pcg.specs.Pcg.{pcg32}
-use Rattle.ls_set.specs.ItemSet.{numbers_from}
-use Rattle.ls_theory.specs.Words.{pairs}
-use Rattle.ls_drill.specs.HiddenOrders.{words, generator_of, item_pairs, related}
-use Rattle.ls_drill.specs.Draws.{drawn, after_words, row}
+use Rattle.ls_drill.proofs.Vocabulary.{◌%◌, ◌++◌, ◌+◌, ◌-◌, ◌<◌, ◌∙◌, ◌∷◌, ◌≡◌, ◌≢◌, ◌≤◌, Bool, Decides-eqb, Lcg, List, ℕ, [], add-one, after_words, ap, append-nil, append_assoc, ap₂, arith, cond, drawn, eqb, false, false_from_ne_true, filter, generator_of, item_pairs, length, map, numbers_from, pairs, pcg32, refl, related, row, suc, sym, true, words, zip}
 
 drawn_step : (b : Bool) (p : ℕ × ℕ) (w : ℕ) (ds : List ((ℕ × ℕ) × ℕ)) (rest : List (ℕ × ℕ)) → map (λ (d : (ℕ × ℕ) × ℕ). d.0) ds ≡ rest
     → map (λ (d : (ℕ × ℕ) × ℕ). d.0) (cond b ((p, w) ∷ ds) ds) ≡ cond b (p ∷ rest) rest

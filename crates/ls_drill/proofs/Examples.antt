@@ -1,9 +1,6 @@
 -- The definitions at small cases, computed.
-use Rattle.std.proofs.Common.{◌≡◌, true, false, [], ◌∷◌, ◌++◌, Some, None, codes, refl}
+use Rattle.ls_drill.proofs.Vocabulary.{◌++◌, ◌∷◌, ◌≡◌, None, Some, Summary, [], codes, false, generator_of, implied, is_chained, item_pairs, refl, related, summary_text, true, words}
 use Rattle.std.specs.Fmt.{digits}
-use Rattle.ls_drill.specs.HiddenOrders.{words, generator_of, item_pairs, related, is_chained, implied}
-use Rattle.ls_drill.specs.Summaries.{summary_text}
-use Rattle.ls_drill.specs.declared.summary.Summary.{Summary}
 
 -- the words that the generator's authors print for 42 and 54
 published_words : words 6 (generator_of 42) ≡ 0xa15c02b7 ∷ 0x7b47f409 ∷ 0xba1d3330 ∷ 0x83d2f293 ∷ 0xbfa4784b ∷ 0xcbed606e ∷ []

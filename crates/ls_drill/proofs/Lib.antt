@@ -1,3 +1,4 @@
+mod Vocabulary
 pub mod DrawnPairs
 pub mod Chains
 pub mod Closures

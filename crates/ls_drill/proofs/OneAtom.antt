@@ -1,25 +1,10 @@
 -- Where each Yes is on one item, each item has one atom in the compatible sets, and so the base has at most as many sets as there are items.
-use Rattle.std.proofs.Common.{ℕ, zero, suc, ◌≡◌, ◌≤◌, ◌+◌, inl, inr, Bool, true, false, cond, not, ◌&&◌, ◌||◌, ltb, List, [], ◌∷◌, filter, find, length, take, Option, None, refl, sym, ap, ◌∙◌, arith, true≢false, ltb-true}
-use Rattle.std.specs.Option.{option_map}
-use Rattle.std.specs.List.{AllByRecursion, list_any}
-use Rattle.std.proofs.lemmas.Bool.{cases_Bool, and_parts, and_from, not-true, not_from_false, false_from_ne_true}
-use Rattle.std.proofs.lemmas.Bool.Decides.{nat_tests}
-use Rattle.ls_lists.proofs.Every.{some_of}
-use Rattle.ls_lists.proofs.Elements.{in-some}
+use Rattle.ls_drill.proofs.Vocabulary.{◌&&◌, ◌+◌, ◌||◌, ◌∙◌, ◌∷◌, ◌≡◌, ◌≤◌, AllByRecursion, Bool, Breaks-from, Free, IsInOrder, IsWithin, IsWithin-from, Items, List, None, Option, Peak, Query, ℕ, [], among-compat, and_from, and_parts, ap, arith, base, base_size, breaks, breaks-from, breaks_none, cases_Bool, comes_before, compat, compat-in_order, cond, false, false_from_ne_true, filter, find, full, has, has-full, has-meet, has-single, in-some, inl, inr, is_among, is_atom_at, is_within, is_within-from, items, len, length, list_any, ltb, ltb-true, meet, nat_tests, not, not-true, not_from_false, numbers_from, option_map, peak, refl, single, some_of, suc, sym, take, true, true≢false, zero}
 use Rattle.ls_lists.proofs.Filters.{filter-nothing}
-use Rattle.ls_set.specs.ItemSet.{Items, has, full, single, meet, is_within, is_among, items, len, comes_before, numbers_from, IsWithin, IsInOrder}
-use Rattle.ls_set.specs.declared.query.Query.{Query}
-use Rattle.ls_set.proofs.Sets.{has-full, has-meet, has-single, IsWithin-from, is_within-from}
 use Rattle.ls_set.proofs.Members.{among-here, among-there}
 use Rattle.ls_set.proofs.Order.{comes_before-irreflexive}
-use Rattle.ls_theory.specs.Queries.{breaks, breaks_none}
-use Rattle.ls_theory.specs.Starts.{Free}
-use Rattle.ls_theory.specs.Compatible.{compat}
-use Rattle.ls_theory.specs.Bases.{Peak, is_atom_at, base, base_size, peak}
-use Rattle.ls_laws.proofs.Breaks.{Breaks-from, breaks-from}
 use Rattle.ls_laws.proofs.Counts.{len-one}
 use Rattle.ls_laws.proofs.Atoms.{IsAtom-from}
-use Rattle.ls_laws.proofs.Compat.{among-compat, compat-in_order}
 use Rattle.ls_laws.proofs.Blocks.{in-numbers}
 
 -- ---- meets

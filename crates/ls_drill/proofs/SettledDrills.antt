@@ -1,26 +1,6 @@
 -- Each turn answers a query that was not answered, so after as many turns as there are queries none is open.
-use Rattle.std.proofs.Common.{ℕ, zero, suc, ◌≡◌, ◌<◌, ◌≤◌, ◌*◌, inl, inr, Bool, true, false, cond, not, ◌||◌, eqb, List, [], ◌∷◌, ◌++◌, is_some, Option, Some, None, refl, sym, ap, ◌∙◌, arith, true≢false}
-use Rattle.std.specs.Prelude.{count_by}
-use Rattle.std.specs.Option.{option_map}
-use Rattle.std.specs.List.{list_any}
-use Rattle.std.proofs.lemmas.Bool.{cases_Bool, and_from, or_left, or_right, not-true, not_from_false, false_from_ne_true}
-use Rattle.std.proofs.lemmas.Bool.Decides.{Decides-eqb}
+use Rattle.ls_drill.proofs.Vocabulary.{◌*◌, ◌++◌, ◌<◌, ◌||◌, ◌∙◌, ◌∷◌, ◌≡◌, ◌≤◌, Answer, Bool, Decides-eqb, Decides-is_same, Free, Interview, IsIn, List, None, Option, Query, Some, ℕ, [], accepted, after_turn, after_turns, and_from, ap, arith, begun, cases_Bool, cond, count_by, count_by-le-length, drilled, eqb, false, false_from_ne_true, find-nothing, find-some, inl, inr, is_filled, is_same, is_same_query, is_settled, is_some, list_any, next_question, no_question, not, not-true, not_from_false, option_map, or_left, or_right, queries, refl, reply, suc, sym, true, true≢false, zero}
 use Rattle.std.proofs.lemmas.List.Folds.{list_any-append}
-use Rattle.std.proofs.lemmas.List.Sums.{count_by-le-length}
-use Rattle.ls_lists.specs.Lists.{IsIn}
-use Rattle.ls_lists.proofs.Finds.{find-some, find-nothing}
-use Rattle.ls_set.specs.ItemSet.{is_same}
-use Rattle.ls_set.specs.declared.query.Query.{Query}
-use Rattle.ls_set.proofs.Sets.{Decides-is_same}
-use Rattle.ls_theory.specs.declared.answer.Answer.{Answer}
-use Rattle.ls_theory.specs.Queries.{queries}
-use Rattle.ls_theory.specs.Starts.{Free}
-use Rattle.ls_theory.specs.Interviews.{Interview, begun, accepted}
-use Rattle.ls_theory.specs.Forced.{next_question, is_settled}
-use Rattle.ls_theory.specs.Answering.{is_same_query}
-use Rattle.ls_laws.proofs.Answering.{no_question}
-use Rattle.ls_drill.specs.Drills.{reply, after_turn, after_turns, drilled}
-use Rattle.ls_drill.specs.Summaries.{is_filled}
 use Rattle.ls_drill.proofs.Asking.{question-in, question-open, open-unanswered}
 use Rattle.ls_drill.proofs.TurnsTaken.{turn-some, turns-none}
 use Rattle.ls_drill.proofs.CountedQueries.{queries-few, count-cons}

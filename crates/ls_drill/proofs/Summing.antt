@@ -1,13 +1,5 @@
 -- A summary by its parts.
-use Rattle.std.proofs.Common.{ℕ, ◌≡◌, Bool, not, length, Option, refl, ap, ◌∙◌}
-use Rattle.std.specs.Prelude.{count_by}
-use Rattle.ls_theory.specs.Queries.{queries}
-use Rattle.ls_theory.specs.Interviews.{Interview}
-use Rattle.ls_theory.specs.Compatible.{compatible_sets}
-use Rattle.ls_theory.specs.Bases.{base}
-use Rattle.ls_theory.specs.Verdict.{base_verdict}
-use Rattle.ls_drill.specs.Summaries.{is_filled, is_filled_yes, is_filled_no, is_learning, counted, summed_up}
-use Rattle.ls_drill.specs.declared.summary.Summary.{Summary}
+use Rattle.ls_drill.proofs.Vocabulary.{◌∙◌, ◌≡◌, Bool, Interview, Option, Summary, ℕ, ap, base, base_verdict, compatible_sets, count_by, counted, is_filled, is_filled_no, is_filled_yes, is_learning, length, not, queries, refl, summed_up}
 
 -- summaries with the same parts are one
 same_parts : (a b c d e f g h i a' b' c' d' e' f' g' h' i' : ℕ) (l l' : Bool) (s s' : Option ℕ)

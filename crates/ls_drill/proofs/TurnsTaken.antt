@@ -1,21 +1,7 @@
 -- The turns of a drill, one after another, and what they keep.
-use Rattle.std.proofs.Common.{ℕ, zero, suc, ◌≡◌, ◌<◌, ◌≤◌, ◌+◌, ◌-◌, ◌*◌, true, filter, length, Some, None, refl, sym, ap, ◌∙◌, subst, arith, length-append}
-use Rattle.std.specs.Option.{option_map_or}
-use Rattle.std.specs.List.{AllByRecursion}
-use Rattle.ls_lists.proofs.Every.{All-append, All-map, All-filter}
-use Rattle.ls_set.specs.ItemSet.{len, least}
-use Rattle.ls_set.specs.Query.{is_good}
-use Rattle.ls_set.specs.declared.query.Query.{Query}
+use Rattle.ls_drill.proofs.Vocabulary.{◌*◌, ◌+◌, ◌-◌, ◌<◌, ◌∙◌, ◌≡◌, ◌≤◌, All-append, All-filter, All-map, AllByRecursion, Answer, Free, Interview, IsDrill, None, Query, Some, ℕ, accepted, after_turn, after_turns, ap, arith, begun, drilled, filter, good-from, has-full, is_good, least, len, length, length-append, next_question, option_map_or, queries-in, refl, reply, subst, suc, sym, true, yes_queries, zero}
 use Rattle.ls_set.proofs.Listed.{least-is}
-use Rattle.ls_set.proofs.Sets.{has-full}
-use Rattle.ls_theory.specs.declared.answer.Answer.{Answer}
-use Rattle.ls_theory.specs.Starts.{Free}
-use Rattle.ls_theory.specs.Interviews.{Interview, begun, accepted, yes_queries}
-use Rattle.ls_theory.specs.Forced.{next_question}
-use Rattle.ls_laws.proofs.Breaks.{good-from}
-use Rattle.ls_query.proofs.QuerySets.{queries-in}
 use Rattle.ls_query.proofs.BlockSets.{blocks-in}
-use Rattle.ls_drill.specs.Drills.{reply, after_turn, after_turns, drilled, IsDrill}
 use Rattle.ls_drill.proofs.Asking.{question-in}
 
 pub turn-some : (number : ℕ) (i : Interview) (r : Query) → next_question i None ≡ Some r → after_turn number i ≡ accepted i r (reply i.count number r)

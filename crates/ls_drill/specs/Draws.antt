@@ -2,7 +2,7 @@
 use Rattle.std.specs.Prelude.{ℕ, ◌≡◌, ◌<◌, ◌≤◌, ◌+◌, ◌-◌, ◌%◌, Bool, false, ◌&&◌, ◌||◌, ◌==◌, if◌then◌else◌, List, [], ◌∷◌, map, length, slice_index_or}
 use Rattle.rand_pcg.specs.Lcg.{Lcg}
 use Rattle.rand_pcg.specs.Pcg.{pcg32}
-use Rattle.ls_set.specs.ItemSet.{Items, has, empty, numbers_from}
+use Rattle.ls_set.specs.{Items, empty, has, numbers_from}
 use Rattle.ls_drill.specs.HiddenOrders.{implied, most_drilled}
 
 -- those of the pairs whose word 4 divides, one word being drawn for each

@@ -3,12 +3,10 @@
 use Rattle.std.specs.Prelude.{ℕ, zero, suc, ◌*◌, ◌≡◌, Bool, false, None}
 use Rattle.std.specs.Option.{option_map_or}
 use Rattle.std.specs.List.{AllByRecursion}
-use Rattle.ls_set.specs.ItemSet.{least, len}
+use Rattle.ls_set.specs.{least, len}
 use Rattle.ls_set.specs.declared.query.Query.{Query}
 use Rattle.ls_theory.specs.declared.answer.Answer.{Answer}
-use Rattle.ls_theory.specs.Starts.{Free}
-use Rattle.ls_theory.specs.Interviews.{Interview, begun, accepted}
-use Rattle.ls_theory.specs.Forced.{next_question}
+use Rattle.ls_theory.specs.{Free, Interview, accepted, begun, next_question}
 use Rattle.ls_drill.specs.HiddenOrders.{implied}
 
 -- the expert's reply to a query ({a}, q): Yes exactly where a is before q

@@ -4,8 +4,8 @@ use Rattle.std.specs.Prelude.{ℕ, zero, suc, ◌%◌, Bool, false, ◌&&◌, �
 use Rattle.std.specs.List.{list_any, zip}
 use Rattle.rand_pcg.specs.Lcg.{Lcg, started, increment_of}
 use Rattle.rand_pcg.specs.Pcg.{pcg32, multiplier_64}
-use Rattle.ls_set.specs.ItemSet.{numbers_from}
-use Rattle.ls_theory.specs.Words.{pairs}
+use Rattle.ls_set.specs.{numbers_from}
+use Rattle.ls_theory.specs.{pairs}
 
 -- the most items of a hidden order
 abbrev pub most_drilled : ℕ

@@ -8,14 +8,7 @@ use Rattle.ls_set.specs.declared.query.Query.{Query}
 use Rattle.ls_theory.specs.declared.known.Known.{Known}
 use Rattle.ls_theory.specs.declared.verdict.BaseVerdict.{BaseVerdict}
 use Rattle.ls_theory.specs.declared.verdict.BaseVerdict.TheVariants as base_verdict_of
-use Rattle.ls_theory.specs.Queries.{queries}
-use Rattle.ls_theory.specs.Interviews.{Interview}
-use Rattle.ls_theory.specs.Compatible.{compatible_sets}
-use Rattle.ls_theory.specs.Forced.{known}
-use Rattle.ls_theory.specs.Bases.{base}
-use Rattle.ls_theory.specs.Verdict.{base_verdict}
-use Rattle.ls_theory.specs.Settings.{most_states}
-use Rattle.ls_theory.specs.Answering.{standing_number}
+use Rattle.ls_theory.specs.{Interview, base, base_verdict, compatible_sets, known, most_states, queries, standing_number}
 use Rattle.ls_drill.specs.Drills.{drilled}
 use Rattle.ls_drill.specs.declared.summary.Summary.{Summary}
 

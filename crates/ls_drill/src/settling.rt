@@ -1,6 +1,6 @@
 // That drills are settled.
 ghost use Rattle.std.specs.Prelude.{◌≡◌, ℕ, true};
-ghost use Rattle.ls_theory.specs.Forced.{is_settled};
+ghost use Rattle.ls_theory.specs.{is_settled};
 ghost use Rattle.ls_drill.specs.Drills.{drilled};
 
 /// After its turns no query of a drill is open. It does nothing when it runs.

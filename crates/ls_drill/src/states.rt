@@ -1,8 +1,6 @@
 // The states that a drill leaves, by their base.
 ghost use Rattle.std.specs.Prelude.{◌≡◌, ◌≤◌, length, IfOk};
-ghost use Rattle.ls_theory.specs.Compatible.{compatible_sets};
-ghost use Rattle.ls_theory.specs.Bases.{base};
-ghost use Rattle.ls_theory.specs.Verdict.{base_verdict};
+ghost use Rattle.ls_theory.specs.{base, base_verdict, compatible_sets};
 ghost use Rattle.ls_base.specs.Bases.{family};
 ghost use Rattle.ls_drill.specs.HiddenOrders.{most_drilled};
 ghost use Rattle.ls_drill.specs.Drills.{IsDrill};

@@ -1,8 +1,7 @@
 // The interview of the simulated expert.
 ghost use Rattle.std.specs.Prelude.{◌≡◌, ◌<◌, true, None, IfOk, OnOk};
-ghost use Rattle.ls_set.specs.Query.{is_good};
-ghost use Rattle.ls_theory.specs.Interviews.{accepted};
-ghost use Rattle.ls_theory.specs.Answering.{refusal};
+ghost use Rattle.ls_set.specs.{is_good};
+ghost use Rattle.ls_theory.specs.{accepted, refusal};
 ghost use Rattle.ls_drill.specs.Drills.{reply, drilled};
 
 use crate::hidden::Hidden;

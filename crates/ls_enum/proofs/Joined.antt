@@ -1,13 +1,7 @@
 -- Pages joined by their last sets.
-use Rattle.std.proofs.Common.{ℕ, zero, suc, ◌+◌, ◌-◌, ◌<◌, ◌≤◌, ◌≡◌, length, arith, true, false, ltb, ltb-true, ltb-false, lt-ltb, List, [], ◌∷◌, ◌++◌, take, drop, sum, Option, Some, None, refl, sym, ap, ◌∙◌, find}
-use Rattle.std.specs.List.{last_or}
+use Rattle.ls_enum.proofs.Vocabulary.{◌++◌, ◌+◌, ◌-◌, ◌<◌, ◌∙◌, ◌∷◌, ◌≡◌, ◌≤◌, IsInOrder, Items, List, None, Option, Some, ℕ, [], ap, arith, comes_after, comes_before, drop, false, find, joined_pages, last_or, left_after, length, length-drop, lt-ltb, ltb, ltb-false, ltb-true, page, refl, same_truth, suc, sum, sym, take, take_all, true, zero}
 use Rattle.std.proofs.Math.Seq.{take-add}
-use Rattle.std.proofs.lemmas.List.{length-drop, take_all}
 use Rattle.std.proofs.lemmas.List.Sums.{sum_by-cons}
-use Rattle.ls_lists.proofs.Bools.{same_truth}
-use Rattle.ls_set.specs.ItemSet.{Items, comes_before, IsInOrder}
-use Rattle.ls_theory.specs.Pages.{comes_after, page}
-use Rattle.ls_enum.specs.Listings.{left_after, joined_pages}
 use Rattle.ls_enum.proofs.Left.{left-first, left-none, left_after-none}
 
 -- after the last of the first k sets that are left, the others are left

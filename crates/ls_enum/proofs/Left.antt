@@ -1,14 +1,6 @@
 -- What is left after a cursor, and what is left of a page.
-use Rattle.std.proofs.Common.{ℕ, suc, ◌+◌, ◌-◌, ◌*◌, ◌<◌, ◌≤◌, ◌≡◌, length, arith, true, false, cond, is_some, ltb, le-ltb, lt-ltb, ltb-true, List, [], ◌∷◌, ◌++◌, append_assoc, filter, find, take, MatchOption, Option, Some, None, refl, sym, ap, ap₂, ◌∙◌}
-use Rattle.std.proofs.lemmas.List.{take_all}
-use Rattle.std.specs.List.{AllByRecursion}
-use Rattle.ls_lists.proofs.Bools.{same_truth}
+use Rattle.ls_enum.proofs.Vocabulary.{◌*◌, ◌++◌, ◌+◌, ◌-◌, ◌<◌, ◌∙◌, ◌∷◌, ◌≡◌, ◌≤◌, AllByRecursion, IsInOrder, Items, List, MatchOption, None, Option, Some, ℕ, [], ap, append_assoc, ap₂, arith, comes_after, comes_before, comes_before-asymmetric, comes_before-irreflexive, comes_before-transitive, cond, false, filter, find, found-holds, is_some, le-ltb, left_after, length, lt-ltb, ltb, ltb-true, refl, same_truth, suc, sym, take, take_all, true}
 use Rattle.ls_lists.proofs.Filters.{filter-all}
-use Rattle.ls_lists.proofs.Finds.{found-holds}
-use Rattle.ls_set.specs.ItemSet.{Items, comes_before, IsInOrder}
-use Rattle.ls_set.proofs.Order.{comes_before-irreflexive, comes_before-asymmetric, comes_before-transitive}
-use Rattle.ls_theory.specs.Pages.{comes_after}
-use Rattle.ls_enum.specs.Listings.{left_after}
 
 -- ---- the first that is left, and what is left behind it
 

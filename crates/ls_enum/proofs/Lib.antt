@@ -1,3 +1,4 @@
+mod Vocabulary
 pub mod Reaches
 pub mod Seeking
 pub mod Successors

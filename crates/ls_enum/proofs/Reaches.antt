@@ -1,14 +1,5 @@
 -- The interior of a front without an item is the interior in which the next member is looked for.
-use Rattle.std.proofs.Common.{ℕ, ◌+◌, ◌<◌, ◌≤◌, ◌≡◌, inl, inr, arith, true, false, not, eqb, ltb, List, find, Option, Some, None, refl, sym, ap, eq-eqb, ◌∙◌, subst, cond, true≢false, lt-ltb, ltb-true}
-use Rattle.std.proofs.lemmas.Bool.{cases_order, and_parts, and_from, ne_eqb}
-use Rattle.ls_set.specs.ItemSet.{Items, has, full, without, keep_before, is_among, is_within, IsWithin}
-use Rattle.ls_set.proofs.Sets.{has-full, has-keep_before, has-without, same_within, IsWithin-from}
-use Rattle.ls_theory.specs.Families.{interior}
-use Rattle.ls_laws.specs.Families.{IsFamily}
-use Rattle.ls_laws.proofs.Interiors.{interior-greatest}
-use Rattle.ls_interior.specs.Keeping.{interior_keeping}
-use Rattle.ls_enum.specs.Listings.{first_after, reach, NoneFrom}
-use Rattle.ls_enum.specs.Fronts.{IsFront}
+use Rattle.ls_enum.proofs.Vocabulary.{◌+◌, ◌<◌, ◌∙◌, ◌≡◌, ◌≤◌, IsFamily, IsFront, IsWithin, IsWithin-from, Items, List, None, NoneFrom, Option, Some, ℕ, and_from, and_parts, ap, arith, cases_order, cond, eq-eqb, eqb, false, find, first_after, full, has, has-full, has-keep_before, has-without, inl, inr, interior, interior-greatest, interior_keeping, is_among, is_within, keep_before, lt-ltb, ltb, ltb-true, ne_eqb, not, reach, refl, same_within, subst, sym, true, true≢false, without}
 use Rattle.ls_enum.proofs.Successors.{inside-is, reach-cases, to-reach, found, failed, inside-small, first-is}
 
 -- ---- what comes before a place

@@ -1,13 +1,5 @@
 -- Fronts are filled from the first place on: a front at a place, which has just the word's items before it, gives the front at the next place.
-use Rattle.std.proofs.Common.{ℕ, zero, suc, ◌+◌, ◌-◌, ◌<◌, ◌≤◌, ◌≡◌, inl, inr, arith, add-one, true, false, not, cond, eqb, List, find, Option, Some, None, refl, sym, ap, ◌∙◌, subst, true≢false, eq-eqb}
-use Rattle.std.proofs.lemmas.Bool.{cases_order, and_parts, and_from, false_from_ne_true, ne_eqb}
-use Rattle.ls_set.specs.ItemSet.{Items, has, without, keep_before, is_among, IsWithin, DiffersFirstAt}
-use Rattle.ls_set.proofs.Sets.{has-without, same_within, is_within-from, IsWithin-from}
-use Rattle.ls_theory.specs.Families.{interior}
-use Rattle.ls_laws.specs.Families.{IsFamily}
-use Rattle.ls_interior.specs.Keeping.{interior_keeping}
-use Rattle.ls_enum.specs.Listings.{NoneFrom, count_before}
-use Rattle.ls_enum.specs.Fronts.{IsFront}
+use Rattle.ls_enum.proofs.Vocabulary.{◌+◌, ◌-◌, ◌<◌, ◌∙◌, ◌≡◌, ◌≤◌, DiffersFirstAt, IsFamily, IsFront, IsWithin, IsWithin-from, Items, List, None, NoneFrom, Option, Some, ℕ, add-one, and_from, and_parts, ap, arith, cases_order, cond, count_before, eq-eqb, eqb, false, false_from_ne_true, find, has, has-without, inl, inr, interior, interior_keeping, is_among, is_within-from, keep_before, ne_eqb, not, refl, same_within, subst, suc, sym, true, true≢false, without, zero}
 use Rattle.ls_enum.proofs.Successors.{inside-is}
 use Rattle.ls_enum.proofs.Reaches.{before-parts, before-from, agreeing, keeping-some, keeping-none, first-front}
 

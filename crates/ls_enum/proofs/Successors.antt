@@ -1,15 +1,7 @@
 -- The successor rule: from the greatest item of the word down, the first interior that agrees with the word before an item is the next member.
-use Rattle.std.proofs.Common.{ℕ, ◌+◌, ◌<◌, ◌≤◌, ◌≡◌, ◌⊎◌, inl, inr, arith, Bool, true, false, not, ◌&&◌, ◌||◌, ltb, List, [], ◌∷◌, find, Some, None, refl, sym, ap, ◌∙◌, subst, true≢false, lt-ltb, le-ltb, ltb-true, ltb-false}
-use Rattle.std.proofs.lemmas.Bool.{cases_Bool, cases_eq, cases_order, false_from_ne_true, or_cases, or_left, or_right, and_parts, and_from, not-true}
-use Rattle.ls_set.specs.ItemSet.{Items, has, full, keep_before, is_among, is_within, IsWithin, comes_before, IsInOrder, DiffersFirstAt}
-use Rattle.ls_set.proofs.Sets.{has-full, has-union, has-minus, has-keep_before, is_within-from, union-within, minus-within, keep_before-within}
-use Rattle.ls_set.proofs.Order.{comes_before-at, differs_first}
+use Rattle.ls_enum.proofs.Vocabulary.{◌&&◌, ◌+◌, ◌<◌, ◌||◌, ◌∙◌, ◌∷◌, ◌≡◌, ◌≤◌, ◌⊎◌, Bool, DiffersFirstAt, IsFamily, IsInOrder, IsInterior, IsWithin, Items, List, None, NoneFrom, Some, ℕ, [], and_from, and_parts, ap, arith, cases_Bool, cases_eq, cases_order, comes_before, comes_before-at, differs_first, false, false_from_ne_true, find, first_after, full, has, has-full, has-keep_before, has-minus, has-union, inl, inr, interior, interior-is, interior-within, is_among, is_within, is_within-from, keep_before, keep_before-within, le-ltb, lt-ltb, ltb, ltb-false, ltb-true, minus-within, not, not-true, or_cases, or_left, or_right, reach, refl, subst, sym, true, true≢false, union-within}
 use Rattle.ls_set.proofs.Members.{among-here, among-there, among-cases, Each-among}
-use Rattle.ls_theory.specs.Families.{interior}
-use Rattle.ls_laws.specs.Families.{IsFamily}
 use Rattle.ls_laws.proofs.Lists.{find-none}
-use Rattle.ls_laws.proofs.Interiors.{IsInterior, interior-is, interior-within}
-use Rattle.ls_enum.specs.Listings.{first_after, reach, NoneFrom}
 
 -- ---- the first that passes, in a list in order
 

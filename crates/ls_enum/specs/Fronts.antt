@@ -3,7 +3,7 @@
 --     AreFronts f fronts      each of them is one
 use Rattle.std.specs.Prelude.{ℕ, ◌≡◌, true, List}
 use Rattle.std.specs.List.{All}
-use Rattle.ls_set.specs.ItemSet.{Items, keep_before, is_among, IsWithin}
+use Rattle.ls_set.specs.{IsWithin, Items, is_among, keep_before}
 use Rattle.ls_enum.specs.declared.fronts.Front.{Front}
 
 abbrev pub IsFront : List Items → ℕ → Items → Type 0

@@ -7,8 +7,8 @@
 --     joined_pages f cursor sizes      pages of these sizes, each after the last set of those before it
 use Rattle.std.specs.Prelude.{ℕ, zero, suc, ◌+◌, ◌≤◌, ◌≡◌, true, if◌then◌else◌, List, [], ◌∷◌, ◌++◌, filter, find, Option}
 use Rattle.std.specs.List.{last_or}
-use Rattle.ls_set.specs.ItemSet.{Items, has, full, union, minus, keep_before, comes_before, is_among, DiffersFirstAt}
-use Rattle.ls_theory.specs.Pages.{comes_after, page}
+use Rattle.ls_set.specs.{DiffersFirstAt, Items, comes_before, full, has, is_among, keep_before, minus, union}
+use Rattle.ls_theory.specs.{comes_after, page}
 
 abbrev pub first_after : Items → List Items → Option Items
 first_after word f = find (comes_before word) f

@@ -1,6 +1,6 @@
 // Fronts on the way to a word, from the first place on.
 ghost use Rattle.std.specs.Prelude.{◌+◌, ◌≤◌};
-ghost use Rattle.ls_set.specs.ItemSet.{full, IsWithin};
+ghost use Rattle.ls_set.specs.{IsWithin, full};
 ghost use Rattle.ls_enum.specs.Listings.{NoneFrom, count_before};
 ghost use Rattle.ls_enum.specs.Fronts.{AreFronts};
 

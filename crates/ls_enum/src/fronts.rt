@@ -1,6 +1,6 @@
 // Members from which the next ones are found by taking out one item.
 ghost use Rattle.std.specs.Prelude.{◌≡◌, ◌<◌, ◌≤◌, List, [], IfSome};
-ghost use Rattle.ls_set.specs.ItemSet.{Items, keep_before};
+ghost use Rattle.ls_set.specs.{Items, keep_before};
 ghost use Rattle.ls_enum.specs.Fronts.{IsFront, AreFronts};
 
 use arrayvec::ArrayVec;

@@ -2,8 +2,8 @@
 ghost use Rattle.std.specs.Prelude.{◌≡◌, ◌+◌, ◌*◌, ◌<◌, ◌≤◌, ℕ, false, List, length, sum, Option, None, IfOk, OnOk};
 ghost use Rattle.std.specs.List.{last_or};
 ghost use Rattle.std.specs.Option.{ForSome};
-ghost use Rattle.ls_set.specs.ItemSet.{Items, full, comes_before, IsInOrder, IsWithin};
-ghost use Rattle.ls_theory.specs.Pages.{page};
+ghost use Rattle.ls_set.specs.{IsInOrder, IsWithin, Items, comes_before, full};
+ghost use Rattle.ls_theory.specs.{page};
 ghost use Rattle.ls_enum.specs.Listings.{joined_pages};
 
 use crate::list_fault::ListFault;

@@ -1,8 +1,8 @@
 // The next member, by interiors alone.
 ghost use Rattle.std.specs.Prelude.{◌≡◌, ◌+◌, ◌<◌, ◌≤◌, find, slice_get};
 ghost use Rattle.std.specs.Option.{ForSome};
-ghost use Rattle.ls_set.specs.ItemSet.{full, comes_before, keep_before, IsWithin};
-ghost use Rattle.ls_theory.specs.Pages.{comes_after};
+ghost use Rattle.ls_set.specs.{IsWithin, comes_before, full, keep_before};
+ghost use Rattle.ls_theory.specs.{comes_after};
 ghost use Rattle.ls_interior.specs.Keeping.{interior_keeping};
 ghost use Rattle.ls_enum.specs.Listings.{first_after, reach};
 ghost use Rattle.ls_enum.specs.Fronts.{AreFronts};

@@ -1,23 +1,7 @@
 -- Lists of answers: what is told by those that pass a test, when an answer is put last or taken out.
 --     yes_queries-.., nos-..      what becomes of the Yes queries and of the Nos of an interview
-use Rattle.std.proofs.Common.{ℕ, suc, ◌≤◌, ◌<◌, ◌≡◌, ◌⊎◌, inl, inr, Bool, true, false, cond, not, ◌&&◌, eqb, ltb, length, List, [], ◌∷◌, ◌++◌, map, filter, find, take, drop, remove, Some, None, refl, sym, ap, ◌∙◌, subst, arith, eq-eqb, ne_eqb, lt-ltb, le-ltb}
-use Rattle.std.specs.List.{AllByRecursion, list_all}
+use Rattle.ls_expert.proofs.Vocabulary.{◌&&◌, ◌++◌, ◌<◌, ◌∙◌, ◌∷◌, ◌≡◌, ◌≤◌, ◌⊎◌, All-filter, All-list_all, AllByRecursion, Answer, Bool, Interview, IsNumbered, IsRising, List, No, None, Query, Some, ℕ, [], accepted, answer_with, ap, arith, cases_Bool, cases_eq, cases_lt, cond, count_by-le-length, drop, eq-eqb, eqb, false, filter, filter-both, find, inl, inr, le-ltb, length, length-filter, length-map, length-take-le, list_all, list_all-All, list_all-map, lt-ltb, ltb, map, ne_eqb, no_queries, nos, not, refl, remove, retracted, rising-from, rules_before, subst, suc, sym, take, take-append-le, take-take, true, yes_queries}
 use Rattle.std.proofs.Math.Bool.{and_assoc, and_comm, and-false}
-use Rattle.std.proofs.lemmas.Bool.{cases_Bool, cases_eq, cases_lt}
-use Rattle.std.proofs.lemmas.List.{length-map, take-append-le, take-take, length-take-le}
-use Rattle.std.proofs.lemmas.List.Folds.{list_all-map}
-use Rattle.std.proofs.lemmas.List.Sums.{length-filter, count_by-le-length}
-use Rattle.ls_lists.specs.Lists.{IsRising}
-use Rattle.ls_lists.proofs.Every.{All-filter, All-list_all, list_all-All}
-use Rattle.ls_lists.proofs.Filters.{filter-both}
-use Rattle.ls_lists.proofs.Sorted.{rising-from}
-use Rattle.ls_set.specs.declared.query.Query.{Query}
-use Rattle.ls_theory.specs.declared.answer.Answer.{Answer}
-use Rattle.ls_theory.specs.declared.no.No.{No}
-use Rattle.ls_theory.specs.Interviews.{Interview, accepted, retracted, yes_queries, no_queries, nos}
-use Rattle.ls_theory.specs.Answering.{answer_with}
-use Rattle.ls_laws.specs.Forced.{IsNumbered}
-use Rattle.ls_expert.specs.Held.{rules_before}
 
 -- what holds of each answer holds of those that pass
 pub all-fewer : (q p : Answer → Bool) (answers : List Answer) → list_all q answers ≡ true → list_all q (filter p answers) ≡ true

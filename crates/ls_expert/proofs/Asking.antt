@@ -1,29 +1,8 @@
 -- From where an inquiry looks for an open query.
-use Rattle.std.proofs.Common.{◌≡◌, inl, inr, Bool, true, false, not, ◌&&◌, List, [], ◌∷◌, ◌++◌, filter, find, Option, Some, None, sym, ap, ◌∙◌, refl, subst, true≢false, ◌<◌, arith}
-use Rattle.std.specs.List.{AllByRecursion, list_all}
-use Rattle.std.proofs.lemmas.Bool.{and_parts, and_from, cases_Bool, false_from_ne_true, not-true, not_from_false}
-use Rattle.ls_lists.specs.Lists.{IsIn, IsSorted}
-use Rattle.ls_lists.proofs.Filters.{filter_true}
+use Rattle.ls_expert.proofs.Vocabulary.{◌&&◌, ◌++◌, ◌<◌, ◌∙◌, ◌∷◌, ◌≡◌, AllByRecursion, AreStates, BlockRange, Bool, FitsIn, Interview, IsHeld, IsIn, IsInquiry, IsSorted, Items, List, None, NoneBefore, Option, PlaceFor, Query, Some, TableState, [], accepted, all_spaces, among-left_parts, and_from, and_parts, ap, arith, before-by_item, before-by_set, block_before, blocks_of, cases_Bool, comes_after, compatible-no, compatible-yes, compatible_sets, false, false_from_ne_true, filter, filter_true, find, find-is, find-no_element, find-none_is, find-same, inl, inr, is_among, is_open, list_all, next_question, no_queries, not, not-true, not_from_false, queries, queries_of, query_before, query_before-asymmetric, query_before-cases, refl, some_breaks, sorted-queries, spaces_of, subst, sym, true, true≢false}
 use Rattle.ls_lists.proofs.Finds.{find-filter}
-use Rattle.ls_lists.proofs.Sorted.{find-same, find-no_element, find-is, find-none_is}
-use Rattle.ls_set.specs.ItemSet.{Items, is_among}
-use Rattle.ls_set.specs.declared.query.Query.{Query}
-use Rattle.ls_theory.specs.Queries.{some_breaks, block_before, queries, query_before}
-use Rattle.ls_theory.specs.Pages.{comes_after}
-use Rattle.ls_theory.specs.Interviews.{Interview, accepted, no_queries}
-use Rattle.ls_theory.specs.Compatible.{compatible_sets}
-use Rattle.ls_theory.specs.Fitting.{spaces_of}
-use Rattle.ls_theory.specs.Forced.{is_open, next_question}
-use Rattle.ls_laws.proofs.Breaks.{among-left_parts}
-use Rattle.ls_laws.proofs.Answering.{FitsIn, all_spaces}
-use Rattle.ls_laws.proofs.Accepting.{compatible-yes, compatible-no}
 use Rattle.ls_query.proofs.BlockOrder.{before-transitive}
 use Rattle.ls_query.proofs.Sorted.{sorted-cases}
-use Rattle.ls_query.proofs.QuerySets.{sorted-queries, query_before-asymmetric, query_before-cases, before-by_set, before-by_item}
-use Rattle.ls_theory.specs.Blocks.{BlockRange}
-use Rattle.ls_query.specs.Blocks.{queries_of}
-use Rattle.ls_infer.specs.Tables.{TableState, AreStates}
-use Rattle.ls_expert.specs.Held.{blocks_of, IsHeld, NoneBefore, PlaceFor, IsInquiry}
 use Rattle.ls_expert.proofs.AnswerLists.{no_queries-yes, no_queries-no}
 
 -- ---- the first of a list that passes, from an element on

@@ -1,28 +1,11 @@
 -- What an interview keeps, through its beginning and its changes.
-use Rattle.std.proofs.Common.{ℕ, zero, suc, ◌+◌, ◌<◌, ◌≤◌, ◌≡◌, length, List, [], Result, Ok, refl, sym, ap, ap₂, ◌∙◌, subst, arith}
-use Rattle.std.specs.List.{IsDistinct}
+use Rattle.ls_expert.proofs.Vocabulary.{◌+◌, ◌<◌, ◌∙◌, ◌≡◌, ◌≤◌, Answer, AreStates, BlockFault, BlockRange, Interview, IsDistinct, IsHeld, IsSound, IsStanding, IsStart, Items, List, Ok, Query, Result, TableState, ℕ, [], ap, ap₂, arith, begun, begun-numbered, blocks, choose, closures_of, compat, compatible_sets, is_same_query, length, made, most_sets, nos, refl, single_items, start-sound, subst, suc, sym, table_of, yes_queries, zero}
 use Rattle.ls_set.specs.declared.item_set.TheConstants.{PLACES}
-use Rattle.ls_set.specs.ItemSet.{Items}
-use Rattle.ls_set.specs.declared.query.Query.{Query}
 use Rattle.ls_theory.specs.Starts as theory
-use Rattle.ls_theory.specs.Queries.{blocks}
-use Rattle.ls_theory.specs.Compatible.{compat, compatible_sets}
-use Rattle.ls_theory.specs.Interviews.{Interview, begun, yes_queries, nos}
-use Rattle.ls_theory.specs.declared.answer.Answer.{Answer}
-use Rattle.ls_theory.specs.Blocks.{BlockRange, made, most_sets}
-use Rattle.ls_theory.specs.declared.block_fault.BlockFault.{BlockFault}
-use Rattle.ls_theory.specs.Answering.{is_same_query}
-use Rattle.ls_laws.specs.Forced.{IsSound}
-use Rattle.ls_laws.proofs.Numbered.{begun-numbered}
-use Rattle.ls_clauses.specs.Starts.{IsStart}
-use Rattle.ls_clauses.proofs.Covers.{start-sound}
-use Rattle.ls_query.specs.Blocks.{choose}
 use Rattle.ls_query.proofs.Made.{made_of}
 use Rattle.ls_query.proofs.Binomials.{choose-none, choose-more, choose-zero_more}
 use Rattle.ls_query.proofs.BySize.{length-blocks_more, length-blocks_none}
 use Rattle.ls_query.proofs.Counted.{made-ok, none_too_wide}
-use Rattle.ls_infer.specs.Tables.{TableState, AreStates, table_of}
-use Rattle.ls_expert.specs.Held.{single_items, closures_of, IsStanding, IsHeld}
 
 -- ---- blocks of single items
 

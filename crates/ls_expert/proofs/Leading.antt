@@ -1,18 +1,7 @@
 -- Families by few of their rules.
-use Rattle.std.proofs.Common.{ℕ, ◌≡◌, Bool, true, false, cond, ◌&&◌, eqb, List, [], ◌∷◌, ◌++◌, refl, sym, ap, ap₂, ◌∙◌}
-use Rattle.std.specs.List.{list_all}
-use Rattle.std.specs.List.Sorted.{IsPermutation}
-use Rattle.std.proofs.lemmas.List.Folds.{sum_by-zero}
+use Rattle.ls_expert.proofs.Vocabulary.{◌&&◌, ◌++◌, ◌∙◌, ◌∷◌, ◌≡◌, Bool, IsPermutation, Items, List, Query, ℕ, [], ap, ap₂, breaks_none, compat, compat-more, cond, eqb, false, filter_agree, is_compatible, left_by, list_all, meets, refl, some_breaks, subsets, sum_by-zero, sym, true}
 use Rattle.std.proofs.lemmas.List.Sorted.{sum_by-IsPermutation}
-use Rattle.std.proofs.lemmas.List.Elements.{filter_agree}
-use Rattle.ls_set.specs.ItemSet.{Items, subsets}
-use Rattle.ls_set.specs.declared.query.Query.{Query}
-use Rattle.ls_theory.specs.Queries.{breaks_none, some_breaks}
 use Rattle.ls_theory.specs.Starts as theory
-use Rattle.ls_theory.specs.Starts.{meets}
-use Rattle.ls_theory.specs.Compatible.{is_compatible, compat}
-use Rattle.ls_laws.specs.Spans.{left_by}
-use Rattle.ls_laws.proofs.Compat.{compat-more}
 use Rattle.ls_infer.proofs.Changes.{unbroken-stays}
 
 zero_test : (b : Bool) → b ≡ eqb (cond b 0 1) 0

@@ -1,3 +1,4 @@
+mod Vocabulary
 pub mod AnswerLists
 pub mod Ruling
 pub mod Holding

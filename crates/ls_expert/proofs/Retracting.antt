@@ -1,31 +1,7 @@
 -- What an interview keeps when it takes an answer back.
-use Rattle.std.proofs.Common.{ℕ, subst, ◌+◌, ◌*◌, ◌≤◌, ◌<◌, ◌≡◌, Bool, true, false, cond, not, ◌&&◌, eqb, length, List, [], ◌∷◌, map, filter, count_by, remove, Some, refl, sym, ap, ap₂, ◌∙◌, arith}
-use Rattle.std.specs.List.{AllByRecursion, IsDistinct, list_all}
-use Rattle.std.proofs.Math.Bool.{and_assoc}
-use Rattle.std.proofs.lemmas.Bool.{and_parts}
-use Rattle.std.proofs.lemmas.List.{length-map}
+use Rattle.ls_expert.proofs.Vocabulary.{◌&&◌, ◌*◌, ◌+◌, ◌<◌, ◌∙◌, ◌∷◌, ◌≡◌, ◌≤◌, AllByRecursion, Answer, AreStates, BlockRange, Bool, Interview, IsDistinct, IsHeld, IsStanding, Items, List, No, Query, Some, TableState, ℕ, [], and_assoc, and_parts, answer_with, ap, ap₂, arith, blocks, breaks, breaks_none, closure, closures_of, compat, compatible_sets, cond, count_by, count_by-le-length, eqb, false, filter, filter-both, filter_agree, full, is_compatible, is_good, is_same_query, is_within, left_by, length, length-filter, length-map, list_all, map, meets, nos, not, refl, remove, retracted, retracted-numbered, rules_before, single_items, standing, subsets, subst, sum_by-cons, sym, table_of, taken_out, true, yes_queries}
 use Rattle.std.proofs.lemmas.List.Recursion.{is_sum_by}
-use Rattle.std.proofs.lemmas.List.Sums.{length-filter, count_by-le-length, sum_by-cons}
-use Rattle.std.proofs.lemmas.List.Elements.{filter_agree}
-use Rattle.ls_lists.proofs.Filters.{filter-both}
-use Rattle.ls_set.specs.ItemSet.{Items, full, is_within, subsets}
-use Rattle.ls_set.specs.Query.{is_good}
-use Rattle.ls_set.specs.declared.query.Query.{Query}
-use Rattle.ls_theory.specs.declared.answer.Answer.{Answer}
-use Rattle.ls_theory.specs.declared.no.No.{No}
-use Rattle.ls_theory.specs.Interviews.{Interview, retracted, yes_queries, nos}
-use Rattle.ls_theory.specs.Queries.{blocks, breaks, breaks_none}
-use Rattle.ls_theory.specs.Families.{closure}
-use Rattle.ls_theory.specs.Starts.{meets}
-use Rattle.ls_theory.specs.Compatible.{is_compatible, compat, compatible_sets}
-use Rattle.ls_theory.specs.Blocks.{BlockRange}
-use Rattle.ls_theory.specs.Answering.{answer_with, is_same_query}
-use Rattle.ls_laws.specs.Spans.{left_by}
-use Rattle.ls_laws.proofs.Accepting.{taken_out}
-use Rattle.ls_laws.proofs.Numbered.{retracted-numbered}
-use Rattle.ls_infer.specs.Tables.{TableState, AreStates, standing, table_of}
 use Rattle.ls_expert.specs.Steps.{closures_over}
-use Rattle.ls_expert.specs.Held.{single_items, closures_of, rules_before, IsStanding, IsHeld}
 use Rattle.ls_expert.proofs.AnswerLists.{is_other, all-fewer, all-told, told-all, nos-others, rising, yes_queries-without_yes, yes_queries-without_no, nos-without_yes, rules_before-within}
 
 -- ---- what is kept

@@ -1,39 +1,10 @@
 -- The compatible sets as a family with rules, and the lists of an interview's answers.
-use Rattle.std.proofs.Common.{ℕ, ◌≡◌, inl, inr, Bool, true, false, cond, not, ◌&&◌, List, [], ◌∷◌, filter, find, Option, Some, None, IfSome, is_some, refl, sym, ap, ◌∙◌, subst, true≢false}
-use Rattle.std.proofs.lemmas.Bool.{and_from, false_from_ne_true}
-use Rattle.std.proofs.lemmas.List.Elements.{filter_agree}
-use Rattle.ls_lists.proofs.Filters.{filter-both}
-use Rattle.ls_lists.proofs.Options.{nothing}
-use Rattle.ls_set.specs.ItemSet.{Items, full, is_within, subsets, IsWithin}
-use Rattle.ls_set.specs.Query.{is_good}
-use Rattle.ls_set.specs.declared.query.Query.{Query}
-use Rattle.ls_set.proofs.Sets.{and-true, is_within-from}
-use Rattle.ls_theory.specs.Queries.{breaks_none, queries, query_before}
-use Rattle.ls_theory.specs.Interviews.{Interview, nos}
+use Rattle.ls_expert.proofs.Vocabulary.{◌&&◌, ◌∙◌, ◌∷◌, ◌≡◌, BaseState, BlockRange, Bool, HasItems, IfSome, Interview, IsIn, IsWithin, Items, List, None, Option, Query, Some, TableState, ℕ, [], among-compat, and-true, and_from, ap, base, breaks_none, closures_of, comes_after, compat, compatible_sets, cond, false, false_from_ne_true, family, filter, filter-both, filter_agree, find, full, good-to, inl, inr, interior, interior-member, is_compatible, is_good, is_open, is_settled, is_some, is_within, is_within-from, meets, next_question, no_question, nos, not, nothing, queries, queries-in, query_before, refl, spaces_of, spanned, start_of, subsets, subst, sym, table_of, true, true≢false}
 use Rattle.ls_theory.specs.Starts as theory
-use Rattle.ls_theory.specs.Starts.{meets}
-use Rattle.ls_theory.specs.Compatible.{is_compatible, compat, compatible_sets}
-use Rattle.ls_theory.specs.Fitting.{spaces_of}
-use Rattle.ls_theory.specs.Forced.{is_open, next_question, is_settled}
-use Rattle.ls_theory.specs.Pages.{comes_after}
-use Rattle.ls_theory.specs.Families.{interior}
-use Rattle.ls_theory.specs.Bases.{base}
-use Rattle.ls_theory.specs.Blocks.{BlockRange}
-use Rattle.ls_laws.proofs.Interiors.{interior-member}
-use Rattle.ls_laws.proofs.Breaks.{good-to}
-use Rattle.ls_laws.proofs.Compat.{among-compat}
-use Rattle.ls_laws.proofs.Answering.{no_question}
-use Rattle.ls_lists.specs.Lists.{IsIn}
 use Rattle.ls_lists.proofs.Elements.{filter-in}
-use Rattle.ls_query.proofs.QuerySets.{queries-in}
-use Rattle.ls_infer.specs.Tables.{TableState, table_of}
-use Rattle.ls_laws.specs.Spans.{spanned}
 use Rattle.ls_laws.proofs.BaseStarts.{compat-sets}
-use Rattle.ls_base.specs.Bases.{BaseState, family}
 use Rattle.ls_expert.specs.declared.start.Start.{Start}
 use Rattle.ls_expert.specs.declared.start.Start.TheVariants.{Sets}
-use Rattle.ls_expert.specs.Starts.{start_of, HasItems}
-use Rattle.ls_expert.specs.Held.{closures_of}
 
 -- the sets of the start that break none of the queries are the compatible ones
 pub ruled-compat : (n : ℕ) (start : theory.Start) (yeses : List Query) → filter (breaks_none yeses) (compat n start []) ≡ compat n start yeses

@@ -1,48 +1,15 @@
 -- Whether answers from which an interview is to go on stand.
-use Rattle.std.proofs.Common.{ℕ, ◌+◌, ◌-◌, ◌<◌, ◌≤◌, ◌≡◌, ◌⊎◌, inl, inr, Bool, true, false, not, ◌&&◌, ◌||◌, ltb, length, get_or, take, drop, List, [], ◌∷◌, map, filter, Result, Ok, IfErr, refl, sym, ap, ap₂, ◌∙◌, arith, ltb-true, lt-ltb, le-ltb, true≢false}
-use Rattle.std.specs.Bool.{Decides}
+use Rattle.ls_expert.proofs.Vocabulary.{◌&&◌, ◌+◌, ◌-◌, ◌<◌, ◌||◌, ◌∙◌, ◌∷◌, ◌≡◌, ◌≤◌, ◌⊎◌, All-list_all, AllByRecursion, Answer, BlockFault, BlockRange, Bool, Decides, IfErr, Interview, IsDistinct, IsOn, IsRising, IsSound, IsStandingFault, IsStart, IsStrictlyIncreasing, IsStrictlySortedBy, IsTableFault, Items, List, Ok, Query, Result, StartOn, ℕ, [], and-false, and_from, and_parts, ap, ap₂, arith, blocks_of, breaks_none, compat, compat-IsUnionFamily, compat-in_order, compatible_fit, compatible_sets, drop, each, err_from_is_err_and, false, filter, full, get_or, has, has-full, has-minus, inl, inr, interior, is_good, is_same_query, le-ltb, length, length-drop, list_all, list_all-All, list_any, lt-ltb, ltb, ltb-true, made, map, minus, nat_tests, no_queries, not, not-not, not-true, not_from_false, refl, rising-from, some_breaks, space-from, start-space, sym, take, take_all, true, true≢false, yes_queries}
 use Rattle.std.specs.Cmp.{nat_cmp_is}
 use Rattle.std.specs.Ordering.{nat_cmp}
-use Rattle.std.specs.List.{AllByRecursion, IsDistinct, list_all, list_any}
-use Rattle.std.specs.List.Sorted.{IsStrictlyIncreasing, IsStrictlySortedBy}
 use Rattle.std.specs.Result.{IsErrAnd}
 use Rattle.std.specs.declared.alloc.AllocError.{AllocError}
-use Rattle.std.proofs.Math.Bool.{not-not}
-use Rattle.std.proofs.lemmas.Bool.{and_parts, and_from, not-true, not_from_false}
-use Rattle.std.proofs.lemmas.Bool.Decides.{nat_tests}
-use Rattle.std.proofs.lemmas.List.{take_all, length-drop}
 use Rattle.std.proofs.lemmas.Map.Keys.{IsStrictlyIncreasing-from_sorted}
-use Rattle.std.proofs.lemmas.Result.{err_from_is_err_and}
-use Rattle.ls_lists.specs.Lists.{IsRising}
-use Rattle.ls_lists.proofs.Every.{each, All-list_all, list_all-All}
 use Rattle.ls_lists.proofs.Places.{drop-next}
-use Rattle.ls_lists.proofs.Sorted.{rising-from}
-use Rattle.ls_set.specs.ItemSet.{Items, has, full, minus}
-use Rattle.ls_set.specs.Query.{is_good}
-use Rattle.ls_set.specs.declared.query.Query.{Query}
-use Rattle.ls_set.proofs.Sets.{has-full, has-minus, and-false}
-use Rattle.ls_theory.specs.declared.answer.Answer.{Answer}
-use Rattle.ls_theory.specs.Queries.{breaks_none, some_breaks}
-use Rattle.ls_theory.specs.Families.{interior}
-use Rattle.ls_theory.specs.Interviews.{Interview, yes_queries, no_queries}
-use Rattle.ls_theory.specs.Compatible.{compat, compatible_sets}
-use Rattle.ls_theory.specs.Blocks.{BlockRange, made}
-use Rattle.ls_theory.specs.declared.block_fault.BlockFault.{BlockFault}
-use Rattle.ls_theory.specs.Answering.{is_same_query}
-use Rattle.ls_laws.specs.Spans.{IsOn}
-use Rattle.ls_laws.specs.Forced.{IsSound}
 use Rattle.ls_laws.proofs.Closures.{has-closure}
-use Rattle.ls_laws.proofs.Interiors.{space-from}
-use Rattle.ls_laws.proofs.Compat.{compat-IsUnionFamily, compat-in_order}
 use Rattle.ls_laws.proofs.Search.{fitting_some}
-use Rattle.ls_laws.proofs.Answering.{compatible_fit}
-use Rattle.ls_clauses.specs.Starts.{IsStart}
-use Rattle.ls_clauses.proofs.Covers.{start-space}
 use Rattle.ls_expert.specs.declared.standing_fault.StandingFault.{StandingFault}
 use Rattle.ls_expert.specs.declared.standing_fault.StandingFault.TheVariants.{Memory, BadBlock, TooWide, BadAnswers}
-use Rattle.ls_expert.specs.Starts.{StartOn}
-use Rattle.ls_expert.specs.Held.{blocks_of}
-use Rattle.ls_expert.specs.Saved.{IsStandingFault, IsTableFault}
 use Rattle.ls_expert.proofs.AnswerLists.{all-told}
 use Rattle.ls_expert.proofs.Ruling.{ruled-compat}
 use Rattle.ls_expert.proofs.Holding.{range-of}

@@ -1,39 +1,11 @@
 -- What an interview keeps when it takes an answer.
-use Rattle.std.proofs.Common.{ℕ, ◌≤◌, ◌<◌, ◌≡◌, Bool, true, false, cond, not, ◌&&◌, length, List, [], ◌∷◌, ◌++◌, map, find, Option, Some, None, refl, sym, ap, ap₂, ◌∙◌, subst, arith, length-append}
-use Rattle.std.specs.List.{AllByRecursion, IsDistinct, list_all}
-use Rattle.std.specs.Option.{option_map}
-use Rattle.std.proofs.lemmas.Bool.Decides.{nat_tests}
-use Rattle.std.proofs.lemmas.Bool.{and_from, not-true, or_parts}
-use Rattle.std.proofs.lemmas.List.Folds.{list_all-append}
+use Rattle.ls_expert.proofs.Vocabulary.{◌&&◌, ◌++◌, ◌<◌, ◌∙◌, ◌∷◌, ◌≡◌, ◌≤◌, AllByRecursion, Answer, AreStates, BlockRange, Bool, Interview, IsDistinct, IsHeld, IsSound, IsStanding, Items, List, No, None, Option, Query, Some, SomeFits, TableState, ℕ, [], accepted, accepted-numbered, and-true, and_from, ap, ap₂, arith, breaks, closures_of, compat, compat-more, compatible-no, compatible-yes, compatible_sets, cond, false, filter-all, find, first_fault, forced_yes_unbroken, full, is_forced_no, is_forced_yes, is_full, is_good, is_same_query, known, left_by, length, length-append, list_all, list_all-append, map, most_answers, most_number, nat_tests, no_added, nos, not, not-true, not_both, not_first, opposed, option_map, or_parts, refl, refusal, single_items, some_breaks, spaces_of, standing_number, subst, sym, table_of, true, yes_added, yes_queries}
 use Rattle.ls_lists.proofs.Bools.{none_common}
-use Rattle.ls_lists.proofs.Options.{not_first}
-use Rattle.ls_set.specs.ItemSet.{Items, full}
-use Rattle.ls_set.specs.Query.{is_good}
-use Rattle.ls_set.specs.declared.query.Query.{Query}
-use Rattle.ls_set.proofs.Sets.{and-true}
-use Rattle.ls_theory.specs.declared.answer.Answer.{Answer}
 use Rattle.ls_theory.specs.declared.known.Known.{Known}
-use Rattle.ls_theory.specs.declared.no.No.{No}
-use Rattle.ls_theory.specs.Interviews.{Interview, accepted, yes_queries, nos}
-use Rattle.ls_theory.specs.Compatible.{compat, compatible_sets}
-use Rattle.ls_theory.specs.Fitting.{spaces_of}
-use Rattle.ls_theory.specs.Forced.{known, is_forced_yes, is_forced_no}
-use Rattle.ls_theory.specs.Blocks.{BlockRange}
-use Rattle.ls_theory.specs.Answering.{most_answers, most_number, is_same_query, standing_number, is_full, opposed, first_fault, refusal}
 use Rattle.ls_theory.specs.declared.answer_fault.AnswerFault.{AnswerFault}
 use Rattle.ls_theory.specs.declared.answer_fault.AnswerFault.TheVariants.{BadQuery, Repeat, Full}
-use Rattle.ls_laws.specs.Spans.{left_by}
-use Rattle.ls_laws.specs.Forced.{SomeFits, IsSound}
-use Rattle.ls_laws.proofs.Accepting.{yes_added, no_added, compatible-yes, compatible-no}
 use Rattle.ls_laws.specs.Families.{IsFamily}
 use Rattle.ls_laws.proofs.Families.{compat-IsFamily}
-use Rattle.ls_laws.proofs.Compat.{compat-more}
-use Rattle.ls_laws.proofs.Answering.{not_both, forced_yes_unbroken}
-use Rattle.ls_theory.specs.Queries.{breaks, some_breaks}
-use Rattle.ls_lists.proofs.Filters.{filter-all}
-use Rattle.ls_laws.proofs.Numbered.{accepted-numbered}
-use Rattle.ls_infer.specs.Tables.{TableState, AreStates, table_of}
-use Rattle.ls_expert.specs.Held.{single_items, closures_of, IsStanding, IsHeld}
 use Rattle.ls_expert.proofs.AnswerLists.{yes_queries-yes, yes_queries-no, nos-yes, nos-no}
 
 -- ---- what a refusal that isn't found tells

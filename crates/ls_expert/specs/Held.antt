@@ -1,19 +1,12 @@
 -- What an inquiry keeps true of its parts.
 use Rattle.std.specs.Prelude.{◌≡◌, ℕ, Bool, ◌+◌, ◌<◌, ◌≤◌, true, false, ◌&&◌, nat_lt, List, map, length, count_by, find, Option, None, Some}
 use Rattle.std.specs.List.{list_all, IsDistinct}
-use Rattle.ls_set.specs.ItemSet.{Items, most_items}
+use Rattle.ls_set.specs.{Items, is_good, most_items}
 use Rattle.ls_set.specs.declared.query.Query.{Query}
-use Rattle.ls_set.specs.Query.{is_good}
 use Rattle.ls_theory.specs.declared.answer.Answer.{Answer}
 use Rattle.ls_theory.specs.Starts as theory
-use Rattle.ls_theory.specs.Interviews.{Interview, yes_queries, nos}
-use Rattle.ls_theory.specs.Compatible.{compatible_sets}
-use Rattle.ls_theory.specs.Fitting.{spaces_of}
-use Rattle.ls_theory.specs.Forced.{is_open, next_question}
-use Rattle.ls_theory.specs.Queries.{queries, query_before}
+use Rattle.ls_theory.specs.{BlockRange, Interview, compatible_sets, is_open, is_same_query, most_answers, most_number, next_question, nos, queries, query_before, spaces_of, yes_queries}
 use Rattle.ls_lists.specs.Lists.{IsIn}
-use Rattle.ls_theory.specs.Blocks.{BlockRange}
-use Rattle.ls_theory.specs.Answering.{most_answers, most_number, is_same_query}
 use Rattle.ls_laws.specs.Forced.{IsSound, IsNumbered}
 use Rattle.ls_infer.specs.Tables.{TableState, AreStates, table_of}
 use Rattle.ls_expert.specs.Starts.{StartOn}

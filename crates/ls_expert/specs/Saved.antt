@@ -2,10 +2,7 @@
 use Rattle.std.specs.Prelude.{◌≡◌, Bool, false, List, [], filter, Ok, Err, ⊤}
 use Rattle.std.specs.List.{list_all}
 use Rattle.ls_theory.specs.declared.answer.Answer.{Answer}
-use Rattle.ls_theory.specs.Compatible.{compat}
-use Rattle.ls_theory.specs.Queries.{breaks_none, some_breaks}
-use Rattle.ls_theory.specs.Interviews.{Interview, no_queries}
-use Rattle.ls_theory.specs.Blocks.{made}
+use Rattle.ls_theory.specs.{Interview, breaks_none, compat, made, no_queries, some_breaks}
 use Rattle.ls_theory.specs.declared.block_fault.BlockFault.{BlockFault}
 use Rattle.ls_theory.specs.declared.block_fault.BlockFault.TheVariants as block
 use Rattle.ls_expert.specs.declared.standing_fault.StandingFault.{StandingFault}

@@ -2,7 +2,7 @@
 --     start_of start      the start of the definitions
 --     IsStartOn n start      the start is on the n items
 use Rattle.std.specs.Prelude.{ℕ, ◌≡◌, ◌≤◌, ⊤}
-use Rattle.ls_set.specs.ItemSet.{most_items}
+use Rattle.ls_set.specs.{most_items}
 use Rattle.ls_theory.specs.Starts as theory
 use Rattle.ls_clauses.specs.Starts.{IsStart}
 use Rattle.ls_expert.specs.declared.start.Start.{Start}

@@ -2,13 +2,10 @@
 --     most_steps i r is_yes      for an answer to r
 --     steps_back i answer      for the retraction of an answer
 use Rattle.std.specs.Prelude.{ℕ, ◌+◌, ◌*◌, Bool, true, false, if◌then◌else◌, length, count_by, Option, Some, None}
-use Rattle.ls_set.specs.ItemSet.{Items, full, is_within}
+use Rattle.ls_set.specs.{Items, full, is_within}
 use Rattle.ls_set.specs.declared.query.Query.{Query}
 use Rattle.ls_theory.specs.declared.answer.Answer.{Answer}
-use Rattle.ls_theory.specs.Interviews.{Interview, nos}
-use Rattle.ls_theory.specs.Queries.{blocks}
-use Rattle.ls_theory.specs.Families.{closure}
-use Rattle.ls_theory.specs.Compatible.{compatible_sets}
+use Rattle.ls_theory.specs.{Interview, blocks, closure, compatible_sets, nos}
 
 -- how many items have a closure with all items of A
 abbrev pub closures_over : Interview → Items → ℕ

@@ -1,9 +1,9 @@
 // The family of a start and its rules, by few of the rules.
 ghost use Rattle.std.specs.Prelude.{◌≡◌, [], Bool, true, IfOk};
 ghost use Rattle.std.specs.List.{list_all};
-ghost use Rattle.ls_set.specs.Query.{is_good};
+ghost use Rattle.ls_set.specs.{is_good};
 ghost use Rattle.ls_set.specs.declared.query.Query.{Query};
-ghost use Rattle.ls_theory.specs.Compatible.{compat};
+ghost use Rattle.ls_theory.specs.{compat};
 
 use crate::on_items::OnItems;
 use crate::saved::is_broken;

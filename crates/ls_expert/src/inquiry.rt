@@ -2,15 +2,8 @@
 ghost use Rattle.std.specs.Prelude.{◌≡◌, ◌≢◌, ◌+◌, ◌-◌, max, ◌<◌, ◌≤◌, ◌∷◌, [], true, false, length, filter, Some, None, Ok, Err, IsSome, IsNone, IfOk, IfErr, IfSome, OnOk, OnErr};
 ghost use Rattle.std.specs.Option.{ForSome, option_map};
 ghost use Rattle.std.specs.List.{list_all};
-ghost use Rattle.ls_set.specs.Query.{is_good};
-ghost use Rattle.ls_theory.specs.Queries.{breaks_none};
-ghost use Rattle.ls_theory.specs.Interviews.{begun, accepted, retracted, yes_queries, nos};
-ghost use Rattle.ls_theory.specs.Compatible.{compat, compatible_sets};
-ghost use Rattle.ls_theory.specs.Fitting.{spaces_of};
-ghost use Rattle.ls_theory.specs.Forced.{known, next_question, is_settled};
-ghost use Rattle.ls_theory.specs.Bases.{base};
-ghost use Rattle.ls_theory.specs.Blocks.{made, IsBlockFault};
-ghost use Rattle.ls_theory.specs.Answering.{refusal, answer_with, IsFaultOf};
+ghost use Rattle.ls_set.specs.{is_good};
+ghost use Rattle.ls_theory.specs.{IsBlockFault, IsFaultOf, accepted, answer_with, base, begun, breaks_none, compat, compatible_sets, is_settled, known, made, next_question, nos, refusal, retracted, spaces_of, yes_queries};
 ghost use Rattle.ls_infer.specs.Tables.{table_of, AreStates};
 ghost use Rattle.ls_expert.specs.Held.{single_items, blocks_of, rules_before, IsStanding, PlaceFor};
 ghost use Rattle.ls_expert.specs.Steps.{steps_back, most_steps};
@@ -65,7 +58,7 @@ pub struct Inquiry {
 }
 
 impl Model for Inquiry {
-    ghost use Rattle.ls_theory.specs.Interviews.{Interview};
+    ghost use Rattle.ls_theory.specs.{Interview};
     ghost use Rattle.ls_expert.specs.Held.{interview_of, IsInquiry};
 
     ghost Value = { Interview };

@@ -1,14 +1,8 @@
 // The interview of an expert.
 ghost use Rattle.std.specs.Prelude.{◌≡◌, ◌≢◌, ◌+◌, ◌-◌, max, ◌<◌, ◌≤◌, ◌∷◌, [], true, false, filter, Some, None, Ok, Err, IsSome, IsNone, IfOk, IfErr, IfSome, OnOk, OnErr};
 ghost use Rattle.std.specs.Option.{ForSome, option_map};
-ghost use Rattle.ls_set.specs.Query.{is_good};
-ghost use Rattle.ls_theory.specs.Queries.{breaks_none};
-ghost use Rattle.ls_theory.specs.Interviews.{begun, accepted, retracted, yes_queries};
-ghost use Rattle.ls_theory.specs.Compatible.{compat, compatible_sets};
-ghost use Rattle.ls_theory.specs.Fitting.{spaces_of};
-ghost use Rattle.ls_theory.specs.Forced.{known, next_question, is_settled};
-ghost use Rattle.ls_theory.specs.Blocks.{made, IsBlockFault};
-ghost use Rattle.ls_theory.specs.Answering.{refusal, answer_with, IsFaultOf};
+ghost use Rattle.ls_set.specs.{is_good};
+ghost use Rattle.ls_theory.specs.{IsBlockFault, IsFaultOf, accepted, answer_with, begun, breaks_none, compat, compatible_sets, is_settled, known, made, next_question, refusal, retracted, spaces_of, yes_queries};
 ghost use Rattle.ls_base.specs.Followed.{IsFollowed};
 ghost use Rattle.ls_expert.specs.Held.{blocks_of, interview_on, IsStanding};
 ghost use Rattle.ls_expert.specs.Saved.{IsStandingFault};
@@ -40,7 +34,7 @@ pub struct Interview {
 }
 
 impl Model for Interview {
-    ghost use Rattle.ls_theory.specs.Interviews.{Interview as Standing, yes_queries};
+    ghost use Rattle.ls_theory.specs.{Interview as Standing, yes_queries};
     ghost use Rattle.ls_base.specs.Followed.{IsFollowed};
 
     ghost Value = { Standing };

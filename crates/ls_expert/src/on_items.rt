@@ -1,7 +1,6 @@
 // Starts with their items.
 ghost use Rattle.std.specs.Prelude.{◌≡◌, ◌≤◌, [], IfOk};
-ghost use Rattle.ls_theory.specs.Compatible.{compat};
-ghost use Rattle.ls_theory.specs.Bases.{base};
+ghost use Rattle.ls_theory.specs.{base, compat};
 
 use crate::start::Start;
 use ls_base::Base;

@@ -3,11 +3,8 @@ ghost use Rattle.std.specs.Prelude.{◌≡◌, ◌<◌, ◌≤◌, ℕ, true, na
 ghost use Rattle.std.specs.Bool.{Decides};
 ghost use Rattle.std.specs.List.{list_all, list_any, IsDistinct};
 ghost use Rattle.std.specs.List.Sorted.{IsStrictlyIncreasing};
-ghost use Rattle.ls_set.specs.Query.{is_good};
-ghost use Rattle.ls_theory.specs.Starts.{Start};
-ghost use Rattle.ls_theory.specs.Queries.{some_breaks};
-ghost use Rattle.ls_theory.specs.Interviews.{no_queries};
-ghost use Rattle.ls_theory.specs.Answering.{is_same_query};
+ghost use Rattle.ls_set.specs.{is_good};
+ghost use Rattle.ls_theory.specs.{Start, is_same_query, no_queries, some_breaks};
 ghost use Rattle.ls_laws.specs.Forced.{IsSound};
 ghost use Rattle.ls_expert.specs.Held.{interview_on, IsStanding};
 

@@ -1,9 +1,7 @@
 // Starts of interviews.
 ghost use Rattle.std.specs.Prelude.{◌≡◌, ◌≤◌, [], IfOk};
-ghost use Rattle.ls_set.specs.ItemSet.{full, IsWithin};
-ghost use Rattle.ls_theory.specs.Families.{interior};
-ghost use Rattle.ls_theory.specs.Compatible.{compat};
-ghost use Rattle.ls_theory.specs.Bases.{base};
+ghost use Rattle.ls_set.specs.{IsWithin, full};
+ghost use Rattle.ls_theory.specs.{base, compat, interior};
 
 use ls_base::Base;
 use ls_interior::Inside;

@@ -1,11 +1,5 @@
 -- Examples: lines of set files, and the sets and the first faults of files.
-use Rattle.std.proofs.Common.{◌≡◌, refl, List, [], ◌∷◌, codes, Ok, Err}
-use Rattle.ls_set.specs.ItemSet.{has, empty, with, union, single, is_same, bound, items, least, differing, comes_before, set_of}
-use Rattle.ls_lines.specs.Lines.{Text, lines}
-use Rattle.ls_lines.specs.Kinds.{is_of}
-use Rattle.ls_files.specs.SetFiles.{line_read, found_from, sets_of}
-use Rattle.ls_files.specs.declared.set_line.SetLine.TheVariants.{Passed, Bad, Unknown, Set}
-use Rattle.ls_files.specs.declared.family_fault.FamilyFault.TheVariants.{BadLine, UnknownItem, Repeat}
+use Rattle.ls_family.proofs.Vocabulary.{◌∷◌, ◌≡◌, Bad, BadLine, Err, List, Ok, Passed, Repeat, Set, Text, Unknown, UnknownItem, [], bound, codes, comes_before, differing, empty, found_from, has, is_of, is_same, items, least, line_read, lines, refl, set_of, sets_of, single, union, with}
 
 abbrev names : List Text
 names = codes "a" ∷ codes "b" ∷ codes "c" ∷ []

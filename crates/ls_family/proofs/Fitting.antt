@@ -1,24 +1,9 @@
 -- The sets of a file are sets of the domain's items.
-use Rattle.std.proofs.Common.{ℕ, ◌≡◌, ◌+◌, ◌<◌, inl, inr, Bool, true, false, not, nat_le, List, [], ◌∷◌, length, Some, None, is_some, Result, Ok, Err, refl, sym, ap, ◌∙◌, subst, true≢false}
-use Rattle.std.specs.List.{list_all, list_any}
+use Rattle.ls_family.proofs.Vocabulary.{◌+◌, ◌<◌, ◌∙◌, ◌∷◌, ◌≡◌, Bad, Bool, Err, FamilyFault, Found, IsWithin, IsWithin-from, Items, List, None, Ok, Passed, Repeat, Result, Set, SetLine, Some, Text, TooMany, Unknown, ℕ, [], and_from, and_parts, ap, body_read, cases_Bool, comes_before, empty-within, false, first_unnamed, found_from, full, inl, inr, inserted, is_among, is_name, is_named, is_passed, is_some, is_some-position, is_within, is_within-from, item_of, item_of-some, items_of, keys_of, length, line_read, lines, list_all, list_any, most_members, nat_le, not, number_of, refl, row_found, set_named, sets_of, subst, sym, true, true≢false, with-within, with_line, with_set, within_braces, without_return, words_within}
 use Rattle.std.specs.Str.{bytes_eq}
-use Rattle.std.specs.Map.{keys_of}
-use Rattle.std.proofs.lemmas.Bool.{cases_Bool, and_parts, and_from}
 use Rattle.std.proofs.lemmas.List.Quantifiers.{position-Some}
-use Rattle.ls_set.specs.ItemSet.{Items, full, is_within, is_among, IsWithin, comes_before}
-use Rattle.ls_set.proofs.Sets.{IsWithin-from, is_within-from, empty-within}
 use Rattle.ls_set.proofs.Members.{among-cases}
 use Rattle.ls_lists.proofs.Options.{same_Ok, ok-err}
-use Rattle.ls_lists.proofs.Places.{is_some-position}
-use Rattle.ls_lines.specs.Lines.{Text, lines, without_return}
-use Rattle.ls_domain.specs.Domains.{is_name}
-use Rattle.ls_domain.specs.Meanings.{is_named, number_of, item_of, items_of, first_unnamed}
-use Rattle.ls_domain.proofs.Numbers.{item_of-some, with-within}
-use Rattle.ls_files.specs.SetFiles.{Found, row_found, inserted, with_set, with_line, set_named, words_within, within_braces, is_passed, body_read, line_read, most_members, found_from, sets_of}
-use Rattle.ls_files.specs.declared.set_line.SetLine.{SetLine}
-use Rattle.ls_files.specs.declared.set_line.SetLine.TheVariants.{Passed, Bad, Unknown, Set}
-use Rattle.ls_files.specs.declared.family_fault.FamilyFault.{FamilyFault}
-use Rattle.ls_files.specs.declared.family_fault.FamilyFault.TheVariants.{Repeat, TooMany}
 
 -- whether the set has items below n alone
 abbrev pub fits : ℕ → Items → Bool

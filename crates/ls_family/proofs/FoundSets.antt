@@ -1,16 +1,8 @@
 -- The sets of a file so far.
-use Rattle.std.proofs.Common.{ℕ, ◌≡◌, ◌<◌, ◌≤◌, nat_le, length, Ok, Err, arith, inl, inr, true, false, cond, List, [], ◌∷◌, Some, None, refl, sym, ap, ◌∙◌}
+use Rattle.ls_family.proofs.Vocabulary.{◌<◌, ◌∙◌, ◌∷◌, ◌≡◌, ◌≤◌, Decides-is_same, Err, Found, IsInOrder, Items, List, None, Ok, Repeat, Some, TooMany, ℕ, [], ap, arith, comes_before, cond, false, inl, inr, insert_entry, inserted, is_at, is_same, length, lookup, most_members, nat_le, nat_tests, order_of, refl, row_found, sym, true, with_set}
 use Rattle.std.specs.List.Sorted.{IsStrictlySortedBy}
-use Rattle.std.specs.Map.{lookup}
-use Rattle.std.specs.BTreeMap.{insert_entry, is_at}
 use Rattle.std.specs.declared.cmp.Ordering.TheVariants.{Less}
-use Rattle.ls_set.specs.ItemSet.{Items, is_same, comes_before, IsInOrder}
-use Rattle.ls_set.proofs.Sets.{Decides-is_same}
 use Rattle.ls_set.proofs.Order.{comes_before-asymmetric, order_cases, Each-weaker}
-use Rattle.ls_clauses.specs.Orderings.{order_of}
-use Rattle.std.proofs.lemmas.Bool.Decides.{nat_tests}
-use Rattle.ls_files.specs.SetFiles.{Found, row_found, inserted, with_set, most_members}
-use Rattle.ls_files.specs.declared.family_fault.FamilyFault.TheVariants.{Repeat, TooMany}
 use Rattle.ls_family.specs.Orders.{order-less, order-greater, order-before, same-order}
 
 -- what a map by the order of sets has at a set

@@ -1,3 +1,4 @@
+mod Vocabulary
 pub mod Examples
 pub mod Fitting
 pub mod FoundSets

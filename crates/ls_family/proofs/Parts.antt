@@ -1,9 +1,6 @@
 -- The parts of a line.
-use Rattle.std.proofs.Common.{ℕ, ◌≡◌, ◌+◌, ◌==◌, true, false, List, take, drop, Some, None, Result, Ok, Err, refl}
-use Rattle.std.specs.List.{list_all, position}
-use Rattle.ls_lines.specs.Lines.{is_blank}
+use Rattle.ls_family.proofs.Vocabulary.{◌+◌, ◌==◌, ◌≡◌, Err, List, None, Ok, Result, Some, ℕ, drop, false, is_blank, list_all, position, refl, take, true, until_brace}
 use Rattle.std.specs.Result.{MatchResult, IsOk}
-use Rattle.ls_files.specs.SetFiles.{until_brace}
 
 pub until_brace-none : (line : List ℕ) → None ≡ position (λ b. b == 125) line → until_brace line ≡ None
 until_brace-none line e = rw (← e) refl

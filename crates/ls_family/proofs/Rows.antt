@@ -1,12 +1,6 @@
 -- The reading of a file, line by line.
-use Rattle.std.proofs.Common.{ℕ, suc, ◌<◌, ◌≤◌, arith, length, Bor, Option, Some, None, ◌≡◌, ◌+◌, List, [], ◌∷◌, Result, Ok, Err, refl, sym, ap, ◌∙◌}
-use Rattle.std.specs.Map.{keys_of}
+use Rattle.ls_family.proofs.Vocabulary.{◌+◌, ◌<◌, ◌∙◌, ◌∷◌, ◌≡◌, ◌≤◌, BadLine, Bor, Err, FamilyFault, Found, IsFaultOf, List, Memory, None, Ok, Option, Repeat, Result, SetLine, Some, Text, TooMany, UnknownItem, ℕ, [], ap, arith, found_from, keys_of, length, line_read, lines, refl, sets_of, suc, sym, with_line}
 use Rattle.std.specs.Option.{MatchOption}
-use Rattle.ls_lines.specs.Lines.{Text, lines}
-use Rattle.ls_files.specs.SetFiles.{Found, with_line, line_read, found_from, sets_of, IsFaultOf}
-use Rattle.ls_files.specs.declared.set_line.SetLine.{SetLine}
-use Rattle.ls_files.specs.declared.family_fault.FamilyFault.{FamilyFault}
-use Rattle.ls_files.specs.declared.family_fault.FamilyFault.TheVariants.{BadLine, UnknownItem, Repeat, TooMany, Memory}
 
 pub found_from-nil : (names : List Text) (found : Found) (row : ℕ) → found_from names found row [] ≡ Ok found
 unfolding found_from

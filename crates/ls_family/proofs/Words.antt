@@ -1,18 +1,5 @@
 -- A line that is read word by word.
-use Rattle.std.proofs.Common.{ℕ, ◌≡◌, arith, inl, inr, Bool, true, false, not, cond, List, [], ◌∷◌, Some, None, refl, sym, ap, ◌∙◌, fold}
-use Rattle.std.specs.List.{list_all, list_any}
-use Rattle.std.proofs.lemmas.Bool.{cases_Bool}
-use Rattle.std.proofs.lemmas.Bool.Decides.{nat_tests}
-use Rattle.ls_set.specs.ItemSet.{Items, empty, with, union}
-use Rattle.ls_set.proofs.Sets.{members, same_set, union-empty_left, union-empty_right}
-use Rattle.ls_lists.proofs.Places.{is_some-position}
-use Rattle.ls_lines.specs.Lines.{Text}
-use Rattle.ls_domain.specs.Domains.{is_name}
-use Rattle.ls_domain.specs.Meanings.{is_named, number_of, items_of}
-use Rattle.ls_domain.proofs.Numbers.{is_named-some, is_named-none}
-use Rattle.ls_files.specs.SetFiles.{set_named}
-use Rattle.ls_files.specs.declared.set_line.SetLine.TheVariants.{Bad, Unknown, Set}
-use Rattle.ls_family.specs.Words.{with_word}
+use Rattle.ls_family.proofs.Vocabulary.{◌∙◌, ◌∷◌, ◌≡◌, Bad, Bool, Items, List, None, Set, Some, Text, Unknown, ℕ, [], ap, arith, cases_Bool, cond, empty, false, fold, inl, inr, is_name, is_named, is_named-none, is_named-some, is_some-position, items_of, list_all, list_any, members, nat_tests, not, number_of, refl, same_set, set_named, sym, true, union, union-empty_left, union-empty_right, with, with_word}
 
 -- after a word that is no name the line stays bad
 from_bad : (names ws : List Text) → fold (with_word names) Bad ws ≡ Bad

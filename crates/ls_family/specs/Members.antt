@@ -1,6 +1,6 @@
 -- Families of sets that are kept one by one.
 use Rattle.std.specs.Prelude.{ℕ, ◌≤◌, List}
-use Rattle.ls_set.specs.ItemSet.{Items, most_items, IsInOrder}
+use Rattle.ls_set.specs.{IsInOrder, Items, most_items}
 
 -- a family: how many items there are, and its sets
 pub record FamilyState : Type 0 where

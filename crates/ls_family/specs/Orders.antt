@@ -4,7 +4,7 @@ use Rattle.std.specs.Ordering.{ordering_reverse, is_eq, as_partial_cmp}
 use Rattle.std.specs.Cmp.{IsTotalOrder, IsPartialOrder, partial_order_from_agreeing_total}
 use Rattle.std.specs.declared.cmp.Ordering.{Ordering}
 use Rattle.std.specs.declared.cmp.Ordering.TheVariants.{Less, Equal, Greater}
-use Rattle.ls_set.specs.ItemSet.{Items, is_same, comes_before}
+use Rattle.ls_set.specs.{Items, comes_before, is_same}
 use Rattle.ls_lists.proofs.Bools.{same_truth}
 use Rattle.ls_set.proofs.Sets.{Decides-is_same}
 use Rattle.ls_set.proofs.Order.{comes_before-irreflexive, comes_before-asymmetric, comes_before-transitive, order_cases}

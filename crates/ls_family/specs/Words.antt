@@ -1,8 +1,8 @@
 -- A line that is read word by word.
 use Rattle.std.specs.Prelude.{if◌then◌else◌, List}
 use Rattle.std.specs.Option.{option_map_or}
-use Rattle.ls_set.specs.ItemSet.{with}
-use Rattle.ls_lines.specs.Lines.{Text}
+use Rattle.ls_set.specs.{with}
+use Rattle.ls_lines.specs.{Text}
 use Rattle.ls_domain.specs.Domains.{is_name}
 use Rattle.ls_domain.specs.Meanings.{number_of}
 use Rattle.ls_files.specs.declared.set_line.SetLine.{SetLine}

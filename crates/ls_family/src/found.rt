@@ -1,7 +1,7 @@
 // The sets of a file so far, with their rows.
 ghost use Rattle.std.specs.Prelude.{◌≡◌, ◌<◌, [], Ok, IfOk, IfErr, OnOk};
 ghost use Rattle.std.specs.Map.{keys_of};
-ghost use Rattle.ls_set.specs.ItemSet.{IsInOrder};
+ghost use Rattle.ls_set.specs.{IsInOrder};
 ghost use Rattle.ls_files.specs.SetFiles.{with_set, with_line, IsFaultOf};
 
 use crate::member::Member;

@@ -18,7 +18,7 @@ pub(crate) struct Member {
 
 impl Model for Member {
     ghost use Rattle.std.proofs.Common.{refl};
-    ghost use Rattle.ls_set.specs.ItemSet.{Items};
+    ghost use Rattle.ls_set.specs.{Items};
 
     ghost Value = { Items };
 

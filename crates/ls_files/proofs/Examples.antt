@@ -1,8 +1,8 @@
 -- Examples of surmise files, after their bytes were read as a table.
 use Rattle.std.proofs.Common.{◌≡◌, refl, ℕ, List, [], ◌∷◌, Ok, Err, Result, codes}
-use Rattle.ls_set.specs.ItemSet.{Items, has, empty, full, with, union, differing, single, is_same, is_within, bound, items, least, comes_before}
-use Rattle.ls_lines.specs.Lines.{Text}
-use Rattle.ls_theory.specs.Clauses.{flaw}
+use Rattle.ls_set.specs.{Items, bound, comes_before, differing, empty, full, has, is_same, is_within, items, least, single, union, with}
+use Rattle.ls_lines.specs.{Text}
+use Rattle.ls_theory.specs.{flaw}
 use Rattle.ls_theory.specs.declared.surmise_fault.SurmiseFault.{SurmiseFault}
 use Rattle.ls_theory.specs.declared.surmise_fault.SurmiseFault.TheVariants.{UnknownItem, NoClause, Reflexive, NotClosed, Comparable}
 use Rattle.ls_files.specs.SurmiseFiles.{Table, is_table_named, clauses_in, surmise_from, surmise_in}

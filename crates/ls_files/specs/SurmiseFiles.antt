@@ -9,12 +9,11 @@ use Rattle.serde_json.specs.View.{items_of as values_of}
 use Rattle.serde_json.specs.Find.{as_str, as_array, as_object}
 use Rattle.serde_json.specs.Read.{read}
 use Rattle.serde_json.specs.Written.{compact_text}
-use Rattle.ls_set.specs.ItemSet.{Items, is_among, subsets}
-use Rattle.ls_theory.specs.Bases.{most_base_sets}
-use Rattle.ls_theory.specs.Clauses.{all_clauses, flaw}
+use Rattle.ls_set.specs.{Items, is_among, subsets}
+use Rattle.ls_theory.specs.{all_clauses, flaw, most_base_sets}
 use Rattle.ls_theory.specs.declared.surmise_fault.SurmiseFault.{SurmiseFault}
 use Rattle.ls_theory.specs.declared.surmise_fault.SurmiseFault.TheVariants.{BadJson, UnknownItem, NoClause, Reflexive, NotClosed, Comparable, Wide, Memory}
-use Rattle.ls_lines.specs.Lines.{Text}
+use Rattle.ls_lines.specs.{Text}
 use Rattle.ls_domain.specs.Meanings.{is_named, items_of}
 use Rattle.ls_domain.specs.Texts.{names_of_set}
 

@@ -1,11 +1,6 @@
 -- Words joined with a bar between them.
-use Rattle.std.proofs.Common.{◌≡◌, ℕ, List, [], ◌∷◌, ◌++◌, map, refl, sym, ap, ap₂, ◌∙◌, append_assoc}
-use Rattle.std.specs.List.{join_with_byte}
-use Rattle.ls_lists.specs.Lists.{gap}
+use Rattle.ls_fringe.proofs.Vocabulary.{◌++◌, ◌∙◌, ◌∷◌, ◌≡◌, Items, List, Text, ℕ, [], ap, append_assoc, ap₂, fringe_words, gap, items, join_with_byte, joined_names, map, name_of, names_of_set, refl, sym}
 use Rattle.ls_lists.proofs.Joins.{gap-map}
-use Rattle.ls_set.specs.ItemSet.{Items, items}
-use Rattle.ls_lines.specs.Lines.{Text}
-use Rattle.ls_domain.specs.Texts.{name_of, names_of_set, joined_names, fringe_words}
 
 pub join-bar : (ws vs : List (List ℕ)) → join_with_byte 32 (ws ++ (124 ∷ []) ∷ vs) ≡ join_with_byte 32 ws ++ (gap ws ++ (124 ∷ (gap vs ++ join_with_byte 32 vs)))
 join-bar [] [] = refl

@@ -1,11 +1,6 @@
 -- Items chosen one after another.
-use Rattle.std.proofs.Common.{◌≡◌, ℕ, ◌+◌, Bool, true, false, ◌&&◌, ◌||◌, eqb, ltb, List, sym, ap, ◌∙◌, arith}
-use Rattle.std.proofs.lemmas.Bool.{and_parts}
+use Rattle.ls_fringe.proofs.Vocabulary.{◌&&◌, ◌+◌, ◌||◌, ◌∙◌, ◌≡◌, Bool, IsWithin, Items, List, ℕ, and_parts, ap, arith, empty, eqb, false, full, has, has-chosen, has-inner_fringe, has-keep_before, has-with, inner_fringe, is_among, keep_before, ltb, members, minus, minus-within, outer_fringe, same_set, sym, true, with, without}
 use Rattle.std.proofs.lemmas.Bool.Decides.{nat_tests}
-use Rattle.ls_set.specs.ItemSet.{Items, has, empty, full, keep_before, minus, with, without, is_among, IsWithin}
-use Rattle.ls_set.proofs.Sets.{members, has-keep_before, has-with, same_set, minus-within}
-use Rattle.ls_theory.specs.Fringes.{inner_fringe, outer_fringe}
-use Rattle.ls_laws.proofs.ReadBack.{has-chosen, has-inner_fringe}
 
 -- ---- the items of a set below a number that grows
 

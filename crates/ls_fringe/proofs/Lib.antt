@@ -1,3 +1,4 @@
+mod Vocabulary
 pub mod Bars
 pub mod Chosen
 pub mod Lines

@@ -1,20 +1,10 @@
 -- The line with the text of two fringes is read as the command that asks for the state with them.
-use Rattle.std.proofs.Common.{◌≡◌, ℕ, ◌<◌, true, List, [], ◌∷◌, ◌++◌, map, length, codes, refl, sym, ap, ◌∙◌, append-nil}
-use Rattle.std.specs.List.{AllByRecursion, list_all}
-use Rattle.std.proofs.lemmas.Bool.{and_from}
+use Rattle.ls_fringe.proofs.Vocabulary.{◌++◌, ◌<◌, ◌∙◌, ◌∷◌, ◌≡◌, AllByRecursion, FringePair, IsWithin, Items, List, Text, ℕ, [], and_from, ap, append-nil, codes, command_of, form_of, full, is_of, is_plain, items, laid_out, length, list_all, map, name_of, names_of_set, operands, parts, refl, spelled, spelling, sym, true, words, words_joined}
 use Rattle.std.proofs.lemmas.List.Elements.{All-get_or}
 use Rattle.std.proofs.lemmas.List.Sums.{AllPass-from_list_all}
-use Rattle.ls_set.specs.ItemSet.{Items, full, items, IsWithin}
-use Rattle.ls_theory.specs.declared.fringe_pair.FringePair.{FringePair}
-use Rattle.ls_lines.specs.Lines.{Text, words}
-use Rattle.ls_lines.specs.Kinds.{is_of}
-use Rattle.ls_lines.specs.Commands.{command_of}
-use Rattle.ls_lines.specs.Forms.{spelling, parts}
-use Rattle.ls_lines.specs.Printing.{form_of, operands, laid_out, spelled, words_joined, is_plain}
 use Rattle.ls_lines.specs.declared.kind.Kind.TheVariants.{Item}
 use Rattle.ls_lines.specs.declared.command.Command.TheVariants.{StateOf}
 use Rattle.ls_lines.proofs.ReadBack.{read_back}
-use Rattle.ls_domain.specs.Texts.{name_of, names_of_set}
 use Rattle.ls_domain.specs.Domains.{IsDomain, is_name}
 use Rattle.ls_domain.proofs.NamedSets.{items-below, set-back, set-all_named}
 use Rattle.ls_fringe.specs.FringeTexts.{state_of_line, AsksFor}

@@ -1,13 +1,6 @@
 -- The member that two fringes tell, by looking at the fringes of one.
-use Rattle.std.proofs.Common.{◌≡◌, ℕ, true, cond, ◌&&◌, eqb, List, Some, None, sym, ap, ap₂, ◌∙◌}
-use Rattle.ls_set.specs.ItemSet.{Items, full, minus, is_same}
-use Rattle.ls_theory.specs.Families.{interior}
-use Rattle.ls_theory.specs.Verdict.{is_learning_space}
-use Rattle.ls_theory.specs.Fringes.{fringes, state_of}
-use Rattle.ls_theory.specs.declared.fringe_pair.FringePair.{FringePair}
+use Rattle.ls_fringe.proofs.Vocabulary.{◌&&◌, ◌∙◌, ◌≡◌, FringePair, Items, List, None, Some, ℕ, ap, ap₂, cond, eqb, fringes, full, interior, is_learning_space, is_same, learning-parts, minus, state_of, state_of-is, sym, true}
 use Rattle.ls_laws.specs.Spans.{IsOn}
-use Rattle.ls_laws.proofs.WellGraded.{learning-parts}
-use Rattle.ls_laws.proofs.ReadBack.{state_of-is}
 
 -- the greatest member without the outer items, where its fringes are the given ones
 pub told : (n : ℕ) (f : List Items) (inner outer k : Items) (x : FringePair) → IsOn n f → is_learning_space (full n) f ≡ true → k ≡ interior f (minus (full n) outer) → x ≡ fringes n f k

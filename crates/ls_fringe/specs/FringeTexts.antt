@@ -2,8 +2,7 @@
 use Rattle.std.specs.Prelude.{◌≡◌, List, ◌++◌, Some, None, codes}
 use Rattle.std.specs.List.{join_with_byte}
 use Rattle.ls_theory.specs.declared.fringe_pair.FringePair.{FringePair}
-use Rattle.ls_lines.specs.Lines.{Text, words}
-use Rattle.ls_lines.specs.Commands.{command_of}
+use Rattle.ls_lines.specs.{Text, command_of, words}
 use Rattle.ls_lines.specs.declared.command.Command.TheVariants.{StateOf}
 use Rattle.ls_domain.specs.Texts.{fringe_words}
 use Rattle.ls_domain.specs.Meanings.{items_of, first_unnamed}

@@ -1,11 +1,10 @@
 // Laws of the text of fringes.
 ghost use Rattle.std.specs.Prelude.{◌≡◌, true, List, Some, length};
-ghost use Rattle.ls_set.specs.ItemSet.{Items, full, is_among, IsWithin};
-ghost use Rattle.ls_theory.specs.Verdict.{is_learning_space};
-ghost use Rattle.ls_theory.specs.Fringes.{fringes, state_of};
+ghost use Rattle.ls_set.specs.{IsWithin, Items, full, is_among};
+ghost use Rattle.ls_theory.specs.{fringes, is_learning_space, state_of};
 ghost use Rattle.ls_theory.specs.declared.fringe_pair.FringePair.{FringePair};
 ghost use Rattle.ls_laws.specs.Spans.{IsOn};
-ghost use Rattle.ls_lines.specs.Lines.{Text};
+ghost use Rattle.ls_lines.specs.{Text};
 ghost use Rattle.ls_domain.specs.Domains.{IsDomain};
 ghost use Rattle.ls_fringe.specs.FringeTexts.{state_of_line, AsksFor};
 

@@ -2,7 +2,7 @@
 ghost use Rattle.std.specs.Prelude.{◌≡◌, ◌++◌, length, OnOk, OnErr};
 ghost use Rattle.std.specs.Io.{StartsWith};
 ghost use Rattle.ls_lists.specs.Lists.{gap};
-ghost use Rattle.ls_set.specs.ItemSet.{full, items, IsWithin};
+ghost use Rattle.ls_set.specs.{IsWithin, full, items};
 ghost use Rattle.ls_fringe.specs.FringeTexts.{fringe_text};
 
 use ls_domain::Domain;

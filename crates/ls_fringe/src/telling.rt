@@ -1,8 +1,7 @@
 // Fringes of members, and the member that two fringes tell.
 ghost use Rattle.std.specs.Prelude.{◌≡◌, ◌<◌, true};
-ghost use Rattle.ls_set.specs.ItemSet.{full, has, IsWithin};
-ghost use Rattle.ls_theory.specs.Fringes.{inner_fringe, outer_fringe, fringes, state_of};
-ghost use Rattle.ls_theory.specs.Verdict.{is_learning_space};
+ghost use Rattle.ls_set.specs.{IsWithin, full, has};
+ghost use Rattle.ls_theory.specs.{fringes, inner_fringe, is_learning_space, outer_fringe, state_of};
 
 use ls_interior::{Inside, is_member};
 use ls_set::{ItemSet, PLACES};

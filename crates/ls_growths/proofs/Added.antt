@@ -1,13 +1,7 @@
 -- The items that can be added to a set, looked for among those outside it.
-use Rattle.std.proofs.Common.{ℕ, zero, suc, ◌+◌, ◌-◌, ◌<◌, ◌≤◌, ◌≡◌, inl, inr, Bool, true, false, not, ◌&&◌, ◌||◌, eqb, List, find, Some, None, unwrap_or, refl, sym, ap, ◌∙◌, arith, true≢false, ltb-true, lt-ltb, eq-eqb}
-use Rattle.std.proofs.lemmas.Bool.{cases_order, and_parts, and_from, or_right, not_from_false, false_from_ne_true}
-use Rattle.ls_set.specs.ItemSet.{Items, has, full, minus, with, least, next_item, is_among, numbers_from}
-use Rattle.ls_set.proofs.Sets.{and-false, has-with, has-full, has-minus}
-use Rattle.ls_set.proofs.Ascending.{find_none, least-cases}
+use Rattle.ls_growths.proofs.Vocabulary.{◌&&◌, ◌+◌, ◌-◌, ◌<◌, ◌||◌, ◌∙◌, ◌≡◌, ◌≤◌, Bool, IsOn, Items, List, None, Some, ℕ, and-false, and_from, and_parts, ap, arith, cases_order, eq-eqb, eqb, false, false_from_ne_true, find, find_none, first_next, full, has, has-full, has-minus, has-with, inl, inr, is_among, is_next, least, least-cases, lt-ltb, ltb-true, minus, next_after, next_item, not, not_from_false, numbers_from, or_right, refl, suc, sym, true, true≢false, unwrap_or, with, zero}
 use Rattle.ls_theory.proofs.Numbers.{numbers_first}
-use Rattle.ls_laws.specs.Spans.{IsOn}
 use Rattle.ls_query.proofs.QuerySets.{next_item-cases, next_item-none_left, least-none_left}
-use Rattle.ls_growths.specs.Growths.{is_next, first_next, next_after}
 use Rattle.ls_growths.proofs.Growths.{IsLearning, begins, some-next-outside}
 use Rattle.ls_growths.proofs.Levels.{already}
 

@@ -1,28 +1,12 @@
 -- The learning paths are the growths of the empty set: the first of them, and the next after a list.
-use Rattle.std.proofs.Common.{ℕ, zero, suc, ◌+◌, ◌-◌, ◌<◌, ◌≤◌, ◌≡◌, inl, inr, Bool, true, false, cond, not, max, ◌&&◌, ◌||◌, eqb, ltb, List, [], ◌∷◌, ◌++◌, map, filter, find, length, take, Option, Some, None, option_map, unwrap_or, refl, sym, ap, ap₂, ◌∙◌, arith, true≢false, eq-eqb, ne_eqb, eqb-true, ltb-true, lt-ltb, le-ltb}
-use Rattle.std.specs.List.{flat_map, list_all, list_any}
-use Rattle.std.specs.Option.{option_or}
-use Rattle.std.proofs.lemmas.Bool.{cases_Bool, cases_lt, cases_eq, cases_order, and_parts, and_from, or_cases, or_left, or_right, not_from_false}
-use Rattle.std.proofs.lemmas.Bool.Decides.{nat_tests}
+use Rattle.ls_growths.proofs.Vocabulary.{◌&&◌, ◌++◌, ◌+◌, ◌-◌, ◌<◌, ◌||◌, ◌∙◌, ◌∷◌, ◌≡◌, ◌≤◌, All-given, Bool, IsOn, Items, List, None, Option, Some, ℕ, [], and-false, and-true, and_from, and_parts, ap, ap₂, arith, both_ways, bound, cases_Bool, cases_eq, cases_lt, cases_order, cond, empty, eq-eqb, eqb, eqb-true, false, filter, filter-agree, filter-both, filter-map, find, find-filter, first_growth, first_next, flat_map, full, growths, has, has-full, has-minus, has-with, inl, inr, is_among, is_learning_space, is_lex_before, is_next, is_path, is_space, items, le-ltb, len, len-empty, len-parts, len-single, length, list_all, list_any, lt-ltb, ltb, ltb-true, map, max, members, minus, nat_tests, ne_eqb, next_after, next_growth, not, not_from_false, numbers_from, option_map, option_or, or_cases, or_left, or_right, orders_of, paths, refl, same_set, set_of, single, some_item, suc, sym, take, true, true≢false, union, union-empty_left, union-empty_right, unwrap_or, with, without, zero}
 use Rattle.std.proofs.lemmas.List.Elements.{filter-append}
 use Rattle.std.proofs.lemmas.List.Folds.{find-append}
-use Rattle.ls_lists.proofs.Every.{All-given}
-use Rattle.ls_lists.proofs.Filters.{filter-agree, filter-both, filter-map}
-use Rattle.ls_set.specs.ItemSet.{Items, has, empty, full, union, minus, single, with, without, is_among, items, bound, len, numbers_from, set_of}
-use Rattle.ls_set.proofs.Ascending.{find-filter}
 use Rattle.ls_set.proofs.Sizes.{items-below}
-use Rattle.ls_set.proofs.Sets.{members, same_set, both_ways, and-true, and-false, has-minus, has-full, has-with, union-empty_left, union-empty_right}
-use Rattle.ls_theory.specs.Families.{is_space}
-use Rattle.ls_theory.specs.Verdict.{is_learning_space}
-use Rattle.ls_theory.specs.Words.{is_lex_before}
-use Rattle.ls_theory.specs.Paths.{orders_of, is_path, paths}
-use Rattle.ls_laws.specs.Spans.{IsOn}
 use Rattle.ls_laws.specs.Walks.{IsWellGraded}
 use Rattle.ls_laws.proofs.Interiors.{IsUnionFamily, space-from}
-use Rattle.ls_laws.proofs.Counts.{len-parts, len-single, len-empty, some_item}
 use Rattle.ls_laws.proofs.Climbs.{outward}
 use Rattle.ls_laws.proofs.WellGraded.{learning-parts}
-use Rattle.ls_growths.specs.Growths.{is_next, first_next, next_after, growths, first_growth, next_growth}
 
 filter-same : {X : Type 0} (p q : X → Bool) (xs : List X) → ((x : X) → p x ≡ q x) → filter p xs ≡ filter q xs
 filter-same p q xs e = filter-agree p q xs (All-given (λ x. p x ≡ q x) e xs)

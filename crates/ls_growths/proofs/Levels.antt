@@ -1,16 +1,5 @@
 -- The next growth by the places at which it can leave a list, and what growths and orders reach.
-use Rattle.std.proofs.Common.{ℕ, zero, suc, ◌+◌, ◌<◌, ◌≤◌, ◌≡◌, inl, inr, Bool, true, false, cond, not, ◌&&◌, eqb, List, [], ◌∷◌, ◌++◌, length, take, drop, get_or, Option, Some, None, option_map, unwrap_or, refl, sym, ap, ap₂, ◌∙◌, subst, arith, true≢false, eqb-true, eq-eqb}
-use Rattle.std.specs.Option.{option_or}
-use Rattle.std.proofs.lemmas.Bool.{cases_Bool, cases_eq, and_parts, and_from, or_right, not_from_false, false_from_ne_true}
-use Rattle.std.proofs.lemmas.Bool.Decides.{nat_tests}
-use Rattle.ls_lists.proofs.Finds.{found-passes}
-use Rattle.ls_set.specs.ItemSet.{Items, has, empty, full, union, minus, with, without, is_among, is_same, len, numbers_from, set_of}
-use Rattle.ls_set.proofs.Sets.{members, same_set, has-with, has-minus, has-empty, union-empty_left, union-empty_right, Decides-is_same}
-use Rattle.ls_theory.specs.Paths.{is_order}
-use Rattle.ls_laws.specs.Spans.{IsOn}
-use Rattle.ls_laws.proofs.Counts.{len-zero, len-empty}
-use Rattle.ls_query.proofs.BySize.{len-with, len-full}
-use Rattle.ls_growths.specs.Growths.{is_next, first_next, next_after, first_growth, next_growth}
+use Rattle.ls_growths.proofs.Vocabulary.{◌&&◌, ◌++◌, ◌+◌, ◌<◌, ◌∙◌, ◌∷◌, ◌≡◌, ◌≤◌, Bool, Decides-is_same, IsOn, Items, List, None, Option, Some, ℕ, [], and_from, and_parts, ap, ap₂, arith, cases_Bool, cases_eq, cond, drop, empty, eq-eqb, eqb, eqb-true, false, false_from_ne_true, first_growth, first_next, found-passes, full, get_or, has, has-empty, has-minus, has-with, inl, inr, is_among, is_next, is_order, is_same, len, len-empty, len-full, len-with, len-zero, length, members, minus, nat_tests, next_after, next_growth, not, not_from_false, numbers_from, option_map, option_or, or_right, refl, same_set, set_of, subst, suc, sym, take, true, true≢false, union, union-empty_left, union-empty_right, unwrap_or, with, without, zero}
 use Rattle.ls_growths.specs.Levels.{reached, is_grown, is_fresh, is_whole, leaves_at, leaves_below}
 use Rattle.ls_growths.proofs.Growths.{IsLearning, begins, some-next, next-left, with-union}
 use Rattle.ls_growths.proofs.PathOrder.{all-left}

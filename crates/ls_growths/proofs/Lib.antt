@@ -1,3 +1,4 @@
+mod Vocabulary
 pub mod Growths
 pub mod PathOrder
 pub mod Levels

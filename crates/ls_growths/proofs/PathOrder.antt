@@ -1,18 +1,5 @@
 -- The learning paths in lexicographic order: the first, and those after a list.
-use Rattle.std.proofs.Common.{ℕ, zero, suc, ◌<◌, ◌≡◌, inl, inr, Bool, true, false, cond, ◌&&◌, eqb, ltb, List, [], ◌∷◌, ◌++◌, map, filter, find, length, Some, None, refl, sym, ap, ap₂, ◌∙◌, subst, arith, true≢false, eq-eqb, eqb-true, ltb-true, lt-ltb, le-ltb}
-use Rattle.std.specs.List.{AllByRecursion, flat_map}
-use Rattle.std.proofs.lemmas.Bool.{cases_Bool, and_parts, and_from, or_cases, or_left, or_right, false_from_ne_true}
-use Rattle.ls_lists.proofs.Every.{All-given, All-append, All-map, each}
-use Rattle.ls_lists.proofs.Filters.{filter-all}
-use Rattle.ls_lists.proofs.Finds.{found-holds}
-use Rattle.ls_set.specs.ItemSet.{Items, empty, full, minus, with, is_among, len, numbers_from}
-use Rattle.ls_set.proofs.Sets.{members, same_set}
-use Rattle.ls_theory.specs.Verdict.{is_learning_space}
-use Rattle.ls_theory.specs.Words.{is_lex_before}
-use Rattle.ls_theory.specs.Paths.{paths}
-use Rattle.ls_laws.specs.Spans.{IsOn}
-use Rattle.ls_query.proofs.BySize.{len-full}
-use Rattle.ls_growths.specs.Growths.{is_next, growths, first_growth, next_growth, IsInLexOrder}
+use Rattle.ls_growths.proofs.Vocabulary.{◌&&◌, ◌++◌, ◌<◌, ◌∙◌, ◌∷◌, ◌≡◌, All-append, All-given, All-map, AllByRecursion, Bool, IsInLexOrder, IsOn, Items, List, None, Some, ℕ, [], and_from, and_parts, ap, ap₂, arith, cases_Bool, cond, each, empty, eq-eqb, eqb, eqb-true, false, false_from_ne_true, filter, filter-all, find, first_growth, flat_map, found-holds, full, growths, inl, inr, is_among, is_learning_space, is_lex_before, is_next, le-ltb, len, len-full, length, lt-ltb, ltb, ltb-true, map, members, minus, next_growth, numbers_from, or_cases, or_left, or_right, paths, refl, same_set, subst, suc, sym, true, true≢false, with, zero}
 use Rattle.ls_growths.proofs.Growths.{IsLearning, learning-from, growths-first, growths-next, paths-are}
 
 -- ---- in order

@@ -7,7 +7,7 @@
 --     leaves_below n f k order j      that at the last place below j at which there is one
 use Rattle.std.specs.Prelude.{ℕ, zero, suc, Bool, true, not, ◌&&◌, ◌==◌, List, [], ◌∷◌, ◌++◌, length, take, drop, Option, None, option_map, slice_index}
 use Rattle.std.specs.Option.{option_or}
-use Rattle.ls_set.specs.ItemSet.{Items, has, empty, with}
+use Rattle.ls_set.specs.{Items, empty, has, with}
 use Rattle.ls_growths.specs.Growths.{is_next, next_after, first_growth}
 
 abbrev pub reached : Items → List ℕ → Items

@@ -1,9 +1,7 @@
 // Laws of learning paths.
 ghost use Rattle.std.specs.Prelude.{◌≡◌, ℕ, true, List, [], ◌∷◌, filter, find, length, Some, None};
-ghost use Rattle.ls_set.specs.ItemSet.{Items, empty, full, is_among};
-ghost use Rattle.ls_theory.specs.Words.{is_lex_before};
-ghost use Rattle.ls_theory.specs.Verdict.{is_learning_space};
-ghost use Rattle.ls_theory.specs.Paths.{paths};
+ghost use Rattle.ls_set.specs.{Items, empty, full, is_among};
+ghost use Rattle.ls_theory.specs.{is_learning_space, is_lex_before, paths};
 ghost use Rattle.ls_laws.specs.Spans.{IsOn};
 ghost use Rattle.ls_growths.specs.Growths.{growths, first_growth, next_growth, IsInLexOrder};
 

@@ -1,25 +1,5 @@
 -- What stays true of a table when it is built and changed.
-use Rattle.std.proofs.Common.{ℕ, ◌≡◌, true, false, cond, not, eqb, List, [], ◌∷◌, ◌++◌, map, filter, refl, sym, ap, ap₂, ◌∙◌, subst}
-use Rattle.std.specs.List.{list_all, list_any}
-use Rattle.std.proofs.lemmas.Bool.{and_parts, and_from, or_parts, not-true}
-use Rattle.std.proofs.lemmas.List.Folds.{list_all-append}
-use Rattle.ls_lists.proofs.Every.{All-filter, All-list_all, list_all-All}
-use Rattle.ls_set.specs.ItemSet.{Items, has, full, is_within}
-use Rattle.ls_set.specs.Query.{is_good}
-use Rattle.ls_set.proofs.Sets.{is_within-from, minus-within}
-use Rattle.ls_theory.specs.declared.no.No.{No}
-use Rattle.ls_set.specs.declared.query.Query.{Query}
-use Rattle.ls_theory.specs.Queries.{breaks, some_breaks}
-use Rattle.ls_theory.specs.Families.{closure}
-use Rattle.ls_laws.specs.Families.{IsFamily}
-use Rattle.ls_laws.specs.Spans.{left_by}
-use Rattle.ls_laws.proofs.Breaks.{IsGood, good-from}
-use Rattle.ls_laws.proofs.Closures.{has-closure}
-use Rattle.ls_laws.proofs.Families.{family_sets}
-use Rattle.ls_query.specs.Blocks.{sets_of}
-use Rattle.ls_infer.specs.declared.standing_no.StandingNo.{StandingNo}
-use Rattle.ls_infer.specs.Changes.{is_kept}
-use Rattle.ls_infer.specs.Tables.{TableState, standing, table_of}
+use Rattle.ls_infer.proofs.Vocabulary.{◌++◌, ◌∙◌, ◌∷◌, ◌≡◌, All-filter, All-list_all, IsFamily, IsGood, Items, List, No, Query, StandingNo, TableState, ℕ, [], and_from, and_parts, ap, ap₂, breaks, closure, cond, eqb, false, family_sets, filter, full, good-from, has, has-closure, is_good, is_kept, is_within, is_within-from, left_by, list_all, list_all-All, list_all-append, list_any, map, minus-within, not, not-true, or_parts, refl, sets_of, some_breaks, standing, subst, sym, table_of, true}
 use Rattle.ls_infer.proofs.States.{enough-within}
 use Rattle.ls_infer.proofs.Standing.{kept-from}
 

@@ -1,28 +1,5 @@
 -- Closures of sets with one more item, and those that a loop over the blocks finds again.
-use Rattle.std.proofs.Common.{ℕ, zero, suc, ◌+◌, ◌<◌, ◌≤◌, ◌≡◌, inl, inr, true, false, not, List, [], ◌∷◌, map, take, length, get_or, slice_get, Option, Some, None, refl, sym, ap, ap₂, ◌∙◌, subst, arith, add-one}
-use Rattle.std.specs.List.{list_any}
-use Rattle.std.proofs.lemmas.Bool.{and_parts, or_parts}
-use Rattle.std.proofs.lemmas.Option.{slice_get-get_or}
-use Rattle.ls_lists.specs.Lists.{images}
-use Rattle.ls_lists.proofs.Overwriting.{images-at}
-use Rattle.ls_set.specs.ItemSet.{Items, has, empty, full, with, without, minus, least, is_among, is_within}
-use Rattle.ls_set.specs.declared.query.Query.{Query}
-use Rattle.ls_set.proofs.Sets.{has-empty}
-use Rattle.ls_set.proofs.Ascending.{least-none}
-use Rattle.ls_theory.specs.Families.{closure}
-use Rattle.ls_laws.specs.Families.{IsFamily}
-use Rattle.ls_laws.proofs.Interiors.{IsUnionFamily}
-use Rattle.ls_laws.proofs.Breaks.{IsGood}
-use Rattle.ls_laws.proofs.Counts.{some_item}
-use Rattle.ls_laws.proofs.Closures.{closure_stays}
-use Rattle.ls_laws.proofs.ClosureChanges.{closure_before_yes}
-use Rattle.ls_laws.proofs.Families.{family_sets}
-use Rattle.ls_interior.specs.Keeping.{interior_keeping}
-use Rattle.ls_infer.specs.declared.yes_change.YesChange.{YesChange}
-use Rattle.ls_infer.specs.Changes.{IsChange, is_stale}
-use Rattle.ls_infer.specs.Fronts.{AreFirst}
-use Rattle.ls_theory.specs.Blocks.{BlockRange}
-use Rattle.ls_query.specs.Blocks.{sets_of}
+use Rattle.ls_infer.proofs.Vocabulary.{◌+◌, ◌<◌, ◌∙◌, ◌∷◌, ◌≡◌, ◌≤◌, AreFirst, BlockRange, IsChange, IsFamily, IsGood, IsUnionFamily, Items, List, None, Option, Query, Some, YesChange, ℕ, [], add-one, and_parts, ap, ap₂, arith, closure, closure_before_yes, closure_stays, empty, false, family_sets, full, get_or, has, has-empty, images, images-at, inl, inr, interior_keeping, is_among, is_stale, is_within, least, least-none, length, list_any, map, minus, not, or_parts, refl, sets_of, slice_get, slice_get-get_or, some_item, subst, suc, sym, take, true, with, without, zero}
 use Rattle.ls_infer.proofs.Outside.{outside-same, outside-left, outside-closed}
 
 -- ---- with one more item

@@ -1,17 +1,7 @@
 -- What is kept of standing answers.
-use Rattle.std.proofs.Common.{ℕ, ◌+◌, ◌<◌, ◌≡◌, inl, inr, Bool, true, false, not, ◌&&◌, ◌||◌, eqb, ltb, List, Option, Some, None, drop, length, get_or, refl, sym, ap, ◌∙◌, arith, le-leb, lt-ltb, eqb-true, zero-add, true≢false, zero, suc, [], ◌∷◌, slice_get}
-use Rattle.std.specs.List.{list_any}
-use Rattle.std.specs.Option.{is_some, option_map_or}
-use Rattle.std.proofs.lemmas.Bool.{or_cases}
-use Rattle.std.proofs.lemmas.Bool.Decides.{nat_tests}
-use Rattle.ls_lists.proofs.Places.{drop-next}
-use Rattle.ls_set.specs.ItemSet.{Items, has, full, with, least, IsWithin}
+use Rattle.ls_infer.proofs.Vocabulary.{◌&&◌, ◌+◌, ◌<◌, ◌||◌, ◌∙◌, ◌∷◌, ◌≡◌, Bool, IsWithin, Items, List, None, Option, Some, StandingNo, ℕ, [], ap, arith, closure, drop, drop-next, enough_for, eqb, eqb-true, false, full, get_or, has, has-full, has-with, inl, inr, is_some, le-leb, least, length, list_any, lt-ltb, ltb, nat_tests, not, option_map_or, or_cases, refl, slice_get, suc, sym, true, true≢false, with, zero, zero-add}
 use Rattle.ls_set.proofs.Listed.{least-none_left}
-use Rattle.ls_set.proofs.Sets.{has-with, has-full}
 use Rattle.ls_set.proofs.Cursors.{has-set_of-filter}
-use Rattle.ls_theory.specs.Families.{closure}
-use Rattle.ls_infer.specs.declared.standing_no.StandingNo.{StandingNo}
-use Rattle.ls_infer.specs.Tables.{enough_for}
 
 -- ---- the items that are enough
 

@@ -1,14 +1,5 @@
 -- The states that are kept to show what is not enough.
-use Rattle.std.proofs.Common.{ℕ, zero, suc, ◌≤◌, ◌≡◌, Bool, true, not, List, [], ◌∷◌, ◌++◌, map, filter, take, drop, length, refl, ap, ◌∙◌, arith}
-use Rattle.std.specs.List.{list_all}
-use Rattle.std.proofs.lemmas.Bool.{and_parts, and_from}
-use Rattle.ls_lists.proofs.Every.{All-list_all, list_all-All, All-to, All-kept, each}
-use Rattle.ls_set.specs.ItemSet.{Items, is_among}
-use Rattle.ls_set.specs.declared.query.Query.{Query}
-use Rattle.ls_theory.specs.Queries.{breaks}
-use Rattle.ls_laws.specs.Spans.{IsPart, left_by}
-use Rattle.ls_laws.proofs.Breaks.{among-left}
-use Rattle.ls_infer.specs.Tables.{AreStates}
+use Rattle.ls_infer.proofs.Vocabulary.{◌++◌, ◌∙◌, ◌∷◌, ◌≡◌, ◌≤◌, All-kept, All-list_all, All-to, AreStates, Bool, IsPart, Items, List, Query, ℕ, [], among-left, and_from, and_parts, ap, arith, breaks, drop, each, filter, is_among, left_by, length, list_all, list_all-All, map, not, refl, suc, take, true, zero}
 
 all-weaker : {X : Type 0} (p q : X → Bool) (xs : List X) → ((x : X) → p x ≡ true → q x ≡ true) → list_all p xs ≡ true → list_all q xs ≡ true
 all-weaker p q xs h e = All-to (λ x. p x ≡ true) q xs (list_all-All p xs e) h

@@ -1,15 +1,8 @@
 -- The least of some numbers, found one by one; and of numbers in order.
-use Rattle.std.proofs.Common.{ℕ, ◌≤◌, ◌≡◌, Bool, true, false, cond, ◌||◌, min, eqb, leb, List, [], ◌∷◌, map, filter, find, Option, Some, None, refl, sym, ap, ◌∙◌, subst, arith, true≢false, eq-eqb, eqb-true, leb-true}
+use Rattle.ls_infer.proofs.Vocabulary.{◌||◌, ◌∙◌, ◌∷◌, ◌≡◌, ◌≤◌, All-filter, All-list_all, Bool, List, No, None, Option, Some, ℕ, [], ap, arith, cond, eq-eqb, eqb, eqb-true, false, filter, find, first_least, leb, leb-true, list_all, list_all-All, list_any, map, min, nat_tests, option_map_or, refl, subst, sym, tail-increasing, true, true≢false}
 use Rattle.std.specs.Prelude.{option_map}
-use Rattle.std.specs.List.{list_any, list_all}
 use Rattle.std.specs.List.Sorted.{IsStrictlyIncreasing}
-use Rattle.std.specs.Option.{option_map_or}
 use Rattle.std.proofs.lemmas.Bool.{and_parts, and_from, or_left, or_right, le-leb}
-use Rattle.std.proofs.lemmas.Bool.Decides.{nat_tests}
-use Rattle.ls_lists.proofs.Every.{All-filter, All-list_all, list_all-All}
-use Rattle.ls_lists.proofs.Sorted.{tail-increasing}
-use Rattle.ls_theory.specs.declared.no.No.{No}
-use Rattle.ls_theory.specs.Words.{first_least}
 use Rattle.ls_laws.proofs.Least.{first_is_least}
 
 -- the least of the numbers, and of the one that is found before them

@@ -1,3 +1,4 @@
+mod Vocabulary
 mod Places
 mod Kept
 mod Outside

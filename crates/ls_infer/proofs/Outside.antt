@@ -1,15 +1,5 @@
 -- Complements, sets with one more item, and what is outside a closure.
-use Rattle.std.proofs.Common.{ℕ, ◌≡◌, ◌⊎◌, inl, inr, true, false, cond, not, ◌&&◌, ◌||◌, eqb, List, Option, Some, None, refl, sym, ap, ap₂, ◌∙◌, subst, arith, true≢false, eqb-true, eq-eqb}
-use Rattle.std.proofs.lemmas.Bool.{and_parts, and_from, or_cases, or_left, or_right, not-true, not_from_false, false_from_ne_true}
-use Rattle.std.proofs.lemmas.Bool.Decides.{nat_tests}
-use Rattle.ls_lists.proofs.Bools.{both_out}
-use Rattle.ls_set.specs.ItemSet.{Items, has, empty, full, single, with, without, minus, is_among, IsWithin}
-use Rattle.ls_set.proofs.Sets.{members, has-minus, has-with, has-without, same_set, same_within, minus-within, empty-within, is_within-from}
-use Rattle.ls_theory.specs.Families.{interior, closure}
-use Rattle.ls_laws.proofs.Interiors.{IsUnionFamily, interior-is, interior-within, interior_grows, interior_again, interior-greatest}
-use Rattle.ls_laws.proofs.ClosureChanges.{minus_shrinks}
-use Rattle.ls_interior.specs.Keeping.{interior_keeping}
-use Rattle.ls_infer.specs.Search.{outside_of}
+use Rattle.ls_infer.proofs.Vocabulary.{◌&&◌, ◌||◌, ◌∙◌, ◌≡◌, ◌⊎◌, IsUnionFamily, IsWithin, Items, List, None, Option, Some, ℕ, and_from, and_parts, ap, ap₂, arith, both_out, closure, cond, empty, empty-within, eq-eqb, eqb, eqb-true, false, false_from_ne_true, full, has, has-minus, has-with, has-without, inl, inr, interior, interior-greatest, interior-is, interior-within, interior_again, interior_grows, interior_keeping, is_among, is_within-from, members, minus, minus-within, minus_shrinks, nat_tests, not, not-true, not_from_false, or_cases, or_left, or_right, outside_of, refl, same_set, same_within, single, subst, sym, true, true≢false, with, without}
 
 -- ---- complements
 

@@ -1,20 +1,8 @@
 -- Places in lists and in blocks.
-use Rattle.std.proofs.Common.{ℕ, zero, suc, ◌+◌, ◌<◌, ◌≤◌, ◌≡◌, Bool, true, false, cond, List, [], ◌∷◌, map, find, length, slice_get, Some, None, refl, sym, ap, ◌∙◌, arith, add-one}
-use Rattle.std.proofs.lemmas.Option.{slice_get-get_or}
-use Rattle.ls_lists.proofs.Elements.{get-in}
+use Rattle.ls_infer.proofs.Vocabulary.{◌+◌, ◌<◌, ◌∙◌, ◌∷◌, ◌≡◌, ◌≤◌, BlockRange, Bool, IsWithin, Items, List, None, Some, ℕ, [], add-one, ap, arith, block_before, blocks, blocks-in, closure, cond, empty, false, find, find-next, first-blocks, full, get-append_left, get-in, get-map, len, len-empty, length, map, refl, sets_of, single, slice_get, slice_get-get_or, sorted-blocks, suc, sym, true, zero}
 use Rattle.ls_lists.proofs.Finds.{find-any}
-use Rattle.ls_lists.proofs.Places.{get-map}
-use Rattle.ls_lists.proofs.Sorted.{find-next}
-use Rattle.ls_set.specs.ItemSet.{Items, empty, full, single, len, IsWithin}
-use Rattle.ls_theory.specs.Families.{closure}
-use Rattle.ls_theory.specs.Queries.{blocks, block_before}
-use Rattle.ls_theory.specs.Blocks.{BlockRange}
-use Rattle.ls_query.specs.Blocks.{sets_of}
 use Rattle.ls_query.proofs.BlockOrder.{before-asymmetric}
-use Rattle.ls_query.proofs.BlockSets.{sorted-blocks, blocks-in, first-blocks}
 use Rattle.ls_query.proofs.BySize.{of_size, of_size-more, of_size-none, blocks-more}
-use Rattle.ls_query.proofs.Placed.{get-append_left}
-use Rattle.ls_laws.proofs.Counts.{len-empty}
 use Rattle.ls_infer.proofs.Outside.{with-empty}
 
 -- ---- blocks

@@ -1,30 +1,7 @@
 -- The first query that is open by the table is the next question.
-use Rattle.std.proofs.Common.{ℕ, ◌<◌, ◌≡◌, true, not, ◌&&◌, ◌||◌, List, [], ◌∷◌, map, filter, find, Option, refl, sym, ap, ap₂, ◌∙◌}
-use Rattle.std.specs.List.{list_any}
-use Rattle.ls_lists.proofs.Elements.{filter-in}
-use Rattle.ls_lists.proofs.Sorted.{find-same}
-use Rattle.ls_lists.specs.Lists.{IsIn}
-use Rattle.ls_set.specs.ItemSet.{Items, has, full}
-use Rattle.ls_set.specs.Query.{is_good}
-use Rattle.ls_set.specs.declared.query.Query.{Query}
+use Rattle.ls_infer.proofs.Vocabulary.{◌&&◌, ◌<◌, ◌||◌, ◌∙◌, ◌∷◌, ◌≡◌, BlockRange, Interview, IsIn, IsSound, Items, List, Option, Query, TableState, ℕ, [], ap, ap₂, block_place, closure, comes_after, compatible_sets, filter, filter-in, find, find-same, forced_no_by, forced_yes_is, forces, full, good-from, good-to, has, is_forced_by_closures, is_good, is_open, is_open_by, is_open_in, list_any, map, next_question, no_queries, nos, not, queries, queries-in, queries_of, query_before, refl, spaces_of, standing, sym, table_of, true}
 use Rattle.ls_theory.specs.declared.answer.Answer.{Answer}
-use Rattle.ls_theory.specs.Queries.{queries, query_before}
-use Rattle.ls_theory.specs.Families.{closure}
-use Rattle.ls_theory.specs.Interviews.{Interview, nos, no_queries}
-use Rattle.ls_theory.specs.Compatible.{compatible_sets}
-use Rattle.ls_theory.specs.Fitting.{spaces_of}
-use Rattle.ls_theory.specs.Forced.{is_open, next_question}
-use Rattle.ls_theory.specs.Pages.{comes_after}
-use Rattle.ls_theory.specs.Blocks.{BlockRange}
-use Rattle.ls_laws.specs.Forced.{IsSound, is_forced_by_closures}
-use Rattle.ls_laws.proofs.Breaks.{good-from, good-to}
-use Rattle.ls_laws.proofs.Answering.{forced_yes_is, forced_no_by}
-use Rattle.ls_query.specs.Blocks.{queries_of}
-use Rattle.ls_query.proofs.QuerySets.{queries-in}
-use Rattle.ls_infer.specs.Tables.{TableState, standing, forces, is_open_in, table_of}
-use Rattle.ls_infer.specs.Search.{is_open_by}
 use Rattle.ls_infer.proofs.Told.{forces-standing, closed_of-table}
-use Rattle.ls_query.proofs.Placed.{block_place}
 
 -- some standing No forces the query exactly where closures say so
 any-standing : (n : ℕ) (f : List Items) (r : Query) (given : List Answer) → r.q < n

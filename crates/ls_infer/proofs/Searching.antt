@@ -1,33 +1,7 @@
 -- What is outside the closure of a set, and the first open query from a given one on.
-use Rattle.std.proofs.Common.{ℕ, ◌<◌, ◌≤◌, ◌≡◌, inl, inr, Bool, true, false, cond, not, ◌&&◌, List, map, find, slice_get, Some, None, zero, suc, [], ◌∷◌, refl, sym, ap, ap₂, ◌∙◌, arith, true≢false, ltb, ltb-true, ltb-false}
-use Rattle.std.proofs.lemmas.Bool.{and_parts, and_from, not_from_false, not-true, false_from_ne_true, true_from_ne_false}
-use Rattle.ls_lists.specs.Lists.{IsIn}
-use Rattle.ls_lists.proofs.Bools.{same_truth}
-use Rattle.ls_lists.proofs.Sorted.{find-same, find-first}
-use Rattle.ls_set.specs.ItemSet.{Items, has, full, minus, least}
-use Rattle.ls_set.specs.Query.{is_good}
-use Rattle.ls_set.specs.declared.query.Query.{Query}
-use Rattle.ls_set.proofs.Sets.{has-full, has-minus, minus-within}
-use Rattle.ls_set.proofs.Ascending.{least-cases}
-use Rattle.ls_theory.specs.Families.{interior, closure}
-use Rattle.ls_theory.specs.Queries.{blocks, block_before, queries, query_before}
-use Rattle.ls_theory.specs.Interviews.{Interview, nos}
-use Rattle.ls_theory.specs.Compatible.{compatible_sets}
-use Rattle.ls_theory.specs.Fitting.{spaces_of}
-use Rattle.ls_theory.specs.Forced.{is_open}
-use Rattle.ls_theory.specs.Blocks.{BlockRange}
-use Rattle.ls_laws.specs.Forced.{IsSound}
-use Rattle.ls_laws.proofs.Interiors.{interior-within}
-use Rattle.ls_laws.proofs.Breaks.{IsGood, good-from, good-to}
+use Rattle.ls_infer.proofs.Vocabulary.{◌&&◌, ◌<◌, ◌∙◌, ◌∷◌, ◌≡◌, ◌≤◌, ArePassing, BlockRange, Bool, Interview, IsGood, IsIn, IsSound, Items, List, None, Query, Some, StandingNo, ℕ, [], and_from, and_parts, ap, ap₂, arith, asked_of, before-by_item, before-by_set, block_before, blocks, blocks-in, closure, compatible_sets, cond, false, false_from_ne_true, find, find-first, find-same, full, good-from, good-to, good_items, has, has-full, has-minus, inl, inr, interior, interior-within, is_good, is_open, is_open_by, least, least-cases, least-none_left, ltb, ltb-false, ltb-true, map, minus, minus-within, never_before, nos, not, not-true, not_from_false, outside_of, queries, queries-in, queries_of, query_before, query_before-asymmetric, query_before-cases, refl, same_truth, slice_get, sorted-queries, spaces_of, standing, suc, sym, true, true_from_ne_false, true≢false, zero}
 use Rattle.ls_laws.proofs.Blocks.{in-queries}
-use Rattle.ls_query.specs.Blocks.{queries_of}
-use Rattle.ls_query.proofs.BlockSets.{blocks-in}
-use Rattle.ls_query.proofs.QuerySets.{least-none_left, asked_of, queries-in, sorted-queries, never_before, before-by_set, before-by_item, query_before-cases, query_before-asymmetric}
 use Rattle.ls_query.proofs.Sorted.{sorted-cases}
-use Rattle.ls_query.proofs.Passing.{ArePassing, good_items}
-use Rattle.ls_infer.specs.declared.standing_no.StandingNo.{StandingNo}
-use Rattle.ls_infer.specs.Tables.{standing}
-use Rattle.ls_infer.specs.Search.{outside_of, is_open_by}
 use Rattle.ls_infer.proofs.Outside.{out-parts, out-from}
 use Rattle.ls_infer.proofs.Questions.{open-by}
 

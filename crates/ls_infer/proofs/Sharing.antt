@@ -1,19 +1,7 @@
 -- What the interior without an item tells of the closure with it, and what one such closure tells of the items in it.
-use Rattle.std.proofs.Common.{ℕ, zero, suc, ◌<◌, ◌≤◌, ◌≡◌, ◌⊎◌, inl, inr, Bool, true, false, cond, not, ◌&&◌, eqb, ltb, List, [], ◌∷◌, filter, length, Option, Some, None, refl, sym, ap, ap₂, ◌∙◌, subst, arith, true≢false, lt-ltb, ltb-true}
-use Rattle.std.proofs.lemmas.Bool.{and_parts, and_from, or_right, not-true, not-false, not_from_false, false_from_ne_true, true_from_ne_false}
-use Rattle.std.proofs.lemmas.Bool.Decides.{nat_tests}
-use Rattle.std.specs.Option.{is_some}
+use Rattle.ls_infer.proofs.Vocabulary.{◌&&◌, ◌<◌, ◌∙◌, ◌∷◌, ◌≡◌, ◌≤◌, ◌⊎◌, Bool, IsWithin, IsWithin-from, Items, List, None, Option, Some, ℕ, [], and_from, and_parts, ap, ap₂, arith, closure, closure_again, cond, empty, enough_for, eqb, false, false_from_ne_true, filter, full, has, has-empty, has-full, has-meet, has-minus, has-with, has-without, inl, inr, interior, interior-within, interior_grows, interior_keeping, is_some, is_within, is_within-from, items-within, least, least-cases, len, len-less, len-within, length, lt-ltb, ltb, ltb-true, meet, members, minus, minus_shrinks, nat_tests, not, not-false, not-true, not_from_false, numbers_from, or_right, refl, same_set, same_within, subst, suc, sym, true, true_from_ne_false, true≢false, with, without, without-within, zero}
 use Rattle.ls_lists.proofs.Filters.{filter-fewer}
-use Rattle.ls_set.specs.ItemSet.{Items, has, empty, full, with, without, meet, minus, len, least, numbers_from, is_within, IsWithin}
-use Rattle.ls_set.proofs.Sets.{members, has-empty, has-meet, has-minus, has-with, has-without, has-full, same_set, same_within, without-within, IsWithin-from, is_within-from}
-use Rattle.ls_set.proofs.Ascending.{least-cases}
-use Rattle.ls_set.proofs.Sizes.{items-within, len-within, len-less}
 use Rattle.ls_set.proofs.Listed.{least-none_left}
-use Rattle.ls_theory.specs.Families.{interior, closure}
-use Rattle.ls_interior.specs.Keeping.{interior_keeping}
-use Rattle.ls_laws.proofs.Interiors.{interior-within, interior_grows}
-use Rattle.ls_laws.proofs.ClosureChanges.{minus_shrinks, closure_again}
-use Rattle.ls_infer.specs.Tables.{enough_for}
 use Rattle.ls_infer.proofs.Kept.{has-enough}
 use Rattle.ls_infer.proofs.Outside.{out-parts, out-from, with-left, with-here, with-cases}
 

@@ -1,29 +1,6 @@
 -- What a Yes that comes or goes changes of what is kept of a standing No.
-use Rattle.std.proofs.Common.{ℕ, ◌+◌, ◌<◌, ◌≡◌, inl, inr, Bool, true, false, not, ◌&&◌, ◌||◌, ltb, List, length, get_or, slice_get, Some, refl, sym, ap, ap₂, ◌∙◌, subst, true≢false, ltb-true}
-use Rattle.std.proofs.lemmas.Bool.{and_parts, and_from, or_parts, cases_Bool, false_from_ne_true, not-true, not-false}
+use Rattle.ls_infer.proofs.Vocabulary.{◌&&◌, ◌+◌, ◌<◌, ◌||◌, ◌∙◌, ◌≡◌, Bool, Breaks-from, Decides-is_same, IsChange, IsFamily, IsGood, IsPart, IsUnionFamily, IsWithin, IsWithin-from, Items, List, No, Query, Some, StandingNo, YesChange, ℕ, among-left, and_from, and_parts, ap, ap₂, breaks, can_grow, cases_Bool, closure, closure_again, closure_before_yes, closure_from_old, closure_grows, closure_holds, closure_stays, closure_widens, empty, enough_for, false, false_from_ne_true, family_sets, full, get_or, good-from, good-to, has, has-meet, images, images-at, images-next, inl, inr, interior, is_among, is_good, is_kept, is_reached, is_same, is_within, is_within-from, left-IsPart, left_by, length, ltb, ltb-true, meet, minus, minus-within, not, not-false, not-true, or_parts, refl, same_set, same_within, slice_get, slice_get-get_or, some_item, standing, subst, sym, true, true≢false, with}
 use Rattle.std.proofs.Math.ListN.{set}
-use Rattle.std.proofs.lemmas.Option.{slice_get-get_or}
-use Rattle.ls_lists.specs.Lists.{images}
-use Rattle.ls_lists.proofs.Overwriting.{images-at, images-next}
-use Rattle.ls_set.specs.ItemSet.{Items, has, empty, full, with, meet, minus, is_same, is_within, is_among, IsWithin}
-use Rattle.ls_set.specs.Query.{is_good}
-use Rattle.ls_set.specs.declared.query.Query.{Query}
-use Rattle.ls_laws.proofs.Counts.{some_item}
-use Rattle.ls_set.proofs.Sets.{Decides-is_same, has-meet, same_set, same_within, IsWithin-from, is_within-from, minus-within}
-use Rattle.ls_theory.specs.declared.no.No.{No}
-use Rattle.ls_theory.specs.Families.{interior, closure}
-use Rattle.ls_theory.specs.Queries.{breaks}
-use Rattle.ls_laws.specs.Families.{IsFamily}
-use Rattle.ls_laws.specs.Spans.{IsPart, left_by}
-use Rattle.ls_laws.proofs.Interiors.{IsUnionFamily}
-use Rattle.ls_laws.proofs.Breaks.{IsGood, good-from, good-to, Breaks-from, among-left}
-use Rattle.ls_laws.proofs.Closures.{closure_stays}
-use Rattle.ls_laws.proofs.ClosureChanges.{closure_holds, closure_grows, closure_widens, closure_again, closure_from_old, closure_before_yes, left-IsPart}
-use Rattle.ls_laws.proofs.Families.{family_sets}
-use Rattle.ls_infer.specs.declared.standing_no.StandingNo.{StandingNo}
-use Rattle.ls_infer.specs.declared.yes_change.YesChange.{YesChange}
-use Rattle.ls_infer.specs.Changes.{IsChange, can_grow, is_kept, is_reached}
-use Rattle.ls_infer.specs.Tables.{enough_for, standing}
 use Rattle.ls_infer.proofs.Kept.{has-enough, with-within}
 use Rattle.ls_infer.proofs.Outside.{with-left, with-cases, outside-member}
 use Rattle.ls_infer.proofs.States.{with-itself, enough-apart, enough-only, enough-grows, enough-unbroken, enough-stays, unbroken-among}

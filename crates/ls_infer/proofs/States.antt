@@ -1,18 +1,5 @@
 -- Which items are enough with a closed set for an item, and where they are a state.
-use Rattle.std.proofs.Common.{ℕ, ◌+◌, ◌<◌, ◌≤◌, ◌≡◌, ◌⊎◌, inl, inr, true, false, not, ◌&&◌, ◌||◌, eqb, ltb, List, refl, sym, ap, ◌∙◌, subst, arith, true≢false, eq-eqb, eqb-true, lt-ltb, ltb-true}
-use Rattle.std.proofs.lemmas.Bool.{cases_lt, and_parts, and_from, or_left, or_right, false_from_ne_true, true_from_ne_false}
-use Rattle.ls_set.specs.ItemSet.{Items, has, empty, full, single, with, minus, len, is_among, IsWithin}
-use Rattle.ls_set.specs.declared.query.Query.{Query}
-use Rattle.ls_set.proofs.Sets.{has-single, has-with, has-full, same_within, minus-within, and-true, Decides-is_same}
-use Rattle.ls_laws.proofs.Counts.{some_item}
-use Rattle.ls_set.proofs.Sizes.{len-less}
-use Rattle.ls_theory.specs.Families.{interior, closure}
-use Rattle.ls_theory.specs.Queries.{breaks}
-use Rattle.ls_laws.specs.Spans.{IsPart, left_by}
-use Rattle.ls_laws.proofs.Interiors.{IsUnionFamily, interior-within, interior-greatest, interior-member, interior_grows}
-use Rattle.ls_laws.proofs.Breaks.{IsGood, Breaks-from, full-unbroken, among-left}
-use Rattle.ls_laws.proofs.ClosureChanges.{closure_grows, closure_widens}
-use Rattle.ls_infer.specs.Tables.{enough_for}
+use Rattle.ls_infer.proofs.Vocabulary.{◌&&◌, ◌+◌, ◌<◌, ◌||◌, ◌∙◌, ◌≡◌, ◌≤◌, ◌⊎◌, Breaks-from, Decides-is_same, IsGood, IsPart, IsUnionFamily, IsWithin, Items, List, Query, ℕ, among-left, and-true, and_from, and_parts, ap, arith, breaks, cases_lt, closure, closure_grows, closure_widens, empty, enough_for, eq-eqb, eqb, eqb-true, false, false_from_ne_true, full, full-unbroken, has, has-full, has-single, has-with, inl, inr, interior, interior-greatest, interior-member, interior-within, interior_grows, is_among, left_by, len, len-less, lt-ltb, ltb, ltb-true, minus, minus-within, not, or_left, or_right, refl, same_within, single, some_item, subst, sym, true, true_from_ne_false, true≢false, with}
 use Rattle.ls_infer.proofs.Kept.{has-enough, with-within}
 use Rattle.ls_infer.proofs.Outside.{out-parts, out-from, with-left, with-here, with-cases, outside-member}
 use Rattle.ls_infer.proofs.Sharing.{len-few}

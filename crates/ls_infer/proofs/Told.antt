@@ -1,27 +1,6 @@
 -- What a table tells is what the answers tell.
-use Rattle.std.proofs.Common.{ℕ, ◌<◌, ◌≡◌, true, false, cond, ◌&&◌, List, [], ◌∷◌, map, filter, Option, Some, None, refl, sym, ap, ap₂, ◌∙◌, lt-ltb}
-use Rattle.std.specs.List.{position}
-use Rattle.std.specs.Option.{option_map, option_map_or}
-use Rattle.ls_lists.proofs.Places.{get-map}
-use Rattle.ls_set.specs.ItemSet.{Items, has, full, with, is_same, is_within}
-use Rattle.ls_set.specs.Query.{is_good}
-use Rattle.ls_set.specs.declared.query.Query.{Query}
-use Rattle.ls_theory.specs.declared.no.No.{No}
-use Rattle.ls_theory.specs.declared.known.Known.{Known}
-use Rattle.ls_theory.specs.Words.{first_least}
-use Rattle.ls_theory.specs.Families.{closure}
-use Rattle.ls_theory.specs.Interviews.{Interview, nos}
-use Rattle.ls_theory.specs.Compatible.{compatible_sets}
-use Rattle.ls_theory.specs.Forced.{known}
-use Rattle.ls_theory.specs.Blocks.{BlockRange}
-use Rattle.ls_laws.specs.Forced.{IsSound, IsNumbered, is_forced_by_closures}
-use Rattle.ls_laws.proofs.Breaks.{good-from}
-use Rattle.ls_laws.proofs.Answering.{known_is}
+use Rattle.ls_infer.proofs.Vocabulary.{◌&&◌, ◌<◌, ◌∙◌, ◌∷◌, ◌≡◌, BlockRange, Interview, IsNumbered, IsSound, Items, Known, List, No, None, Option, Query, Some, StandingNo, TableState, ℕ, [], ap, ap₂, closed_of, closure, compatible_sets, cond, false, filter, first_least, forces, full, get-map, good-from, has, is_forced_by_closures, is_good, is_same, is_within, known, known_is, lt-ltb, map, nos, option_map, option_map_or, position, position-get, refl, sets_of, standing, sym, table_of, told, true, with}
 use Rattle.ls_laws.proofs.Numbered.{nos-increasing}
-use Rattle.ls_query.specs.Blocks.{sets_of}
-use Rattle.ls_query.proofs.Placed.{position-get}
-use Rattle.ls_infer.specs.declared.standing_no.StandingNo.{StandingNo}
-use Rattle.ls_infer.specs.Tables.{TableState, standing, forces, closed_of, table_of, told}
 use Rattle.ls_infer.proofs.Kept.{has-enough}
 use Rattle.ls_infer.proofs.Least.{least_with, least_with-first, least_in_order}
 

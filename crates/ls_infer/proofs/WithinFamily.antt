@@ -1,30 +1,8 @@
 -- What a table tells is what the spaces within its family force.
-use Rattle.std.proofs.Common.{ℕ, ◌≡◌, ◌↔◌, Bool, true, false, cond, not, ◌&&◌, ◌||◌, List, [], ◌∷◌, map, filter, Option, Some, None, refl, sym, ap, ap₂, ◌∙◌, subst, true≢false}
+use Rattle.ls_infer.proofs.Vocabulary.{◌&&◌, ◌||◌, ◌↔◌, ◌∙◌, ◌∷◌, ◌≡◌, All-list_all, Bool, IsGood, IsInOrder, IsPart, IsUnionFamily, Items, Known, List, No, None, Option, Query, Some, ℕ, [], and_from, and_parts, ap, ap₂, closure, cond, false, false_from_ne_true, family-from, family_sets, filter, first_least, full, good-from, has, has-closure, is_forced_by, is_forced_by_closures, is_forced_no, is_forced_yes, is_good, is_open, is_space, kept_is, list_all, list_all-All, list_all-filter, list_all-map, list_any, list_any-map, map, not, not-true, not_from_false, option_map_or, refl, same_truth, some_breaks, space-from, space-to, sublists, subst, sym, told, true, true≢false}
 use Rattle.std.specs.Prelude.{option_map, is_some}
-use Rattle.std.specs.List.{list_any, list_all}
-use Rattle.std.specs.Option.{option_map_or}
-use Rattle.std.proofs.lemmas.Bool.{and_parts, and_from, false_from_ne_true, not-true, not_from_false}
-use Rattle.std.proofs.lemmas.List.Folds.{list_all-map}
-use Rattle.ls_lists.proofs.Bools.{same_truth}
-use Rattle.ls_lists.proofs.Every.{All-list_all, list_all-All, list_all-filter, list_any-map}
-use Rattle.ls_set.specs.ItemSet.{Items, full, has, IsInOrder}
-use Rattle.ls_set.specs.Query.{is_good}
-use Rattle.ls_set.specs.declared.query.Query.{Query}
-use Rattle.ls_theory.specs.declared.no.No.{No}
-use Rattle.ls_theory.specs.declared.known.Known.{Known}
-use Rattle.ls_theory.specs.Words.{first_least, sublists}
-use Rattle.ls_theory.specs.Queries.{some_breaks}
-use Rattle.ls_theory.specs.Families.{closure, is_space}
-use Rattle.ls_theory.specs.Forced.{is_forced_yes, is_forced_no, is_open}
-use Rattle.ls_laws.specs.Spans.{IsPart}
-use Rattle.ls_laws.specs.Forced.{is_forced_by, is_forced_by_closures}
-use Rattle.ls_laws.proofs.Interiors.{IsUnionFamily, space-from, space-to, family-from}
-use Rattle.ls_laws.proofs.Families.{family_sets}
-use Rattle.ls_laws.proofs.Breaks.{IsGood, good-from}
-use Rattle.ls_laws.proofs.Closures.{has-closure, kept_is}
 use Rattle.ls_laws.proofs.Fit.{Fits, forced_yes, forced_no}
 use Rattle.ls_laws.proofs.Search.{sublists-each, all_sublists-each}
-use Rattle.ls_infer.specs.Tables.{told}
 use Rattle.ls_infer.specs.Forced.{FitsNos, spaces_within}
 use Rattle.ls_infer.proofs.Least.{least_with, least_with-parts, least_with-first}
 

@@ -1,13 +1,5 @@
 -- What a state tells of the items that are enough.
-use Rattle.std.proofs.Common.{ℕ, ◌≡◌, inl, inr, true, List, Some, sym, ap, ◌∙◌, subst, true≢false}
-use Rattle.std.proofs.lemmas.Bool.{and_from, false_from_ne_true, true_from_ne_false}
-use Rattle.ls_set.specs.ItemSet.{Items, has, empty, full, with, meet, minus, is_within, is_among, IsWithin}
-use Rattle.ls_set.proofs.Sets.{has-meet}
-use Rattle.ls_theory.specs.Families.{interior}
-use Rattle.ls_interior.specs.Keeping.{interior_keeping}
-use Rattle.ls_laws.proofs.Interiors.{IsUnionFamily, interior-is, interior-greatest}
-use Rattle.ls_infer.specs.Tables.{enough_for}
-use Rattle.ls_infer.specs.Narrowing.{IsNarrowed}
+use Rattle.ls_infer.proofs.Vocabulary.{◌∙◌, ◌≡◌, IsNarrowed, IsUnionFamily, IsWithin, Items, List, Some, ℕ, and_from, ap, empty, enough_for, false_from_ne_true, full, has, has-meet, inl, inr, interior, interior-greatest, interior-is, interior_keeping, is_among, is_within, meet, minus, subst, sym, true, true_from_ne_false, true≢false, with}
 use Rattle.ls_infer.proofs.Outside.{out-parts, out-from, with-cases}
 use Rattle.ls_infer.proofs.Sharing.{IsFound, meet-left, is_within-one, some-chosen}
 use Rattle.ls_infer.proofs.States.{enough-parts}

@@ -5,10 +5,9 @@
 --     is_reached c r s      whether what is kept of a standing No can be another after it
 --     most_steps c n      the most steps that what is kept of a standing No takes after it
 use Rattle.std.specs.Prelude.{ℕ, ◌+◌, Bool, not, ◌&&◌, ◌||◌, if◌then◌else◌, ◌≡◌, List}
-use Rattle.ls_set.specs.ItemSet.{Items, has, empty, full, meet, is_same, is_within}
-use Rattle.ls_set.specs.Query.{is_good}
+use Rattle.ls_set.specs.{Items, empty, full, has, is_good, is_same, is_within, meet}
 use Rattle.ls_set.specs.declared.query.Query.{Query}
-use Rattle.ls_theory.specs.Queries.{breaks}
+use Rattle.ls_theory.specs.{breaks}
 use Rattle.ls_laws.specs.Families.{IsFamily}
 use Rattle.ls_laws.specs.Spans.{left_by}
 use Rattle.ls_infer.specs.declared.standing_no.StandingNo.{StandingNo}

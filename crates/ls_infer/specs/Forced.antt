@@ -1,12 +1,9 @@
 -- What the spaces within a family force, in which Nos are broken.
 use Rattle.std.specs.Prelude.{ℕ, ◌≡◌, true, ◌&&◌, List, filter}
 use Rattle.std.specs.List.{list_all}
-use Rattle.ls_set.specs.ItemSet.{Items, full, is_among}
-use Rattle.ls_set.specs.Query.{is_good}
+use Rattle.ls_set.specs.{Items, full, is_among, is_good}
 use Rattle.ls_theory.specs.declared.no.No.{No}
-use Rattle.ls_theory.specs.Words.{sublists}
-use Rattle.ls_theory.specs.Queries.{some_breaks}
-use Rattle.ls_theory.specs.Families.{is_space}
+use Rattle.ls_theory.specs.{is_space, some_breaks, sublists}
 use Rattle.ls_laws.specs.Families.{IsFamily}
 
 -- the spaces of members of the family f of which some member breaks each No

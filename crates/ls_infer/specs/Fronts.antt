@@ -2,9 +2,8 @@
 --     IsFront n f e      the set in front has the closure that is kept with it, unless it is empty
 --     AreFirst n f b cs      the closures are those of the first sets of the blocks
 use Rattle.std.specs.Prelude.{ℕ, ◌≡◌, true, List, map, take, length}
-use Rattle.ls_set.specs.ItemSet.{Items, has, full}
-use Rattle.ls_theory.specs.Families.{closure}
-use Rattle.ls_theory.specs.Blocks.{BlockRange}
+use Rattle.ls_set.specs.{Items, full, has}
+use Rattle.ls_theory.specs.{BlockRange, closure}
 use Rattle.ls_query.specs.Blocks.{sets_of}
 use Rattle.ls_infer.specs.declared.fronts.Front.{Front}
 

@@ -2,7 +2,7 @@
 --     owed rest      the steps that may still be taken: one for each item that is left, and the spare ones
 --     IsNarrowed n f outside q before after      items are left out, none that is enough for q with the closed set
 use Rattle.std.specs.Prelude.{ℕ, ◌+◌, ◌≡◌, true, List}
-use Rattle.ls_set.specs.ItemSet.{Items, has, full, minus, len, IsWithin}
+use Rattle.ls_set.specs.{IsWithin, Items, full, has, len, minus}
 use Rattle.ls_infer.specs.declared.narrowing.Rest.{Rest}
 use Rattle.ls_infer.specs.Tables.{enough_for}
 

@@ -3,9 +3,9 @@
 --     is_open_by n f ss r      no closure in the family f decides the query r, and no standing No of which ss are kept
 use Rattle.std.specs.Prelude.{ℕ, Bool, not, ◌&&◌, ◌≤◌, ◌≡◌, List}
 use Rattle.std.specs.List.{list_any}
-use Rattle.ls_set.specs.ItemSet.{Items, has, full, minus, most_items}
+use Rattle.ls_set.specs.{Items, full, has, minus, most_items}
 use Rattle.ls_set.specs.declared.query.Query.{Query}
-use Rattle.ls_theory.specs.Families.{interior, closure}
+use Rattle.ls_theory.specs.{closure, interior}
 use Rattle.ls_infer.specs.declared.search.Search.{Search}
 use Rattle.ls_infer.specs.declared.standing_no.StandingNo.{StandingNo}
 use Rattle.ls_infer.specs.Tables.{forces}

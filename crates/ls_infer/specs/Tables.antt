@@ -7,13 +7,11 @@
 use Rattle.std.specs.Prelude.{ℕ, Bool, true, not, ◌&&◌, if◌then◌else◌, ◌≤◌, ◌≡◌, List, map, length, filter, slice_get, unwrap_or}
 use Rattle.std.specs.List.{list_all, list_any, position}
 use Rattle.std.specs.Option.{option_map_or}
-use Rattle.ls_set.specs.ItemSet.{Items, has, empty, full, with, is_same, is_within, is_among, set_of, numbers_from, most_items}
+use Rattle.ls_set.specs.{Items, empty, full, has, is_among, is_same, is_within, most_items, numbers_from, set_of, with}
 use Rattle.ls_set.specs.declared.query.Query.{Query}
 use Rattle.ls_theory.specs.declared.no.No.{No}
 use Rattle.ls_theory.specs.declared.known.Known.{Known}
-use Rattle.ls_theory.specs.Words.{first_least}
-use Rattle.ls_theory.specs.Families.{closure}
-use Rattle.ls_theory.specs.Blocks.{BlockRange, most_sets}
+use Rattle.ls_theory.specs.{BlockRange, closure, first_least, most_sets}
 use Rattle.ls_laws.specs.Forced.{is_forced_by_closures}
 use Rattle.ls_query.specs.Blocks.{sets_of}
 use Rattle.ls_infer.specs.declared.standing_no.StandingNo.{StandingNo}

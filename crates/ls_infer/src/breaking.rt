@@ -1,6 +1,6 @@
 // Which sets a Yes leaves out.
 ghost use Rattle.std.specs.Prelude.{◌≡◌, ◌<◌};
-ghost use Rattle.ls_theory.specs.Queries.{breaks};
+ghost use Rattle.ls_theory.specs.{breaks};
 
 use ls_set::{ItemSet, PLACES, Query};
 

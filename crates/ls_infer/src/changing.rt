@@ -1,10 +1,8 @@
 // What is kept of the standing answers that are No, where a Yes comes or is taken back.
 ghost use Rattle.std.specs.Prelude.{◌≡◌, ◌+◌, ◌*◌, ◌<◌, ◌≤◌, ℕ, List, true, map, length};
 ghost use Rattle.std.specs.List.{list_all};
-ghost use Rattle.ls_set.specs.ItemSet.{Items, full};
-ghost use Rattle.ls_set.specs.Query.{is_good};
-ghost use Rattle.ls_theory.specs.Families.{closure};
-ghost use Rattle.ls_theory.specs.Queries.{blocks};
+ghost use Rattle.ls_set.specs.{Items, full, is_good};
+ghost use Rattle.ls_theory.specs.{blocks, closure};
 ghost use Rattle.ls_theory.specs.declared.no.No.{No};
 ghost use Rattle.ls_infer.specs.Changes.{IsChange, is_kept, most_steps};
 ghost use Rattle.ls_infer.specs.Tables.{standing, AreStates};

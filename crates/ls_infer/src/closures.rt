@@ -1,11 +1,8 @@
 // The lists that make up a table.
 ghost use Rattle.std.specs.Prelude.{◌≡◌, ◌+◌, ◌*◌, ◌<◌, ◌≤◌, ℕ, true, List, map, length, count_by, find, slice_get, IfOk};
 ghost use Rattle.std.specs.List.{list_all, position};
-ghost use Rattle.ls_set.specs.ItemSet.{Items, full, is_within};
-ghost use Rattle.ls_set.specs.Query.{is_good};
-ghost use Rattle.ls_theory.specs.Queries.{block_before, blocks};
-ghost use Rattle.ls_theory.specs.Blocks.{most_sets};
-ghost use Rattle.ls_theory.specs.Families.{closure};
+ghost use Rattle.ls_set.specs.{Items, full, is_good, is_within};
+ghost use Rattle.ls_theory.specs.{block_before, blocks, closure, most_sets};
 ghost use Rattle.ls_query.specs.Blocks.{sets_of};
 ghost use Rattle.ls_infer.specs.Changes.{IsChange, is_stale};
 ghost use Rattle.ls_infer.specs.Tables.{standing, AreStates};

@@ -1,6 +1,6 @@
 // The items that are enough with a closed set for an item.
 ghost use Rattle.std.specs.Prelude.{◌≡◌, ◌+◌, ◌<◌, ◌≤◌, ◌⊎◌, ℕ, true};
-ghost use Rattle.ls_set.specs.ItemSet.{full, has, minus, is_among, IsWithin};
+ghost use Rattle.ls_set.specs.{IsWithin, full, has, is_among, minus};
 ghost use Rattle.ls_infer.specs.Narrowing.{owed};
 ghost use Rattle.ls_infer.specs.Tables.{enough_for, AreStates};
 

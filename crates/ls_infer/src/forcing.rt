@@ -2,9 +2,9 @@
 ghost use Rattle.std.specs.Prelude.{◌≡◌, ◌<◌, ◌&&◌, ℕ, false, not, min, filter, slice_get, option_map};
 ghost use Rattle.std.specs.List.{list_any};
 ghost use Rattle.std.specs.Option.{option_map_or};
-ghost use Rattle.ls_set.specs.ItemSet.{has};
+ghost use Rattle.ls_set.specs.{has};
 ghost use Rattle.ls_set.specs.declared.query.Query.{Query};
-ghost use Rattle.ls_theory.specs.Words.{first_least};
+ghost use Rattle.ls_theory.specs.{first_least};
 ghost use Rattle.ls_infer.specs.Tables.{forces};
 
 use crate::standing_no::StandingNo;

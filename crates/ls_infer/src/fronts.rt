@@ -1,7 +1,7 @@
 // Closures of block sets, each from that of the set without one of its items.
 ghost use Rattle.std.specs.Prelude.{◌≡◌, ◌+◌, ◌<◌, ◌≤◌, ℕ, true, List};
-ghost use Rattle.ls_set.specs.ItemSet.{Items, empty, full, has, with, IsWithin};
-ghost use Rattle.ls_theory.specs.Families.{closure};
+ghost use Rattle.ls_set.specs.{IsWithin, Items, empty, full, has, with};
+ghost use Rattle.ls_theory.specs.{closure};
 ghost use Rattle.ls_infer.specs.Fronts.{IsFront, AreFirst};
 
 use ls_interior::{Interior, Steps, closure};

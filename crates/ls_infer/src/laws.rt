@@ -1,12 +1,10 @@
 // Laws of what a table tells.
 ghost use Rattle.std.specs.Prelude.{◌≡◌, ◌↔◌, ℕ, true, List, filter, Some, option_map};
-ghost use Rattle.ls_set.specs.ItemSet.{Items};
-ghost use Rattle.ls_set.specs.Query.{is_good};
+ghost use Rattle.ls_set.specs.{Items, is_good};
 ghost use Rattle.ls_set.specs.declared.query.Query.{Query};
 ghost use Rattle.ls_theory.specs.declared.no.No.{No};
 ghost use Rattle.ls_theory.specs.declared.known.Known.TheVariants as Known;
-ghost use Rattle.ls_theory.specs.Words.{first_least};
-ghost use Rattle.ls_theory.specs.Forced.{is_forced_yes, is_forced_no, is_open};
+ghost use Rattle.ls_theory.specs.{first_least, is_forced_no, is_forced_yes, is_open};
 ghost use Rattle.ls_laws.specs.Forced.{is_forced_by};
 ghost use Rattle.ls_infer.specs.Tables.{told};
 ghost use Rattle.ls_infer.specs.Forced.{FitsNos, spaces_within};

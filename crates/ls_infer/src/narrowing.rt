@@ -1,6 +1,6 @@
 // What may still be enough, as states tell it.
 ghost use Rattle.std.specs.Prelude.{◌≡◌, ◌+◌, ◌<◌, ◌≤◌, ℕ, true, List};
-ghost use Rattle.ls_set.specs.ItemSet.{Items, full, has, meet, is_among, IsWithin};
+ghost use Rattle.ls_set.specs.{IsWithin, Items, full, has, is_among, meet};
 ghost use Rattle.ls_laws.specs.Families.{IsFamily};
 ghost use Rattle.ls_infer.specs.Narrowing.{owed, IsNarrowed};
 ghost use Rattle.ls_infer.specs.Tables.{AreStates};

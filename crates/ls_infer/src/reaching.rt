@@ -1,8 +1,7 @@
 // What is known of closures of single items, where those of the sets of blocks are kept.
 ghost use Rattle.std.specs.Prelude.{◌≡◌, ◌<◌, ℕ, true, List, map};
-ghost use Rattle.ls_set.specs.ItemSet.{Items, full, has, single, IsWithin};
-ghost use Rattle.ls_theory.specs.Families.{closure};
-ghost use Rattle.ls_theory.specs.Queries.{blocks};
+ghost use Rattle.ls_set.specs.{IsWithin, Items, full, has, single};
+ghost use Rattle.ls_theory.specs.{blocks, closure};
 
 use ls_set::{ItemSet, PLACES};
 

@@ -1,14 +1,9 @@
 // A search for open queries where no closures are kept.
 ghost use Rattle.std.specs.Prelude.{◌≡◌, ◌&&◌, ℕ, not, find};
-ghost use Rattle.ls_set.specs.ItemSet.{has, full};
-ghost use Rattle.ls_set.specs.Query.{is_good};
+ghost use Rattle.ls_set.specs.{full, has, is_good};
 ghost use Rattle.ls_set.specs.declared.query.Query.{Query};
 ghost use Rattle.ls_lists.specs.Lists.{IsIn};
-ghost use Rattle.ls_theory.specs.Queries.{block_before, queries, query_before};
-ghost use Rattle.ls_theory.specs.Interviews.{Interview, nos};
-ghost use Rattle.ls_theory.specs.Compatible.{compatible_sets};
-ghost use Rattle.ls_theory.specs.Fitting.{spaces_of};
-ghost use Rattle.ls_theory.specs.Forced.{is_open};
+ghost use Rattle.ls_theory.specs.{Interview, block_before, compatible_sets, is_open, nos, queries, query_before, spaces_of};
 ghost use Rattle.ls_laws.specs.Forced.{IsSound};
 ghost use Rattle.ls_query.specs.Blocks.{sets_of, queries_of};
 ghost use Rattle.ls_infer.specs.Tables.{table_of};

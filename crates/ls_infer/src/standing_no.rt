@@ -1,10 +1,8 @@
 // What is kept of a standing answer that is No.
 ghost use Rattle.std.specs.Prelude.{◌≡◌, ◌+◌, ◌<◌, ◌≤◌, ◌==◌, ◌&&◌, ◌||◌, ℕ, List, true, false, not, map, filter};
-ghost use Rattle.ls_set.specs.ItemSet.{Items, full, has, is_among, IsWithin};
-ghost use Rattle.ls_set.specs.Query.{is_good};
+ghost use Rattle.ls_set.specs.{IsWithin, Items, full, has, is_among, is_good};
 ghost use Rattle.ls_set.specs.declared.query.Query.{Query};
-ghost use Rattle.ls_theory.specs.Families.{closure};
-ghost use Rattle.ls_theory.specs.Queries.{blocks, breaks};
+ghost use Rattle.ls_theory.specs.{blocks, breaks, closure};
 ghost use Rattle.ls_theory.specs.declared.no.No.{No};
 ghost use Rattle.ls_infer.specs.Changes.{IsChange, can_grow, is_kept, is_reached, most_steps};
 ghost use Rattle.ls_infer.specs.Tables.{enough_for, standing, forces, AreStates};

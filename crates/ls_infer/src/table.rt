@@ -1,9 +1,8 @@
 // Tables of closures.
 ghost use Rattle.std.specs.Prelude.{◌≡◌, ◌+◌, ◌*◌, ◌<◌, ◌≤◌, ◌==◌, ◌++◌, ◌∷◌, true, not, List, [], length, map, filter, count_by, OnOk, IfOk};
 ghost use Rattle.std.specs.List.{list_all};
-ghost use Rattle.ls_set.specs.ItemSet.{Items, is_within};
-ghost use Rattle.ls_set.specs.Query.{is_good};
-ghost use Rattle.ls_theory.specs.Queries.{breaks};
+ghost use Rattle.ls_set.specs.{Items, is_good, is_within};
+ghost use Rattle.ls_theory.specs.{breaks};
 ghost use Rattle.ls_laws.specs.Spans.{left_by};
 ghost use Rattle.ls_laws.specs.Families.{IsFamily};
 ghost use Rattle.ls_query.specs.Blocks.{sets_of};

@@ -1,8 +1,8 @@
 // Witnesses of what is not enough.
 ghost use Rattle.std.specs.Prelude.{◌≡◌, ◌<◌, List, [], true, not, map, filter, IfOk};
 ghost use Rattle.std.specs.List.{list_all};
-ghost use Rattle.ls_set.specs.ItemSet.{Items, is_among};
-ghost use Rattle.ls_theory.specs.Queries.{breaks};
+ghost use Rattle.ls_set.specs.{Items, is_among};
+ghost use Rattle.ls_theory.specs.{breaks};
 ghost use Rattle.ls_infer.specs.Tables.{AreStates};
 
 use crate::breaking::breaks;
@@ -44,7 +44,7 @@ pub struct Witnesses {
 
 impl Model for Witnesses {
     ghost use Rattle.std.specs.Prelude.{List};
-    ghost use Rattle.ls_set.specs.ItemSet.{Items};
+    ghost use Rattle.ls_set.specs.{Items};
 
     ghost Value = { List Items };
 

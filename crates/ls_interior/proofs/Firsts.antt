@@ -4,11 +4,11 @@ use Rattle.std.specs.List.{AllByRecursion}
 use Rattle.std.specs.List.Sorted.{IsPartitionedBy}
 use Rattle.std.proofs.lemmas.Bool.{false_from_ne_true}
 use Rattle.std.proofs.lemmas.List.{take_all}
-use Rattle.ls_set.specs.ItemSet.{Items, empty, is_within, is_among, comes_before, IsInOrder}
+use Rattle.ls_set.specs.{IsInOrder, Items, comes_before, empty, is_among, is_within}
 use Rattle.ls_set.proofs.Sets.{IsWithin-from, is_within-from}
 use Rattle.ls_set.proofs.Members.{among-here, among-there, among-cases, Each-among}
 use Rattle.ls_set.proofs.Order.{differs_first, comes_before-transitive}
-use Rattle.ls_theory.specs.Families.{interior}
+use Rattle.ls_theory.specs.{interior}
 use Rattle.ls_laws.specs.Families.{IsFamily}
 use Rattle.ls_laws.proofs.Interiors.{interior-is}
 

@@ -1,7 +1,7 @@
 -- Interiors that are of use only where they keep certain items.
 use Rattle.std.specs.Prelude.{if◌then◌else◌, List, Option, Some, None}
-use Rattle.ls_set.specs.ItemSet.{Items, is_within}
-use Rattle.ls_theory.specs.Families.{interior}
+use Rattle.ls_set.specs.{Items, is_within}
+use Rattle.ls_theory.specs.{interior}
 
 -- the interior of s where it has all items of keep, or nothing
 abbrev pub interior_keeping : List Items → Items → Items → Option Items

@@ -1,7 +1,7 @@
 -- What contracts see of a family whose sets are listed.
 use Rattle.std.specs.Prelude.{ℕ, List}
 use Rattle.std.specs.Coded.{Coded, prop_coded}
-use Rattle.ls_set.specs.ItemSet.{Items}
+use Rattle.ls_set.specs.{Items}
 use Rattle.ls_laws.specs.Families.{IsFamily, IsFamily-prop}
 
 -- a number of items, and a list of sets that is a family on them

@@ -1,7 +1,7 @@
 // Families that are known by their interiors.
 ghost use Rattle.std.specs.Prelude.{◌≡◌, ℕ, ◌+◌, ◌<◌, ◌≤◌, true, List, IfSome};
-ghost use Rattle.ls_set.specs.ItemSet.{Items, full, without, is_among, IsWithin};
-ghost use Rattle.ls_theory.specs.Families.{interior, closure};
+ghost use Rattle.ls_set.specs.{IsWithin, Items, full, is_among, without};
+ghost use Rattle.ls_theory.specs.{closure, interior};
 ghost use Rattle.ls_laws.specs.Families.{IsFamily};
 ghost use Rattle.ls_interior.specs.Keeping.{interior_keeping};
 

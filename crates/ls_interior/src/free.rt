@@ -35,7 +35,7 @@ impl Free {
 }
 
 impl Inside for Free {
-    ghost use Rattle.ls_set.specs.ItemSet.{subsets};
+    ghost use Rattle.ls_set.specs.{subsets};
     ghost use Rattle.ls_laws.proofs.Families.{subsets-IsFamily};
 
     ghost item_count = { λ f. f };

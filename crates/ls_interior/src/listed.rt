@@ -1,6 +1,6 @@
 // Families whose sets are listed.
 ghost use Rattle.std.specs.Prelude.{◌≡◌, ◌≤◌, find};
-ghost use Rattle.ls_set.specs.ItemSet.{is_within};
+ghost use Rattle.ls_set.specs.{is_within};
 ghost use Rattle.ls_laws.specs.Families.{IsFamily, IsFamily-prop};
 
 use crate::family::Inside;

@@ -1,21 +1,5 @@
 -- Some space fits after each change that is accepted.
-use Rattle.std.proofs.Common.{ℕ, ◌≡◌, Bool, true, false, cond, not, eqb, List, [], ◌∷◌, ◌++◌, map, filter, refl, sym, ap, ◌∙◌, subst}
-use Rattle.std.specs.List.{list_all}
-use Rattle.std.proofs.lemmas.Bool.{and_parts, and_from, not-false}
-use Rattle.ls_lists.proofs.Every.{All-list_all, list_all-All}
-use Rattle.ls_set.specs.ItemSet.{Items, full, is_within}
-use Rattle.ls_set.specs.Query.{is_good}
-use Rattle.ls_set.specs.declared.query.Query.{Query}
-use Rattle.ls_theory.specs.declared.answer.Answer.{Answer}
-use Rattle.ls_theory.specs.Queries.{breaks, breaks_none, some_breaks}
-use Rattle.ls_theory.specs.Starts.{Start, meets}
-use Rattle.ls_theory.specs.Families.{is_space}
-use Rattle.ls_theory.specs.Interviews.{Interview, begun, accepted, retracted, yes_queries, no_queries}
-use Rattle.ls_theory.specs.Compatible.{is_compatible, compat, compatible_sets}
-use Rattle.ls_theory.specs.Fitting.{spaces_of}
-use Rattle.ls_theory.specs.Forced.{is_forced_yes, is_forced_no}
-use Rattle.ls_laws.specs.Spans.{IsPart, left_by}
-use Rattle.ls_laws.specs.Forced.{SomeFits, IsSound}
+use Rattle.ls_laws.proofs.Vocabulary.{◌++◌, ◌∙◌, ◌∷◌, ◌≡◌, All-list_all, Answer, Bool, Interview, IsPart, IsSound, Items, List, Query, SomeFits, Start, ℕ, [], accepted, and_from, and_parts, ap, begun, breaks, breaks_none, compat, compatible_sets, cond, eqb, false, filter, full, is_compatible, is_forced_no, is_forced_yes, is_good, is_space, is_within, left_by, list_all, list_all-All, map, meets, no_queries, not, not-false, refl, retracted, some_breaks, spaces_of, subst, sym, true, yes_queries}
 use Rattle.ls_laws.proofs.Lists.{IsInOrder-filter}
 use Rattle.ls_laws.proofs.Interiors.{space-from}
 use Rattle.ls_laws.proofs.Breaks.{good-from}

@@ -1,28 +1,7 @@
 -- What the search finds known is what the closures tell.
-use Rattle.std.proofs.Common.{ℕ, ◌-◌, ◌<◌, ◌≡◌, ◌↔◌, inl, inr, Bool, true, false, cond, not, ◌&&◌, ◌||◌, max, List, [], ◌∷◌, map, filter, find, Some, None, refl, sym, ap, ap₂, ◌∙◌, subst}
-use Rattle.std.specs.Prelude.{option_map, unwrap_or}
-use Rattle.std.specs.List.{AllByRecursion, list_any, list_all}
+use Rattle.ls_laws.proofs.Vocabulary.{◌&&◌, ◌-◌, ◌<◌, ◌||◌, ◌↔◌, ◌∙◌, ◌∷◌, ◌≡◌, AllByRecursion, Answer, Bool, FitsAnswers, Interview, IsSound, Items, List, No, None, Query, Some, SomeFits, ℕ, [], and_cases, and_parts, ap, ap₂, by, cases_Bool, closure, compatible_sets, cond, false, false_from_ne_true, families, filter, filter_true, find, find-is_none, fits, fitting_spaces, full, has, inl, inr, is_forced_by, is_forced_by_closures, is_forced_no, is_forced_yes, is_good, is_open, is_settled, known, known_by_closures, left_by, list_all, list_any, list_any-map, map, max, next_question, no_queries, nos, not, not-false, not-true, not_from_false, option_map, queries, refl, same_truth, some_breaks, spaces_of, subsets, subsets_from-in_order, subst, sym, true, unwrap_or, yes_queries}
 use Rattle.std.specs.Option.{option_map_or}
-use Rattle.std.proofs.lemmas.Bool.{cases_Bool, and_parts, and_cases, false_from_ne_true, not-true, not-false, not_from_false}
-use Rattle.ls_lists.proofs.Filters.{filter_true}
-use Rattle.ls_lists.proofs.Finds.{find-is_none}
-use Rattle.ls_lists.proofs.Bools.{same_truth}
-use Rattle.ls_lists.proofs.Every.{list_any-map}
-use Rattle.ls_set.specs.ItemSet.{Items, has, full, subsets}
-use Rattle.ls_set.specs.Query.{is_good}
-use Rattle.ls_set.specs.declared.query.Query.{Query}
-use Rattle.ls_set.proofs.Order.{subsets_from-in_order}
-use Rattle.ls_theory.specs.declared.answer.Answer.{Answer}
-use Rattle.ls_theory.specs.declared.no.No.{No}
 use Rattle.ls_theory.specs.declared.known.Known.{Known}
-use Rattle.ls_theory.specs.Queries.{some_breaks, queries}
-use Rattle.ls_theory.specs.Families.{closure, families}
-use Rattle.ls_theory.specs.Interviews.{Interview, yes_queries, no_queries, nos}
-use Rattle.ls_theory.specs.Compatible.{compatible_sets}
-use Rattle.ls_theory.specs.Fitting.{fits, fitting_spaces, spaces_of}
-use Rattle.ls_theory.specs.Forced.{is_forced_yes, is_forced_no, is_open, by, known, next_question, is_settled}
-use Rattle.ls_laws.specs.Spans.{left_by}
-use Rattle.ls_laws.specs.Forced.{SomeFits, IsSound, FitsAnswers, is_forced_by, is_forced_by_closures, known_by_closures}
 use Rattle.ls_laws.proofs.Interiors.{IsUnionFamily}
 use Rattle.ls_laws.proofs.Breaks.{IsGood, good-from}
 use Rattle.ls_laws.proofs.Closures.{has-closure, kept_is}

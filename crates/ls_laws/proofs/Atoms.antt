@@ -1,16 +1,6 @@
 -- Atoms: each item of a member is in an atom at it that lies within the member. So the base spans, and every list of members that spans has it.
-use Rattle.std.proofs.Common.{ℕ, ◌≤◌, ◌≡◌, ◌⊎◌, inl, inr, Bool, true, false, not, ◌&&◌, List, [], ◌∷◌, refl, sym, ap, ◌∙◌, subst, arith, true≢false}
-use Rattle.std.specs.List.{list_any}
-use Rattle.std.proofs.lemmas.Bool.{cases_Bool, cases_lt, and_parts, and_from, not_from_false, not-true, false_from_ne_true}
-use Rattle.ls_lists.proofs.Every.{some_of}
-use Rattle.ls_lists.proofs.Elements.{in-some}
+use Rattle.ls_laws.proofs.Vocabulary.{◌&&◌, ◌∙◌, ◌∷◌, ◌≡◌, ◌≤◌, ◌⊎◌, Bool, Decides-is_same, IsPart, IsWithin, IsWithin-from, Items, List, Spans, ℕ, [], among-cases, among-filter, among-here, among-there, and_from, and_parts, ap, arith, base, cases_Bool, cases_lt, false, false_from_ne_true, has, in-some, inl, inr, is_among, is_atom_at, is_same, is_within, is_within-from, items, len, list_any, not, not-true, not_from_false, refl, some_of, subst, sym, true, true≢false, unions}
 use Rattle.ls_laws.proofs.Listed.{in-items}
-use Rattle.ls_set.specs.ItemSet.{Items, has, is_same, is_within, is_among, items, len, IsWithin}
-use Rattle.ls_set.proofs.Sets.{Decides-is_same, IsWithin-from, is_within-from}
-use Rattle.ls_set.proofs.Members.{among-here, among-there, among-cases, among-filter}
-use Rattle.ls_theory.specs.Families.{unions}
-use Rattle.ls_theory.specs.Bases.{is_atom_at, base}
-use Rattle.ls_laws.specs.Spans.{IsPart, Spans}
 use Rattle.ls_laws.proofs.Lists.{some-among, some-from}
 use Rattle.ls_laws.proofs.Interiors.{has-unions, from-interior, interior-whole}
 use Rattle.ls_laws.proofs.Counts.{as_many}

@@ -1,17 +1,6 @@
 -- What is compatible with a start by the sets of a base.
-use Rattle.std.proofs.Common.{ℕ, ◌≡◌, ◌&&◌, List, [], filter, sym, ap, ◌∙◌}
+use Rattle.ls_laws.proofs.Vocabulary.{◌&&◌, ◌∙◌, ◌≡◌, IsFamily, Items, List, Query, Sets, Start, ℕ, [], ap, base, breaks_none, compat, filter, filter-both, filter_agree, interior, is_compatible, is_same, meets, spanned, subsets, sym}
 use Rattle.std.proofs.Math.Bool.{and-true}
-use Rattle.std.proofs.lemmas.List.Elements.{filter_agree}
-use Rattle.ls_lists.proofs.Filters.{filter-both}
-use Rattle.ls_set.specs.ItemSet.{Items, subsets, is_same}
-use Rattle.ls_set.specs.declared.query.Query.{Query}
-use Rattle.ls_theory.specs.Queries.{breaks_none}
-use Rattle.ls_theory.specs.Starts.{Start, Sets, meets}
-use Rattle.ls_theory.specs.Families.{interior}
-use Rattle.ls_theory.specs.Bases.{base}
-use Rattle.ls_theory.specs.Compatible.{is_compatible, compat}
-use Rattle.ls_laws.specs.Families.{IsFamily}
-use Rattle.ls_laws.specs.Spans.{spanned}
 use Rattle.ls_laws.proofs.Spans.{spanned-base}
 use Rattle.ls_laws.proofs.Families.{family_sets}
 

@@ -1,16 +1,6 @@
 -- Each good query whose A has few enough items is asked in the blocks.
-use Rattle.std.proofs.Common.{ℕ, ◌<◌, ◌≤◌, ◌≡◌, inl, inr, Bool, true, eqb, map, filter, refl, sym, ◌∙◌, arith, true≢false, eq-eqb}
-use Rattle.std.specs.List.{list_any, flat_map}
-use Rattle.std.proofs.lemmas.Bool.{cases_eq}
-use Rattle.ls_lists.proofs.Elements.{in-filter, in-flat_map, in-map, in-some}
-use Rattle.ls_lists.specs.Lists.{IsIn}
+use Rattle.ls_laws.proofs.Vocabulary.{◌<◌, ◌∙◌, ◌≡◌, ◌≤◌, Bool, Decides-is_same, IsIn, Items, Query, ℕ, among-subsets, arith, blocks, cases_eq, empty, eq-eqb, eqb, filter, flat_map, full, in-filter, in-flat_map, in-map, in-some, inl, inr, is_good, is_within, is_within-from, len, list_any, map, numbers_from, queries, refl, subsets, sym, true, true≢false}
 pub use Rattle.ls_laws.proofs.Listed.{in-numbers, numbers-in, in-among, among-in}
-use Rattle.ls_set.specs.ItemSet.{Items, empty, full, is_within, subsets, numbers_from, len}
-use Rattle.ls_set.specs.Query.{is_good}
-use Rattle.ls_set.specs.declared.query.Query.{Query}
-use Rattle.ls_set.proofs.Sets.{Decides-is_same, is_within-from}
-use Rattle.ls_set.proofs.Order.{among-subsets}
-use Rattle.ls_theory.specs.Queries.{blocks, queries}
 use Rattle.ls_laws.proofs.Counts.{len-zero}
 use Rattle.ls_laws.proofs.Breaks.{IsGood, good-to}
 

@@ -1,15 +1,5 @@
 -- What it is to break a query, and what is left without the members that do.
-use Rattle.std.proofs.Common.{ℕ, ◌<◌, ◌≡◌, ◌⊎◌, inl, inr, true, false, not, ◌&&◌, List, [], ◌∷◌, refl, sym, ap, ◌∙◌, true≢false, ltb, ltb-true, lt-ltb}
-use Rattle.std.specs.List.{list_all}
-use Rattle.std.proofs.lemmas.Bool.{and_parts, and_from, false_from_ne_true, not-true, not_from_false, or_cases}
-use Rattle.ls_lists.proofs.Bools.{no_common, none_common}
-use Rattle.ls_set.specs.ItemSet.{Items, has, empty, full, union, meet, is_same, is_within, is_among, IsWithin}
-use Rattle.ls_set.specs.Query.{is_good}
-use Rattle.ls_set.specs.declared.query.Query.{Query}
-use Rattle.ls_set.proofs.Sets.{has-empty, has-union, has-meet, same_set, same_within, union-left, union-right, empty-within, Decides-is_same, IsWithin-from, is_within-from}
-use Rattle.ls_set.proofs.Members.{among-filter}
-use Rattle.ls_theory.specs.Queries.{breaks, breaks_none, some_breaks}
-use Rattle.ls_laws.specs.Spans.{IsPart, left_by}
+use Rattle.ls_laws.proofs.Vocabulary.{◌&&◌, ◌<◌, ◌∙◌, ◌∷◌, ◌≡◌, ◌⊎◌, Decides-is_same, IsPart, IsWithin, IsWithin-from, Items, List, Query, ℕ, [], among-filter, and_from, and_parts, ap, breaks, breaks_none, empty, empty-within, false, false_from_ne_true, full, has, has-empty, has-meet, has-union, inl, inr, is_among, is_good, is_same, is_within, is_within-from, left_by, list_all, lt-ltb, ltb, ltb-true, meet, no_common, none_common, not, not-true, not_from_false, or_cases, refl, same_set, same_within, some_breaks, sym, true, true≢false, union, union-left, union-right}
 use Rattle.ls_laws.proofs.Lists.{some-among, some-from}
 
 -- ---- good queries

@@ -1,13 +1,5 @@
 -- A family is well graded exactly where no member is an atom at two items.
-use Rattle.std.proofs.Common.{ℕ, zero, suc, ◌+◌, ◌≤◌, ◌≡◌, ◌≢◌, inl, inr, true, false, not, ◌&&◌, List, [], ◌∷◌, ◌++◌, length, refl, sym, ap, ap₂, ◌↔◌, ◌∙◌, subst, arith, true≢false, length-append}
-use Rattle.std.proofs.lemmas.Bool.{cases_Bool, cases_eq, and_parts, and_from, not_from_false, not-true, false_from_ne_true}
-use Rattle.std.proofs.lemmas.Bool.Decides.{nat_tests}
-use Rattle.ls_set.specs.ItemSet.{Items, has, empty, union, differing, single, with, without, is_within, is_among, len, IsWithin}
-use Rattle.ls_set.proofs.Sets.{members, same_set, has-empty, IsWithin-from, is_within-from, union-left, union-right, same_within}
-use Rattle.ls_set.proofs.Sizes.{len-within}
-use Rattle.ls_theory.specs.Bases.{is_atom_at, base}
-use Rattle.ls_laws.specs.Walks.{LeadsTo, IsWellGraded}
-use Rattle.ls_laws.specs.Families.{IsUnionClosed}
+use Rattle.ls_laws.proofs.Vocabulary.{◌&&◌, ◌++◌, ◌+◌, ◌↔◌, ◌∙◌, ◌∷◌, ◌≡◌, ◌≢◌, ◌≤◌, IsUnionClosed, IsWellGraded, IsWithin, IsWithin-from, Items, LeadsTo, List, ℕ, [], and_from, and_parts, ap, ap₂, arith, base, cases_Bool, cases_eq, differing, empty, false, false_from_ne_true, has, has-empty, inl, inr, is_among, is_atom_at, is_within, is_within-from, len, len-within, length, length-append, members, nat_tests, not, not-true, not_from_false, refl, same_set, same_within, single, subst, suc, sym, true, true≢false, union, union-left, union-right, with, without, zero}
 use Rattle.ls_laws.proofs.Counts.{len-parts, len-single, len-empty, len-zero, len-one, some_missing, as_many}
 use Rattle.ls_laws.proofs.Atoms.{IsAtom, IsAtom-from, is_atom_at-from, among-base, base-member, fewest_of}
 

@@ -1,12 +1,5 @@
 -- Closures: how they grow with the set and where members go, and what a Yes changes of them.
-use Rattle.std.proofs.Common.{ℕ, ◌≡◌, true, false, not, ◌&&◌, List, sym, ap, ◌∙◌, true≢false}
-use Rattle.std.proofs.lemmas.Bool.{and_parts, and_from, false_from_ne_true, not-true, not_from_false}
-use Rattle.ls_lists.proofs.Bools.{both_out}
-use Rattle.ls_set.specs.ItemSet.{Items, has, full, minus, is_within, IsWithin}
-use Rattle.ls_set.specs.declared.query.Query.{Query}
-use Rattle.ls_set.proofs.Sets.{has-minus, same_set, same_within, minus-within, IsWithin-from, is_within-from}
-use Rattle.ls_theory.specs.Families.{interior, closure}
-use Rattle.ls_laws.specs.Spans.{IsPart, left_by}
+use Rattle.ls_laws.proofs.Vocabulary.{◌&&◌, ◌∙◌, ◌≡◌, IsPart, IsWithin, IsWithin-from, Items, List, Query, ℕ, and_from, and_parts, ap, both_out, closure, false, false_from_ne_true, full, has, has-minus, interior, is_within, is_within-from, left_by, minus, minus-within, not, not-true, not_from_false, same_set, same_within, sym, true, true≢false}
 use Rattle.ls_laws.proofs.Interiors.{IsUnionFamily, from-interior, to-interior, interior-within, interior_grows, interior_again}
 use Rattle.ls_laws.proofs.Breaks.{IsGood, among-left_parts}
 use Rattle.ls_laws.proofs.Closures.{closure_stays}

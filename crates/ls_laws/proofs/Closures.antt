@@ -1,16 +1,5 @@
 -- Closures: what they tell of the queries, of what is left without the members that break one, and of the Nos.
-use Rattle.std.proofs.Common.{ℕ, ◌≡◌, ◌<◌, ◌≢◌, Bool, true, false, not, ◌&&◌, ◌||◌, eqb, List, [], ◌∷◌, refl, sym, ap, ap₂, ◌∙◌, true≢false, eqb-true, eq-eqb, lt-ltb}
-use Rattle.std.specs.List.{list_any}
-use Rattle.std.proofs.lemmas.Bool.{and_parts, and_from, false_from_ne_true, true_from_ne_false, not-true, not_from_false, or_left, or_right}
-use Rattle.ls_lists.proofs.Bools.{not_both_ways, outside, same_truth}
-use Rattle.ls_set.specs.ItemSet.{Items, has, empty, full, with, union, meet, minus, is_same, is_among, is_within, IsWithin}
-use Rattle.ls_set.specs.declared.query.Query.{Query}
-use Rattle.ls_set.proofs.Sets.{has-empty, has-full, has-meet, has-minus, has-with, same_set, IsWithin-from, is_within-from, Decides-is_same}
-use Rattle.ls_set.proofs.Members.{among-here, among-there}
-use Rattle.ls_theory.specs.Families.{interior, closure}
-use Rattle.ls_theory.specs.Queries.{breaks, some_breaks}
-use Rattle.ls_laws.specs.Spans.{IsOn, left_by}
-use Rattle.ls_laws.specs.Forced.{is_forced_by, is_forced_by_closures}
+use Rattle.ls_laws.proofs.Vocabulary.{◌&&◌, ◌<◌, ◌||◌, ◌∙◌, ◌∷◌, ◌≡◌, ◌≢◌, Bool, Decides-is_same, IsOn, IsWithin, IsWithin-from, Items, List, Query, ℕ, [], among-here, among-there, and_from, and_parts, ap, ap₂, breaks, closure, empty, eq-eqb, eqb, eqb-true, false, false_from_ne_true, full, has, has-empty, has-full, has-meet, has-minus, has-with, interior, is_among, is_forced_by, is_forced_by_closures, is_same, is_within, is_within-from, left_by, list_any, lt-ltb, meet, minus, not, not-true, not_both_ways, not_from_false, or_left, or_right, outside, refl, same_set, same_truth, some_breaks, sym, true, true_from_ne_false, true≢false, union, with}
 use Rattle.ls_laws.proofs.Interiors.{IsUnionFamily, filter-IsUnionFamily, has-interior, interior-is, IsInterior-interior}
 use Rattle.ls_laws.proofs.Breaks.{IsGood, Breaks-from, breaks-from, breaks-empty, unbroken-union, some_breaks-here, breaker, among-left_from, among-left_parts}
 

@@ -1,26 +1,7 @@
 -- The compatible sets are a family, whatever the start.
-use Rattle.std.proofs.Common.{ℕ, ◌≡◌, inl, inr, Bool, true, not, ◌&&◌, List, [], ◌∷◌, ◌++◌, refl, sym, ap, ◌∙◌}
-use Rattle.std.specs.Prelude.{slice_index_or}
-use Rattle.std.specs.List.{list_all, list_any}
-use Rattle.std.proofs.lemmas.Bool.{and_parts, and_from, or_cases}
-use Rattle.std.proofs.lemmas.List.Folds.{list_all-append}
-use Rattle.std.proofs.Math.Bool.{and_assoc}
-use Rattle.std.proofs.lemmas.List.Elements.{filter_agree}
-use Rattle.ls_lists.proofs.Every.{list_all-kept, list_all-All}
-use Rattle.ls_lists.proofs.Filters.{filter-both}
-use Rattle.ls_lists.proofs.Elements.{each-in}
+use Rattle.ls_laws.proofs.Vocabulary.{◌&&◌, ◌++◌, ◌∙◌, ◌∷◌, ◌≡◌, Bool, Decides-is_same, IsInOrder, IsWithin, IsWithin-from, Items, List, Query, ℕ, [], among-filter, among-subsets, and-true, and_assoc, and_from, and_parts, ap, bound, breaks, breaks_none, compat, each-in, empty, filter-both, filter_agree, full, has, has-union, inl, inr, interior, is_among, is_compatible, is_good, is_space, is_within, is_within-from, items, left_by, list_all, list_all-All, list_all-append, list_all-kept, list_any, not, numbers_from, or_cases, refl, slice_index_or, subsets, subsets_from-in_order, sym, true, union, union-left, union-right}
 use Rattle.ls_laws.proofs.Listed.{in-items}
-use Rattle.ls_set.specs.ItemSet.{Items, has, empty, full, union, is_within, is_among, subsets, items, bound, numbers_from, IsWithin, IsInOrder}
-use Rattle.ls_set.specs.declared.query.Query.{Query}
-use Rattle.ls_set.proofs.Sets.{has-union, union-left, union-right, and-true, IsWithin-from, is_within-from, Decides-is_same}
-use Rattle.ls_set.proofs.Members.{among-filter}
-use Rattle.ls_set.proofs.Order.{among-subsets, subsets_from-in_order}
-use Rattle.ls_theory.specs.Families.{interior, is_space}
-use Rattle.ls_theory.specs.Queries.{breaks, breaks_none}
 use Rattle.ls_theory.specs.Starts.{Start, Free, Clauses, Sets, meets}
-use Rattle.ls_theory.specs.Compatible.{is_compatible, compat}
-use Rattle.ls_set.specs.Query.{is_good}
-use Rattle.ls_laws.specs.Spans.{left_by}
 use Rattle.ls_laws.proofs.Lists.{some-among, some-from, IsInOrder-filter}
 use Rattle.ls_laws.proofs.Interiors.{IsUnionFamily, subsets-IsUnionFamily, filter-IsUnionFamily, space-from, space-to}
 use Rattle.ls_laws.proofs.Spans.{interior-empty, interior-union}

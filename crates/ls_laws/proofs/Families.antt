@@ -1,13 +1,5 @@
 -- Which lists of sets are families.
-use Rattle.std.proofs.Common.{ℕ, ◌≡◌, Bool, true, List, filter}
-use Rattle.ls_set.specs.ItemSet.{Items, empty, union, subsets, IsInOrder}
-use Rattle.ls_set.specs.declared.query.Query.{Query}
-use Rattle.ls_set.proofs.Order.{subsets_from-in_order}
-use Rattle.ls_theory.specs.Queries.{breaks_none}
-use Rattle.ls_theory.specs.Starts.{Start}
-use Rattle.ls_theory.specs.Compatible.{compat}
-use Rattle.ls_laws.specs.Families.{IsFamily}
-use Rattle.ls_laws.specs.Spans.{spanned}
+use Rattle.ls_laws.proofs.Vocabulary.{◌≡◌, Bool, IsFamily, IsInOrder, Items, List, Query, Start, ℕ, breaks_none, compat, empty, filter, spanned, subsets, subsets_from-in_order, true, union}
 use Rattle.ls_laws.proofs.Lists.{IsInOrder-filter}
 use Rattle.ls_laws.proofs.Interiors.{IsUnionFamily, subsets-IsUnionFamily, filter-IsUnionFamily}
 use Rattle.ls_laws.proofs.Breaks.{breaks_none-empty, breaks_none-union}

@@ -1,13 +1,5 @@
 -- Where some space fits, the compatible sets fit, and what is left decides what is forced No.
-use Rattle.std.proofs.Common.{ℕ, ◌≡◌, ◌↔◌, ◌≤◌, ◌⊎◌, inl, inr, true, false, not, ◌||◌, List, [], ◌∷◌, refl, sym, ◌∙◌, true≢false}
-use Rattle.std.specs.List.{AllByRecursion, list_any}
-use Rattle.std.proofs.lemmas.Bool.{cases_Bool, false_from_ne_true}
-use Rattle.ls_lists.proofs.Every.{each}
-use Rattle.ls_set.specs.ItemSet.{Items, full, len, is_among, IsInOrder}
-use Rattle.ls_set.specs.declared.query.Query.{Query}
-use Rattle.ls_theory.specs.Queries.{breaks, some_breaks}
-use Rattle.ls_laws.specs.Spans.{IsPart, left_by}
-use Rattle.ls_laws.specs.Forced.{is_forced_by}
+use Rattle.ls_laws.proofs.Vocabulary.{◌||◌, ◌↔◌, ◌∙◌, ◌∷◌, ◌≡◌, ◌≤◌, ◌⊎◌, AllByRecursion, IsInOrder, IsPart, Items, List, Query, ℕ, [], breaks, cases_Bool, each, false, false_from_ne_true, full, inl, inr, is_among, is_forced_by, left_by, len, list_any, not, refl, some_breaks, sym, true, true≢false}
 use Rattle.ls_laws.proofs.Lists.{IsInOrder-filter}
 use Rattle.ls_laws.proofs.Interiors.{IsUnionFamily}
 use Rattle.ls_laws.proofs.Breaks.{IsGood, full-unbroken, some_breaks-here, some_breaks-part, among-left_from, among-left_parts, left-unbroken}

@@ -1,15 +1,5 @@
 -- Families, and their interiors: the union of the members within a set is the greatest of them.
-use Rattle.std.proofs.Common.{ℕ, ◌≡◌, Bool, true, ◌&&◌, ◌||◌, List, [], ◌∷◌, filter, refl, sym, ap, ◌∙◌, subst}
-use Rattle.std.specs.List.{list_all, list_any}
-use Rattle.std.proofs.lemmas.Bool.{and_parts, and_from}
-use Rattle.ls_lists.proofs.Bools.{same_truth}
-use Rattle.ls_set.specs.ItemSet.{Items, has, empty, full, union, is_among, is_within, IsWithin, subsets}
-use Rattle.ls_set.proofs.Sets.{has-empty, has-union, same_set, same_within, IsWithin-from, is_within-from, union-within, empty-within}
-use Rattle.ls_set.proofs.Members.{among-here, among-there, among-filter}
-use Rattle.ls_set.proofs.Order.{among-subsets}
-use Rattle.ls_theory.specs.Families.{unions, interior, is_union_closed, is_space}
-use Rattle.ls_laws.specs.Spans.{IsOn, IsPart}
-use Rattle.ls_laws.specs.Families.{IsUnionClosed}
+use Rattle.ls_laws.proofs.Vocabulary.{◌&&◌, ◌||◌, ◌∙◌, ◌∷◌, ◌≡◌, Bool, IsOn, IsPart, IsUnionClosed, IsWithin, IsWithin-from, Items, List, ℕ, [], among-filter, among-here, among-subsets, among-there, and_from, and_parts, ap, empty, empty-within, filter, full, has, has-empty, has-union, interior, is_among, is_space, is_union_closed, is_within, is_within-from, list_all, list_any, refl, same_set, same_truth, same_within, subsets, subst, sym, true, union, union-within, unions}
 use Rattle.ls_laws.proofs.Lists.{every-among, every-from, some-among, some-from, some-filter}
 
 -- ---- families

@@ -1,23 +1,9 @@
 -- The verdict on a space, by atoms.
-use Rattle.std.proofs.Common.{ℕ, ◌≡◌, ◌↔◌, inl, inr, Bool, true, false, cond, not, ◌&&◌, ◌||◌, List, [], ◌∷◌, map, find, Some, None, refl, sym, ap, ◌∙◌, arith, true≢false}
-use Rattle.std.specs.Prelude.{slice_index, unwrap_or}
-use Rattle.std.specs.List.{list_any}
-use Rattle.std.proofs.lemmas.Bool.{cases_Bool, and_parts, and_from, or_parts, or_from, not-true, not-false, false_from_ne_true}
-use Rattle.std.proofs.lemmas.List.Folds.{list_any-append}
-use Rattle.ls_lists.proofs.Finds.{find-nothing, find-some}
-use Rattle.ls_set.specs.ItemSet.{Items, empty, union, is_among}
-use Rattle.ls_set.proofs.Sets.{members, same_set}
-use Rattle.ls_set.proofs.Members.{among-here, among-there, among-cases}
+use Rattle.ls_laws.proofs.Vocabulary.{◌&&◌, ◌||◌, ◌↔◌, ◌∙◌, ◌∷◌, ◌≡◌, Bool, IsPart, IsUnionClosed, Items, List, None, Some, ℕ, [], among-cases, among-here, among-there, and_from, and_parts, ap, arith, atom_items, base, cases_Bool, cond, double_atom, empty, false, false_from_ne_true, find, find-nothing, find-some, graded_verdict, inl, inr, is_among, is_double, is_learning_space, is_space, is_union_closed, is_well_graded, list_any, list_any-append, map, members, not, not-false, not-true, or_from, or_parts, pairs, refl, same_set, slice_index, sym, true, true≢false, unclosed_pair, union, unwrap_or, verdict, with_base}
 use Rattle.ls_theory.specs.declared.verdict.Verdict.{Verdict}
 use Rattle.ls_theory.specs.declared.verdict.Verdict.TheVariants.{NoEmpty, NoFull, NotClosed, NotGraded, Learning}
 use Rattle.ls_theory.specs.declared.verdict.BaseVerdict.TheVariants as base_verdict_of
-use Rattle.ls_theory.specs.Words.{pairs}
-use Rattle.ls_theory.specs.Families.{is_space, is_union_closed}
-use Rattle.ls_theory.specs.Bases.{base, atom_items}
-use Rattle.ls_theory.specs.Verdict.{is_well_graded, is_learning_space, unclosed_pair, double_atom, with_base, graded_verdict, verdict}
-use Rattle.ls_laws.specs.Spans.{IsPart, is_double}
 use Rattle.ls_laws.proofs.Lists.{some-among, some-from}
-use Rattle.ls_laws.specs.Families.{IsUnionClosed}
 use Rattle.ls_laws.proofs.Interiors.{closed-from, closed-to, space-from}
 use Rattle.ls_laws.proofs.WellGraded.{is_well_graded-atoms}
 

@@ -1,11 +1,5 @@
 -- The first number of those in order is the least.
-use Rattle.std.proofs.Common.{ℕ, ◌<◌, ◌≤◌, ◌≡◌, Bool, true, false, cond, not, ◌&&◌, ◌||◌, eqb, leb, List, [], ◌∷◌, map, find, Some, refl, sym, arith, true≢false, eq-eqb}
-use Rattle.std.specs.Prelude.{option_map}
-use Rattle.std.specs.List.{list_any, list_all}
-use Rattle.std.specs.List.Sorted.{IsStrictlyIncreasing}
-use Rattle.std.proofs.lemmas.Bool.{and_from, or_left, or_right, le-leb}
-use Rattle.ls_lists.proofs.Sorted.{tail-increasing}
-use Rattle.ls_theory.specs.declared.no.No.{No}
+use Rattle.ls_laws.proofs.Vocabulary.{◌&&◌, ◌<◌, ◌||◌, ◌∷◌, ◌≡◌, ◌≤◌, Bool, IsStrictlyIncreasing, List, No, Some, ℕ, [], and_from, arith, cond, eq-eqb, eqb, false, find, le-leb, leb, list_all, list_any, map, not, option_map, or_left, or_right, refl, sym, tail-increasing, true, true≢false}
 
 -- each later number is greater
 later : (m : ℕ) (s : No) (ns : List No) → IsStrictlyIncreasing (map (λ a. a.number) (s ∷ ns)) → m ≤ s.number → list_all (λ a. leb m a.number) ns ≡ true

@@ -1,11 +1,5 @@
 -- What the lists of numbers, of a set's items and of sets have.
-use Rattle.std.proofs.Common.{ℕ, zero, suc, ◌+◌, ◌<◌, ◌≤◌, ◌≡◌, inl, inr, true, List, [], ◌∷◌, sym, arith, true≢false}
-use Rattle.std.proofs.lemmas.Bool.{cases_eq}
-use Rattle.ls_lists.specs.Lists.{IsIn}
-use Rattle.ls_lists.proofs.Elements.{in-filter}
-use Rattle.ls_set.specs.ItemSet.{Items, has, items, bound, is_among, numbers_from}
-use Rattle.ls_set.proofs.Members.{among-here, among-there, among-cases}
-use Rattle.ls_set.proofs.Ascending.{bound-has}
+use Rattle.ls_laws.proofs.Vocabulary.{◌+◌, ◌<◌, ◌∷◌, ◌≡◌, ◌≤◌, IsIn, Items, List, ℕ, [], among-cases, among-here, among-there, arith, bound, bound-has, cases_eq, has, in-filter, inl, inr, is_among, items, numbers_from, suc, sym, true, true≢false, zero}
 
 pub in-numbers : (i m k : ℕ) → i ≤ k → k < i + m → IsIn k (numbers_from i m)
 in-numbers i zero k a b = absurd (omega arith)

@@ -1,12 +1,5 @@
 -- Lists of sets: all and some of them, filters, and lists in order.
-use Rattle.std.proofs.Common.{◌&&◌, ◌≡◌, ◌||◌, ap₂, cond, inl, inr, Bool, true, false, List, [], ◌∷◌, filter, find, Some, None, refl, sym, ap, ◌∙◌, subst, true≢false}
-use Rattle.std.specs.List.{AllByRecursion, list_all, list_any}
-use Rattle.std.proofs.lemmas.Bool.{cases_Bool, and_parts, and_from, or_cases, or_left, or_right}
-use Rattle.ls_lists.proofs.Every.{All-filter}
-use Rattle.ls_set.specs.ItemSet.{Items, is_among, IsInOrder, comes_before}
-use Rattle.ls_set.proofs.Members.{among-here, among-there, among-cases, Each-among}
-use Rattle.ls_set.proofs.Order.{comes_before-irreflexive, comes_before-asymmetric}
-use Rattle.ls_laws.specs.Spans.{IsPart}
+use Rattle.ls_laws.proofs.Vocabulary.{◌&&◌, ◌||◌, ◌∙◌, ◌∷◌, ◌≡◌, All-filter, AllByRecursion, Bool, Each-among, IsInOrder, IsPart, Items, List, None, Some, [], among-cases, among-here, among-there, and_from, and_parts, ap, ap₂, cases_Bool, comes_before, comes_before-asymmetric, comes_before-irreflexive, cond, false, filter, find, inl, inr, is_among, list_all, list_any, or_cases, or_left, or_right, refl, subst, sym, true, true≢false}
 
 -- ---- all and some of a list
 

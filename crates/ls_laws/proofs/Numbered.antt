@@ -1,16 +1,5 @@
 -- Answers in order of number.
-use Rattle.std.proofs.Common.{ℕ, ◌+◌, ◌<◌, ◌≤◌, ◌≡◌, Bool, true, false, cond, not, eqb, ltb, List, [], ◌∷◌, ◌++◌, map, filter, refl, sym, ap, subst, arith, ltb-true, lt-ltb}
-use Rattle.std.specs.List.{AllByRecursion, list_all}
-use Rattle.std.specs.List.Sorted.{IsStrictlyIncreasing}
-use Rattle.std.proofs.lemmas.Bool.{and_parts, and_from}
-use Rattle.ls_lists.proofs.Sorted.{increasing-from, rising-from}
-use Rattle.ls_lists.specs.Lists.{IsRising}
-use Rattle.ls_set.specs.declared.query.Query.{Query}
-use Rattle.ls_theory.specs.declared.answer.Answer.{Answer}
-use Rattle.ls_theory.specs.declared.no.No.{No}
-use Rattle.ls_theory.specs.Starts.{Start}
-use Rattle.ls_theory.specs.Interviews.{Interview, begun, accepted, retracted, nos}
-use Rattle.ls_laws.specs.Forced.{IsNumbered}
+use Rattle.ls_laws.proofs.Vocabulary.{◌++◌, ◌+◌, ◌<◌, ◌∷◌, ◌≡◌, ◌≤◌, AllByRecursion, Answer, Bool, Interview, IsNumbered, IsRising, IsStrictlyIncreasing, List, No, Query, Start, ℕ, [], accepted, and_from, and_parts, ap, arith, begun, cond, eqb, false, filter, increasing-from, list_all, lt-ltb, ltb, ltb-true, map, nos, not, refl, retracted, rising-from, subst, sym, true}
 
 abbrev number_of : Answer → ℕ
 number_of a = a.number

@@ -1,11 +1,5 @@
 -- A test that one list in order passes finds it alone among the sublists.
-use Rattle.std.proofs.Common.{◌≡◌, inl, inr, Bool, true, List, [], ◌∷◌, ◌++◌, map, filter, refl, sym, ap, ap₂, ◌∙◌, subst, true≢false}
-use Rattle.std.proofs.lemmas.List.Elements.{filter-append}
-use Rattle.ls_lists.proofs.Filters.{All-none, filter-map}
-use Rattle.ls_set.specs.ItemSet.{Items, is_among, IsInOrder}
-use Rattle.ls_set.proofs.Members.{among-here, among-there, among-cases}
-use Rattle.ls_theory.specs.Words.{sublists}
-use Rattle.ls_laws.specs.Spans.{IsPart}
+use Rattle.ls_laws.proofs.Vocabulary.{◌++◌, ◌∙◌, ◌∷◌, ◌≡◌, All-none, Bool, IsInOrder, IsPart, Items, List, [], among-cases, among-here, among-there, ap, ap₂, filter, filter-append, filter-map, inl, inr, is_among, map, refl, sublists, subst, sym, true, true≢false}
 use Rattle.ls_laws.proofs.Lists.{not_among, tail_part}
 use Rattle.ls_laws.proofs.Search.{IsPart-cons, in_order-cons, past_head, sublists-each}
 

@@ -1,13 +1,5 @@
 -- A projection of a space is a space.
-use Rattle.std.proofs.Common.{ℕ, ◌≡◌, Bool, true, ◌&&◌, List, refl, sym, ap, ap₂, ◌∙◌, arith}
-use Rattle.std.specs.List.{list_any}
-use Rattle.std.proofs.lemmas.Bool.{and_parts, and_from}
-use Rattle.ls_set.specs.ItemSet.{Items, empty, full, union, meet, is_same, is_within, is_among, subsets, IsWithin}
-use Rattle.ls_set.proofs.Sets.{members, same_set, same_within, IsWithin-from, is_within-from, Decides-is_same}
-use Rattle.ls_set.proofs.Members.{among-filter}
-use Rattle.ls_set.proofs.Order.{among-subsets}
-use Rattle.ls_theory.specs.Families.{is_space}
-use Rattle.ls_theory.specs.Projections.{projection}
+use Rattle.ls_laws.proofs.Vocabulary.{◌&&◌, ◌∙◌, ◌≡◌, Bool, Decides-is_same, IsWithin, IsWithin-from, Items, List, ℕ, among-filter, among-subsets, and_from, and_parts, ap, ap₂, arith, empty, full, is_among, is_same, is_space, is_within, is_within-from, list_any, meet, members, projection, refl, same_set, same_within, subsets, sym, true, union}
 use Rattle.ls_laws.proofs.Lists.{some-among, some-from}
 use Rattle.ls_laws.proofs.Interiors.{space-from, space-to}
 

@@ -1,16 +1,6 @@
 -- In a well-graded family a member is the greatest that has no item of its outer fringe, so its fringes tell it.
-use Rattle.std.proofs.Common.{ℕ, ◌≡◌, inl, inr, Bool, true, false, not, cond, ◌&&◌, eqb, List, filter, Some, None, refl, sym, ap, ◌∙◌, arith, true≢false, eq-eqb, lt-ltb, le-ltb, zero-add}
-use Rattle.std.proofs.lemmas.Bool.{cases_Bool, cases_lt, and_parts, and_from, or_right, le-leb}
-use Rattle.ls_lists.proofs.Bools.{absorbed_last}
-use Rattle.ls_lists.proofs.Filters.{filter-both}
-use Rattle.ls_set.specs.ItemSet.{Items, has, full, union, minus, with, without, is_same, is_among, numbers_from, items, bound, set_of}
-use Rattle.ls_set.proofs.Sets.{members, has-minus, has-with, union-right, Decides-is_same}
-use Rattle.ls_set.proofs.Ascending.{has-above}
+use Rattle.ls_laws.proofs.Vocabulary.{◌&&◌, ◌∙◌, ◌≡◌, Bool, Decides-is_same, IsOn, IsWellGraded, Items, List, None, Some, ℕ, absorbed_last, and_from, and_parts, ap, arith, bound, cases_Bool, cases_lt, cond, eq-eqb, eqb, false, filter, filter-both, full, has, has-above, has-minus, has-with, inl, inner_fringe, inr, interior, is_among, is_same, items, le-leb, le-ltb, lt-ltb, members, minus, not, numbers_from, or_right, outer_fringe, refl, set_of, state_of, sym, true, true≢false, union, union-right, with, without, zero-add}
 use Rattle.ls_set.proofs.Cursors.{has-set_of-filter}
-use Rattle.ls_theory.specs.Families.{interior}
-use Rattle.ls_theory.specs.Fringes.{inner_fringe, outer_fringe, state_of}
-use Rattle.ls_laws.specs.Spans.{IsOn}
-use Rattle.ls_laws.specs.Walks.{IsWellGraded}
 use Rattle.ls_laws.proofs.Lists.{find-none, find-one}
 use Rattle.ls_laws.proofs.Interiors.{IsUnionFamily, IsInterior-interior, interior-is}
 use Rattle.ls_laws.proofs.Counts.{some_missing}

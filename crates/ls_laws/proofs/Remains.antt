@@ -1,16 +1,6 @@
 -- The sets that a base leaves after a Yes span what remains.
-use Rattle.std.proofs.Common.{ℕ, ◌≡◌, inl, inr, true, false, not, ◌&&◌, List, [], ◌∷◌, map, filter, refl, sym, ap, ◌∙◌, subst, true≢false}
-use Rattle.std.proofs.lemmas.Bool.{cases_Bool, or_cases, or_left, or_right, and_parts, and_from, not_from_false, not-true, false_from_ne_true}
-use Rattle.ls_set.specs.ItemSet.{Items, has, empty, union, meet, is_same, is_among, IsInOrder}
-use Rattle.ls_set.proofs.Sets.{has-meet, has-empty, union-left, union-right, union-within, Decides-is_same}
-use Rattle.ls_set.proofs.Members.{among-here, among-there, among-cases, among-append, among-filter}
-use Rattle.ls_set.specs.declared.query.Query.{Query}
-use Rattle.ls_theory.specs.Queries.{breaks}
-use Rattle.ls_theory.specs.Families.{interior}
-use Rattle.ls_theory.specs.Bases.{base}
-use Rattle.ls_laws.specs.Spans.{IsPart, Spans, needed, left_by, touches, joins, after_yes}
+use Rattle.ls_laws.proofs.Vocabulary.{◌&&◌, ◌∙◌, ◌∷◌, ◌≡◌, Decides-is_same, IsInOrder, IsPart, IsUnionClosed, Items, List, Query, Spans, ℕ, [], after_yes, among-append, among-cases, among-filter, among-here, among-there, and_from, and_parts, ap, base, breaks, cases_Bool, empty, false, false_from_ne_true, filter, has, has-empty, has-meet, inl, inr, interior, is_among, is_same, joins, left_by, map, meet, needed, not, not-true, not_from_false, or_cases, or_left, or_right, refl, subst, sym, touches, true, true≢false, union, union-left, union-right, union-within}
 use Rattle.ls_laws.proofs.Lists.{IsInOrder-filter}
-use Rattle.ls_laws.specs.Families.{IsUnionClosed}
 use Rattle.ls_laws.proofs.Interiors.{from-interior, interior-whole}
 use Rattle.ls_laws.proofs.Counts.{some_item}
 use Rattle.ls_laws.proofs.Atoms.{among-base, base-member, atom_within}

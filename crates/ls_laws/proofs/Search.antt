@@ -1,21 +1,5 @@
 -- The families on n items are the lists in order of sets of those items, and the search through them finds each that fits.
-use Rattle.std.proofs.Common.{ℕ, ◌≡◌, ◌≢◌, ◌↔◌, inl, inr, Bool, true, false, not, ◌&&◌, ◌||◌, List, [], ◌∷◌, map, refl, sym, ap, ◌∙◌, subst, true≢false}
-use Rattle.std.specs.List.{AllByRecursion, list_all}
-use Rattle.std.proofs.lemmas.List.Folds.{list_all-append, list_all-map}
-use Rattle.std.proofs.lemmas.Bool.{and_parts, and_from}
-use Rattle.ls_lists.proofs.Every.{All-append, All-kept, All-map, All-to, list_all-filter, All-list_all, list_all-All}
-use Rattle.ls_set.specs.ItemSet.{Items, full, is_within, is_among, IsInOrder, comes_before, subsets}
-use Rattle.ls_set.specs.declared.query.Query.{Query}
-use Rattle.ls_set.proofs.Sets.{IsWithin-from, is_within-from}
-use Rattle.ls_set.proofs.Members.{among-here, among-there, among-cases, Each-among}
-use Rattle.ls_set.proofs.Order.{among-subsets, subsets_from-in_order, comes_before-asymmetric}
-use Rattle.ls_theory.specs.Words.{sublists}
-use Rattle.ls_theory.specs.Queries.{some_breaks}
-use Rattle.ls_theory.specs.Starts.{Start}
-use Rattle.ls_theory.specs.Families.{families, is_space}
-use Rattle.ls_theory.specs.Compatible.{is_compatible, compat}
-use Rattle.ls_theory.specs.Fitting.{fits, fitting_spaces}
-use Rattle.ls_laws.specs.Spans.{IsOn, IsPart}
+use Rattle.ls_laws.proofs.Vocabulary.{◌&&◌, ◌||◌, ◌↔◌, ◌∙◌, ◌∷◌, ◌≡◌, ◌≢◌, All-append, All-kept, All-list_all, All-map, All-to, AllByRecursion, Bool, Each-among, IsInOrder, IsOn, IsPart, IsWithin-from, Items, List, Query, Start, ℕ, [], among-cases, among-here, among-subsets, among-there, and_from, and_parts, ap, comes_before, comes_before-asymmetric, compat, false, families, fits, fitting_spaces, full, inl, inr, is_among, is_compatible, is_space, is_within, is_within-from, list_all, list_all-All, list_all-append, list_all-filter, list_all-map, map, not, refl, some_breaks, sublists, subsets, subsets_from-in_order, subst, sym, true, true≢false}
 use Rattle.ls_laws.proofs.Lists.{every-among, every-from, not_among, tail_part}
 use Rattle.ls_laws.proofs.Interiors.{space-from, space-to, family-from}
 use Rattle.ls_laws.proofs.Compat.{among-compat}

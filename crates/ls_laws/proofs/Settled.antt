@@ -1,13 +1,5 @@
 -- Where every good query is forced, only the compatible sets fit.
-use Rattle.std.proofs.Common.{ℕ, zero, suc, ◌-◌, ◌<◌, ◌≤◌, ◌≡◌, ◌↔◌, inl, inr, Bool, true, false, cond, max, List, ◌∷◌, filter, length, refl, sym, ap, ◌∙◌, subst, true≢false, ltb-true, arith}
-use Rattle.std.proofs.lemmas.Bool.{cases_Bool, false_from_ne_true}
-use Rattle.ls_lists.proofs.Bools.{back_in, left_out}
-use Rattle.ls_set.specs.ItemSet.{Items, has, bound, items, len, numbers_from, empty, full, minus, is_same, is_among, IsWithin, IsInOrder}
-use Rattle.ls_set.specs.declared.query.Query.{Query}
-use Rattle.ls_set.proofs.Sets.{has-empty, has-full, has-minus, same_within, minus-within, Decides-is_same, is_within-from}
-use Rattle.ls_set.proofs.Sizes.{len-less}
-use Rattle.ls_theory.specs.Families.{interior}
-use Rattle.ls_theory.specs.Queries.{breaks}
+use Rattle.ls_laws.proofs.Vocabulary.{◌-◌, ◌<◌, ◌↔◌, ◌∙◌, ◌∷◌, ◌≡◌, ◌≤◌, Bool, Decides-is_same, IsInOrder, IsWithin, Items, List, Query, ℕ, ap, arith, back_in, bound, breaks, cases_Bool, cond, empty, false, false_from_ne_true, filter, full, has, has-empty, has-full, has-minus, inl, inr, interior, is_among, is_same, is_within-from, items, left_out, len, len-less, length, ltb-true, max, minus, minus-within, numbers_from, refl, same_within, subst, suc, sym, true, true≢false, zero}
 use Rattle.ls_laws.proofs.Lists.{same_members}
 use Rattle.ls_laws.proofs.Interiors.{IsUnionFamily, interior-greatest, is_within-interior}
 use Rattle.ls_laws.proofs.Breaks.{IsGood, Breaks-from, breaks-from, some_breaks-here, breaker}

@@ -1,14 +1,5 @@
 -- The base of a family, told by any list of its members that spans it.
-use Rattle.std.proofs.Common.{ℕ, ◌≡◌, inl, inr, true, not, ◌&&◌, List, filter, sym, ap, ◌∙◌, subst, true≢false}
-use Rattle.std.proofs.lemmas.Bool.{cases_Bool, or_cases, and_parts, and_from, not_from_false, not-true, false_from_ne_true}
-use Rattle.ls_lists.proofs.Bools.{same_truth}
-use Rattle.ls_set.specs.ItemSet.{Items, has, empty, full, union, is_same, is_within, is_among, subsets, IsInOrder}
-use Rattle.ls_set.proofs.Sets.{same_within, has-union, empty-within, union-left, union-right, Decides-is_same, is_within-from}
-use Rattle.ls_set.proofs.Members.{among-filter}
-use Rattle.ls_set.proofs.Order.{among-subsets, subsets_from-in_order}
-use Rattle.ls_theory.specs.Families.{interior}
-use Rattle.ls_theory.specs.Bases.{base}
-use Rattle.ls_laws.specs.Spans.{IsOn, IsPart, Spans, is_proper, needed, spanned}
+use Rattle.ls_laws.proofs.Vocabulary.{◌&&◌, ◌∙◌, ◌≡◌, Decides-is_same, IsInOrder, IsOn, IsPart, Items, List, Spans, ℕ, among-filter, among-subsets, and_from, and_parts, ap, base, cases_Bool, empty, empty-within, false_from_ne_true, filter, full, has, has-union, inl, inr, interior, is_among, is_proper, is_same, is_within, is_within-from, needed, not, not-true, not_from_false, or_cases, same_truth, same_within, spanned, subsets, subsets_from-in_order, subst, sym, true, true≢false, union, union-left, union-right}
 use Rattle.ls_laws.proofs.Lists.{IsInOrder-filter, same_members}
 use Rattle.ls_laws.proofs.Interiors.{IsUnionFamily, subsets-IsUnionFamily, filter-IsUnionFamily, from-interior, interior-whole, interior-member, interior-among}
 use Rattle.ls_laws.proofs.Atoms.{among-base, base-atom, base-member, base-spans, base-least, atom_within}

@@ -1,17 +1,12 @@
 -- Masses are sums of weights, and a reply multiplies each weight.
-use Rattle.std.proofs.Common.{ℕ, ◌+◌, ◌*◌, ◌≡◌, ◌≢◌, ◌↔◌, inl, inr, Bool, true, false, cond, not, eqb, List, [], ◌∷◌, ◌++◌, filter, length, refl, sym, ap, ◌∙◌, arith, eqb-true, eq-eqb, ne_eqb}
-use Rattle.std.specs.Prelude.{sum_by}
-use Rattle.std.proofs.lemmas.Bool.{cases_Bool}
+use Rattle.ls_laws.proofs.Vocabulary.{◌*◌, ◌++◌, ◌+◌, ◌↔◌, ◌∙◌, ◌∷◌, ◌≡◌, ◌≢◌, Bool, Items, List, ℕ, [], ap, arith, asked, cases_Bool, cond, eq-eqb, eqb, eqb-true, factor, false, filter, half_split, has, has_share, inl, inr, length, mass, ne_eqb, not, refl, sum_by, sym, total, true, weight}
 use Rattle.std.proofs.lemmas.List.Sums.{sum_by-cons}
 use Rattle.std.proofs.lemmas.List.Filters.{sum_by-filter_both}
-use Rattle.ls_set.specs.ItemSet.{Items, has}
 use Rattle.ls_theory.specs.declared.ratio.Ratios.{Ratios}
 use Rattle.ls_theory.specs.declared.reply.Reply.{Reply}
 use Rattle.ls_theory.specs.declared.asked.Asked.TheVariants.{Item, Over}
 use Rattle.ls_theory.specs.declared.reason.Reason.TheVariants.{Share, Budget}
-use Rattle.ls_theory.specs.Weights.{weight, factor, total, mass}
 use Rattle.ls_theory.specs.Settings.{Settings}
-use Rattle.ls_theory.specs.Assessment.{asked, has_share, half_split}
 
 -- ---- masses
 

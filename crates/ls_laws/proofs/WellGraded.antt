@@ -1,20 +1,6 @@
 -- The search for sequences finds those that there are, and atoms at two items are what it fails on.
-use Rattle.std.proofs.Common.{ℕ, zero, suc, ◌+◌, ◌<◌, ◌≤◌, ◌≡◌, ◌≢◌, ◌↔◌, inl, inr, Bool, true, not, ◌&&◌, eqb, ltb, List, [], ◌∷◌, length, filter, refl, sym, ap, ◌∙◌, subst, arith, true≢false, eq-eqb, eqb-true, lt-ltb, ltb-true}
-use Rattle.std.specs.List.{list_all, list_any}
-use Rattle.std.proofs.lemmas.Bool.{cases_Bool, cases_lt, cases_eq, and_parts, and_from, not_from_false, not-true, false_from_ne_true}
-use Rattle.ls_lists.proofs.Filters.{filter-both}
-use Rattle.ls_lists.proofs.Bools.{same_truth}
-use Rattle.ls_set.specs.ItemSet.{Items, has, empty, full, differing, len, is_same, is_within, is_among, numbers_from, items, bound}
-use Rattle.ls_set.proofs.Sets.{Decides-is_same}
-use Rattle.ls_set.proofs.Ascending.{bound-has}
-use Rattle.ls_set.proofs.Members.{among-filter}
-use Rattle.ls_theory.specs.Families.{is_space}
-use Rattle.ls_theory.specs.Bases.{is_atom_at, base}
-use Rattle.ls_theory.specs.Verdict.{neighbours, is_joined, is_well_graded, is_learning_space}
-use Rattle.ls_laws.specs.Spans.{IsOn, is_double}
-use Rattle.ls_laws.specs.Walks.{LeadsTo, IsWellGraded}
+use Rattle.ls_laws.proofs.Vocabulary.{◌&&◌, ◌+◌, ◌<◌, ◌↔◌, ◌∙◌, ◌∷◌, ◌≡◌, ◌≢◌, ◌≤◌, Bool, Decides-is_same, IsOn, IsUnionClosed, IsWellGraded, Items, LeadsTo, List, ℕ, [], among-filter, and_from, and_parts, ap, arith, base, bound, bound-has, cases_Bool, cases_eq, cases_lt, differing, empty, eq-eqb, eqb, eqb-true, false_from_ne_true, filter, filter-both, full, has, inl, inr, is_among, is_atom_at, is_double, is_joined, is_learning_space, is_same, is_space, is_well_graded, is_within, items, len, length, list_all, list_any, lt-ltb, ltb, ltb-true, neighbours, not, not-true, not_from_false, numbers_from, refl, same_truth, subst, suc, sym, true, true≢false, zero}
 use Rattle.ls_laws.proofs.Lists.{every-among, every-from, some-among, some-from}
-use Rattle.ls_laws.specs.Families.{IsUnionClosed}
 use Rattle.ls_laws.proofs.Interiors.{IsUnionFamily, family-from}
 use Rattle.ls_laws.proofs.Climbs.{graded_by_atoms}
 

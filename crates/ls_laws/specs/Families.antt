@@ -1,6 +1,6 @@
 -- Families: lists of sets in the order, closed under union.
 use Rattle.std.specs.Prelude.{ℕ, ◌≡◌, true, List}
-use Rattle.ls_set.specs.ItemSet.{Items, empty, union, is_among, IsInOrder, IsInOrder-prop}
+use Rattle.ls_set.specs.{IsInOrder, IsInOrder-prop, Items, empty, is_among, union}
 use Rattle.ls_laws.specs.Spans.{IsOn}
 use mathlib.Core.Bool.{Bool-set}
 

@@ -3,15 +3,10 @@ use Rattle.std.specs.Prelude.{ℕ, ◌≡◌, ◌≢◌, Bool, true, not, ◌&&�
 use Rattle.std.specs.List.{list_all}
 use Rattle.std.specs.List.Sorted.{IsStrictlyIncreasing}
 use Rattle.std.specs.Option.{option_map_or}
-use Rattle.ls_set.specs.ItemSet.{Items, has, full, with, is_within, IsInOrder}
-use Rattle.ls_set.specs.Query.{is_good}
+use Rattle.ls_set.specs.{IsInOrder, Items, full, has, is_good, is_within, with}
 use Rattle.ls_set.specs.declared.query.Query.{Query}
 use Rattle.ls_theory.specs.declared.known.Known.{Known}
-use Rattle.ls_theory.specs.Queries.{some_breaks}
-use Rattle.ls_theory.specs.Families.{closure}
-use Rattle.ls_theory.specs.Interviews.{Interview, yes_queries, no_queries, nos}
-use Rattle.ls_theory.specs.Compatible.{compatible_sets}
-use Rattle.ls_theory.specs.Fitting.{fits, spaces_of}
+use Rattle.ls_theory.specs.{Interview, closure, compatible_sets, fits, no_queries, nos, some_breaks, spaces_of, yes_queries}
 use Rattle.ls_laws.specs.Spans.{IsOn, left_by}
 
 -- some space fits the answers

@@ -1,10 +1,8 @@
 -- What a list of sets spans, and the sets that a base leaves after a Yes.
 use Rattle.std.specs.Prelude.{ℕ, ◌≡◌, Bool, true, not, ◌&&◌, nat_lt, List, [], ◌∷◌, ◌++◌, map, filter, length}
-use Rattle.ls_set.specs.ItemSet.{Items, empty, full, union, meet, is_same, is_within, is_among, subsets, IsWithin}
+use Rattle.ls_set.specs.{IsWithin, Items, empty, full, is_among, is_same, is_within, meet, subsets, union}
 use Rattle.ls_set.specs.declared.query.Query.{Query}
-use Rattle.ls_theory.specs.Queries.{breaks}
-use Rattle.ls_theory.specs.Families.{interior}
-use Rattle.ls_theory.specs.Bases.{atom_items}
+use Rattle.ls_theory.specs.{atom_items, breaks, interior}
 
 -- each set of the list has items below n alone
 abbrev pub IsOn : ℕ → List Items → Type 0

@@ -1,6 +1,6 @@
 -- Sequences of members, by which a family is well graded. (Well-gradedness, as a relation.)
 use Rattle.std.specs.Prelude.{◌≡◌, true, List, [], ◌∷◌, length}
-use Rattle.ls_set.specs.ItemSet.{Items, differing, len, is_among}
+use Rattle.ls_set.specs.{Items, differing, is_among, len}
 
 -- From k through the sets of the list to l: each of them is a member, and differs from the one before it in exactly one item.
 abbrev pub LeadsTo : List Items → Items → List Items → Items → Type 0

@@ -1,13 +1,12 @@
 // Laws of weights, and of when an assessment is over.
 ghost use Rattle.std.specs.Prelude.{◌≡◌, ◌≢◌, ◌↔◌, ◌+◌, ◌*◌, ℕ, true, false, not, if◌then◌else◌, List, [], ◌∷◌, ◌++◌, filter, length, sum_by};
-ghost use Rattle.ls_set.specs.ItemSet.{Items, has};
+ghost use Rattle.ls_set.specs.{Items, has};
 ghost use Rattle.ls_theory.specs.declared.ratio.Ratios.{Ratios};
 ghost use Rattle.ls_theory.specs.declared.reply.Reply.{Reply};
 ghost use Rattle.ls_theory.specs.declared.asked.Asked.TheVariants.{Item, Over};
 ghost use Rattle.ls_theory.specs.declared.reason.Reason.TheVariants.{Share, Budget};
-ghost use Rattle.ls_theory.specs.Weights.{weight, factor, total, mass};
+ghost use Rattle.ls_theory.specs.{asked, factor, half_split, has_share, mass, total, weight};
 ghost use Rattle.ls_theory.specs.Settings.{Settings};
-ghost use Rattle.ls_theory.specs.Assessment.{asked, has_share, half_split};
 
 /// The mass of an item is the sum of the weights of the members with it, and with the weights of
 /// the others it makes the total; a further reply multiplies each weight by its factor.

@@ -1,12 +1,8 @@
 // Laws of bases, and of what lists of sets span.
 ghost use Rattle.std.specs.Prelude.{◌≡◌, ℕ, true, List, [], filter};
-ghost use Rattle.ls_set.specs.ItemSet.{Items, full, is_among, IsInOrder};
+ghost use Rattle.ls_set.specs.{IsInOrder, Items, full, is_among};
 ghost use Rattle.ls_set.specs.declared.query.Query.{Query};
-ghost use Rattle.ls_theory.specs.Queries.{breaks_none};
-ghost use Rattle.ls_theory.specs.Families.{unions, is_union_closed, is_space};
-ghost use Rattle.ls_theory.specs.Starts.{Sets};
-ghost use Rattle.ls_theory.specs.Bases.{base};
-ghost use Rattle.ls_theory.specs.Compatible.{compat};
+ghost use Rattle.ls_theory.specs.{Sets, base, breaks_none, compat, is_space, is_union_closed, unions};
 ghost use Rattle.ls_laws.specs.Families.{IsFamily};
 ghost use Rattle.ls_laws.specs.Spans.{IsOn, IsPart, Spans, needed, spanned, left_by, after_yes};
 

@@ -1,14 +1,8 @@
 // Laws of what answers and retractions change.
 ghost use Rattle.std.specs.Prelude.{◌≡◌, ℕ, Bool, true, false, not, ◌&&◌, List, []};
-ghost use Rattle.ls_set.specs.ItemSet.{Items, full, has, is_within};
-ghost use Rattle.ls_set.specs.Query.{is_good};
+ghost use Rattle.ls_set.specs.{Items, full, has, is_good, is_within};
 ghost use Rattle.ls_set.specs.declared.query.Query.{Query};
-ghost use Rattle.ls_theory.specs.Starts.{Start};
-ghost use Rattle.ls_theory.specs.Families.{closure, is_space};
-ghost use Rattle.ls_theory.specs.Interviews.{Interview, begun, accepted, retracted};
-ghost use Rattle.ls_theory.specs.Compatible.{compat, compatible_sets};
-ghost use Rattle.ls_theory.specs.Fitting.{spaces_of};
-ghost use Rattle.ls_theory.specs.Forced.{is_forced_yes, is_forced_no};
+ghost use Rattle.ls_theory.specs.{Interview, Start, accepted, begun, closure, compat, compatible_sets, is_forced_no, is_forced_yes, is_space, retracted, spaces_of};
 ghost use Rattle.ls_laws.specs.Spans.{IsOn, IsPart, left_by};
 ghost use Rattle.ls_laws.specs.Forced.{IsSound, IsNumbered};
 

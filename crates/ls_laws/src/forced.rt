@@ -2,17 +2,11 @@
 ghost use Rattle.std.specs.Prelude.{◌≡◌, ◌<◌, ◌-◌, ◌↔◌, ℕ, true, false, not, ◌&&◌, ◌||◌, ◌==◌, nat_le, max, List, [], ◌∷◌, map, find, Some, None, option_map};
 ghost use Rattle.std.specs.List.{list_any, list_all};
 ghost use Rattle.std.specs.List.Sorted.{IsStrictlyIncreasing};
-ghost use Rattle.ls_set.specs.ItemSet.{Items, full, has};
-ghost use Rattle.ls_set.specs.Query.{is_good};
+ghost use Rattle.ls_set.specs.{Items, full, has, is_good};
 ghost use Rattle.ls_set.specs.declared.query.Query.{Query};
 ghost use Rattle.ls_theory.specs.declared.no.No.{No};
 ghost use Rattle.ls_theory.specs.declared.known.Known.TheVariants as Known;
-ghost use Rattle.ls_theory.specs.Queries.{some_breaks};
-ghost use Rattle.ls_theory.specs.Families.{closure, is_space};
-ghost use Rattle.ls_theory.specs.Interviews.{Interview, no_queries, nos};
-ghost use Rattle.ls_theory.specs.Compatible.{compatible_sets};
-ghost use Rattle.ls_theory.specs.Fitting.{spaces_of};
-ghost use Rattle.ls_theory.specs.Forced.{is_forced_yes, is_forced_no, by, known, next_question, is_settled};
+ghost use Rattle.ls_theory.specs.{Interview, by, closure, compatible_sets, is_forced_no, is_forced_yes, is_settled, is_space, known, next_question, no_queries, nos, some_breaks, spaces_of};
 ghost use Rattle.ls_laws.specs.Spans.{IsOn, left_by};
 ghost use Rattle.ls_laws.specs.Forced.{SomeFits, IsSound, IsNumbered, FitsAnswers, is_forced_by, is_forced_by_closures, known_by_closures};
 

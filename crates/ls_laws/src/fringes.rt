@@ -1,9 +1,7 @@
 // Laws of fringes.
 ghost use Rattle.std.specs.Prelude.{◌≡◌, ℕ, true, false, not, ◌&&◌, if◌then◌else◌, List, Some, None};
-ghost use Rattle.ls_set.specs.ItemSet.{Items, full, has, with, without, minus, is_same, is_among};
-ghost use Rattle.ls_theory.specs.Families.{interior};
-ghost use Rattle.ls_theory.specs.Verdict.{is_learning_space};
-ghost use Rattle.ls_theory.specs.Fringes.{inner_fringe, outer_fringe, state_of};
+ghost use Rattle.ls_set.specs.{Items, full, has, is_among, is_same, minus, with, without};
+ghost use Rattle.ls_theory.specs.{inner_fringe, interior, is_learning_space, outer_fringe, state_of};
 ghost use Rattle.ls_laws.specs.Spans.{IsOn};
 
 /// Which items the fringes of a set have.

@@ -1,7 +1,7 @@
 // Laws of well-graded families, and of the verdict.
 ghost use Rattle.std.specs.Prelude.{◌≡◌, ◌↔◌, ℕ, true, not, if◌then◌else◌, List, slice_index, None};
 ghost use Rattle.std.specs.List.{list_any};
-ghost use Rattle.ls_set.specs.ItemSet.{Items, is_among};
+ghost use Rattle.ls_set.specs.{Items, is_among};
 ghost use Rattle.ls_theory.specs.declared.verdict.Verdict.TheVariants.{NotGraded, Learning};
 ghost use Rattle.ls_theory.specs.Families.{is_union_closed, is_space};
 ghost use Rattle.ls_theory.specs.Bases.{base, is_atom_at, atom_items};

@@ -4,11 +4,7 @@ ghost use Rattle.std.specs.List.{list_all};
 ghost use Rattle.ls_set.specs.ItemSet.{Items, empty, full, meet, is_within, is_among, IsInOrder, IsWithin};
 ghost use Rattle.ls_set.specs.Query.{is_good};
 ghost use Rattle.ls_set.specs.declared.query.Query.{Query};
-ghost use Rattle.ls_theory.specs.Starts.{Start, Free};
-ghost use Rattle.ls_theory.specs.Families.{interior, is_union_closed, is_space};
-ghost use Rattle.ls_theory.specs.Interviews.{Interview};
-ghost use Rattle.ls_theory.specs.Compatible.{compat, compatible_sets};
-ghost use Rattle.ls_theory.specs.Projections.{projection};
+ghost use Rattle.ls_theory.specs.{Free, Interview, Start, compat, compatible_sets, interior, is_space, is_union_closed, projection};
 ghost use Rattle.ls_laws.specs.Spans.{IsOn, left_by};
 ghost use Rattle.ls_laws.specs.Forced.{SomeFits};
 

@@ -1,23 +1,12 @@
 -- No line has two forms.
-use Rattle.std.proofs.Common.{ℕ, zero, suc, ◌≡◌, refl, sym, ap, subst, ◌∙◌, Bool, true, false, cond, ◌&&◌, List, [], ◌∷◌, bytes_eq, Some}
-use Rattle.std.specs.Cmp.Lexicographic.{same_text}
+use Rattle.ls_lines.proofs.Vocabulary.{◌&&◌, ◌∙◌, ◌∷◌, ◌≡◌, Bool, Fixed, Form, IsLine, Keyword, Kind, List, Many, One, Part, Some, Text, ℕ, [], and_parts, ap, bytes_eq, cond, done, false, fixed, forms, no_more, none-some, one, one_more, parts, refl, same_Some, same_text, spelling, subst, suc, sym, true, zero}
 use Rattle.std.specs.List.{filter, list_all, slice_get}
-use Rattle.std.proofs.lemmas.Option.{none-some, same_Some}
-use Rattle.std.proofs.lemmas.Bool.{and_parts}
-use Rattle.ls_lines.specs.Lines.{Text}
-use Rattle.ls_lines.specs.Forms.{spelling, parts, forms}
-use Rattle.ls_lines.specs.Grammar.{IsLine, done, fixed, one, no_more, one_more}
-use Rattle.ls_lines.specs.declared.kind.Kind.{Kind}
-use Rattle.ls_lines.specs.declared.keyword.Keyword.{Keyword}
-use Rattle.ls_lines.specs.declared.form.Form.{Form}
 use Rattle.ls_lines.specs.declared.form.Form.TheVariants as form
 use Rattle.ls_lines.specs.declared.setting_form.SettingForm.TheVariants as setting
 use Rattle.ls_lines.specs.declared.interview_form.InterviewForm.TheVariants as interview
 use Rattle.ls_lines.specs.declared.listing_form.ListingForm.TheVariants as listing
 use Rattle.ls_lines.specs.declared.structure_form.StructureForm.TheVariants as structure
 use Rattle.ls_lines.specs.declared.pupil_form.PupilForm.TheVariants as pupil
-use Rattle.ls_lines.specs.declared.part.Part.{Part}
-use Rattle.ls_lines.specs.declared.part.Part.TheVariants.{Fixed, One, Many}
 
 -- whether the two may have a line in common: their fixed words agree as far as no `Many` stands before, and so do their lengths
 abbrev clash : List Part → List Part → Bool

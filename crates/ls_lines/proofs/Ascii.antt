@@ -1,22 +1,8 @@
 -- The words of a command are ASCII.
-use Rattle.std.proofs.Common.{ℕ, suc, ◌+◌, ◌<◌, ◌≤◌, ◌≡◌, ◌⊎◌, inl, inr, sym, subst, arith, true, false, cond, nat_lt, List, [], ◌∷◌, ◌++◌, length, take, Some, refl}
+use Rattle.ls_lines.proofs.Vocabulary.{◌++◌, ◌+◌, ◌<◌, ◌∷◌, ◌≡◌, ◌≤◌, ◌⊎◌, Fixed, IsAscii, Keyword, Kind, List, Many, One, Part, Some, Text, ℕ, [], arith, cond, cond_some, false, fits, front, inl, inr, is_cursor_byte, is_of, length, nat_lt, nat_tests, none-some, prefix_len, prefix_len-le-length, refl, same_Some, same_text, slice_get, spelling, subst, suc, sym, take, true}
 use Rattle.std.specs.Prelude.{All}
-use Rattle.std.specs.List.{prefix_len, slice_get}
-use Rattle.std.specs.Str.{IsAscii}
-use Rattle.std.specs.Cmp.Lexicographic.{same_text}
-use Rattle.std.proofs.lemmas.Bool.Decides.{nat_tests}
 use Rattle.std.proofs.lemmas.List.Elements.{All-nil, All-cons, All-append}
-use Rattle.std.proofs.lemmas.List.Sums.{prefix_len-le-length}
-use Rattle.std.proofs.lemmas.Option.{same_Some, none-some, cond_some}
-use Rattle.ls_lines.specs.Lines.{Text}
-use Rattle.ls_lines.specs.Kinds.{is_of, is_cursor_byte}
-use Rattle.ls_lines.specs.Forms.{spelling}
-use Rattle.ls_lines.specs.Commands.{fits, front}
-use Rattle.ls_lines.specs.declared.kind.Kind.{Kind}
-use Rattle.ls_lines.specs.declared.keyword.Keyword.{Keyword}
 use Rattle.ls_lines.specs.declared.keyword.Keyword.TheVariants as word
-use Rattle.ls_lines.specs.declared.part.Part.{Part}
-use Rattle.ls_lines.specs.declared.part.Part.TheVariants.{Fixed, One, Many}
 use Rattle.ls_lines.proofs.Numbers.{ascii_where}
 use Rattle.ls_lines.proofs.Solid.{kind-solid}
 

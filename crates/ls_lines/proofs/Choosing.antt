@@ -1,12 +1,5 @@
 -- The command is that of the first form that has the line.
-use Rattle.std.proofs.Common.{ℕ, zero, suc, ◌≡◌, refl, sym, ap, ◌∙◌, Bool, true, false, cond, List, [], ◌∷◌, length, None, Some, option_map, is_some, arith}
-use Rattle.std.specs.List.{filter_map, cons_option, find, slice_get}
-use Rattle.std.proofs.lemmas.Option.{same_Some, none-some}
-use Rattle.ls_lines.specs.Lines.{Text}
-use Rattle.ls_lines.specs.Forms.{parts, command, forms}
-use Rattle.ls_lines.specs.Commands.{cut, command_of}
-use Rattle.ls_lines.specs.declared.form.Form.{Form}
-use Rattle.ls_lines.specs.declared.command.Command.{Command}
+use Rattle.ls_lines.proofs.Vocabulary.{◌∙◌, ◌∷◌, ◌≡◌, Bool, Command, Form, List, None, Some, Text, ℕ, [], ap, arith, command, command_of, cond, cons_option, cut, false, filter_map, find, forms, is_some, length, none-some, option_map, parts, refl, same_Some, slice_get, suc, sym, true, zero}
 use Rattle.ls_lines.specs.declared.command.Command.TheVariants as commands
 
 -- whether the form has the words as a line

@@ -1,19 +1,11 @@
 -- The count of a command that is read is at most 65536.
-use Rattle.std.proofs.Common.{ℕ, ◌≡◌, ◌≤◌, sym, subst, arith, None, Some, List, [], ◌∷◌, option_map}
-use Rattle.std.specs.List.{filter_map, cons_option, slice_get}
-use Rattle.std.proofs.lemmas.Option.{none-some, same_Some}
-use Rattle.ls_lines.specs.Lines.{Text}
-use Rattle.ls_lines.specs.Kinds.{most_counted}
-use Rattle.ls_lines.specs.Forms.{parts, command, forms}
-use Rattle.ls_lines.specs.Commands.{cut, command_of, count_of}
-use Rattle.ls_lines.specs.declared.form.Form.{Form}
+use Rattle.ls_lines.proofs.Vocabulary.{◌∷◌, ◌≡◌, ◌≤◌, Command, Form, List, None, Some, Text, ℕ, [], arith, command, command_of, cons_option, count_of, cut, filter_map, forms, most_counted, none-some, option_map, parts, same_Some, slice_get, subst, sym}
 use Rattle.ls_lines.specs.declared.form.Form.TheVariants as form
 use Rattle.ls_lines.specs.declared.setting_form.SettingForm.TheVariants as setting
 use Rattle.ls_lines.specs.declared.interview_form.InterviewForm.TheVariants as interview
 use Rattle.ls_lines.specs.declared.listing_form.ListingForm.TheVariants as listing
 use Rattle.ls_lines.specs.declared.structure_form.StructureForm.TheVariants as structure
 use Rattle.ls_lines.specs.declared.pupil_form.PupilForm.TheVariants as pupil
-use Rattle.ls_lines.specs.declared.command.Command.{Command}
 use Rattle.ls_lines.proofs.Numbers.{number-within}
 
 -- the command that is read is the command of some form

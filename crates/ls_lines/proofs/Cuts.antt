@@ -1,9 +1,6 @@
 -- The lines of a stream that goes on.
-use Rattle.std.proofs.Common.{ℕ, ◌+◌, ◌≤◌, ◌≡◌, Bool, true, false, cond, ◌==◌, List, [], ◌∷◌, ◌++◌, length, take, drop, Some, None, refl, sym, ap, ap₂, ◌∙◌, arith, inl, inr, lt-ltb, le-ltb}
-use Rattle.std.proofs.lemmas.Bool.{cases_lt}
+use Rattle.ls_lines.proofs.Vocabulary.{◌++◌, ◌+◌, ◌==◌, ◌∙◌, ◌∷◌, ◌≡◌, ◌≤◌, Bool, List, None, Some, ℕ, [], ap, ap₂, arith, cases_lt, cond, drop, false, inl, inr, le-ltb, length, lines, lt-ltb, onto_first, position, position_or_len, refl, slice_split, sym, take, true}
 use Rattle.std.proofs.lemmas.List.Splits.{slice_split_first}
-use Rattle.std.specs.List.{slice_split, onto_first, position, position_or_len}
-use Rattle.ls_lines.specs.Lines.{lines}
 use Rattle.ls_lines.specs.Cutting.{ahead}
 
 module _ (p : ℕ → Bool) where

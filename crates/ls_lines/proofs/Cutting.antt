@@ -1,10 +1,5 @@
 -- The words that stand at each part, found part by part.
-use Rattle.std.proofs.Common.{ℕ, ◌+◌, ◌<◌, ◌≤◌, ◌≡◌, refl, sym, ap, List, [], ◌∷◌, ◌++◌, length, take, drop, get_or, Option, None, Some, option_map}
-use Rattle.std.proofs.lemmas.List.{append-nil, append_assoc, drop_more, drop_all, drop-drop}
-use Rattle.ls_lines.specs.Lines.{Text}
-use Rattle.ls_lines.specs.Commands.{front, cut}
-use Rattle.ls_lines.specs.Reading.{begun_length}
-use Rattle.ls_lines.specs.declared.part.Part.{Part}
+use Rattle.ls_lines.proofs.Vocabulary.{◌++◌, ◌+◌, ◌<◌, ◌∷◌, ◌≡◌, ◌≤◌, List, None, Option, Part, Some, Text, ℕ, [], ap, append-nil, append_assoc, begun_length, cut, drop, drop-drop, drop_all, drop_more, front, get_or, length, option_map, refl, sym, take}
 
 abbrev onto : List (List Text) → Option (List (List Text)) → Option (List (List Text))
 onto given more = option_map (λ lists. given ++ lists) more

@@ -1,17 +1,6 @@
 -- `cut` tells exactly the lines of a form, and `is_begun` the words with which some line of it begins.
-use Rattle.std.proofs.Common.{◌≡◌, refl, sym, ap, subst, ◌∙◌, Bool, true, false, List, [], ◌∷◌, ◌++◌, drop, take, inl, inr, ◌↔◌, Some, None, is_some, option_map}
-use Rattle.std.specs.Option.{option_map_or, option_and_then}
-use Rattle.std.proofs.lemmas.List.{append-nil}
-use Rattle.std.proofs.lemmas.Cmp.{nat_list_eq_equiv}
-use Rattle.ls_lists.proofs.Bools.{never}
+use Rattle.ls_lines.proofs.Vocabulary.{◌++◌, ◌↔◌, ◌∙◌, ◌∷◌, ◌≡◌, Bool, Completes, Fixed, Form, IsLine, List, Many, None, One, Part, Some, Text, [], ap, append-nil, cut, done, drop, false, fixed, front, inl, inr, is_begun, is_some, nat_list_eq_equiv, never, no_more, one, option_and_then, option_map, option_map_or, parts, refl, spelling, subst, sym, take, true}
 use Rattle.ls_lists.proofs.Options.{is_some-mapped, passed, passes}
-use Rattle.ls_lines.specs.Lines.{Text}
-use Rattle.ls_lines.specs.Forms.{spelling, parts}
-use Rattle.ls_lines.specs.Commands.{front, cut, is_begun}
-use Rattle.ls_lines.specs.Grammar.{IsLine, Completes, done, fixed, one, no_more}
-use Rattle.ls_lines.specs.declared.form.Form.{Form}
-use Rattle.ls_lines.specs.declared.part.Part.{Part}
-use Rattle.ls_lines.specs.declared.part.Part.TheVariants.{Fixed, One, Many}
 use Rattle.ls_lines.proofs.Solid.{sample}
 use Rattle.ls_lines.proofs.Places.{begun_by_none}
 use Rattle.ls_lines.proofs.Parted.{many_end, forms_end, many_end-rest, joined, parted}

@@ -1,12 +1,5 @@
 -- Examples: words, commands and the places of faults.
-use Rattle.std.proofs.Common.{ℕ, ◌≡◌, refl, true, false, List, [], ◌∷◌, ◌++◌, Some, codes, replicate, None}
-use Rattle.std.specs.Fmt.{digits}
-use Rattle.ls_lines.specs.Lines.{words}
-use Rattle.ls_lines.specs.Kinds.{is_of}
-use Rattle.ls_lines.specs.Forms.{spelling, parts, command, forms}
-use Rattle.ls_lines.specs.Commands.{cut, is_begun, command_of, fault_place}
-use Rattle.ls_lines.specs.Printing.{form_of, operands, laid_out, spelled, words_joined, is_plain}
-use Rattle.ls_lines.specs.declared.command.Command.{Command}
+use Rattle.ls_lines.proofs.Vocabulary.{◌++◌, ◌∷◌, ◌≡◌, Command, List, None, Some, ℕ, [], codes, command, command_of, cut, digits, false, fault_place, form_of, forms, is_begun, is_of, is_plain, laid_out, operands, parts, refl, replicate, spelled, spelling, true, words, words_joined}
 use Rattle.ls_lines.specs.declared.command.Command.TheVariants as commands
 
 commas_and_colons : words (codes "yes a,b:c\r") ≡ codes "yes" ∷ codes "a" ∷ codes "b" ∷ codes ":" ∷ codes "c" ∷ []

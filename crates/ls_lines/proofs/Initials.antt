@@ -1,18 +1,6 @@
 -- The forms that may begin with the first word are all that are tried.
-use Rattle.std.proofs.Common.{ℕ, ◌+◌, ◌<◌, ◌≤◌, ◌≡◌, ◌∙◌, refl, sym, ap, arith, true, false, cond, ◌==◌, max, List, [], ◌∷◌, length, drop, filter, nat_le, Option, None, option_map, get_or, bytes_eq}
+use Rattle.ls_lines.proofs.Vocabulary.{◌+◌, ◌<◌, ◌==◌, ◌∙◌, ◌∷◌, ◌≡◌, ◌≤◌, Command, Fixed, Form, List, Many, None, One, Option, Part, Text, ℕ, [], ap, arith, begun_length, bytes_eq, command, command_of, cond, cut, drop, drop_more, false, fault_place, filter, forms, forms_from, get_or, initial, leb-true, length, max, may_begin, nat_le, nat_tests, option_map, parts, refl, same_text, spelling, sym, true}
 use Rattle.std.specs.List.{cons_option, slice_get, slice_index}
-use Rattle.std.specs.Cmp.Lexicographic.{same_text}
-use Rattle.std.proofs.lemmas.Bool.{leb-true}
-use Rattle.std.proofs.lemmas.Bool.Decides.{nat_tests}
-use Rattle.std.proofs.lemmas.List.{drop_more}
-use Rattle.ls_lines.specs.Lines.{Text}
-use Rattle.ls_lines.specs.Forms.{spelling, parts, command, forms}
-use Rattle.ls_lines.specs.Commands.{cut, command_of, fault_place}
-use Rattle.ls_lines.specs.Reading.{initial, may_begin, forms_from, begun_length}
-use Rattle.ls_lines.specs.declared.form.Form.{Form}
-use Rattle.ls_lines.specs.declared.part.Part.{Part}
-use Rattle.ls_lines.specs.declared.part.Part.TheVariants.{Fixed, One, Many}
-use Rattle.ls_lines.specs.declared.command.Command.{Command}
 use Rattle.ls_lines.proofs.Apart.{each_passes}
 use Rattle.ls_lines.proofs.Choosing.{readings}
 use Rattle.ls_lines.proofs.Places.{most_begun, fault_place-most}

@@ -1,3 +1,4 @@
+mod Vocabulary
 pub mod Runs
 pub mod Numbers
 pub mod Solid

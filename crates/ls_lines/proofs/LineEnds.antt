@@ -1,9 +1,6 @@
 -- Where the first line end is, by a search for its byte.
-use Rattle.std.proofs.Common.{◌≡◌, ◌<◌, ℕ, cond, ltb, lt-ltb, le-ltb, List, length, Some, None, refl, ap, sym, ◌∙◌, arith}
+use Rattle.ls_lines.proofs.Vocabulary.{◌<◌, ◌∙◌, ◌≡◌, List, None, Some, ℕ, ap, arith, cond, false_from_ne_true, le-ltb, length, lt-ltb, ltb, position, position_or_len, position_or_len_is, refl, sym}
 use Rattle.std.specs.declared.option.Option.{Option}
-use Rattle.std.specs.List.{position, position_or_len}
-use Rattle.std.proofs.lemmas.Bool.{false_from_ne_true}
-use Rattle.std.proofs.lemmas.List.Sums.{position_or_len_is}
 use Rattle.memchr.specs.Find.{IsFirstByte, is_byte}
 
 -- the place as `position` tells it

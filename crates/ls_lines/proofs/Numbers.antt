@@ -1,17 +1,11 @@
 -- Decimal numbers are ASCII, and are read by `parse`.
-use Rattle.std.proofs.Common.{zero, suc, None, unwrap_or, ◌≤◌, not, ◌||◌, ◌==◌, nat_lt, slice_index, ℕ, ◌≡◌, ◌<◌, ◌^◌, inl, inr, refl, arith, rules, Bool, true, false, cond, ◌&&◌, nat_le, [], ◌∷◌, length, Some, None, Result, is_some}
-use Rattle.std.specs.List.{list_all}
-use Rattle.std.specs.Fmt.{decimal}
-use Rattle.std.specs.Str.{IsAscii}
+use Rattle.ls_lines.proofs.Vocabulary.{◌&&◌, ◌<◌, ◌==◌, ◌^◌, ◌||◌, ◌∷◌, ◌≡◌, ◌≤◌, Bool, IsAscii, None, Result, Some, Text, ℕ, [], arith, cond, decimal, false, inl, inr, is_decimal, is_digit, is_some, length, list_all, nat_le, nat_lt, nat_tests, not, number_up_to, refl, rules, slice_index, suc, true, unwrap_or, zero}
 use Rattle.std.specs.Str.Parse.{digits_value, ParsesUnsigned}
 use Rattle.std.specs.Result.{OkIff}
 use Rattle.std.proofs.lemmas.Fmt.{decimal_nonempty, decimal_digit, first_decimal, digits_decimal, digits_value-decimal}
 use Rattle.std.proofs.lemmas.Str.Ascii.{IsAscii-nil, IsAscii-cons}
 use Rattle.std.proofs.lemmas.Str.Parse.{IsNumeralModel, IsDigitsTest, numerals_by_value, parse_digits}
 use Rattle.std.proofs.lemmas.Bool.{cases_lt, ltb-true, leb-true, lt-ltb, le-leb, and_parts}
-use Rattle.std.proofs.lemmas.Bool.Decides.{nat_tests}
-use Rattle.ls_lines.specs.Lines.{Text}
-use Rattle.ls_lines.specs.Numbers.{is_digit, is_decimal, number_up_to}
 
 pub ascii_where : (test : ℕ → Bool) → ((b : ℕ) → test b ≡ true → b < 128) → (w : Text) → list_all test w ≡ true → IsAscii w
 ascii_where test below [] h = IsAscii-nil

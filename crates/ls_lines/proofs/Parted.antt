@@ -1,19 +1,5 @@
 -- What `front` takes from a line of a form, and what it leaves.
-use Rattle.std.proofs.Common.{ℕ, suc, ◌+◌, ◌≡◌, ◌⊎◌, inl, inr, refl, sym, ap, subst, ◌∙◌, arith, Bool, true, false, not, ◌&&◌, List, [], ◌∷◌, ◌++◌, drop, Some}
-use Rattle.std.specs.List.{list_all, prefix_len}
-use Rattle.std.specs.Cmp.Lexicographic.{same_text}
-use Rattle.std.proofs.lemmas.Option.{same_Some, none-some, cond_some}
-use Rattle.std.proofs.lemmas.Bool.{and_parts}
-use Rattle.ls_lists.proofs.Bools.{never}
-use Rattle.ls_lines.specs.Lines.{Text}
-use Rattle.ls_lines.specs.Kinds.{is_of}
-use Rattle.ls_lines.specs.Forms.{spelling, parts, forms}
-use Rattle.ls_lines.specs.Commands.{fits, front}
-use Rattle.ls_lines.specs.Grammar.{IsLine, fixed, one, no_more, one_more}
-use Rattle.ls_lines.specs.declared.kind.Kind.{Kind}
-use Rattle.ls_lines.specs.declared.form.Form.{Form}
-use Rattle.ls_lines.specs.declared.part.Part.{Part}
-use Rattle.ls_lines.specs.declared.part.Part.TheVariants.{Fixed, One, Many}
+use Rattle.ls_lines.proofs.Vocabulary.{◌&&◌, ◌++◌, ◌+◌, ◌∙◌, ◌∷◌, ◌≡◌, ◌⊎◌, Bool, Fixed, Form, IsLine, Kind, List, Many, One, Part, Some, Text, ℕ, [], and_parts, ap, arith, cond_some, drop, false, fits, fixed, forms, front, inl, inr, is_of, list_all, never, no_more, none-some, not, one, one_more, parts, prefix_len, refl, same_Some, same_text, spelling, subst, suc, sym, true}
 use Rattle.ls_lines.proofs.Apart.{each_passes}
 
 -- whether any number of words of the kind end where these parts begin: at no part, or at a fixed word that is not of the kind

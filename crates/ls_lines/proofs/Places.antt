@@ -1,19 +1,6 @@
 -- The place of a fault is found from how far each form goes.
-use Rattle.std.proofs.Common.{ℕ, zero, suc, ◌+◌, ◌-◌, ◌<◌, ◌≤◌, ◌≡◌, inl, inr, refl, sym, ap, ◌∙◌, arith, Bool, true, false, not, cond, ◌||◌, nat_le, nat_lt, min, max, List, [], ◌∷◌, length, take, drop, fold, None, Some}
-use Rattle.std.specs.List.{list_any, prefix_len}
-use Rattle.std.specs.Option.{option_map_or}
+use Rattle.ls_lines.proofs.Vocabulary.{◌+◌, ◌-◌, ◌<◌, ◌||◌, ◌∙◌, ◌∷◌, ◌≡◌, ◌≤◌, Bool, Form, List, Many, None, Part, Some, Text, ℕ, [], ap, arith, begins_command, begun_length, cases_lt, cond, drop, false, fault_place, fits, fold, forms, front, inl, inr, is_begun, is_of, least_from, length, list_any, max, min, nat_le, nat_lt, nat_tests, not, option_map_or, parts, prefix_len, prefix_len-le-length, refl, suc, sym, take, true, zero}
 use Rattle.std.proofs.lemmas.List.{drop_all, drop-take, length-take, length-drop}
-use Rattle.std.proofs.lemmas.List.Sums.{prefix_len-le-length}
-use Rattle.std.proofs.lemmas.Bool.{cases_lt}
-use Rattle.std.proofs.lemmas.Bool.Decides.{nat_tests}
-use Rattle.ls_lines.specs.Lines.{Text}
-use Rattle.ls_lines.specs.Kinds.{is_of}
-use Rattle.ls_lines.specs.Forms.{parts, forms}
-use Rattle.ls_lines.specs.Commands.{fits, front, is_begun, begins_command, least_from, fault_place}
-use Rattle.ls_lines.specs.Reading.{begun_length}
-use Rattle.ls_lines.specs.declared.form.Form.{Form}
-use Rattle.ls_lines.specs.declared.part.Part.{Part}
-use Rattle.ls_lines.specs.declared.part.Part.TheVariants.{Many}
 use Rattle.ls_lines.proofs.Ascii.{front-within}
 
 pub begun_by_none : (ps : List Part) → is_begun ps [] ≡ true

@@ -1,17 +1,8 @@
 -- The line of a command: its words, joined by single spaces.
-use Rattle.std.proofs.Common.{ℕ, ◌+◌, ◌-◌, ◌<◌, ◌≤◌, ◌≡◌, ◌∙◌, refl, sym, ap, arith, List, [], ◌∷◌, ◌++◌, length, take, drop, get_or, flat_map, map}
-use Rattle.std.proofs.lemmas.List.{append-nil, append_assoc, drop_more, drop_all}
+use Rattle.ls_lines.proofs.Vocabulary.{◌++◌, ◌+◌, ◌-◌, ◌<◌, ◌∙◌, ◌∷◌, ◌≡◌, ◌≤◌, Fixed, Keyword, List, Part, Text, ℕ, [], ap, append-nil, append_assoc, arith, drop, drop_all, drop_more, filling, flat_map, get_or, laid_out, length, map, refl, shown, spelling, sym, take, take-nil, with_spaces, words_joined, words_of}
 use Rattle.std.proofs.lemmas.List.Concat.{flat_map-append}
-use Rattle.std.proofs.Math.Seq.{take-nil}
 use Rattle.ls_lists.proofs.Places.{without_last}
-use Rattle.ls_lines.specs.Lines.{Text}
-use Rattle.ls_lines.specs.Forms.{spelling}
-use Rattle.ls_lines.specs.Printing.{laid_out, words_joined}
-use Rattle.ls_lines.specs.Operands.{words_of, filling, shown, with_spaces}
-use Rattle.ls_lines.specs.declared.keyword.Keyword.{Keyword}
 use Rattle.ls_lines.specs.declared.operand.Operand.{Operand}
-use Rattle.ls_lines.specs.declared.part.Part.{Part}
-use Rattle.ls_lines.specs.declared.part.Part.TheVariants.{Fixed}
 
 -- the words, each with a space behind it, are their line with a space behind it
 spaced : (w : Text) (ws : List Text) → with_spaces (w ∷ ws) ≡ words_joined (w ∷ ws) ++ 32 ∷ []

@@ -1,21 +1,6 @@
 -- A printed command is read back.
-use Rattle.std.proofs.Common.{ℕ, ◌≡◌, ◌∙◌, refl, ap, arith, Bool, true, false, if◌then◌else◌, nat_le, List, [], ◌∷◌, map, Some, None, is_some, codes, bytes_eq}
-use Rattle.std.specs.Fmt.{decimal}
-use Rattle.std.specs.List.{list_all}
-use Rattle.std.proofs.lemmas.Bool.{leb-true, and_parts}
-use Rattle.std.proofs.lemmas.Cmp.{nat_list_eq_equiv}
-use Rattle.ls_lists.proofs.Bools.{never}
-use Rattle.ls_lines.specs.Lines.{Text, words}
-use Rattle.ls_lines.specs.Numbers.{number_up_to}
-use Rattle.ls_lines.specs.Kinds.{is_of, most_counted, greatest_number}
-use Rattle.ls_lines.specs.Forms.{spelling, parts, command, forms}
-use Rattle.ls_lines.specs.Commands.{command_of}
-use Rattle.ls_lines.specs.Operands.{Filling, Word, Words, Number, Right, words_of}
-use Rattle.ls_lines.specs.Printing.{form_of, operands, laid_out, spelled, words_joined, stands_at, all_stand, is_plain}
+use Rattle.ls_lines.proofs.Vocabulary.{◌∙◌, ◌∷◌, ◌≡◌, Bool, Command, Filling, Fixed, List, Many, None, Number, One, Part, Right, Some, Text, Word, Words, ℕ, [], all_stand, and_parts, ap, arith, bytes_eq, codes, command, command_of, decimal, false, form_of, forms, greatest_number, if◌then◌else◌, is_of, is_plain, is_some, laid_out, leb-true, list_all, map, most_counted, nat_le, nat_list_eq_equiv, never, number_up_to, operands, parts, refl, spelled, spelling, stands_at, true, words, words_joined, words_of}
 use Rattle.ls_lines.specs.declared.kind.Kind.TheVariants as kind
-use Rattle.ls_lines.specs.declared.part.Part.{Part}
-use Rattle.ls_lines.specs.declared.part.Part.TheVariants.{Fixed, One, Many}
-use Rattle.ls_lines.specs.declared.command.Command.{Command}
 use Rattle.ls_lines.specs.declared.command.Command.TheVariants as commands
 use Rattle.ls_lines.proofs.Numbers.{number_up_to-of_decimal}
 use Rattle.ls_lines.proofs.Rewords.{begins, words-line}

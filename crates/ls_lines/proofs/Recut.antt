@@ -1,19 +1,6 @@
 -- Words that fit the parts of a form are cut as they were given.
-use Rattle.std.proofs.Common.{ℕ, suc, ◌+◌, ◌≡◌, ◌∙◌, inl, inr, refl, sym, ap, subst, arith, Bool, true, false, not, ◌&&◌, List, [], ◌∷◌, ◌++◌, length, flat_map, Some}
-use Rattle.std.specs.List.{list_all, prefix_len}
-use Rattle.std.specs.Cmp.Lexicographic.{same_text}
-use Rattle.std.proofs.Math.Seq.{take-append_seam, drop-append_seam}
-use Rattle.std.proofs.lemmas.Bool.{and_parts, not-true}
-use Rattle.ls_lists.proofs.Bools.{never}
-use Rattle.ls_lines.specs.Lines.{Text}
-use Rattle.ls_lines.specs.Kinds.{is_of}
-use Rattle.ls_lines.specs.Forms.{spelling}
-use Rattle.ls_lines.specs.Commands.{fits, cut}
-use Rattle.ls_lines.specs.declared.kind.Kind.{Kind}
-use Rattle.ls_lines.specs.declared.keyword.Keyword.{Keyword}
+use Rattle.ls_lines.proofs.Vocabulary.{◌&&◌, ◌++◌, ◌+◌, ◌∙◌, ◌∷◌, ◌≡◌, Bool, Fixed, Keyword, Kind, List, Many, One, Part, Some, Text, ℕ, [], and_parts, ap, arith, cut, drop-append_seam, false, fits, flat_map, inl, inr, is_of, length, list_all, never, not, not-true, prefix_len, refl, same_text, spelling, subst, suc, sym, take-append_seam, true}
 use Rattle.ls_lines.specs.declared.keyword.Keyword.TheVariants as word
-use Rattle.ls_lines.specs.declared.part.Part.{Part}
-use Rattle.ls_lines.specs.declared.part.Part.TheVariants.{Fixed, One, Many}
 use Rattle.ls_lines.proofs.Solid.{kind-solid}
 use Rattle.ls_lines.proofs.Rewords.{IsWord, AreWords}
 use Rattle.ls_lines.proofs.Parted.{ends, many_end}

@@ -1,14 +1,6 @@
 -- The words of a line of words.
-use Rattle.std.proofs.Common.{ℕ, zero, suc, ◌-◌, ◌≡◌, ◌∙◌, ◌⊎◌, inl, inr, refl, sym, ap, arith, Bool, true, false, not, ◌&&◌, ◌==◌, List, [], ◌∷◌, ◌++◌, length, slice_index}
-use Rattle.std.specs.List.{list_all}
+use Rattle.ls_lines.proofs.Vocabulary.{◌&&◌, ◌++◌, ◌-◌, ◌==◌, ◌∙◌, ◌∷◌, ◌≡◌, ◌⊎◌, Bool, List, Text, ℕ, [], ap, append-nil, append_assoc, arith, false, inl, inr, is_blank, is_cursor_byte, is_note, length, list_all, list_all-append, nat_tests, never, not, parts_words, refl, slice_index, suc, sym, true, words, words_joined, zero}
 use Rattle.std.proofs.lemmas.Bool.{lt-ltb, and_parts, not-true}
-use Rattle.std.proofs.lemmas.Bool.Decides.{nat_tests}
-use Rattle.std.proofs.lemmas.List.{append-nil, append_assoc}
-use Rattle.std.proofs.lemmas.List.Folds.{list_all-append}
-use Rattle.ls_lists.proofs.Bools.{never}
-use Rattle.ls_lines.specs.Lines.{Text, words, is_note, is_blank, parts_words}
-use Rattle.ls_lines.specs.Kinds.{is_cursor_byte}
-use Rattle.ls_lines.specs.Printing.{words_joined}
 use Rattle.ls_lines.proofs.Runs.{word_of, stands_alone, runs_from, runs-byte_by_byte}
 use Rattle.ls_lines.proofs.Solid.{IsSolid}
 

@@ -1,11 +1,7 @@
 -- The words of a line, found byte by byte.
-use Rattle.std.proofs.Common.{ℕ, suc, ◌+◌, ◌<◌, ◌≤◌, ◌≡◌, refl, sym, ap, ◌∙◌, arith, Bool, true, false, not, cond, ◌||◌, ◌==◌, nat_eq, nat_lt, length, List, [], ◌∷◌, ◌++◌, filter, Some, get_or, drop}
+use Rattle.ls_lines.proofs.Vocabulary.{◌++◌, ◌+◌, ◌<◌, ◌==◌, ◌||◌, ◌∙◌, ◌∷◌, ◌≡◌, ◌≤◌, Bool, List, Some, Text, ℕ, [], ap, append-nil, append_assoc, arith, cond, drop, drop_more, false, filter, get_or, is_blank, is_note, length, length-append, nat_eq, nat_lt, nat_tests, not, option_eq, parts_words, refl, runs, spaced, suc, sym, true, without_return, words}
 use Rattle.std.specs.List.{slice_split, onto_first, flat_map, prefix_len, find, slice_range}
-use Rattle.std.specs.Option.{option_eq}
-use Rattle.std.proofs.lemmas.List.{append-nil, append_assoc, drop_more, length-append}
 use Rattle.std.proofs.lemmas.List.Edits.{between_more, between_none, length-between}
-use Rattle.std.proofs.lemmas.Bool.Decides.{nat_tests}
-use Rattle.ls_lines.specs.Lines.{Text, is_blank, is_note, parts_words, spaced, runs, words, without_return}
 
 -- the run as a word, unless it has no byte
 abbrev pub word_of : List ℕ → List Text

@@ -1,13 +1,5 @@
 -- The words of a kind are of cursor bytes, and there is a word of each kind.
-use Rattle.std.proofs.Common.{ℕ, ◌<◌, ◌≡◌, refl, sym, subst, arith, Bool, true, false, not, ◌||◌, ◌==◌, [], ◌∷◌, length, nat_lt, nat_le, slice_index, bytes_eq, codes}
-use Rattle.std.specs.List.{list_all}
-use Rattle.std.specs.Cmp.Lexicographic.{same_text}
-use Rattle.std.proofs.lemmas.Bool.{ltb-true, leb-true, and_parts}
-use Rattle.std.proofs.lemmas.Bool.Decides.{nat_tests}
-use Rattle.ls_lines.specs.Lines.{Text}
-use Rattle.ls_lines.specs.Numbers.{is_digit, is_decimal}
-use Rattle.ls_lines.specs.Kinds.{is_of, is_from_to, is_name_byte, is_name_up_to, is_cursor_byte, longest_name, longest_file_name, most_counted, greatest_number}
-use Rattle.ls_lines.specs.declared.kind.Kind.{Kind}
+use Rattle.ls_lines.proofs.Vocabulary.{◌<◌, ◌==◌, ◌||◌, ◌∷◌, ◌≡◌, Bool, Kind, Text, ℕ, [], and_parts, arith, bytes_eq, codes, false, greatest_number, is_cursor_byte, is_decimal, is_digit, is_from_to, is_name_byte, is_name_up_to, is_of, leb-true, length, list_all, longest_file_name, longest_name, ltb-true, most_counted, nat_le, nat_lt, nat_tests, not, refl, same_text, slice_index, subst, sym, true}
 use Rattle.ls_lines.specs.declared.kind.Kind.TheVariants as kind
 use Rattle.ls_lines.proofs.Numbers.{some_digits, number_up_to-decimal}
 

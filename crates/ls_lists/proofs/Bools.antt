@@ -1,8 +1,7 @@
 -- Truth values.
-use Rattle.std.proofs.Common.{◌≡◌, ◌⊎◌, inl, inr, Bool, true, false, not, ◌&&◌, refl, sym, ap, ◌∙◌, arith, true≢false}
+use Rattle.ls_lists.proofs.Vocabulary.{◌&&◌, ◌∙◌, ◌≡◌, ◌⊎◌, Bool, and_from, ap, arith, false, inl, inr, not, not-false, refl, sym, true, true≢false}
 use Rattle.std.specs.Cmp.{booleans_Decides}
 use Rattle.std.proofs.Math.Bool.{and-false}
-use Rattle.std.proofs.lemmas.Bool.{and_from, not-false}
 use mathlib.Core.Bool.{beq}
 
 pub never : {A : Type 0} → false ≡ true → A

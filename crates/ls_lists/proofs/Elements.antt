@@ -1,8 +1,5 @@
 -- The elements of a list.
-use Rattle.std.proofs.Common.{ℕ, zero, suc, ◌≡◌, ◌⊎◌, inl, inr, Bool, true, false, cond, List, [], ◌∷◌, ◌++◌, map, filter, slice_get, Some, refl, sym, ap, ◌∙◌, subst, true≢false}
-use Rattle.std.specs.List.{AllByRecursion, list_any, flat_map}
-use Rattle.std.proofs.lemmas.Bool.{or_cases, or_left, or_right}
-use Rattle.ls_lists.specs.Lists.{IsIn}
+use Rattle.ls_lists.proofs.Vocabulary.{◌++◌, ◌∙◌, ◌∷◌, ◌≡◌, ◌⊎◌, AllByRecursion, Bool, IsIn, List, Some, ℕ, [], ap, cond, false, filter, flat_map, inl, inr, list_any, map, or_cases, or_left, or_right, refl, slice_get, subst, suc, sym, true, true≢false, zero}
 
 module _ {X : Type 0} where
   pub in-append_left : (xs ys : List X) (x : X) → IsIn x xs → IsIn x (xs ++ ys)

@@ -1,7 +1,5 @@
 -- What holds of every element of a list, or of some.
-use Rattle.std.proofs.Common.{◌≡◌, inl, inr, ℕ, zero, suc, Bool, true, false, cond, not, ◌&&◌, ◌||◌, List, [], ◌∷◌, ◌++◌, map, filter, set, remove, All, refl, sym, ap, ◌∙◌, arith, true≢false}
-use Rattle.std.specs.List.{AllByRecursion, list_all, list_any}
-use Rattle.std.proofs.lemmas.Bool.{and_parts, and_from, or_cases}
+use Rattle.ls_lists.proofs.Vocabulary.{◌&&◌, ◌++◌, ◌||◌, ◌∙◌, ◌∷◌, ◌≡◌, All, AllByRecursion, Bool, List, ℕ, [], and_from, and_parts, ap, arith, cond, false, filter, inl, inr, list_all, list_any, map, not, or_cases, refl, remove, set, suc, sym, true, true≢false, zero}
 use Rattle.std.proofs.lemmas.List.Elements.{All-nil, All-cons}
 
 -- ---- every element, by recursion

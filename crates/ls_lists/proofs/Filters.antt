@@ -1,8 +1,5 @@
 -- What a filter keeps.
-use Rattle.std.proofs.Common.{◌≡◌, ◌≤◌, ◌+◌, inl, inr, ℕ, Bool, true, false, cond, ◌&&◌, ◌||◌, List, [], ◌∷◌, map, filter, length, sum_by, refl, ap, ap₂, arith, true≢false}
-use Rattle.std.specs.List.{AllByRecursion}
-use Rattle.std.proofs.lemmas.Bool.{cases_Bool, false_from_ne_true}
-use Rattle.std.proofs.lemmas.List.Sums.{sum_by-cons}
+use Rattle.ls_lists.proofs.Vocabulary.{◌&&◌, ◌+◌, ◌||◌, ◌∷◌, ◌≡◌, ◌≤◌, AllByRecursion, Bool, List, ℕ, [], ap, ap₂, arith, cases_Bool, cond, false, false_from_ne_true, filter, inl, inr, length, map, refl, sum_by, sum_by-cons, true, true≢false}
 
 -- ---- all, none
 

@@ -1,8 +1,5 @@
 -- The first element that passes.
-use Rattle.std.proofs.Common.{◌≡◌, ◌↔◌, Bool, true, false, cond, not, ◌&&◌, ◌||◌, List, [], ◌∷◌, filter, find, slice_get, Some, None, refl, sym, subst, arith, true≢false}
-use Rattle.std.specs.List.{AllByRecursion, list_any}
-use Rattle.std.proofs.lemmas.Bool.{or_parts}
-use Rattle.std.proofs.lemmas.Option.{none-some, same_Some}
+use Rattle.ls_lists.proofs.Vocabulary.{◌&&◌, ◌||◌, ◌↔◌, ◌∷◌, ◌≡◌, AllByRecursion, Bool, List, None, Some, [], arith, cond, false, filter, find, list_any, none-some, not, or_parts, refl, same_Some, slice_get, subst, sym, true, true≢false}
 
 -- ---- whether there is one
 

@@ -1,9 +1,5 @@
 -- Lists of bytes joined by a byte, and one more word.
-use Rattle.std.proofs.Common.{◌≡◌, ℕ, zero, suc, ◌+◌, ◌<◌, ◌≤◌, List, [], ◌∷◌, ◌++◌, length, map, take, get_or, cond, eqb, refl, ap, sym, ◌∙◌, append_assoc, append-nil, arith, ne_eqb, length-append}
-use Rattle.std.specs.List.{join_with_byte}
-use Rattle.std.proofs.lemmas.List.{take_more, map-append}
-use Rattle.std.proofs.lemmas.Grind.{flat_map-append}
-use Rattle.ls_lists.specs.Lists.{gap, spaced}
+use Rattle.ls_lists.proofs.Vocabulary.{◌++◌, ◌+◌, ◌<◌, ◌∙◌, ◌∷◌, ◌≡◌, ◌≤◌, List, ℕ, [], ap, append-nil, append_assoc, arith, cond, eqb, flat_map-append, gap, get_or, join_with_byte, length, length-append, map, map-append, ne_eqb, refl, spaced, suc, sym, take, take_more, zero}
 
 -- ---- one more word
 

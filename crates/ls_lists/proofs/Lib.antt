@@ -1,3 +1,4 @@
+mod Vocabulary
 pub mod Bools
 pub mod Options
 pub mod Every

@@ -1,5 +1,5 @@
 -- Options and results.
-use Rattle.std.proofs.Common.{◌≡◌, Bool, true, false, cond, Option, Some, None, Result, Ok, Err, OnOk, OnErr, IsErr, is_some, option_map, refl, true≢false}
+use Rattle.ls_lists.proofs.Vocabulary.{◌≡◌, Bool, Err, IsErr, None, Ok, OnErr, OnOk, Option, Result, Some, cond, false, is_some, option_map, refl, true, true≢false}
 use Rattle.std.specs.Option.{option_map_or}
 use Rattle.ls_lists.proofs.Bools.{never}
 

@@ -1,12 +1,6 @@
 -- Lists that a loop writes over, element by element.
-use Rattle.std.proofs.Common.{ℕ, zero, suc, ◌+◌, ◌<◌, ◌≤◌, ◌≡◌, Bool, true, cond, List, [], ◌∷◌, map, take, drop, set, length, get_or, slice_get, Some, count_by, refl, sym, ap, ap₂, ◌∙◌, arith, add-one, true≢false}
-use Rattle.std.specs.List.{list_all}
-use Rattle.std.proofs.lemmas.Bool.{true_from_ne_false}
-use Rattle.std.proofs.lemmas.Grind.{drop_more_same}
-use Rattle.std.proofs.lemmas.List.{drop-set-lt, get_or-drop}
+use Rattle.ls_lists.proofs.Vocabulary.{◌+◌, ◌<◌, ◌∙◌, ◌∷◌, ◌≡◌, ◌≤◌, Bool, List, Some, ℕ, [], add-one, ap, ap₂, arith, cond, count_by, drop, drop-set-lt, drop_more_same, get_or, get_or-drop, images, length, list_all, map, refl, set, slice_get, suc, sum_by_more, sym, take, true, true_from_ne_false, true≢false, zero}
 use Rattle.std.proofs.lemmas.List.Folds.{list_all_at}
-use Rattle.std.proofs.lemmas.List.Sums.{sum_by_more}
-use Rattle.ls_lists.specs.Lists.{images}
 
 -- an element passes what all do
 pub all-at : {X : Type 0} (p : X → Bool) (xs : List X) (i : ℕ) (x : X) → list_all p xs ≡ true → i < length xs → x ≡ get_or xs i x → p x ≡ true

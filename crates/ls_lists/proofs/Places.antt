@@ -1,12 +1,7 @@
 -- What stands at a place of a list, and the first place whose element passes.
-use Rattle.std.proofs.Common.{◌≡◌, ℕ, zero, suc, ◌+◌, ◌-◌, ◌<◌, ◌≤◌, inl, inr, Bool, true, false, cond, ltb, List, [], ◌∷◌, ◌++◌, length, map, take, drop, remove, get_or, slice_get, slice_range, Some, None, Option, refl, ap, ap₂, sym, ◌∙◌, arith, option_map, is_some, true≢false, lt-ltb, le-ltb, length-append, length-drop, add-one}
-use Rattle.std.specs.List.{position, position_or_len, list_any}
-use Rattle.std.proofs.lemmas.Bool.{cases_Bool, cases_lt}
+use Rattle.ls_lists.proofs.Vocabulary.{◌++◌, ◌+◌, ◌-◌, ◌<◌, ◌∙◌, ◌∷◌, ◌≡◌, ◌≤◌, Bool, List, None, Option, Some, ℕ, [], add-one, ap, ap₂, arith, cases_Bool, cases_lt, cond, drop, drop-append-le, drop-map, drop_all, drop_more, false, get_or, inl, inr, is_some, le-ltb, length, length-append, length-drop, list_any, lt-ltb, ltb, map, map-append, map_push, moved, option_map, position, position_or_len, refl, remove, slice_get, slice_get-map, slice_range, suc, sym, take, take-append-le, take-map, true, true≢false, zero}
 use Rattle.std.proofs.lemmas.Bool.Decides.{nat_tests}
-use Rattle.std.proofs.lemmas.List.{drop_more, drop_all, map-append, map_push, take-map, drop-map, take-append-le, drop-append-le}
-use Rattle.std.proofs.lemmas.Option.{slice_get-map}
 use Rattle.std.proofs.Math.Seq.{take-length, drop-append_seam, take-append_seam}
-use Rattle.ls_lists.specs.Lists.{moved}
 use Rattle.ls_lists.proofs.Options.{is_some-mapped}
 
 -- ---- the first element

@@ -1,9 +1,6 @@
 -- Lists in an order, and the first element that comes after a given one.
-use Rattle.std.proofs.Common.{ℕ, zero, suc, ◌+◌, ◌<◌, ◌≡◌, inl, inr, Bool, true, false, cond, List, [], ◌∷◌, ◌++◌, map, filter, find, slice_get, get_or, Some, None, refl, sym, ap, ◌∙◌, subst, arith, true≢false}
-use Rattle.std.specs.List.{AllByRecursion, flat_map}
+use Rattle.ls_lists.proofs.Vocabulary.{◌++◌, ◌+◌, ◌<◌, ◌∙◌, ◌∷◌, ◌≡◌, AllByRecursion, Bool, IsIn, IsRising, IsSorted, List, None, Some, ℕ, [], ap, arith, cond, false, false_from_ne_true, filter, find, flat_map, get_or, inl, inr, map, refl, slice_get, subst, suc, sym, true, true≢false, zero}
 use Rattle.std.specs.List.Sorted.{IsStrictlyIncreasing}
-use Rattle.std.proofs.lemmas.Bool.{false_from_ne_true}
-use Rattle.ls_lists.specs.Lists.{IsIn, IsSorted, IsRising}
 use Rattle.ls_lists.proofs.Elements.{append-in, filter-in, map-in, flat_map-in, get-in}
 
 -- ---- lists in an order

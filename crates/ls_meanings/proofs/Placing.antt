@@ -5,9 +5,9 @@ use Rattle.std.proofs.lemmas.Bool.{cases_Bool}
 use Rattle.std.proofs.lemmas.List.{map-append}
 use Rattle.std.proofs.lemmas.List.Elements.{filter-append}
 use Rattle.ls_lists.proofs.Places.{first-front, position-lt, position-here, position-later, is_some-position}
-use Rattle.ls_lines.specs.Lines.{Text}
+use Rattle.ls_lines.specs.{Text}
 use Rattle.ls_domain.specs.Meanings.{is_named, number_of, first_unnamed}
-use Rattle.ls_reply.specs.Meanings.{placed, unnamed}
+use Rattle.ls_reply.specs.{placed, unnamed}
 
 next_place : (n : ℕ) (o : Option ℕ) → option_map (λ i. suc n + i) o ≡ option_map (λ i. n + i) (option_map (λ i. 1 + i) o)
 next_place n None = refl

@@ -1,7 +1,7 @@
 -- Requests on a number of items.
 use Rattle.std.specs.Prelude.{ℕ, ◌≡◌, ◌<◌, Bool, true, false, List, Option, Some, Ok, Err, slice_get, ⊤}
 use Rattle.std.specs.Option.{ForSome}
-use Rattle.ls_set.specs.ItemSet.{Items, full, IsWithin}
+use Rattle.ls_set.specs.{IsWithin, Items, full}
 use Rattle.ls_set.specs.declared.cursor.CursorFault.{CursorFault}
 use Rattle.std.specs.declared.result.Result.{Result}
 use Rattle.ls_reply.specs.declared.request.Request.{Request}

@@ -1,8 +1,8 @@
 // Names of commands.
 ghost use Rattle.std.specs.Prelude.{◌≡◌, ◌+◌, ◌<◌, ◌^◌, [], ◌∷◌, Some, map, length, slice_get, IfOk, IfErr, OnOk};
-ghost use Rattle.ls_set.specs.ItemSet.{full, IsWithin};
+ghost use Rattle.ls_set.specs.{IsWithin, full};
 ghost use Rattle.ls_domain.specs.Meanings.{item_of, items_of};
-ghost use Rattle.ls_reply.specs.Meanings.{placed, query_words, query_of, unnamed};
+ghost use Rattle.ls_reply.specs.{placed, query_of, query_words, unnamed};
 ghost use Rattle.ls_meanings.specs.Asked.{IsResolveFault};
 
 use crate::unnamed::{ResolveFault, Unnamed};

@@ -1,6 +1,6 @@
 // What commands ask of the settings and of pupils.
 ghost use Rattle.std.specs.Prelude.{◌≡◌, [], false, length, IfOk, IfErr, OnOk};
-ghost use Rattle.ls_reply.specs.Meanings.{two_odds, two_ratios, unnamed_places, request_of};
+ghost use Rattle.ls_reply.specs.{request_of, two_odds, two_ratios, unnamed_places};
 ghost use Rattle.ls_reply.specs.declared.request.Request.TheVariants as request;
 ghost use Rattle.ls_meanings.specs.Asked.{IsAskedOn, IsResolveFault, is_of_interview, is_setting};
 

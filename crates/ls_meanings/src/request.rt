@@ -1,7 +1,7 @@
 // What commands ask.
 ghost use Rattle.std.specs.Prelude.{◌≡◌, ◌≤◌, [], Some, false, map, length, slice_get, option_map, IfOk, IfErr, OnOk};
 ghost use Rattle.std.specs.Option.{ForSome};
-ghost use Rattle.ls_set.specs.ItemSet.{full, IsWithin};
+ghost use Rattle.ls_set.specs.{IsWithin, full};
 ghost use Rattle.ls_domain.specs.Meanings.{item_of, items_of};
 ghost use Rattle.ls_reply.specs.Meanings.{placed, projected_place, sets_words, order_words, unnamed, unnamed_places, request_of, after_of};
 ghost use Rattle.ls_reply.specs.declared.request.View.TheVariants as view;

@@ -1,3 +1,4 @@
+mod Vocabulary
 mod Written
 mod Walks
 mod Padding

@@ -1,18 +1,9 @@
 -- Orders of all items, and the zeros behind a list in an array.
-use Rattle.std.proofs.Common.{ℕ, ◌≡◌, ◌<◌, ◌≤◌, ◌-◌, Bool, true, false, List, [], ◌∷◌, ◌++◌, length, take, drop, replicate, filter, find, slice_get, Some, None, eqb, not, ltb, eqb-true, ltb-true, lt-ltb, eq-eqb, sym, ap, ◌∙◌, subst, arith, refl, true≢false}
+use Rattle.ls_paths.proofs.Vocabulary.{◌++◌, ◌-◌, ◌<◌, ◌∙◌, ◌∷◌, ◌≡◌, ◌≤◌, Bool, Decides-is_same, IsWithin, Items, List, None, Some, ℕ, [], and_from, ap, arith, drop, drop-replicate, empty, eq-eqb, eqb, eqb-true, false, false_from_ne_true, filter, find, first-long, first_growth, full, has, has-full, is_order, is_same, length, length-append, length-drop, length-replicate, length-take-le, lt-ltb, ltb, ltb-true, not, order-parts, reached, reached-all, refl, replicate, set_of, slice_get, slice_get-filter, subst, sym, take, true, true≢false}
 use Rattle.std.specs.List.{All}
 use Rattle.std.proofs.lemmas.List.Elements.{All-from_get_or}
-use Rattle.std.proofs.lemmas.Bool.{and_from, false_from_ne_true}
-use Rattle.std.proofs.lemmas.List.{drop-replicate, length-replicate, length-drop, length-append, length-take-le}
 use Rattle.std.proofs.lemmas.Slice.{drop-append-drop}
-use Rattle.ls_lists.proofs.Finds.{slice_get-filter}
-use Rattle.ls_set.specs.ItemSet.{Items, has, empty, full, is_same, set_of, IsWithin}
-use Rattle.ls_set.proofs.Sets.{Decides-is_same, has-full}
-use Rattle.ls_theory.specs.Paths.{is_order}
-use Rattle.ls_growths.specs.Growths.{first_growth}
-use Rattle.ls_growths.specs.Levels.{reached}
 use Rattle.ls_paths.proofs.Written.{place-small}
-use Rattle.ls_growths.proofs.Levels.{order-parts, reached-all, first-long}
 
 -- ---- zeros behind a list
 

@@ -1,14 +1,5 @@
 -- What a walk has left, once the next growth is looked for.
-use Rattle.std.proofs.Common.{◌≡◌, ℕ, true, false, Bool, List, filter, length, Some, None, MatchBool, sym, ap, ◌∙◌, true≢false}
-use Rattle.ls_set.specs.ItemSet.{Items, empty}
-use Rattle.ls_theory.specs.Words.{is_lex_before}
-use Rattle.ls_theory.specs.Paths.{paths}
-use Rattle.ls_growths.specs.Growths.{next_growth}
-use Rattle.ls_growths.specs.Levels.{is_whole, leaves_below}
-use Rattle.ls_growths.proofs.Growths.{IsLearning}
-use Rattle.ls_growths.proofs.PathOrder.{paths-next, paths-in_order, after-next, after-none}
-use Rattle.ls_growths.proofs.Levels.{whole-parts, next-whole, next-is_whole}
-use Rattle.ls_paths.specs.Left.{paths_left}
+use Rattle.ls_paths.proofs.Vocabulary.{◌∙◌, ◌≡◌, Bool, IsLearning, Items, List, MatchBool, None, Some, ℕ, after-next, after-none, ap, empty, false, filter, is_lex_before, is_whole, leaves_below, length, next-is_whole, next-whole, next_growth, paths, paths-in_order, paths-next, paths_left, sym, true, true≢false, whole-parts}
 
 -- what a walk is after a search for the next growth after an order
 pub record Follows (n : ℕ) (f : List Items) (found : Bool) (order new : List ℕ) : Type 0 where

@@ -1,16 +1,7 @@
 -- Steps of a walk: a list that is written from a place on, and the sets that its items give.
-use Rattle.std.proofs.Common.{◌≡◌, ℕ, zero, suc, ◌+◌, ◌-◌, ◌<◌, ◌≤◌, Bool, true, false, not, ◌&&◌, List, [], ◌∷◌, ◌++◌, append_assoc, append-nil, length, take, drop, set, get_or, Option, Some, None, refl, sym, ap, ap₂, ◌∙◌, subst, arith, inl, inr, eqb-true, lt-ltb, ltb-true}
-use Rattle.std.proofs.lemmas.Bool.{or_cases, and_from, and_parts, not_from_false}
+use Rattle.ls_paths.proofs.Vocabulary.{◌&&◌, ◌++◌, ◌+◌, ◌-◌, ◌<◌, ◌∙◌, ◌∷◌, ◌≡◌, ◌≤◌, Bool, IsWithin, Items, List, None, Option, Some, ℕ, [], and_from, and_parts, ap, append-nil, append_assoc, ap₂, arith, drop, drop_all, empty, eqb-true, false, first_growth, first_next, found-passes, fresh-at, full, get_or, grown-next, has, has-full, has-with, inl, inr, is_among, is_fresh, is_grown, is_next, leaves-found, leaves-passed, leaves_below, length, length-drop, length-set, length-take-le, lt-ltb, ltb-true, members, minus, next-above, next-broken, next-small, next-whole, next_after, next_growth, next_item, not, not_from_false, or_cases, reached, reached-has, reached-next, refl, same_set, set, subst, suc, sym, take, take_all, take_more_set, taken-back, true, with, without, without-within, zero}
 use Rattle.std.proofs.lemmas.Bool.Decides.{nat_tests}
-use Rattle.std.proofs.lemmas.List.{take_all, drop_all, take_more_set, length-drop, length-set, length-take-le}
 use borrow.Rule.Slice.PartMut.{put_mid}
-use Rattle.ls_lists.proofs.Finds.{found-passes}
-use Rattle.ls_set.specs.ItemSet.{Items, has, empty, full, minus, with, without, next_item, is_among, IsWithin}
-use Rattle.ls_set.proofs.Sets.{has-with, has-full, without-within, same_set, members}
-use Rattle.ls_growths.specs.Growths.{is_next, first_next, next_after, first_growth, next_growth}
-use Rattle.ls_growths.specs.Levels.{reached, is_grown, is_fresh, leaves_below}
-use Rattle.ls_growths.proofs.Added.{next-small, next-above}
-use Rattle.ls_growths.proofs.Levels.{next-whole, next-broken, reached-has, reached-next, grown-next, fresh-at, taken-back, leaves-found, leaves-passed}
 
 -- ---- sets of items below n
 

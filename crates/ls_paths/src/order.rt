@@ -1,8 +1,7 @@
 // An order of items.
 ghost use Rattle.std.specs.Prelude.{◌≡◌, ◌≤◌, true, None, Some, is_some, length, take, IfSome, MatchBool};
-ghost use Rattle.ls_set.specs.ItemSet.{empty, full, set_of, IsWithin};
-ghost use Rattle.ls_theory.specs.Verdict.{is_learning_space};
-ghost use Rattle.ls_theory.specs.Paths.{is_order};
+ghost use Rattle.ls_set.specs.{IsWithin, empty, full, set_of};
+ghost use Rattle.ls_theory.specs.{is_learning_space, is_order};
 ghost use Rattle.ls_growths.specs.Growths.{first_growth};
 ghost use Rattle.ls_growths.specs.Levels.{reached, is_fresh, leaves_below};
 

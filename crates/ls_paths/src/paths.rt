@@ -1,10 +1,8 @@
 // The learning paths of a family, one after another.
 ghost use Rattle.std.specs.Prelude.{◌≡◌, ◌∷◌, ⊤, true, filter, find, IfSome};
 ghost use Rattle.std.specs.Iterator.{YieldsFirst, item_count, MakesProgress};
-ghost use Rattle.ls_set.specs.ItemSet.{full};
-ghost use Rattle.ls_theory.specs.Words.{is_lex_before};
-ghost use Rattle.ls_theory.specs.Verdict.{is_learning_space};
-ghost use Rattle.ls_theory.specs.Paths.{is_order, paths};
+ghost use Rattle.ls_set.specs.{full};
+ghost use Rattle.ls_theory.specs.{is_learning_space, is_lex_before, is_order, paths};
 ghost use Rattle.ls_paths.specs.Left.{paths_left};
 
 use crate::order::Order;

@@ -1,9 +1,7 @@
 // A walk through the learning paths of a family.
 ghost use Rattle.std.specs.Prelude.{◌≡◌, ◌<◌, ◌∷◌, [], true, drop, filter, All, IfSome, MatchOption};
-ghost use Rattle.ls_set.specs.ItemSet.{full};
-ghost use Rattle.ls_theory.specs.Words.{is_lex_before};
-ghost use Rattle.ls_theory.specs.Verdict.{is_learning_space};
-ghost use Rattle.ls_theory.specs.Paths.{is_order, paths};
+ghost use Rattle.ls_set.specs.{full};
+ghost use Rattle.ls_theory.specs.{is_learning_space, is_lex_before, is_order, paths};
 ghost use Rattle.ls_growths.specs.Levels.{is_whole};
 ghost use Rattle.ls_paths.specs.Left.{paths_left};
 

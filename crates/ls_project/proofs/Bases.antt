@@ -1,10 +1,9 @@
 -- The base of a projection, by the meets of the part with the base sets.
 use Rattle.std.proofs.Common.{◌≡◌, ℕ, List, sym, ap, ◌∙◌, subst}
 use Rattle.std.proofs.lemmas.Bool.{and_parts}
-use Rattle.ls_set.specs.ItemSet.{Items, has, full, IsWithin}
+use Rattle.ls_set.specs.{IsWithin, Items, full, has}
 use Rattle.ls_set.proofs.Sets.{has-meet}
-use Rattle.ls_theory.specs.Bases.{base}
-use Rattle.ls_theory.specs.Projections.{projection}
+use Rattle.ls_theory.specs.{base, projection}
 use Rattle.ls_laws.specs.Spans.{IsOn, spanned}
 use Rattle.ls_spans.specs.Traces.{meets_with}
 use Rattle.ls_spans.proofs.Traces.{from-meets, projection-of_spanned}

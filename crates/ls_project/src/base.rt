@@ -1,7 +1,6 @@
 // The base of a projection.
 ghost use Rattle.std.specs.Prelude.{◌≡◌, IfOk};
-ghost use Rattle.ls_theory.specs.Bases.{base};
-ghost use Rattle.ls_theory.specs.Projections.{projection};
+ghost use Rattle.ls_theory.specs.{base, projection};
 ghost use Rattle.ls_spans.specs.Traces.{meets_with};
 ghost use Rattle.ls_base.specs.Bases.{family};
 

@@ -1,17 +1,8 @@
 -- The results of a class: their states are among the items, and what the row tells.
-use Rattle.std.proofs.Common.{ℕ, Bool, true, false, cond, List, [], ◌∷◌, Some, unwrap_or, find, refl}
-use Rattle.std.specs.List.{All}
-use Rattle.std.proofs.lemmas.List.Elements.{All-map, All-from_recursion}
-use Rattle.ls_lists.proofs.Every.{All-given}
-use Rattle.ls_set.specs.ItemSet.{Items, empty, full, IsWithin}
-use Rattle.ls_set.proofs.Sets.{empty-within}
+use Rattle.ls_pupils.proofs.Vocabulary.{◌∷◌, All, All-from_recursion, All-given, All-map, Bool, IsOn, IsWithin, Items, List, PupilResult, Row, Settings, Some, ℕ, [], class_results, cond, empty, empty-within, false, find, full, leader, refl, replies_in, result_from, true, unwrap_or}
 use Rattle.ls_set.proofs.Members.{among-here, among-there}
 use Rattle.ls_theory.specs.declared.reply.Reply.{Reply}
 use Rattle.ls_theory.specs.declared.ratio.Ratios.{Ratios}
-use Rattle.ls_theory.specs.Settings.{Settings}
-use Rattle.ls_theory.specs.Assessment.{leader}
-use Rattle.ls_theory.specs.Classes.{Row, PupilResult, replies_in, result_from, class_results}
-use Rattle.ls_laws.specs.Spans.{IsOn}
 
 found-within : (n : ℕ) (p : Items → Bool) (f : List Items) → IsOn n f → IsWithin (unwrap_or (find p f) empty) (full n)
 found-within n p [] h = empty-within (full n)

@@ -1,19 +1,7 @@
 -- Pupils stay pupils of n items, and what their rows come to.
-use Rattle.std.proofs.Common.{◌≡◌, ◌<◌, ◌≤◌, ℕ, ◌+◌, Bool, true, false, not, List, [], ◌∷◌, ◌++◌, filter, set, remove, take, drop, slice_get, length, length-append, zero, suc, Some, None, unwrap_or, refl, sym, ap, ◌∙◌, subst, arith}
-use Rattle.std.specs.List.{list_any}
+use Rattle.ls_pupils.proofs.Vocabulary.{◌++◌, ◌+◌, ◌<◌, ◌∙◌, ◌∷◌, ◌≡◌, ◌≤◌, Agreed, All-append, All-drop, All-push, All-set, All-take, ArePupils, Bool, Done, IsCase, List, None, Pupil, PupilCase, Refused, ReplyFault, Some, ℕ, [], ap, arith, asked, asked_of, close_row, drop, false, filter, get-map, has_name, have_own_names, is_named, length, length-append, list_any, map-remove, most_pupils, not, pupil_of, pupil_with, pupils_of, refl, remove, replied, reply_fault, reply_row, set, slice_get, slice_get_within, subst, suc, sym, take, true, unwrap_or, unwrap_or-slice_get, with_pupil, zero}
 use Rattle.std.proofs.lemmas.List.{map-set, length-set}
-use Rattle.std.proofs.lemmas.List.Elements.{All-set, All-append, All-push, All-take, All-drop}
-use Rattle.std.proofs.lemmas.Option.{slice_get_within, unwrap_or-slice_get}
-use Rattle.ls_lists.proofs.Places.{map-remove, get-map}
-use Rattle.ls_reply.specs.Sessions.{Pupil}
-use Rattle.ls_theory.specs.Assessment.{asked, reply_fault}
-use Rattle.ls_theory.specs.declared.reply_fault.ReplyFault.{ReplyFault}
-use Rattle.ls_reply.specs.Pupils.{has_name, pupil_with, with_pupil, replied, most_pupils, asked_of, reply_row, close_row}
 use Rattle.ls_reply.specs.declared.refusal.Refusal.TheVariants as refusal
-use Rattle.ls_reply.specs.declared.response.Response.TheVariants.{Refused, Done, Agreed}
-use Rattle.ls_pupils.specs.Own.{is_named, have_own_names}
-use Rattle.ls_pupils.specs.Cases.{pupil_of, pupils_of, IsCase, ArePupils}
-use Rattle.ls_pupils.specs.declared.cases.PupilCase.{PupilCase}
 use Rattle.ls_pupils.proofs.Own.{replaced-set, left_out-remove, own-set, own-remove, own-push, own-map, own_name}
 use Rattle.ls_pupils.proofs.Named.{name_of, IsAt}
 use Rattle.ls_pupils.proofs.Rows.{asked-same, row-taken, row-refused}

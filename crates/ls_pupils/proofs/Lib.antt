@@ -1,3 +1,4 @@
+mod Vocabulary
 pub mod Own
 pub mod Named
 pub mod Rows

@@ -1,15 +1,6 @@
 -- The case of a name, at its place.
-use Rattle.std.proofs.Common.{◌≡◌, ◌<◌, ℕ, suc, ◌+◌, inl, inr, true, false, List, [], ◌∷◌, get_or, unwrap_or, slice_get, length, Option, Some, None, option_map, is_some, refl, sym, ap, ◌∙◌, subst, arith}
-use Rattle.std.specs.List.{position, list_any}
-use Rattle.std.proofs.lemmas.Bool.{cases_Bool}
-use Rattle.std.proofs.lemmas.Option.{slice_get_within, unwrap_or-slice_get}
+use Rattle.ls_pupils.proofs.Vocabulary.{◌+◌, ◌<◌, ◌∙◌, ◌∷◌, ◌≡◌, List, None, Option, Pupil, PupilCase, Some, ℕ, [], ap, arith, cases_Bool, false, get_or, inl, inr, is_named, is_some, length, list_any, option_map, position, position-here, position-later, pupil_of, pupil_with, pupils_of, refl, slice_get, slice_get_within, subst, suc, sym, true, unwrap_or, unwrap_or-slice_get}
 use Rattle.ls_lists.proofs.Options.{nothing}
-use Rattle.ls_lists.proofs.Places.{position-here, position-later}
-use Rattle.ls_reply.specs.Sessions.{Pupil}
-use Rattle.ls_reply.specs.Pupils.{pupil_with}
-use Rattle.ls_pupils.specs.Own.{is_named}
-use Rattle.ls_pupils.specs.Cases.{pupil_of, pupils_of}
-use Rattle.ls_pupils.specs.declared.cases.PupilCase.{PupilCase}
 
 abbrev pub name_of : PupilCase → List ℕ
 name_of c = c.name

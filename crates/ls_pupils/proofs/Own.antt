@@ -1,11 +1,5 @@
 -- Lists in which each element has a name of its own: what is done at the place of a name is done to the elements of that name.
-use Rattle.std.proofs.Common.{◌≡◌, ℕ, zero, suc, inl, inr, Bool, true, false, cond, not, ◌&&◌, List, [], ◌∷◌, ◌++◌, map, filter, set, remove, slice_get, Some, refl, sym, ap, ap₂, ◌∙◌, true≢false, subst}
-use Rattle.std.specs.Prelude.{bytes_eq}
-use Rattle.std.specs.List.{list_any}
-use Rattle.std.proofs.lemmas.Bool.{cases_Bool, and_parts}
-use Rattle.std.proofs.lemmas.Slice.Eq.{bytes_eq-Decides}
-use Rattle.ls_lists.proofs.Every.{list_any-map}
-use Rattle.ls_pupils.specs.Own.{is_named, have_own_names}
+use Rattle.ls_pupils.proofs.Vocabulary.{◌&&◌, ◌++◌, ◌∙◌, ◌∷◌, ◌≡◌, Bool, List, Some, ℕ, [], and_parts, ap, ap₂, bytes_eq, bytes_eq-Decides, cases_Bool, cond, false, filter, have_own_names, inl, inr, is_named, list_any, list_any-map, map, not, refl, remove, set, slice_get, subst, suc, sym, true, true≢false, zero}
 
 -- names that are the same
 same_name : (a b : List ℕ) → bytes_eq a b ≡ true → a ≡ b

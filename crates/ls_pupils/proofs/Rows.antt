@@ -1,38 +1,20 @@
 -- What the rows of pupils come to.
-use Rattle.std.proofs.Common.{◌≡◌, ◌<◌, ◌≤◌, ℕ, ◌+◌, Bool, true, List, [], ◌∷◌, ◌++◌, slice_get, zero, suc, get_or, length, subst, arith, Some, None, Result, Ok, Err, IfOk, OnOk, refl, ap, le-ltb}
-use Rattle.std.proofs.lemmas.Bool.{lt-leb, le-leb}
-use Rattle.std.specs.List.{All}
+use Rattle.ls_pupils.proofs.Vocabulary.{◌++◌, ◌+◌, ◌<◌, ◌∷◌, ◌≡◌, ◌≤◌, All, Bool, CanTell, Done, Err, IfOk, Interview, IsCase, IsNewPupil, IsOn, IsWeighed, Items, List, None, Ok, OnOk, Pupil, PupilCase, Refused, ReplyFault, Result, Shown, Some, Weighing, ℕ, [], ap, arith, asked, asked_of, begin_row, changed, compatible_sets, fringes, get_or, is_among, le-leb, le-ltb, length, lt-leb, most_pupils, new_pupil, pupil_of, pupil_with, refl, replied, reply_fault, reply_row, slice_get, subst, suc, true, weighing_refusals, with_pupil, zero}
 use Rattle.std.specs.declared.alloc.AllocError.{AllocError}
-use Rattle.ls_theory.specs.Interviews.{Interview}
-use Rattle.ls_theory.specs.Compatible.{compatible_sets}
 use Rattle.ls_theory.specs.Settings.{Settings, most_states, heavy_after}
-use Rattle.ls_weight.specs.Weighings.{Weighing}
 use Rattle.ls_weight.specs.declared.fault.WeightFault.{WeightFault}
 use Rattle.ls_weight.specs.declared.fault.WeightFault.TheVariants.{Heavy, Memory}
-use Rattle.ls_reply.specs.Effects.{changed}
-use Rattle.ls_reply.specs.Pupils.{weighing_refusals}
 use Rattle.ls_reply.specs.declared.refusal.Refusal.{Refusal}
 use Rattle.ls_reply.specs.declared.refusal.Refusal.TheVariants as refusal
 use Rattle.ls_reply.specs.declared.response.Response.{Response}
-use Rattle.ls_reply.specs.declared.response.Response.TheVariants.{Refused, Done, Shown}
-use Rattle.ls_set.specs.ItemSet.{Items, is_among}
-use Rattle.ls_theory.specs.Assessment.{asked, reply_fault}
-use Rattle.ls_theory.specs.Fringes.{fringes}
 use Rattle.ls_theory.specs.declared.asked.Asked.{Asked}
 use Rattle.ls_theory.specs.declared.asked.Asked.TheVariants.{Item, Over}
 use Rattle.ls_theory.specs.declared.outcome.Outcome.{Outcome}
 use Rattle.ls_theory.specs.declared.fringe_pair.FringePair.{FringePair}
-use Rattle.ls_theory.specs.declared.reply_fault.ReplyFault.{ReplyFault}
 use Rattle.ls_theory.specs.declared.reply_fault.ReplyFault.TheVariants as faults
 use Rattle.ls_theory.specs.declared.reply_fault.ReplyFault.TheVariants.{WrongItem}
-use Rattle.ls_laws.specs.Spans.{IsOn}
 use Rattle.ls_fringe.proofs.Chosen.{inner-within, outer-within}
-use Rattle.ls_reply.specs.Sessions.{Pupil}
-use Rattle.ls_reply.specs.Pupils.{asked_of, reply_row, with_pupil, replied, pupil_with, most_pupils, begin_row, new_pupil}
 use Rattle.ls_reply.specs.declared.response.Shown.TheVariants as shown
-use Rattle.ls_pupils.specs.Cases.{pupil_of, IsCase, CanTell}
-use Rattle.ls_pupils.specs.Beginning.{IsNewPupil, IsWeighed}
-use Rattle.ls_pupils.specs.declared.cases.PupilCase.{PupilCase}
 
 -- the first of the refusals is told
 pub changed-first : {A : Type 0} (old : A) (refusals : List Refusal) (response : Response) (next : A) (r : Refusal) → slice_get refusals 0 ≡ Some r → changed old refusals response next ≡ record { response = Refused r; next = old }

@@ -1,13 +1,12 @@
 -- Pupils that begin.
 use Rattle.std.specs.Prelude.{◌≡◌, [], length, slice_get, Some, Result, Ok, Err}
 use Rattle.std.specs.declared.alloc.AllocError.{AllocError}
-use Rattle.ls_theory.specs.Interviews.{Interview}
-use Rattle.ls_theory.specs.Compatible.{compatible_sets}
+use Rattle.ls_theory.specs.{Interview, compatible_sets}
 use Rattle.ls_theory.specs.Settings.{Settings}
 use Rattle.ls_weight.specs.Weighings.{Weighing}
 use Rattle.ls_weight.specs.declared.fault.WeightFault.{WeightFault}
 use Rattle.ls_weight.specs.declared.fault.WeightFault.TheVariants.{Heavy, Memory}
-use Rattle.ls_reply.specs.Pupils.{weighing_refusals}
+use Rattle.ls_reply.specs.{weighing_refusals}
 use Rattle.ls_reply.specs.declared.refusal.Refusal.{Refusal}
 use Rattle.ls_reply.specs.declared.refusal.Refusal.TheVariants as refusal
 

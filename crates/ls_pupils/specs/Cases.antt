@@ -4,15 +4,12 @@
 --     CanTell n r      what is told of pupils speaks of the n items alone
 use Rattle.std.specs.Prelude.{ℕ, ◌≡◌, ◌<◌, ◌≤◌, true, List, map, length, ⊤}
 use Rattle.std.specs.List.{All, list_all}
-use Rattle.ls_set.specs.ItemSet.{full, IsWithin, most_items}
-use Rattle.ls_set.specs.Query.{is_good}
-use Rattle.ls_theory.specs.Compatible.{compat}
+use Rattle.ls_set.specs.{IsWithin, full, is_good, most_items}
+use Rattle.ls_theory.specs.{compat, most_states}
 use Rattle.ls_theory.specs.declared.asked.Asked.TheVariants.{Item, Over}
-use Rattle.ls_reply.specs.Refusals.{refusal_items}
-use Rattle.ls_theory.specs.Settings.{most_states}
+use Rattle.ls_reply.specs.{most_pupils, refusal_items}
 use Rattle.ls_expert.specs.Starts.{start_of, IsStartOn}
 use Rattle.ls_reply.specs.Sessions.{Pupil}
-use Rattle.ls_reply.specs.Pupils.{most_pupils}
 use Rattle.ls_reply.specs.declared.response.Response.{Response}
 use Rattle.ls_reply.specs.declared.response.Response.TheVariants as response
 use Rattle.ls_reply.specs.declared.response.Shown.TheVariants as shown

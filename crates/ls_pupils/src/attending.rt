@@ -1,6 +1,6 @@
 // What is asked of pupils, or done with them.
 ghost use Rattle.std.specs.Prelude.{◌≡◌, length, IfOk, OnOk, OnErr};
-ghost use Rattle.ls_reply.specs.Pupils.{pupil_row};
+ghost use Rattle.ls_reply.specs.{pupil_row};
 ghost use Rattle.ls_pupils.specs.Cases.{pupils_of, ArePupils, CanTell};
 
 use crate::asking::{close, question, reply, report};

@@ -1,10 +1,9 @@
 // How a pupil begins.
 ghost use Rattle.std.specs.Prelude.{◌≡◌, ◌<◌, ◌++◌, ◌∷◌, [], true, false, Ok, length, IfSome, IfOk, OnOk, OnErr};
 ghost use Rattle.std.specs.List.{list_any};
-ghost use Rattle.ls_theory.specs.Compatible.{compatible_sets};
-ghost use Rattle.ls_theory.specs.Interviews.{yes_queries};
+ghost use Rattle.ls_theory.specs.{compatible_sets, yes_queries};
 ghost use Rattle.ls_expert.specs.Starts.{start_of};
-ghost use Rattle.ls_reply.specs.Pupils.{begin_row, most_pupils, new_pupil};
+ghost use Rattle.ls_reply.specs.{begin_row, most_pupils, new_pupil};
 ghost use Rattle.ls_reply.specs.declared.response.Response.TheVariants.{Done};
 ghost use Rattle.ls_pupils.specs.Own.{is_named};
 ghost use Rattle.ls_pupils.specs.Cases.{pupils_of, IsCase, IsOwnCase, ArePupils};

@@ -1,6 +1,6 @@
 // Pupils as a session keeps them.
 ghost use Rattle.std.specs.Prelude.{◌≡◌, ◌<◌, ◌++◌, ◌∷◌, [], ℕ, Some, None, Err, length, position, remove, set, slice_get, IfSome, IfErr, OnOk, OnErr};
-ghost use Rattle.ls_theory.specs.Assessment.{asked, reply_fault};
+ghost use Rattle.ls_theory.specs.{asked, reply_fault};
 ghost use Rattle.ls_theory.specs.declared.reply_fault.ReplyFault.TheVariants.{WrongItem};
 ghost use Rattle.ls_pupils.specs.Own.{is_named};
 ghost use Rattle.ls_pupils.specs.Cases.{IsOwnCase};

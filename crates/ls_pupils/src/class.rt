@@ -1,10 +1,10 @@
 // Classes: the pupils of a table, assessed by what it says of them.
 ghost use Rattle.std.specs.Prelude.{◌≡◌, [], length, Ok, IfOk};
-ghost use Rattle.ls_theory.specs.Compatible.{compatible_sets};
+ghost use Rattle.ls_theory.specs.{compatible_sets};
 ghost use Rattle.ls_laws.specs.Spans.{IsOn};
 ghost use Rattle.ls_weight.specs.Weighings.{IsWeighable};
 ghost use Rattle.ls_class.specs.Tables.{class_of};
-ghost use Rattle.ls_reply.specs.Pupils.{classed_by};
+ghost use Rattle.ls_reply.specs.{classed_by};
 ghost use Rattle.ls_pupils.specs.Cases.{CanTell};
 
 use crate::beginning::MOST_STATES;

@@ -1,6 +1,6 @@
 // How settings change.
 ghost use Rattle.std.specs.Prelude.{◌≡◌, ℕ, length};
-ghost use Rattle.ls_reply.specs.Pupils.{setting_row};
+ghost use Rattle.ls_reply.specs.{setting_row};
 ghost use Rattle.ls_meanings.specs.Asked.{IsSettingOn};
 ghost use Rattle.ls_pupils.specs.Cases.{CanTell};
 

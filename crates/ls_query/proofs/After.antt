@@ -1,15 +1,5 @@
 -- The sets of a size before a set, the set and those after it are all sets of the size.
-use Rattle.std.proofs.Common.{ℕ, zero, suc, ◌+◌, ◌-◌, ◌<◌, ◌≤◌, ◌≡◌, inl, inr, List, length, filter, Some, None, refl, sym, ap, ◌∙◌, arith, ltb-true}
-use Rattle.std.proofs.lemmas.Bool.{cases_Bool}
-use Rattle.std.specs.List.{position}
-use Rattle.ls_set.specs.ItemSet.{Items, has, full, without, items, len, least, is_same, numbers_from, IsWithin}
-use Rattle.ls_set.proofs.Sizes.{items-within, len-within}
-use Rattle.ls_set.proofs.Sets.{has-full}
-use Rattle.ls_set.proofs.Ascending.{least-cases}
-use Rattle.ls_set.proofs.Firsts.{items-least, items-none}
-use Rattle.ls_theory.specs.Queries.{blocks}
-use Rattle.ls_query.specs.Blocks.{choose}
-use Rattle.ls_query.specs.Places.{after_of}
+use Rattle.ls_query.proofs.Vocabulary.{◌+◌, ◌-◌, ◌<◌, ◌∙◌, ◌≡◌, ◌≤◌, IsWithin, Items, List, None, Some, ℕ, after_of, ap, arith, blocks, cases_Bool, choose, filter, full, has, has-full, inl, inr, is_same, items, items-least, items-none, items-within, least, least-cases, len, len-within, length, ltb-true, numbers_from, position, refl, suc, sym, without, zero}
 use Rattle.ls_query.proofs.Binomials.{choose-none, choose-more}
 use Rattle.ls_query.proofs.BySize.{len-full, length-blocks_more}
 use Rattle.ls_query.proofs.BlockSets.{IsOfBlocks}

@@ -1,8 +1,6 @@
 -- Binomial coefficients: each from the one before it, and how they grow.
-use Rattle.std.proofs.Common.{ℕ, zero, suc, ◌+◌, ◌*◌, ◌-◌, ◌/◌, ◌<◌, ◌≤◌, ◌≡◌, inl, inr, refl, ap, arith}
-use Rattle.std.proofs.lemmas.Bool.{cases_lt}
+use Rattle.ls_query.proofs.Vocabulary.{◌*◌, ◌+◌, ◌-◌, ◌/◌, ◌<◌, ◌≡◌, ◌≤◌, ℕ, ap, arith, cases_lt, choose, inl, inr, refl, suc, zero}
 use Rattle.std.proofs.lemmas.Nat.{div-mul-add}
-use Rattle.ls_query.specs.Blocks.{choose}
 
 pub choose-none : (m : ℕ) → choose m 0 ≡ 1
 unfolding choose

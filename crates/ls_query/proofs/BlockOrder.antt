@@ -1,16 +1,5 @@
 -- The order of the sets A: of one size it is the order of sets.
-use Rattle.std.proofs.Common.{ℕ, zero, suc, ◌<◌, ◌≡◌, ◌≢◌, ◌⊎◌, inl, inr, true, false, not, ◌&&◌, eqb, List, [], ◌∷◌, length, Some, None, refl, sym, ap, ◌∙◌, arith, true≢false, lt-ltb, le-ltb, eq-eqb, ne_eqb}
-use Rattle.std.proofs.lemmas.Bool.{cases_Bool, cases_order}
-use Rattle.std.proofs.lemmas.Bool.Decides.{nat_tests}
-use Rattle.ls_lists.proofs.Bools.{same_truth}
-use Rattle.ls_set.specs.ItemSet.{Items, has, without, items, len, least, comes_before}
-use Rattle.ls_set.proofs.Sets.{members, has-without, without-within}
-use Rattle.ls_set.proofs.Ascending.{least-cases}
-use Rattle.ls_set.proofs.Firsts.{items-least, items-none}
-use Rattle.ls_set.proofs.Order.{comes_before-at, comes_before-transitive, differs_first, comes_before-irreflexive, comes_before-asymmetric}
-use Rattle.ls_theory.specs.Words.{is_lex_before}
-use Rattle.ls_theory.specs.Queries.{block_before}
-use Rattle.ls_laws.proofs.Counts.{len-zero}
+use Rattle.ls_query.proofs.Vocabulary.{◌&&◌, ◌<◌, ◌∙◌, ◌∷◌, ◌≡◌, ◌≢◌, ◌⊎◌, Items, List, None, Some, ℕ, [], ap, arith, block_before, cases_Bool, cases_order, comes_before, comes_before-asymmetric, comes_before-at, comes_before-irreflexive, comes_before-transitive, differs_first, eq-eqb, eqb, false, has, has-without, inl, inr, is_lex_before, items, items-least, items-none, le-ltb, least, least-cases, len, len-zero, length, lt-ltb, members, nat_tests, ne_eqb, not, refl, same_truth, suc, sym, true, true≢false, without, without-within, zero}
 
 lex-same : (xs : List ℕ) → is_lex_before xs xs ≡ false
 lex-same [] = refl

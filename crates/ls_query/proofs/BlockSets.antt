@@ -1,16 +1,6 @@
 -- The sets of the blocks: which they are, and that they stand in the order.
-use Rattle.std.proofs.Common.{ℕ, ◌<◌, ◌≤◌, ◌≡◌, true, eqb, ltb, List, [], ◌∷◌, find, None, sym, ◌∙◌, arith, ltb-true, eqb-true}
-use Rattle.ls_lists.proofs.Elements.{each-in, filter-in, flat_map-in}
-use Rattle.ls_lists.proofs.Sorted.{sorted-as, sorted-filter, sorted-flat_map, find-same}
-use Rattle.ls_lists.specs.Lists.{IsIn, IsSorted}
-use Rattle.ls_set.specs.ItemSet.{Items, empty, full, len, numbers_from, subsets, comes_before, IsWithin, IsInOrder}
-use Rattle.ls_set.proofs.Sets.{IsWithin-from, is_within-from}
-use Rattle.ls_set.proofs.Order.{among-subsets, subsets_from-in_order}
-use Rattle.ls_theory.specs.Queries.{blocks, block_before}
-use Rattle.ls_theory.specs.Pages.{comes_after}
-use Rattle.ls_laws.proofs.Counts.{len-empty}
+use Rattle.ls_query.proofs.Vocabulary.{◌<◌, ◌∙◌, ◌∷◌, ◌≡◌, ◌≤◌, IsIn, IsInOrder, IsSorted, IsWithin, IsWithin-from, Items, List, None, ℕ, [], among-in, among-subsets, arith, block_before, blocks, comes_after, comes_before, each-in, empty, eqb, eqb-true, filter-in, find, find-same, flat_map-in, full, is_within-from, len, len-empty, ltb, ltb-true, numbers-in, numbers_from, sorted-as, sorted-filter, sorted-flat_map, subsets, subsets_from-in_order, sym, true}
 use Rattle.ls_laws.proofs.Blocks as laws
-use Rattle.ls_laws.proofs.Blocks.{numbers-in, among-in}
 use Rattle.ls_query.proofs.Sorted.{sorted-numbers}
 use Rattle.ls_query.proofs.BySize.{of_size}
 use Rattle.ls_query.proofs.BlockOrder.{before-smaller, before-same}

@@ -1,20 +1,8 @@
 -- The sets of one size: how many there are, and so how many the blocks have.
-use Rattle.std.proofs.Common.{ℕ, zero, suc, ◌+◌, ◌-◌, ◌<◌, ◌≤◌, ◌≡◌, false, ◌||◌, eqb, List, [], ◌∷◌, ◌++◌, map, filter, length, Some, refl, sym, ap, ap₂, ◌∙◌, arith, length-append, append-nil, ne_eqb, le-ltb}
-use Rattle.std.specs.List.{flat_map}
-use Rattle.std.proofs.lemmas.Bool.{false_from_ne_true}
-use Rattle.std.proofs.lemmas.Bool.Decides.{nat_tests}
+use Rattle.ls_query.proofs.Vocabulary.{◌++◌, ◌+◌, ◌-◌, ◌<◌, ◌||◌, ◌∙◌, ◌∷◌, ◌≡◌, ◌≤◌, Each-weaker, IsBetween, Items, List, Some, ℕ, [], ap, append-nil, ap₂, arith, blocks, choose, empty, eqb, false, false_from_ne_true, filter, flat_map, full, has, has-full, has-single, has-with, le-ltb, least, least-cases, len, len-empty, len-less, len-parts, len-single, length, length-append, length-map, map, members, minus, nat_tests, ne_eqb, numbers_from, refl, same_set, single, subsets_from, subsets_from-between, suc, sym, with, without, without-within, zero}
 use Rattle.std.proofs.lemmas.Grind.{flat_map-append}
 use Rattle.std.proofs.lemmas.List.Elements.{filter-append}
-use Rattle.std.proofs.lemmas.List.{length-map}
 use Rattle.ls_lists.proofs.Filters.{filter-map, filter-agree, filter-nothing}
-use Rattle.ls_set.specs.ItemSet.{Items, has, empty, full, with, without, single, minus, len, least, numbers_from, subsets_from}
-use Rattle.ls_set.proofs.Sets.{members, same_set, has-with, has-single, has-full, without-within}
-use Rattle.ls_set.proofs.Sizes.{len-less}
-use Rattle.ls_set.proofs.Ascending.{least-cases}
-use Rattle.ls_set.proofs.Order.{IsBetween, Each-weaker, subsets_from-between}
-use Rattle.ls_theory.specs.Queries.{blocks}
-use Rattle.ls_laws.proofs.Counts.{len-parts, len-single, len-empty}
-use Rattle.ls_query.specs.Blocks.{choose}
 use Rattle.ls_query.proofs.Binomials.{choose-none, choose-more, choose-zero_more}
 
 -- ---- sizes

@@ -1,12 +1,6 @@
 -- What the count of the blocks keeps as it goes on, and what is made of it.
-use Rattle.std.proofs.Common.{ℕ, zero, suc, ◌+◌, ◌-◌, ◌<◌, ◌≤◌, ◌≡◌, ◌≢◌, ◌⊎◌, inl, inr, true, false, max, length, find, Some, None, Result, Ok, Err, refl, sym, ◌∙◌, arith, lt-ltb, le-ltb, eq-eqb, ne_eqb}
+use Rattle.ls_query.proofs.Vocabulary.{◌+◌, ◌-◌, ◌<◌, ◌∙◌, ◌≡◌, ◌≢◌, ◌≤◌, ◌⊎◌, BadBlock, Err, None, Ok, Result, Some, TooWide, ℕ, arith, blocks, choose, eq-eqb, false, find, find_none, inl, inr, is_too_wide, le-ltb, length, lt-ltb, made, max, most_sets, ne_eqb, numbers_from, refl, suc, sym, true, zero}
 use Rattle.std.specs.Result.{IsOk}
-use Rattle.ls_set.specs.ItemSet.{numbers_from}
-use Rattle.ls_set.proofs.Ascending.{find_none}
-use Rattle.ls_theory.specs.Queries.{blocks}
-use Rattle.ls_theory.specs.Blocks.{is_too_wide, made, most_sets}
-use Rattle.ls_theory.specs.declared.block_fault.BlockFault.TheVariants.{BadBlock, TooWide}
-use Rattle.ls_query.specs.Blocks.{choose}
 use Rattle.ls_query.proofs.Binomials.{choose-none}
 use Rattle.ls_query.proofs.BySize.{length-blocks_more, length-blocks_shorter, choose-within}
 

@@ -1,12 +1,5 @@
 -- The last item that can move, as the items are looked at from the least on.
-use Rattle.std.proofs.Common.{ℕ, ◌+◌, ◌<◌, ◌≡◌, ◌≢◌, ◌⊎◌, inl, inr, true, false, Option, Some, None, MatchOption, sym, ap, ◌∙◌, arith, true≢false}
-use Rattle.std.proofs.lemmas.Bool.{cases_eq, cases_lt}
-use Rattle.std.proofs.lemmas.Bool.Decides.{nat_tests}
-use Rattle.ls_set.specs.ItemSet.{Items, has, without, least, IsWithin}
-use Rattle.ls_set.proofs.Sets.{members}
-use Rattle.ls_set.proofs.Ascending.{least-cases}
-use Rattle.ls_set.proofs.Listed.{least-none_left}
-use Rattle.ls_query.specs.Moves.{IsLastMove, HasNoMove}
+use Rattle.ls_query.proofs.Vocabulary.{◌+◌, ◌<◌, ◌∙◌, ◌≡◌, ◌≢◌, ◌⊎◌, HasNoMove, IsLastMove, IsWithin, Items, MatchOption, None, Option, Some, ℕ, ap, arith, cases_eq, cases_lt, false, has, inl, inr, least, least-cases, least-none_left, members, nat_tests, sym, true, true≢false, without}
 
 -- none of the items of a that are no longer in left can move up
 abbrev pub NoneMoves : ℕ → Items → Items → Type 0

@@ -1,3 +1,4 @@
+mod Vocabulary
 pub mod Sorted
 pub mod Binomials
 pub mod BySize

@@ -1,10 +1,6 @@
 -- Blocks that were made are those that were asked for.
-use Rattle.std.proofs.Common.{ℕ, ◌-◌, ◌≡◌, Bool, true, false, cond, ◌||◌, eqb, nat_lt, max, find, Option, Some, None, Result, Ok, Err}
-use Rattle.std.specs.Option.{option_map_or}
-use Rattle.ls_set.specs.ItemSet.{numbers_from}
-use Rattle.ls_theory.specs.Blocks.{BlockRange, is_too_wide, made}
+use Rattle.ls_query.proofs.Vocabulary.{◌-◌, ◌||◌, ◌≡◌, BadBlock, BlockRange, Bool, Err, None, Ok, Option, Result, Some, TooWide, ℕ, cond, eqb, false, find, is_too_wide, made, max, nat_lt, numbers_from, option_map_or, true}
 use Rattle.ls_theory.specs.declared.block_fault.BlockFault.{BlockFault}
-use Rattle.ls_theory.specs.declared.block_fault.BlockFault.TheVariants.{BadBlock, TooWide}
 
 chosen : (bad : Bool) (wide : Option ℕ) (x b : BlockRange)
     → cond bad (Err BadBlock) (option_map_or (λ (size : ℕ). let r : Result BlockRange BlockFault = Err (TooWide size) in r) wide (Ok x)) ≡ Ok b → x ≡ b

@@ -1,22 +1,5 @@
 -- The first query of the blocks that passes a test, set by set.
-use Rattle.std.proofs.Common.{ℕ, ◌<◌, ◌≤◌, ◌≡◌, inl, inr, Bool, true, false, not, ◌&&◌, ltb, List, filter, find, Some, None, refl, sym, ap, ap₂, ◌∙◌, arith, true≢false, lt-ltb}
-use Rattle.std.specs.List.{position}
-use Rattle.std.proofs.lemmas.Bool.{cases_lt, and_parts, and_from, false_from_ne_true, and_left, and_right}
-use Rattle.ls_lists.proofs.Bools.{same_truth}
-use Rattle.ls_lists.proofs.Finds.{find-filter}
-use Rattle.ls_lists.proofs.Sorted.{find-same, find-first, find-is, find-none_is, find-no_element}
-use Rattle.ls_lists.specs.Lists.{IsIn}
-use Rattle.ls_set.specs.ItemSet.{Items, has, empty, full, minus, len, least, next_item, is_same, IsWithin}
-use Rattle.ls_set.specs.Query.{is_good}
-use Rattle.ls_set.specs.declared.query.Query.{Query}
-use Rattle.ls_set.proofs.Sets.{members, has-full, has-minus, and-true, Decides-is_same, is_within-from}
-use Rattle.ls_set.proofs.Sizes.{len-less}
-use Rattle.ls_set.proofs.Ascending.{least-cases}
-use Rattle.ls_theory.specs.Queries.{blocks, block_before, queries, query_before}
-use Rattle.ls_theory.specs.Pages.{comes_after}
-use Rattle.ls_laws.proofs.Blocks.{in-queries}
-use Rattle.ls_laws.proofs.Breaks.{IsGood, good-from, good-to}
-use Rattle.ls_laws.proofs.Counts.{len-empty}
+use Rattle.ls_query.proofs.Vocabulary.{◌&&◌, ◌<◌, ◌∙◌, ◌≡◌, ◌≤◌, Bool, Decides-is_same, IsGood, IsIn, IsWithin, Items, List, None, Query, Some, ℕ, and-true, and_from, and_left, and_parts, and_right, ap, ap₂, arith, block_before, blocks, cases_lt, comes_after, empty, false, false_from_ne_true, filter, find, find-filter, find-first, find-is, find-no_element, find-none_is, find-same, full, good-from, good-to, has, has-full, has-minus, in-queries, inl, inr, is_good, is_same, is_within-from, least, least-cases, len, len-empty, len-less, lt-ltb, ltb, members, minus, next_item, not, position, queries, query_before, refl, same_truth, sym, true, true≢false}
 use Rattle.ls_query.proofs.Sorted.{sorted-cases}
 use Rattle.ls_query.proofs.BlockOrder.{before-smaller, before-transitive, before-asymmetric}
 use Rattle.ls_query.proofs.BlockSets.{IsOfBlocks, in-blocks, blocks-in, sorted-blocks}

@@ -1,21 +1,8 @@
 -- The place of a set in the blocks: the sets of smaller sizes, and those of its size before it.
-use Rattle.std.proofs.Common.{ℕ, zero, suc, ◌+◌, ◌-◌, ◌<◌, ◌≤◌, ◌≡◌, ◌≢◌, inl, inr, true, false, not, if◌then◌else◌, List, [], ◌∷◌, ◌++◌, map, length, get_or, slice_get, Some, None, refl, sym, ap, ◌∙◌, arith, true≢false, lt-ltb, le-ltb, eq-eqb}
-use Rattle.std.specs.List.{position, prefix_len}
-use Rattle.std.proofs.lemmas.Bool.{cases_Bool, false_from_ne_true}
-use Rattle.std.proofs.lemmas.Bool.Decides.{nat_tests}
+use Rattle.ls_query.proofs.Vocabulary.{◌++◌, ◌+◌, ◌-◌, ◌<◌, ◌∙◌, ◌∷◌, ◌≡◌, ◌≢◌, ◌≤◌, Decides-is_same, IsBetween, IsIn, IsSorted, Items, List, None, Some, ℕ, [], ap, arith, block_before, blocks, cases_Bool, choose, empty, eq-eqb, false, false_from_ne_true, get-in, get_or, has, has-empty, has-full, has-without, if◌then◌else◌, inl, inr, is_same, le-ltb, len, len-empty, length, length-map, lt-ltb, map, members, most_sets, nat_tests, not, position, prefix_len, refl, same_set, slice_get, suc, sym, true, true≢false, with, without, zero}
 use Rattle.std.proofs.lemmas.Option.{slice_get_within, slice_get-get_or}
 use Rattle.std.proofs.lemmas.List.Quantifiers.{position-Some}
-use Rattle.std.proofs.lemmas.List.{length-map}
 use Rattle.ls_lists.proofs.Places.{get-map}
-use Rattle.ls_lists.proofs.Elements.{get-in}
-use Rattle.ls_lists.specs.Lists.{IsIn, IsSorted}
-use Rattle.ls_set.specs.ItemSet.{Items, has, empty, with, without, len, is_same}
-use Rattle.ls_set.proofs.Sets.{members, same_set, has-empty, has-without, has-full, Decides-is_same}
-use Rattle.ls_set.proofs.Order.{IsBetween}
-use Rattle.ls_theory.specs.Queries.{blocks, block_before}
-use Rattle.ls_theory.specs.Blocks.{most_sets}
-use Rattle.ls_laws.proofs.Counts.{len-empty}
-use Rattle.ls_query.specs.Blocks.{choose}
 use Rattle.ls_query.proofs.Sorted.{in-get}
 use Rattle.ls_query.proofs.Binomials.{choose-grows}
 use Rattle.ls_query.proofs.BySize.{of_size, of_size-more, of_size-none, length-of_size, len-with, blocks-more, length-blocks_shorter}

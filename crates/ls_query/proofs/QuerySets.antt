@@ -1,20 +1,5 @@
 -- The good queries of the blocks: which they are, that they stand in the order, and the next of them.
-use Rattle.std.proofs.Common.{ℕ, zero, suc, ◌<◌, ◌≡◌, ◌⊎◌, inl, inr, true, false, ◌&&◌, ltb, map, find, None, Some, refl, sym, ap, ◌∙◌, subst, arith, true≢false, lt-ltb, ltb-true}
-use Rattle.std.specs.List.{flat_map}
-use Rattle.std.proofs.lemmas.Bool.{and_parts, and_from, or_cases, or_left, or_right, false_from_ne_true}
-use Rattle.ls_lists.proofs.Elements.{filter-in, flat_map-in, map-in}
-use Rattle.ls_lists.proofs.Finds.{slice_get-filter, find-filter}
-use Rattle.ls_lists.proofs.Sorted.{sorted-map, sorted-filter, sorted-flat_map, find-none_is, find-no_element}
-use Rattle.ls_lists.specs.Lists.{IsIn, IsSorted}
-use Rattle.ls_set.specs.ItemSet.{Items, has, empty, len, least, next_item, items, bound, is_same, numbers_from}
-use Rattle.ls_set.specs.Query.{is_good}
-use Rattle.ls_set.specs.declared.query.Query.{Query}
-use Rattle.ls_set.proofs.Sets.{Decides-is_same}
-use Rattle.ls_set.proofs.Ascending.{find_some, bound-has}
-use Rattle.ls_theory.specs.Queries.{blocks, block_before, queries, query_before}
-use Rattle.ls_laws.proofs.Blocks.{in-numbers}
-use Rattle.ls_laws.proofs.Breaks.{IsGood, good-from}
-use Rattle.ls_laws.proofs.Counts.{len-zero}
+use Rattle.ls_query.proofs.Vocabulary.{◌&&◌, ◌<◌, ◌∙◌, ◌≡◌, ◌⊎◌, Decides-is_same, IsGood, IsIn, IsSorted, Items, None, Query, Some, ℕ, and_from, and_parts, ap, arith, block_before, blocks, bound, bound-has, empty, false, false_from_ne_true, filter-in, find, find-filter, find-no_element, find-none_is, find_some, flat_map, flat_map-in, good-from, has, in-numbers, inl, inr, is_good, is_same, items, least, len, len-zero, lt-ltb, ltb, ltb-true, map, map-in, next_item, numbers_from, or_cases, or_left, or_right, queries, query_before, refl, slice_get-filter, sorted-filter, sorted-flat_map, sorted-map, subst, suc, sym, true, true≢false, zero}
 use Rattle.ls_query.proofs.Sorted.{sorted-numbers}
 use Rattle.ls_query.proofs.BlockOrder.{before-cases, before-asymmetric}
 use Rattle.ls_query.proofs.BlockSets.{blocks-in, sorted-blocks}

@@ -1,8 +1,5 @@
 -- Lists in an order, and the numbers from one on.
-use Rattle.std.proofs.Common.{ℕ, zero, suc, ◌≡◌, ◌⊎◌, inl, inr, Bool, true, ltb, List, [], ◌∷◌, slice_get, Some, sym, ap, ◌∙◌, arith, lt-ltb}
-use Rattle.ls_lists.specs.Lists.{IsIn, IsSorted}
-use Rattle.ls_set.specs.ItemSet.{numbers_from}
-use Rattle.ls_laws.proofs.Blocks.{numbers-in}
+use Rattle.ls_query.proofs.Vocabulary.{◌∙◌, ◌∷◌, ◌≡◌, ◌⊎◌, Bool, IsIn, IsSorted, List, Some, ℕ, [], ap, arith, inl, inr, lt-ltb, ltb, numbers-in, numbers_from, slice_get, suc, sym, true, zero}
 
 pub sorted-numbers : (i m : ℕ) → IsSorted ltb (numbers_from i m)
 sorted-numbers i zero = tt

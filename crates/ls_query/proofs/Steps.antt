@@ -1,15 +1,5 @@
 -- The next set of the blocks: of the same size where an item can move up, and otherwise the first set of the next size.
-use Rattle.std.proofs.Common.{ℕ, zero, suc, ◌+◌, ◌-◌, ◌<◌, ◌≤◌, ◌≡◌, inl, inr, Bool, true, false, not, ◌&&◌, ◌||◌, ltb, find, Some, None, refl, sym, ap, ◌∙◌, arith, true≢false, lt-ltb, le-ltb, ltb-true}
-use Rattle.std.proofs.lemmas.Bool.{cases_order, cases_lt, false_from_ne_true}
-use Rattle.std.proofs.lemmas.Bool.Decides.{nat_tests}
-use Rattle.ls_lists.proofs.Sorted.{find-first, find-no_element}
-use Rattle.ls_set.specs.ItemSet.{Items, has, full, minus, with, keep_before, len, comes_before, DiffersFirstAt, IsWithin}
-use Rattle.ls_set.proofs.Sets.{members, has-full, has-minus, has-union, has-keep_before, keep_before-within}
-use Rattle.ls_set.proofs.Sizes.{len-within, len-less}
-use Rattle.ls_set.proofs.Order.{comes_before-at, differs_first}
-use Rattle.ls_theory.specs.Queries.{blocks, block_before}
-use Rattle.ls_laws.proofs.Counts.{len-parts}
-use Rattle.ls_query.specs.Moves.{IsLastMove, HasNoMove, moved}
+use Rattle.ls_query.proofs.Vocabulary.{◌&&◌, ◌+◌, ◌-◌, ◌<◌, ◌||◌, ◌∙◌, ◌≡◌, ◌≤◌, Bool, DiffersFirstAt, HasNoMove, IsLastMove, IsWithin, Items, None, Some, ℕ, ap, arith, block_before, blocks, cases_lt, cases_order, comes_before, comes_before-at, differs_first, false, false_from_ne_true, find, find-first, find-no_element, full, has, has-full, has-keep_before, has-minus, has-union, inl, inr, keep_before, keep_before-within, le-ltb, len, len-less, len-parts, len-within, lt-ltb, ltb, ltb-true, members, minus, moved, nat_tests, not, refl, suc, sym, true, true≢false, with, zero}
 use Rattle.ls_query.proofs.BySize.{len-with, len-full, len-range}
 use Rattle.ls_query.proofs.BlockOrder.{before-smaller, before-same, before-cases}
 use Rattle.ls_query.proofs.BlockSets.{in-blocks, blocks-in, sorted-blocks}

@@ -1,18 +1,6 @@
 -- Walks through the sets of blocks: the greatest item of a set, and the step by it.
-use Rattle.std.proofs.Common.{ℕ, zero, suc, ◌+◌, ◌-◌, ◌<◌, ◌≤◌, ◌≡◌, ◌⊎◌, inl, inr, Bool, true, false, eqb, find, Option, Some, None, refl, sym, ap, ◌∙◌, arith, add-one, true≢false, lt-ltb, ltb-true}
+use Rattle.ls_query.proofs.Vocabulary.{◌+◌, ◌-◌, ◌<◌, ◌∙◌, ◌≡◌, ◌≤◌, ◌⊎◌, AreBounded, BlockRange, Bool, HasNoMove, IsGreatest, IsLastMove, IsWithin, Items, None, Option, Some, ℕ, add-one, ap, arith, block_before, blocks, cases_Bool, cases_order, empty, eqb, false, false_from_ne_true, find, find-is, full, has, has-empty, has-full, inl, inr, keep_before, least, least-cases, least-none_left, len, len-empty, lt-ltb, ltb-true, members, minus, most_items, moved, nat_tests, refl, same_set, sets_of, suc, sym, true, true≢false, union, with, without, zero}
 use Rattle.std.specs.Option.{IfSome, MatchOption, SomeIff}
-use Rattle.std.proofs.lemmas.Bool.{cases_Bool, cases_order, false_from_ne_true}
-use Rattle.std.proofs.lemmas.Bool.Decides.{nat_tests}
-use Rattle.ls_lists.proofs.Sorted.{find-is}
-use Rattle.ls_set.specs.ItemSet.{Items, has, empty, full, with, without, union, minus, keep_before, len, least, most_items, IsWithin}
-use Rattle.ls_set.proofs.Sets.{members, same_set, has-empty, has-full}
-use Rattle.ls_set.proofs.Ascending.{least-cases}
-use Rattle.ls_set.proofs.Listed.{least-none_left}
-use Rattle.ls_theory.specs.Queries.{blocks, block_before}
-use Rattle.ls_theory.specs.Blocks.{BlockRange}
-use Rattle.ls_laws.proofs.Counts.{len-empty}
-use Rattle.ls_query.specs.Blocks.{AreBounded, sets_of}
-use Rattle.ls_query.specs.Moves.{IsGreatest, IsLastMove, HasNoMove, moved}
 use Rattle.ls_query.specs.Walks.{topped, IsWalk}
 use Rattle.ls_query.proofs.LastMove.{out_cases, above_least}
 use Rattle.ls_query.proofs.BlockSets.{IsOfBlocks, blocks-in, sorted-blocks}

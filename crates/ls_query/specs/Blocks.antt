@@ -2,10 +2,9 @@
 --     choose m k      how many sets of k items m items have
 --     sets_of b, queries_of b      the sets of the blocks, and their good queries, in the order of queries
 use Rattle.std.specs.Prelude.{ℕ, zero, suc, ◌+◌, ◌<◌, ◌≤◌, List, length}
-use Rattle.ls_set.specs.ItemSet.{Items, most_items}
+use Rattle.ls_set.specs.{Items, most_items}
 use Rattle.ls_set.specs.declared.query.Query.{Query}
-use Rattle.ls_theory.specs.Queries.{blocks, queries}
-use Rattle.ls_theory.specs.Blocks.{BlockRange, most_sets}
+use Rattle.ls_theory.specs.{BlockRange, blocks, most_sets, queries}
 
 -- the binomial coefficient: the sets with a first item, and those without it
 unfoldable pub choose : ℕ → ℕ → ℕ

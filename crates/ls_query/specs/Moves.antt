@@ -1,6 +1,6 @@
 -- The step from a set to the next of its size: its last item that can move up moves up by one, and those behind it follow directly.
 use Rattle.std.specs.Prelude.{ℕ, ◌+◌, ◌-◌, ◌<◌, ◌≡◌, true, false}
-use Rattle.ls_set.specs.ItemSet.{Items, has, full, union, minus, keep_before, len}
+use Rattle.ls_set.specs.{Items, full, has, keep_before, len, minus, union}
 
 -- i is the greatest item of a that can move up among the items below n: the item above it is one, and is not in a
 pub record IsLastMove (n : ℕ) (a : Items) (i : ℕ) : Type 0 where

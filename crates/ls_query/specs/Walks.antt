@@ -1,8 +1,8 @@
 -- A walk through the sets of blocks. A set is told by its greatest item and the others.
 --     topped others end      the others with the item below end; where end is 0, the others alone
 use Rattle.std.specs.Prelude.{ℕ, zero, suc, ◌+◌, ◌<◌, ◌≤◌, ◌≡◌, true}
-use Rattle.ls_set.specs.ItemSet.{Items, has, with, len, most_items}
-use Rattle.ls_theory.specs.Blocks.{BlockRange}
+use Rattle.ls_set.specs.{Items, has, len, most_items, with}
+use Rattle.ls_theory.specs.{BlockRange}
 
 -- the blocks, the set that was come to, and this set without its greatest item
 pub record Walked : Type 0 where

@@ -1,8 +1,7 @@
 // The next good query of the blocks.
 ghost use Rattle.std.specs.Prelude.{◌≡◌, ◌≤◌, true, find};
-ghost use Rattle.ls_set.specs.ItemSet.{full, IsWithin};
-ghost use Rattle.ls_set.specs.Query.{is_good};
-ghost use Rattle.ls_theory.specs.Queries.{block_before, queries, query_before};
+ghost use Rattle.ls_set.specs.{IsWithin, full, is_good};
+ghost use Rattle.ls_theory.specs.{block_before, queries, query_before};
 
 use crate::moving::set_after;
 use ls_set::{ItemSet, PLACES, Query};

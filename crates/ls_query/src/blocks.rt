@@ -2,10 +2,8 @@
 ghost use Rattle.std.specs.Prelude.{◌≡◌, ◌<◌, ◌≤◌, true, Err, length, find};
 ghost use Rattle.std.specs.Option.{ForSome, option_map};
 ghost use Rattle.std.specs.List.{position};
-ghost use Rattle.ls_set.specs.ItemSet.{full, len, IsWithin, is_same};
-ghost use Rattle.ls_set.specs.Query.{is_good};
-ghost use Rattle.ls_theory.specs.Queries.{block_before, query_before};
-ghost use Rattle.ls_theory.specs.Pages.{comes_after};
+ghost use Rattle.ls_set.specs.{IsWithin, full, is_good, is_same, len};
+ghost use Rattle.ls_theory.specs.{block_before, comes_after, query_before};
 
 use crate::asking::{query_after, query_after_set};
 use crate::counting::count_sets;
@@ -28,7 +26,7 @@ pub struct Blocks {
 }
 
 impl Model for Blocks {
-    ghost use Rattle.ls_theory.specs.Blocks.{BlockRange};
+    ghost use Rattle.ls_theory.specs.{BlockRange};
     ghost use Rattle.ls_query.specs.Blocks.{AreBounded};
 
     ghost Value = { BlockRange };
@@ -41,7 +39,7 @@ impl Model for Blocks {
 }
 
 impl Blocks {
-    ghost use Rattle.ls_theory.specs.Blocks.{made, most_sets};
+    ghost use Rattle.ls_theory.specs.{made, most_sets};
     ghost use Rattle.ls_theory.specs.declared.block_fault.BlockFault.TheVariants.{Memory};
     ghost use Rattle.ls_query.specs.Blocks.{sets_of, queries_of};
 

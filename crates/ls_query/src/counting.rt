@@ -1,8 +1,7 @@
 // How many sets of the first sizes there are.
 ghost use Rattle.std.specs.Prelude.{◌≡◌, ◌<◌, ◌≤◌, ◌+◌, ◌*◌, ℕ, length, find, IfOk, OnOk, Ok, Err, None, Some};
-ghost use Rattle.ls_set.specs.ItemSet.{numbers_from};
-ghost use Rattle.ls_theory.specs.Queries.{blocks};
-ghost use Rattle.ls_theory.specs.Blocks.{is_too_wide, most_sets};
+ghost use Rattle.ls_set.specs.{numbers_from};
+ghost use Rattle.ls_theory.specs.{blocks, is_too_wide, most_sets};
 ghost use Rattle.ls_query.specs.Blocks.{choose};
 
 use ls_set::PLACES;

@@ -1,7 +1,7 @@
 // The step from a set to the next of its size.
 ghost use Rattle.std.specs.Prelude.{◌≡◌, ◌≤◌, find, MatchOption};
-ghost use Rattle.ls_set.specs.ItemSet.{full, IsWithin};
-ghost use Rattle.ls_theory.specs.Queries.{blocks, block_before};
+ghost use Rattle.ls_set.specs.{IsWithin, full};
+ghost use Rattle.ls_theory.specs.{block_before, blocks};
 ghost use Rattle.ls_query.specs.Moves.{IsLastMove, HasNoMove, moved};
 
 use ls_set::{ItemSet, PLACES};

@@ -1,9 +1,8 @@
 // The place of a set in the blocks.
 ghost use Rattle.std.specs.Prelude.{◌≡◌, ◌≤◌, ℕ, length};
 ghost use Rattle.std.specs.List.{position};
-ghost use Rattle.ls_set.specs.ItemSet.{full, IsWithin, is_same, items, len};
-ghost use Rattle.ls_theory.specs.Queries.{blocks};
-ghost use Rattle.ls_theory.specs.Blocks.{most_sets};
+ghost use Rattle.ls_set.specs.{IsWithin, full, is_same, items, len};
+ghost use Rattle.ls_theory.specs.{blocks, most_sets};
 ghost use Rattle.ls_query.specs.Blocks.{choose};
 ghost use Rattle.ls_query.specs.Places.{after_of};
 

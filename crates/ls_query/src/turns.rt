@@ -1,10 +1,9 @@
 // The laws of the order of queries.
 ghost use Rattle.std.specs.Prelude.{◌≡◌, ◌+◌, ℕ, Some, None, find, slice_get};
 ghost use Rattle.std.specs.List.{position};
-ghost use Rattle.ls_set.specs.ItemSet.{Items, is_same};
+ghost use Rattle.ls_set.specs.{Items, is_same};
 ghost use Rattle.ls_set.specs.declared.query.Query.{Query};
-ghost use Rattle.ls_theory.specs.Queries.{blocks, block_before, queries, query_before};
-ghost use Rattle.ls_theory.specs.Pages.{comes_after};
+ghost use Rattle.ls_theory.specs.{block_before, blocks, comes_after, queries, query_before};
 
 /// From the start, and then from each set or query to the first that comes after it, each set of
 /// the blocks and each good query comes once, in its turn; and a set is found at the place where it

@@ -1,7 +1,7 @@
 // A walk through the sets of blocks.
 ghost use Rattle.std.specs.Prelude.{◌≡◌, ◌<◌, ◌≤◌, true, false, Some, None, find, IfSome, MatchOption, if◌then◌else◌};
-ghost use Rattle.ls_set.specs.ItemSet.{empty, full, with, len, most_items, IsWithin};
-ghost use Rattle.ls_theory.specs.Queries.{block_before};
+ghost use Rattle.ls_set.specs.{IsWithin, empty, full, len, most_items, with};
+ghost use Rattle.ls_theory.specs.{block_before};
 ghost use Rattle.ls_query.specs.Blocks.{AreBounded, sets_of};
 ghost use Rattle.ls_query.specs.Moves.{IsGreatest};
 

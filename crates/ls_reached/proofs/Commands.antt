@@ -1,12 +1,6 @@
 -- A command keeps a session whole where it has a domain.
-use Rattle.std.proofs.Common.{◌≡◌, ℕ, Bool, true, false, cond, List, [], ◌∷◌, ◌++◌, take, drop, Option, Some, None, Result, Ok, Err, refl, ap, ◌∙◌, subst, option_map}
-use Rattle.std.specs.Prelude.{⊤, slice_index_or}
-use Rattle.std.specs.List.{filter_map, cons_option, slice_get}
+use Rattle.ls_reached.proofs.Vocabulary.{◌++◌, ◌∙◌, ◌∷◌, ◌≡◌, Bool, Calls, Effect, Err, Fetched, IsDomain, IsKept, IsWhole, List, None, Ok, Option, Refusal, Result, Session, Some, StartFile, Text, ℕ, [], ap, asked_effect, bytes_fetched, command, command_effect, command_of, cond, cons_option, cut, drop, false, file_effect, filter_map, forms, front, has_domain, is_long, is_name, is_of, line_effect, names_of_table, names_of_words, one, opened_by, option_map, parts, refl, request_effect, request_of, session_of, session_text, slice_get, slice_index_or, start_row, started, started_by, stores, subst, take, true, unnamed_at, unnamed_places, words, words_effect, ⊤}
 use Rattle.std.proofs.lemmas.Option.{none-some, same_Some}
-use Rattle.ls_lines.specs.Lines.{Text, is_long, words}
-use Rattle.ls_lines.specs.Kinds.{is_of}
-use Rattle.ls_lines.specs.Forms.{parts, command, forms, one}
-use Rattle.ls_lines.specs.Commands.{cut, front, command_of}
 use Rattle.ls_lines.specs.declared.kind.Kind.{Kind}
 use Rattle.ls_lines.specs.declared.kind.Kind.TheVariants.{Name}
 use Rattle.ls_lines.specs.declared.keyword.Keyword.TheVariants as Keyword
@@ -21,29 +15,15 @@ use Rattle.ls_lines.specs.declared.structure_form.StructureForm.TheVariants as s
 use Rattle.ls_lines.specs.declared.pupil_form.PupilForm.TheVariants as pupil_form
 use Rattle.ls_lines.specs.declared.command.Command.{Command}
 use Rattle.ls_lines.specs.declared.command.Command.TheVariants as command
-use Rattle.ls_domain.specs.Domains.{IsDomain, is_name, names_of_words, names_of_table}
 use Rattle.ls_domain.specs.declared.domain_fault.DomainFault.{DomainFault}
 use Rattle.ls_domain.proofs.Readings.{names_of_words-read, names_of_table-read}
-use Rattle.ls_saved.specs.Whole.{IsWhole}
-use Rattle.ls_saved.specs.Reading.{session_of}
 use Rattle.ls_saved.specs.declared.cause.Cause.{Cause}
-use Rattle.ls_saved.specs.Values.{session_text}
 use Rattle.ls_saved.proofs.Inverse.{chosen, map-some, then-some}
 use Rattle.ls_saved.proofs.Read.{read_whole}
-use Rattle.ls_reply.specs.Sessions.{Session, started, has_domain}
-use Rattle.ls_reply.specs.Scenes.{Calls, Fetched}
-use Rattle.ls_reply.specs.Meanings.{unnamed_places, request_of}
-use Rattle.ls_reply.specs.Effects.{Effect, stores}
-use Rattle.ls_reply.specs.Rows.{started_by, bytes_fetched, start_row}
-use Rattle.ls_reply.specs.Saving.{opened_by}
-use Rattle.ls_reply.specs.Replies.{request_effect, asked_effect, unnamed_at, file_effect, command_effect, words_effect, line_effect}
-use Rattle.ls_reply.specs.declared.refusal.Refusal.{Refusal}
 use Rattle.ls_reply.specs.declared.request.Request.{Request}
 use Rattle.ls_reply.specs.declared.request.Request.TheVariants.{View, Edit, Setting, Pupil}
-use Rattle.ls_reply.specs.declared.request.StartFile.{StartFile}
 use Rattle.ls_reply.specs.declared.request.StartFile.TheVariants as start_file
 use Rattle.ls_reply.specs.declared.request.PupilRequest.TheVariants as pupil
-use Rattle.ls_reached.specs.Reached.{IsKept}
 use Rattle.ls_reached.proofs.Refusals.{changed-holds, none-both}
 use Rattle.ls_reached.proofs.Interviews.{started-whole, edited-whole, start-whole, set-whole}
 use Rattle.ls_reached.proofs.Pupils.{pupils-whole}

@@ -1,22 +1,5 @@
 -- Examples: sessions that lines reach.
-use Rattle.std.proofs.Common.{◌≡◌, refl, true, false, List, [], ◌∷◌, ℕ, map as map_of, codes}
-use Rattle.ls_set.specs.ItemSet.{has, empty, full, with, union, meet, minus, single, differing, is_within, is_same, bound, items, least, comes_before, len}
-use Rattle.ls_theory.specs.Starts.{Free}
-use Rattle.ls_theory.specs.Interviews.{begun, accepted}
-use Rattle.ls_theory.specs.Settings.{standard}
-use Rattle.ls_theory.specs.Families.{families, interior}
-use Rattle.ls_theory.specs.Compatible.{compat}
-use Rattle.ls_theory.specs.Fitting.{fitting_spaces}
-use Rattle.ls_theory.specs.Forced.{known}
-use Rattle.ls_lines.specs.Lines.{lines, words}
-use Rattle.ls_lines.specs.Kinds.{is_of}
-use Rattle.ls_lines.specs.Forms.{spelling, parts, command, forms}
-use Rattle.ls_lines.specs.Commands.{cut, command_of}
-use Rattle.ls_domain.specs.Domains.{names_from}
-use Rattle.ls_reply.specs.Sessions.{started}
-use Rattle.ls_reply.specs.Scenes.{Missing}
-use Rattle.ls_reply.specs.Replies.{command_effect, line_effect}
-use Rattle.ls_reached.specs.Reached.{Called, session_after}
+use Rattle.ls_reached.proofs.Vocabulary.{◌∷◌, ◌≡◌, Called, Free, List, Missing, ℕ, [], accepted, begun, bound, codes, comes_before, command, command_effect, command_of, compat, cut, differing, empty, false, families, fitting_spaces, forms, full, has, interior, is_of, is_same, is_within, items, known, least, len, line_effect, lines, map_of, meet, minus, names_from, parts, refl, session_after, single, spelling, standard, started, true, union, with, words}
 
 -- lines whose calls on the folder give no file
 abbrev called : List (List ℕ) → List Called

@@ -1,14 +1,5 @@
 -- A whole session stays whole when its interview or its settings change.
-use Rattle.std.proofs.Common.{◌≡◌, ℕ, Bool, true, false, not, eqb, eqb-true, eq-eqb, List, [], ◌∷◌, ◌++◌, length, replicate, set, Result, Ok, Err, refl, sym, ap, ◌∙◌, subst}
-use Rattle.std.specs.Result.{is_ok}
-use Rattle.std.specs.List.{list_all}
-use Rattle.std.proofs.lemmas.Bool.{and_parts, and_from, not-false}
-use Rattle.std.proofs.lemmas.List.{length-replicate, length-set, nil_from_length}
-use Rattle.ls_lists.proofs.Every.{list_all-set}
-use Rattle.ls_theory.specs.Starts.{Start, Free}
-use Rattle.ls_theory.specs.Interviews.{Interview, begun, accepted, retracted}
-use Rattle.ls_theory.specs.Blocks.{BlockRange, made}
-use Rattle.ls_theory.specs.Answering.{refusal}
+use Rattle.ls_reached.proofs.Vocabulary.{◌++◌, ◌∙◌, ◌∷◌, ◌≡◌, BlockRange, Bool, Err, Fetched, Free, Interview, IsDomain, IsStanding, IsStart, IsWhole, List, Ok, Refusal, Result, Session, Start, StartFile, Text, ℕ, [], accepted, and_from, and_parts, ap, are_made, begun, block_refusals, bytes_fetched, edit_row, eq-eqb, eqb, eqb-true, false, file_refusals, is_ok, length, length-replicate, length-set, list_all, list_all-set, made, nil_from_length, not, not-false, refl, refusal, refuse, replicate, retracted, set, setting_row, standing-back, standing-taken, start_read, start_row, started, starts_by, subst, sym, true}
 use Rattle.ls_theory.specs.declared.answer.Answer.{Answer}
 use Rattle.ls_theory.specs.declared.block_fault.BlockFault.{BlockFault}
 use Rattle.ls_theory.specs.declared.ratio.Ratios.{Ratios}
@@ -16,24 +7,11 @@ use Rattle.ls_theory.specs.Settings.{Settings, are_ratios, are_limits, are_setti
 use Rattle.ls_settings.proofs.Kept.{list_all-replicate}
 use Rattle.ls_expert.specs.Held as held
 use Rattle.ls_expert.proofs.Holding.{made-one, standing-begun, standing-blocks, standing-start}
-use Rattle.ls_expert.proofs.Taking.{standing-taken}
-use Rattle.ls_expert.proofs.Retracting.{standing-back}
-use Rattle.ls_lines.specs.Lines.{Text}
-use Rattle.ls_domain.specs.Domains.{IsDomain}
-use Rattle.ls_saved.specs.Standing.{are_made}
-use Rattle.ls_saved.specs.Whole.{IsStart, IsStanding, IsWhole}
-use Rattle.ls_reply.specs.Sessions.{Session, started}
-use Rattle.ls_reply.specs.Scenes.{Fetched}
-use Rattle.ls_reply.specs.Effects.{refuse}
-use Rattle.ls_reply.specs.Rows.{block_refusals, edit_row, start_read, start_row, starts_by, file_refusals, bytes_fetched}
-use Rattle.ls_reply.specs.Pupils.{setting_row}
-use Rattle.ls_reply.specs.declared.refusal.Refusal.{Refusal}
 use Rattle.ls_reply.specs.declared.refusal.Refusal.TheVariants as refusal_of
 use Rattle.ls_reply.specs.declared.request.Edit.{Edit}
 use Rattle.ls_reply.specs.declared.request.Edit.TheVariants as edit
 use Rattle.ls_reply.specs.declared.request.Setting.{Setting}
 use Rattle.ls_reply.specs.declared.request.Setting.TheVariants as setting
-use Rattle.ls_reply.specs.declared.request.StartFile.{StartFile}
 use Rattle.ls_reached.proofs.Refusals.{changed-holds, none-both, not-refused, no-fault}
 use Rattle.ls_reached.proofs.Starts.{start-from_file, start-laws}
 

@@ -1,3 +1,4 @@
+mod Vocabulary
 mod Refusals
 mod Starts
 mod Interviews

@@ -1,37 +1,17 @@
 -- A whole session stays whole when its pupils change.
-use Rattle.std.proofs.Common.{◌≡◌, ℕ, ◌<◌, ◌≤◌, Bool, true, false, cond, not, eqb, ltb, leb, List, [], ◌∷◌, ◌++◌, map, filter, length, Option, Some, None, is_some, refl, sym, ap, ap₂, ◌∙◌, subst, arith, append_assoc, append-nil, length-append, le-leb, leb-true, ltb-false, leb-false}
-use Rattle.std.specs.Prelude.{bytes_eq, is_none}
-use Rattle.std.specs.List.{AllByRecursion, IsDistinct}
-use Rattle.std.proofs.lemmas.Bool.{and_parts, and_from}
-use Rattle.std.proofs.lemmas.List.{length-map}
+use Rattle.ls_reached.proofs.Vocabulary.{◌++◌, ◌<◌, ◌∙◌, ◌∷◌, ◌≡◌, ◌≤◌, All-append, All-filter, All-map, AllByRecursion, Bool, Interview, IsDistinct, IsPupil, IsWhole, Items, List, None, Option, Settings, Some, Text, ℕ, [], and_from, and_parts, ap, append-nil, append_assoc, ap₂, are_pupils, arith, asked, asked_of, begin_refusals, bytes_eq, compatible_sets, cond, distinct-fewer, distinct-last, each, eqb, false, filter, follow, has_name, heavy_after, is_asked, is_good, is_name, is_none, is_pupil, is_same_query, is_some, le-leb, leb, leb-false, leb-true, length, length-append, length-map, ltb, ltb-false, map, most_pupils, most_states, new_pupil, not, pupil_row, pupil_with, refl, refuse, refuse_fault, replied, reply_fault, reply_row, subst, sym, true, weighing_refusals, with_pupil, yes_queries}
 use Rattle.std.proofs.lemmas.Slice.Eq.{bytes_eq-Decides}
-use Rattle.ls_lists.proofs.Every.{each, All-append, All-map, All-filter}
 use Rattle.ls_lists.proofs.Finds.{found-holds}
 use Rattle.ls_lists.proofs.Options.{nothing}
 use Rattle.ls_lists.proofs.Filters.{filter-fewer, filter_true}
-use Rattle.ls_set.specs.ItemSet.{Items}
-use Rattle.ls_set.specs.Query.{is_good}
-use Rattle.ls_theory.specs.Interviews.{Interview, yes_queries}
-use Rattle.ls_theory.specs.Compatible.{compatible_sets}
-use Rattle.ls_theory.specs.Answering.{is_same_query}
-use Rattle.ls_theory.specs.Assessment.{asked, reply_fault}
-use Rattle.ls_theory.specs.Settings.{Settings, most_states, heavy_after}
 use Rattle.ls_theory.specs.declared.asked.Asked.{Asked}
 use Rattle.ls_theory.specs.declared.asked.Asked.TheVariants.{Item, Over}
 use Rattle.ls_theory.specs.declared.reply.Reply.{Reply}
 use Rattle.ls_theory.specs.declared.reply_fault.ReplyFault.{ReplyFault}
 use Rattle.ls_expert.proofs.AnswerLists.{all-told}
-use Rattle.ls_expert.proofs.Taking.{distinct-last}
-use Rattle.ls_expert.proofs.Retracting.{distinct-fewer}
-use Rattle.ls_lines.specs.Lines.{Text}
-use Rattle.ls_domain.specs.Domains.{is_name}
-use Rattle.ls_saved.specs.Standing.{is_asked, follow, is_pupil, are_pupils}
-use Rattle.ls_saved.specs.Whole.{IsPupil, IsWhole}
 use Rattle.ls_saved.proofs.Answers.{apart-from}
 use Rattle.ls_saved.proofs.Sound.{apart-distinct}
 use Rattle.ls_reply.specs.Sessions.{Session, Pupil, pupil_states}
-use Rattle.ls_reply.specs.Effects.{refuse, refuse_fault}
-use Rattle.ls_reply.specs.Pupils.{most_pupils, has_name, pupil_with, with_pupil, new_pupil, replied, weighing_refusals, begin_refusals, asked_of, reply_row, pupil_row}
 use Rattle.ls_reply.specs.declared.refusal.Refusal.TheVariants as refusal_of
 use Rattle.ls_reply.specs.declared.request.PupilRequest.{PupilRequest}
 use Rattle.ls_reply.specs.declared.request.PupilRequest.TheVariants as pupil

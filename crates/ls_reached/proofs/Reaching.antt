@@ -1,11 +1,6 @@
 -- Each session that lines reach is whole, where it has a domain.
-use Rattle.std.proofs.Common.{◌≡◌, List, [], ◌∷◌, refl, subst}
+use Rattle.ls_reached.proofs.Vocabulary.{◌∷◌, ◌≡◌, Called, IsKept, IsReached, List, Marked, Session, World, [], begun_over, calls_of, line_effect, refl, session_after, started, subst, world_after, world_next}
 use Rattle.ls_edge.specs.Files.{Folder}
-use Rattle.ls_reply.specs.Sessions.{Session, started}
-use Rattle.ls_reply.specs.Scenes.{calls_of}
-use Rattle.ls_reply.specs.Transcripts.{World, Marked, begun_over, world_next, world_after}
-use Rattle.ls_reply.specs.Replies.{line_effect}
-use Rattle.ls_reached.specs.Reached.{Called, session_after, IsReached, IsKept}
 use Rattle.ls_reached.proofs.Commands.{line-kept}
 
 after-kept : (s : Session) (ls : List Called) → IsKept s → IsKept (session_after s ls)

@@ -1,7 +1,5 @@
 -- What it means that nothing refuses a change.
-use Rattle.std.proofs.Common.{◌≡◌, Bool, true, false, List, [], ◌∷◌, ◌++◌, Option, Some, None, refl}
-use Rattle.ls_reply.specs.Effects.{changed, refuse, refuse_fault}
-use Rattle.ls_reply.specs.declared.refusal.Refusal.{Refusal}
+use Rattle.ls_reached.proofs.Vocabulary.{◌++◌, ◌∷◌, ◌≡◌, Bool, List, None, Option, Refusal, Some, [], changed, false, refl, refuse, refuse_fault, true}
 use Rattle.ls_reply.specs.declared.response.Response.{Response}
 
 -- what holds of the part as it was, and of what it would become where nothing refuses it, holds after the change

@@ -1,14 +1,7 @@
 -- What a file gives as a start is one.
-use Rattle.std.proofs.Common.{◌≡◌, ℕ, Bool, true, false, cond, ltb, List, [], map, length, Option, Some, None, Result, Ok, Err, refl, sym, ap, ◌∙◌, subst}
-use Rattle.std.specs.List.{AllByRecursion}
+use Rattle.ls_reached.proofs.Vocabulary.{◌∙◌, ◌≡◌, All-given, All-map, AllByRecursion, Bool, Err, IsNarrow, IsStart, Items, List, None, Ok, Option, Result, Some, StartFile, Text, ℕ, [], ap, base, based, compat, cond, false, first_missing, length, length-map, limited, ltb, map, most_base_sets, refl, result_ok, start_of_base, start_of_clauses, start_of_sets, start_read, subst, sym, true}
 use Rattle.std.specs.Option.{option_map_or}
-use Rattle.std.specs.Result.{result_ok}
-use Rattle.std.proofs.lemmas.List.{length-map}
-use Rattle.ls_lists.proofs.Every.{All-given, All-map}
-use Rattle.ls_set.specs.ItemSet.{Items}
 use Rattle.ls_theory.specs.Starts.{Start, Free, Clauses, Sets}
-use Rattle.ls_theory.specs.Compatible.{compat}
-use Rattle.ls_theory.specs.Bases.{base, based, limited, first_missing, most_base_sets}
 use Rattle.ls_theory.specs.declared.base_fault.BaseFault.{BaseFault}
 use Rattle.ls_theory.specs.declared.base_fault.BaseFault.TheVariants.{NotSpanning, Past}
 use Rattle.ls_theory.specs.declared.surmise_fault.SurmiseFault.{SurmiseFault}
@@ -19,18 +12,14 @@ use Rattle.ls_laws.proofs.BaseStarts.{compat-base}
 use Rattle.ls_clauses.specs.Starts as laws
 use Rattle.ls_clauses.proofs.Covers.{cover-least}
 use Rattle.ls_clauses.proofs.BaseCovers.{based-cover}
-use Rattle.ls_lines.specs.Lines.{Text}
 use Rattle.ls_domain.specs.Meanings.{items_of}
 use Rattle.ls_files.specs.SetFiles.{sets_of}
 use Rattle.ls_files.specs.SurmiseFiles.{Table, table_of, is_table_named, row_under, clauses_in, surmise_from, surmise_in, surmise_of}
 use Rattle.ls_files.specs.declared.family_fault.FamilyFault.{FamilyFault}
 use Rattle.ls_family.proofs.Fitting.{sets-fit, each-fits}
 use Rattle.ls_surmise.proofs.Files.{clauses-on, row-named}
-use Rattle.ls_saved.specs.Whole.{IsNarrow, IsStart}
 use Rattle.ls_saved.proofs.Starts.{base-small}
 use Rattle.ls_saved.proofs.Surmises.{narrow-read}
-use Rattle.ls_reply.specs.Rows.{start_of_clauses, start_of_base, start_of_sets, start_read}
-use Rattle.ls_reply.specs.declared.request.StartFile.{StartFile}
 use Rattle.ls_reply.specs.declared.request.StartFile.TheVariants as start_file
 
 -- ---- surmise functions

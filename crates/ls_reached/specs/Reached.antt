@@ -3,10 +3,8 @@
 --     IsReached s      some lines reach the session from the one that a script begins with
 --     IsKept s      where the session has a domain, it is whole
 use Rattle.std.specs.Prelude.{◌≡◌, ℕ, true, List, [], ◌∷◌}
-use Rattle.ls_saved.specs.Whole.{IsWhole}
-use Rattle.ls_reply.specs.Sessions.{Session, started, has_domain}
-use Rattle.ls_reply.specs.Scenes.{Calls}
-use Rattle.ls_reply.specs.Replies.{line_effect}
+use Rattle.ls_saved.specs.{IsWhole}
+use Rattle.ls_reply.specs.{Calls, Session, has_domain, line_effect, started}
 
 -- a line, with what its calls on the folder give
 pub record Called : Type 0 where

@@ -1,3 +1,4 @@
+mod Vocabulary
 pub mod Turns
 pub mod Parts
 pub mod Lines

@@ -1,10 +1,5 @@
 -- The lines of results, each of a pupil's name and how its assessment ends.
-use Rattle.std.proofs.Common.{ℕ, zero, suc, ◌+◌, ◌-◌, ◌<◌, ◌≡◌, List, [], ◌∷◌, ◌++◌, map, take, length, get_or, Some, slice_get, refl, ap, ap₂, ◌∙◌, sym, arith, add-one}
-use Rattle.ls_set.specs.ItemSet.{Items}
-use Rattle.ls_theory.specs.declared.replay.Replay.{Replay}
-use Rattle.ls_theory.specs.Settings.{Settings}
-use Rattle.ls_theory.specs.Classes.{Row, PupilResult, replies_in, class_results}
-use Rattle.ls_replay.specs.Replays.{ended, line_of, lines_of, replay_from}
+use Rattle.ls_replay.proofs.Vocabulary.{◌++◌, ◌+◌, ◌-◌, ◌<◌, ◌∙◌, ◌∷◌, ◌≡◌, Items, List, PupilResult, Replay, Row, Settings, Some, ℕ, [], add-one, ap, ap₂, arith, class_results, ended, get_or, length, line_of, lines_of, map, refl, replay_from, replies_in, slice_get, suc, sym, take, zero}
 
 lines_suc : (rows : List Row) (replays : List Replay) (i : ℕ) (row : Row) (r : Replay) → slice_get rows i ≡ Some row → i < length replays → r ≡ get_or replays i r → lines_of (take (suc i) rows) (take (suc i) replays) ≡ lines_of (take i rows) (take i replays) ++ line_of row.name r ∷ []
 lines_suc [] replays i row r e l own = absurd (grind (arith, e))

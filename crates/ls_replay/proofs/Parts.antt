@@ -1,8 +1,6 @@
 -- Lists that are parted by a test, and put together again.
-use Rattle.std.proofs.Common.{ℕ, zero, suc, ◌+◌, ◌<◌, ◌≡◌, Bool, true, not, eqb, eqb-true, inl, inr, List, [], ◌∷◌, ◌++◌, map, filter, take, length, count_by, get_or, refl, ap, ap₂, ◌∙◌, sym, arith}
+use Rattle.ls_replay.proofs.Vocabulary.{◌++◌, ◌+◌, ◌<◌, ◌∙◌, ◌∷◌, ◌≡◌, Bool, List, ℕ, [], ap, ap₂, arith, count_by, eqb, eqb-true, filter, get_or, inl, inr, length, length-filter, map, map_more, not, refl, suc, sym, take, true, zero}
 use Rattle.std.proofs.lemmas.Bool.{cases_Bool}
-use Rattle.std.proofs.lemmas.List.{map_more}
-use Rattle.std.proofs.lemmas.List.Sums.{length-filter}
 
 -- of those that pass, the one at the place has as many before it as pass there
 pub place_of : {X Y : Type 0} (p : X → Bool) (h : X → Y) (xs : List X) (i : ℕ) (d : X) (e : Y) → i < length xs → p (get_or xs i d) ≡ true → get_or (map h (filter p xs)) (length (filter p (take i xs))) e ≡ h (get_or xs i d)

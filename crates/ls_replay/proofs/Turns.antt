@@ -1,17 +1,10 @@
 -- The turns of an assessment that a table answers.
-use Rattle.std.proofs.Common.{ℕ, zero, suc, ◌-◌, ◌<◌, ◌≡◌, Bool, true, false, not, cond, List, [], ◌∷◌, ◌++◌, map, filter, length, refl, ap, ap₂, ◌∙◌, sym, arith, true≢false}
-use Rattle.std.proofs.lemmas.List.{length-append}
-use Rattle.ls_set.specs.ItemSet.{Items, has}
+use Rattle.ls_replay.proofs.Vocabulary.{◌++◌, ◌-◌, ◌<◌, ◌∙◌, ◌∷◌, ◌≡◌, Bool, Items, List, Replay, Settings, ℕ, [], ap, ap₂, arith, asked, cond, ended, false, filter, has, leader, length, length-append, map, not, refl, replay_from, replies_in, suc, sym, true, true≢false, turn, zero}
 use Rattle.ls_theory.specs.declared.reply.Reply.{Reply}
-use Rattle.ls_theory.specs.declared.replay.Replay.{Replay}
 use Rattle.ls_theory.specs.declared.reason.Reason.{Reason}
 use Rattle.ls_theory.specs.declared.reason.Reason.TheVariants.{Share, Budget}
 use Rattle.ls_theory.specs.declared.asked.Asked.TheVariants.{Item, Over}
-use Rattle.ls_theory.specs.Settings.{Settings}
-use Rattle.ls_theory.specs.Assessment.{asked, leader}
-use Rattle.ls_theory.specs.Classes.{turn, replies_in}
 use Rattle.ls_laws.proofs.Weights.{over-share, over-budget}
-use Rattle.ls_replay.specs.Replays.{ended, replay_from}
 use Rattle.ls_replay.proofs.Parts.{map_passing, none_fails, none_passes}
 
 -- once it is over, nothing changes

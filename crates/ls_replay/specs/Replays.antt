@@ -1,12 +1,11 @@
 -- How the assessments of pupils end whose questions a table answers.
 use Rattle.std.specs.Prelude.{ℕ, ◌-◌, if◌then◌else◌, List, [], ◌∷◌, length}
-use Rattle.ls_set.specs.ItemSet.{Items}
+use Rattle.ls_set.specs.{Items}
 use Rattle.ls_theory.specs.declared.reply.Reply.{Reply}
 use Rattle.ls_theory.specs.declared.replay.Replay.{Replay}
 use Rattle.ls_theory.specs.declared.reason.Reason.TheVariants.{Share, Budget}
 use Rattle.ls_theory.specs.Settings.{Settings}
-use Rattle.ls_theory.specs.Assessment.{has_share, leader}
-use Rattle.ls_theory.specs.Classes.{Row, PupilResult, replies_in}
+use Rattle.ls_theory.specs.{PupilResult, Row, has_share, leader, replies_in}
 
 -- how an assessment ends with these replies: how many there are, the reason (by share, or else by budget), and the leader
 abbrev pub ended : Settings → List Items → List Reply → Replay

@@ -1,7 +1,6 @@
 // The results of a class.
 ghost use Rattle.std.specs.Prelude.{◌≡◌, ◌<◌, ◌^◌, ℕ, Some, None, Err, IfOk, OnOk, length, map};
-ghost use Rattle.ls_theory.specs.Settings.{heavy_after};
-ghost use Rattle.ls_theory.specs.Classes.{class_results};
+ghost use Rattle.ls_theory.specs.{class_results, heavy_after};
 ghost use Rattle.ls_weight.specs.Weighings.{IsWeighable};
 ghost use Rattle.ls_weight.specs.declared.fault.WeightFault.TheVariants.{Heavy};
 ghost use Rattle.ls_class.specs.Results.{result_of};

@@ -1,6 +1,6 @@
 // Pupils that are replayed on one thread.
 ghost use Rattle.std.specs.Prelude.{◌≡◌, ◌+◌, ◌<◌, ◌^◌, ℕ, [], Some, Err, IfOk, length, map};
-ghost use Rattle.ls_theory.specs.Settings.{heavy_after};
+ghost use Rattle.ls_theory.specs.{heavy_after};
 ghost use Rattle.ls_weight.specs.Weighings.{IsWeighable};
 ghost use Rattle.ls_weight.specs.declared.fault.WeightFault.TheVariants.{Heavy};
 ghost use Rattle.ls_replay.specs.Replays.{replay_from};

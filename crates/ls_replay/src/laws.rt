@@ -1,8 +1,8 @@
 // A law of the results of a class.
 ghost use Rattle.std.specs.Prelude.{◌≡◌, List, map};
-ghost use Rattle.ls_set.specs.ItemSet.{Items};
+ghost use Rattle.ls_set.specs.{Items};
 ghost use Rattle.ls_theory.specs.Settings.{Settings};
-ghost use Rattle.ls_theory.specs.Classes.{Row, class_results};
+ghost use Rattle.ls_theory.specs.{Row, class_results};
 
 /// The results of a class have the names of its rows, in their order. It does nothing when it runs.
 #[tactic(auto, using(crate::proofs::Lines::names_are))]

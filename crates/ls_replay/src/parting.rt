@@ -1,6 +1,6 @@
 // Pupils parted by an item, and what is known of them put together again.
 ghost use Rattle.std.specs.Prelude.{◌≡◌, ◌<◌, IfOk, filter, map, not, length, count_by};
-ghost use Rattle.ls_set.specs.ItemSet.{Items, has, most_items};
+ghost use Rattle.ls_set.specs.{Items, has, most_items};
 
 use ls_set::ItemSet;
 use ls_theory::Replay;

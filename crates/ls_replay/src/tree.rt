@@ -1,7 +1,7 @@
 // The tree of replies: pupils that have given the same replies so far share their weights.
 ghost use Rattle.std.specs.Prelude.{◌≡◌, ◌<◌, ◌++◌, ◌∷◌, [], IfOk, filter, length, map, not};
-ghost use Rattle.ls_set.specs.ItemSet.{has, most_items};
-ghost use Rattle.ls_theory.specs.Assessment.{asked};
+ghost use Rattle.ls_set.specs.{has, most_items};
+ghost use Rattle.ls_theory.specs.{asked};
 ghost use Rattle.ls_theory.specs.declared.asked.Asked.TheVariants.{Item, Over};
 ghost use Rattle.ls_replay.specs.Replays.{ended, replay_from};
 

@@ -1,20 +1,11 @@
 -- What commands do, by whether a domain stands.
-use Rattle.std.proofs.Common.{◌≡◌, ◌<◌, ◌≤◌, true, false, not, ne_eqb, cond, List, [], ◌∷◌, ◌++◌, length, Option, Some, None, ℕ, refl, sym, ap, ◌∙◌, arith, le-ltb, lt-ltb}
-use Rattle.ls_lines.specs.Lines.{Text, longest_line, words}
-use Rattle.ls_lines.specs.Commands.{command_of, fault_place}
+use Rattle.ls_reply.proofs.Vocabulary.{◌++◌, ◌<◌, ◌∙◌, ◌∷◌, ◌≡◌, ◌≤◌, Calls, Change, DomainStands, Effect, Fetched, List, LongLine, NoCommand, None, Option, Refused, Session, Some, Text, ℕ, [], answers, ap, arith, asked_effect, command_effect, command_of, cond, false, fault_place, has_domain, le-ltb, length, line_effect, longest_line, lt-ltb, names_of_table, names_of_words, ne_eqb, not, refl, refuse, sym, true, unnamed_at, words, words_effect}
 use Rattle.ls_lines.specs.declared.command.Command.{Command}
 use Rattle.ls_lines.specs.declared.command.Command.TheVariants as command
-use Rattle.ls_domain.specs.Domains.{names_of_words, names_of_table}
-use Rattle.ls_reply.specs.Sessions.{Session, has_domain}
-use Rattle.ls_reply.specs.Scenes.{Calls, Fetched}
 use Rattle.ls_reply.specs.Meanings.{request_of}
-use Rattle.ls_reply.specs.Effects.{Effect, Change, answers, refuse}
 use Rattle.ls_reply.specs.Rows.{items_row, load_items_row, started_by, file_refusals, bytes_fetched}
-use Rattle.ls_reply.specs.Replies.{asked_effect, unnamed_at, command_effect, words_effect, line_effect}
 use Rattle.ls_reply.specs.declared.request.Request.{Request}
 use Rattle.ls_reply.specs.declared.request.Request.TheVariants.{View, Edit, Setting, Pupil}
-use Rattle.ls_reply.specs.declared.refusal.Refusal.TheVariants.{NoCommand, LongLine, DomainStands}
-use Rattle.ls_reply.specs.declared.response.Response.TheVariants.{Refused}
 
 -- a domain stands where there are names
 pub has_domain-some : (s : Session) → 0 < length s.names → has_domain s ≡ true

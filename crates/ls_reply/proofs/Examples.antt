@@ -1,50 +1,17 @@
 -- Examples: whole scripts, byte for byte.
-use Rattle.std.proofs.Common.{◌≡◌, refl, true, false, [], ◌∷◌, Some, None, codes, decimal, replicate}
+use Rattle.ls_reply.proofs.Vocabulary.{◌∷◌, ◌≡◌, Answer, Bytes, Failed, Missing, None, Some, TooLarge, [], asked, base, block_before, blocks, bound, bytes_of, calls_of, class_results, codes, comes_before, command, command_effect, command_of, compat, cursor, cursor_set, cut, decimal, differing, empty, false, families, fault_place, fitting_spaces, forms, full, half_split, has, heavy_after, imbalance, inner_fringe, interior, is_begun, is_joined, is_of, is_same, is_some_refused, is_too_wide, is_well_graded, is_within, items, known, leader, least, len, line_effect, line_of, lines, made, meet, minus, names_from, names_of_set, next_question, opposed, orders_of, outer_fringe, parts, paths, peak, queries, query_before, read_cursor, refl, refusal_words, refuse_fault, refuses, replicate, replies, replies_in, reply_of, single, spelling, started, state_of, transcript, true, union, verdict, weight, with, without, words}
 use Rattle.std.specs.Fmt.{digits}
 use Rattle.std.specs.Prelude.{ℕ, List, map as map_of}
-use Rattle.ls_set.specs.ItemSet.{has, empty, full, with, without, union, meet, minus, single, differing, is_within, is_same, bound, items, least, comes_before, len}
-use Rattle.ls_set.specs.Cursor.{cursor, cursor_set, read_cursor}
-use Rattle.ls_theory.specs.Compatible.{compat}
-use Rattle.ls_theory.specs.Queries.{blocks, block_before, query_before, queries}
-use Rattle.ls_theory.specs.Families.{families, interior}
-use Rattle.ls_theory.specs.Bases.{base, peak}
-use Rattle.ls_theory.specs.Verdict.{verdict, is_well_graded, is_joined}
-use Rattle.ls_theory.specs.Fringes.{inner_fringe, outer_fringe, state_of}
-use Rattle.ls_theory.specs.Paths.{orders_of, paths}
-use Rattle.ls_theory.specs.Fitting.{fitting_spaces}
 use Rattle.ls_theory.specs.declared.known.Known.{Known}
-use Rattle.ls_theory.specs.Forced.{known, next_question}
-use Rattle.ls_theory.specs.Weights.{weight}
-use Rattle.ls_theory.specs.Settings.{heavy_after}
-use Rattle.ls_theory.specs.Assessment.{imbalance, half_split, leader, asked}
-use Rattle.ls_theory.specs.Answering.{opposed}
-use Rattle.ls_theory.specs.Blocks.{is_too_wide, made}
-use Rattle.ls_lines.specs.Lines.{lines, words}
-use Rattle.ls_lines.specs.Kinds.{is_of}
-use Rattle.ls_lines.specs.Forms.{spelling, parts, command, forms}
-use Rattle.ls_lines.specs.Commands.{cut, is_begun, command_of, fault_place}
-use Rattle.ls_domain.specs.Texts.{names_of_set}
-use Rattle.ls_domain.specs.Domains.{names_from}
 use Rattle.ls_files.specs.SetFiles.{line_read, found_from, sets_of}
 use Rattle.ls_files.specs.SurmiseFiles.{surmise_text, members_from, surmise_from}
 use Rattle.std.specs.Str.{is_utf8, chars}
 use Rattle.serde_json.proofs.OnLiterals.{serde_json_on_literals}
 use Rattle.csv.proofs.OnLiterals.{csv_on_literals}
-use Rattle.ls_theory.specs.Classes.{replies_in, class_results}
 use Rattle.ls_class.specs.Tables.{columns_of, next_row, rows_from, class_in, class_of}
-use Rattle.ls_saved.specs.Standing.{stands, is_pupil}
-use Rattle.ls_saved.specs.Values.{session_text}
-use Rattle.ls_saved.specs.Reading.{session_from, session_of}
-use Rattle.ls_reply.specs.Texts.{line_of, bytes_of}
+use Rattle.ls_saved.specs.{is_pupil, session_from, session_of, session_text, stands}
 use Rattle.std.specs.FinMap as map
 use Rattle.json.specs.Print.{escape_byte}
-use Rattle.ls_reply.specs.Sessions.{started}
-use Rattle.ls_reply.specs.Scenes.{calls_of, Bytes, Missing, TooLarge, Failed}
-use Rattle.ls_reply.specs.Refusals.{refusal_words}
-use Rattle.ls_reply.specs.Effects.{refuse_fault}
-use Rattle.ls_reply.specs.declared.refusal.Refusal.TheVariants.{Answer}
-use Rattle.ls_reply.specs.Replies.{command_effect, line_effect, reply_of}
-use Rattle.ls_reply.specs.Transcripts.{replies, refuses, transcript, is_some_refused}
 
 -- an example that opens this opens each word
 unfoldable answering : ℕ

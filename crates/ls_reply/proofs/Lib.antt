@@ -1,3 +1,4 @@
+mod Vocabulary
 pub mod Marks
 mod Examples
 pub mod Refusing

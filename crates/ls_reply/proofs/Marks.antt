@@ -1,9 +1,7 @@
 -- Marked lines one after another.
-use Rattle.std.proofs.Common.{◌≡◌, ℕ, ◌+◌, ◌||◌, Bool, true, false, cond, List, [], ◌∷◌, ◌++◌, refl, sym, ap, ap₂, ◌∙◌, append-nil, append_assoc, arith}
+use Rattle.ls_reply.proofs.Vocabulary.{◌++◌, ◌+◌, ◌||◌, ◌∙◌, ◌∷◌, ◌≡◌, Bool, List, Marked, World, ℕ, [], ap, append-nil, append_assoc, ap₂, arith, bare_lines, cond, count_marks, false, is_refusal, refl, refuses, replies, reply_at, sym, true, unmarked, world_after, world_next}
 use Rattle.std.proofs.lemmas.List.Sums.{sum_by-cons}
 use Rattle.std.proofs.Math.Bool.{or_assoc, or-false}
-use Rattle.ls_reply.specs.Replies.{is_refusal}
-use Rattle.ls_reply.specs.Transcripts.{World, Marked, bare_lines, count_marks, unmarked, reply_at, world_next, replies, world_after, refuses}
 
 -- ---- lines, and then others
 

@@ -1,16 +1,7 @@
 -- A reply begins with `no ` exactly where the response is a refusal.
-use Rattle.std.proofs.Common.{◌≡◌, ℕ, Bool, true, false, List, [], ◌∷◌, ◌++◌, length, Some, None, codes, refl, sym, ap, ◌∙◌, append-nil}
-use Rattle.ls_set.specs.ItemSet.{Items, comes_before}
+use Rattle.ls_reply.proofs.Vocabulary.{◌++◌, ◌∙◌, ◌∷◌, ◌≡◌, Agreed, Answer, AnswersStand, BadClass, BadSession, BadSetting, Block, Bool, Cursor, Domain, DomainStands, Done, FileFailed, Heavy, Interview, Items, LargeFile, List, LongLine, ManyPupils, ManyStates, NoCommand, NoFile, NoPupil, NoState, None, NotLearning, NotOrder, NotStanding, NotState, Past, PupilResult, PupilStands, Refused, Reply, Session, Shown, Silence, Some, StartBase, StartSets, StartSurmise, TestedSets, Text, Unnamed, ℕ, [], ap, append-nil, base, bytes_of, codes, comes_before, compatible_sets, false, fringe_words, is_lex_before, is_refusal, is_refused, length, line_of, page, paths, projection, refl, refusal_words, sym, true}
 use Rattle.ls_set.specs.declared.cursor.CursorFault.TheVariants as cursor
-use Rattle.ls_theory.specs.Pages.{page}
-use Rattle.ls_theory.specs.Words.{is_lex_before}
-use Rattle.ls_theory.specs.Projections.{projection}
-use Rattle.ls_theory.specs.Paths.{paths}
-use Rattle.ls_theory.specs.Classes.{PupilResult}
 use Rattle.ls_theory.specs.declared.verdict.BaseVerdict.TheVariants as of_verdict
-use Rattle.ls_theory.specs.Interviews.{Interview}
-use Rattle.ls_theory.specs.Compatible.{compatible_sets}
-use Rattle.ls_theory.specs.Bases.{base}
 use Rattle.ls_theory.specs.declared.reason.Reason.TheVariants.{Share, Budget}
 use Rattle.ls_theory.specs.declared.asked.Asked.TheVariants.{Item, Over}
 use Rattle.ls_theory.specs.declared.reply_fault.ReplyFault.TheVariants as reply
@@ -19,19 +10,11 @@ use Rattle.ls_theory.specs.declared.answer_fault.AnswerFault.TheVariants as answ
 use Rattle.ls_theory.specs.declared.block_fault.BlockFault.TheVariants as block
 use Rattle.ls_theory.specs.declared.base_fault.BaseFault.TheVariants as of_base
 use Rattle.ls_theory.specs.declared.surmise_fault.SurmiseFault.TheVariants as surmise
-use Rattle.ls_lines.specs.Lines.{Text}
 use Rattle.ls_domain.specs.declared.domain_fault.DomainFault.TheVariants as domain
 use Rattle.ls_files.specs.declared.family_fault.FamilyFault.TheVariants as sets
-use Rattle.ls_domain.specs.Texts.{fringe_words}
-use Rattle.ls_reply.specs.Texts.{line_of, bytes_of}
-use Rattle.ls_reply.specs.Sessions.{Session}
-use Rattle.ls_reply.specs.Refusals.{refusal_words}
 use Rattle.ls_reply.specs.Lines.{lines_of, shown_lines, base_lines, page_lines, path_lines, learning_words, verdict_words, class_lines}
-use Rattle.ls_reply.specs.Replies.{is_refusal, is_refused}
 use Rattle.ls_reply.specs.declared.refusal.Refusal.{Refusal}
-use Rattle.ls_reply.specs.declared.refusal.Refusal.TheVariants.{NoCommand, LongLine, DomainStands, Domain, AnswersStand, StartSurmise, StartSets, StartBase, Unnamed, Block, Answer, NotStanding, Cursor, Past, NoFile, FileFailed, LargeFile, TestedSets, NotState, NotLearning, NoState, NotOrder, ManyStates, Heavy, ManyPupils, PupilStands, NoPupil, Reply, BadSetting, BadClass, BadSession}
 use Rattle.ls_reply.specs.declared.response.Response.{Response}
-use Rattle.ls_reply.specs.declared.response.Response.TheVariants.{Silence, Refused, Done, Agreed, Shown}
 use Rattle.ls_reply.specs.declared.response.Shown.{Shown as Showing}
 use Rattle.ls_reply.specs.declared.response.Shown.TheVariants as shown
 

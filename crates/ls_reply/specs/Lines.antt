@@ -1,17 +1,9 @@
 -- The lines of a reply, line by line and word by word.
 use Rattle.std.specs.Prelude.{ℕ, Bool, if◌then◌else◌, List, [], ◌∷◌, ◌++◌, map, length, Option, Some, None, codes, decimal}
-use Rattle.ls_set.specs.ItemSet.{Items, comes_before}
-use Rattle.ls_set.specs.Cursor.{cursor}
+use Rattle.ls_set.specs.{Items, comes_before, cursor}
 use Rattle.ls_set.specs.declared.query.Query.{Query}
 use Rattle.ls_theory.specs.declared.known.Known.{Known}
-use Rattle.ls_theory.specs.Interviews.{Interview}
-use Rattle.ls_theory.specs.Compatible.{compatible_sets}
-use Rattle.ls_theory.specs.Bases.{base}
-use Rattle.ls_theory.specs.Clauses.{clauses_at}
-use Rattle.ls_theory.specs.Pages.{Page, page}
-use Rattle.ls_theory.specs.Words.{is_lex_before}
-use Rattle.ls_theory.specs.Projections.{projection}
-use Rattle.ls_theory.specs.Paths.{paths}
+use Rattle.ls_theory.specs.{Interview, Page, base, clauses_at, compatible_sets, is_lex_before, page, paths, projection}
 use Rattle.ls_theory.specs.declared.verdict.BaseVerdict.{BaseVerdict}
 use Rattle.ls_theory.specs.declared.verdict.BaseVerdict.TheVariants as of_base
 use Rattle.ls_theory.specs.declared.verdict.Verdict.{Verdict}
@@ -20,8 +12,8 @@ use Rattle.ls_theory.specs.declared.asked.Asked.{Asked}
 use Rattle.ls_theory.specs.declared.asked.Asked.TheVariants.{Item, Over}
 use Rattle.ls_theory.specs.declared.fringe_pair.FringePair.{FringePair}
 use Rattle.ls_theory.specs.declared.outcome.Outcome.{Outcome}
-use Rattle.ls_theory.specs.Classes.{PupilResult}
-use Rattle.ls_lines.specs.Lines.{Text}
+use Rattle.ls_theory.specs.{PupilResult}
+use Rattle.ls_lines.specs.{Text}
 use Rattle.ls_domain.specs.Texts.{name_of, joined_names, set_text, fringe_words}
 use Rattle.ls_files.specs.SurmiseFiles.{surmise_text}
 use Rattle.ls_reply.specs.Sessions.{Session}

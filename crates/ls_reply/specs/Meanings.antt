@@ -1,14 +1,13 @@
 -- What a command's words mean, where a list of names gives the items.
 use Rattle.std.specs.Prelude.{ℕ, suc, ◌+◌, true, false, not, List, [], ◌∷◌, ◌++◌, map, filter, length, Option, Some, None, option_map, Result, Ok, Err}
-use Rattle.ls_set.specs.ItemSet.{Items}
-use Rattle.ls_set.specs.Cursor.{read_cursor}
+use Rattle.ls_set.specs.{Items, read_cursor}
 use Rattle.ls_set.specs.declared.cursor.CursorFault.{CursorFault}
 use Rattle.ls_set.specs.declared.query.Query.{Query}
-use Rattle.ls_lines.specs.Lines.{Text}
+use Rattle.ls_lines.specs.{Text}
 use Rattle.ls_lines.specs.declared.command.Command.{Command}
 use Rattle.ls_lines.specs.declared.command.Command.TheVariants as command
 use Rattle.ls_domain.specs.Meanings.{is_named, item_of, items_of}
-use Rattle.ls_theory.specs.Settings.{odds}
+use Rattle.ls_theory.specs.{odds}
 use Rattle.ls_theory.specs.declared.ratio.Ratios.{Ratios}
 use Rattle.ls_reply.specs.declared.request.Request.{Request}
 use Rattle.ls_reply.specs.declared.request.Request.TheVariants.{View, Edit, Setting, Pupil}

@@ -1,15 +1,11 @@
 -- The rows of the settings, of the pupils and of a class.
 use Rattle.std.specs.Prelude.{ℕ, ◌+◌, Bool, not, nat_lt, nat_le, is_some, List, [], ◌∷◌, ◌++◌, map, filter, find, length, Option, Some, None, Result, Ok, Err, if◌then◌else◌, bytes_eq}
-use Rattle.ls_set.specs.ItemSet.{Items}
-use Rattle.ls_theory.specs.Interviews.{Interview, yes_queries}
-use Rattle.ls_theory.specs.Compatible.{compatible_sets}
+use Rattle.ls_set.specs.{Items}
+use Rattle.ls_theory.specs.{Interview, Row, asked, class_results, compatible_sets, fringes, outcome, reply_fault, yes_queries}
 use Rattle.ls_theory.specs.Settings.{Settings, are_ratios, are_limits, with_all, with_item, with_limits, most_states, heavy_after}
-use Rattle.ls_theory.specs.Assessment.{asked, outcome, reply_fault}
-use Rattle.ls_theory.specs.Fringes.{fringes}
-use Rattle.ls_theory.specs.Classes.{Row, class_results}
 use Rattle.ls_theory.specs.declared.asked.Asked.{Asked}
 use Rattle.ls_theory.specs.declared.outcome.Outcome.{Outcome}
-use Rattle.ls_lines.specs.Lines.{Text}
+use Rattle.ls_lines.specs.{Text}
 pub use Rattle.ls_saved.specs.Sessions.{most_pupils}
 use Rattle.ls_reply.specs.Sessions.{Pupil, pupil_states}
 use Rattle.ls_class.specs.Tables.{class_of}

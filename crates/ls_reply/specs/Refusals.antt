@@ -1,6 +1,6 @@
 -- The words of a refusal: its code, and its details. Want of memory refuses no line, so the rows of `Memory` are never told.
 use Rattle.std.specs.Prelude.{ℕ, List, [], ◌∷◌, codes, decimal}
-use Rattle.ls_set.specs.ItemSet.{Items, items}
+use Rattle.ls_set.specs.{Items, items}
 use Rattle.ls_set.specs.declared.cursor.CursorFault.{CursorFault}
 use Rattle.ls_set.specs.declared.cursor.CursorFault.TheVariants as cursor
 use Rattle.ls_theory.specs.declared.answer_fault.AnswerFault.{AnswerFault}
@@ -15,7 +15,7 @@ use Rattle.ls_theory.specs.declared.reason.Reason.{Reason}
 use Rattle.ls_theory.specs.declared.reason.Reason.TheVariants.{Share, Budget}
 use Rattle.ls_theory.specs.declared.reply_fault.ReplyFault.{ReplyFault}
 use Rattle.ls_theory.specs.declared.reply_fault.ReplyFault.TheVariants as reply
-use Rattle.ls_lines.specs.Lines.{Text}
+use Rattle.ls_lines.specs.{Text}
 use Rattle.ls_domain.specs.declared.domain_fault.DomainFault.{DomainFault}
 use Rattle.ls_domain.specs.declared.domain_fault.DomainFault.TheVariants as domain
 use Rattle.ls_domain.specs.Texts.{name_of, set_text}

@@ -1,9 +1,8 @@
 -- What a line does, by the session and the folder; and its reply.
 use Rattle.std.specs.Prelude.{ℕ, Bool, true, false, if◌then◌else◌, List, [], ◌∷◌, length, Option, Some, None, codes, nat_eq}
 use Rattle.std.specs.List.{starts_with}
-use Rattle.ls_theory.specs.Interviews.{Interview}
-use Rattle.ls_lines.specs.Lines.{Text, is_long, words}
-use Rattle.ls_lines.specs.Commands.{command_of, fault_place}
+use Rattle.ls_theory.specs.{Interview}
+use Rattle.ls_lines.specs.{Text, command_of, fault_place, is_long, words}
 use Rattle.ls_lines.specs.declared.command.Command.{Command}
 use Rattle.ls_lines.specs.declared.command.Command.TheVariants as command
 use Rattle.ls_reply.specs.Texts.{bytes_of}

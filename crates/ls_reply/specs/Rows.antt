@@ -1,29 +1,18 @@
 -- The row of each command: its refusals in their order, otherwise what it does.
 use Rattle.std.specs.Prelude.{ℕ, Bool, true, not, ◌==◌, is_none, List, [], ◌∷◌, ◌++◌, length, Option, Some, None, Result, Ok, Err}
 use Rattle.std.specs.Option.{option_map_or}
-use Rattle.ls_set.specs.ItemSet.{Items, full, is_among}
-use Rattle.ls_set.specs.Query.{is_good}
+use Rattle.ls_set.specs.{Items, full, is_among, is_good}
 use Rattle.ls_set.specs.declared.query.Query.{Query}
 use Rattle.ls_set.specs.declared.cursor.CursorFault.{CursorFault}
 use Rattle.ls_theory.specs.Starts.{Start, Clauses, Sets}
-use Rattle.ls_theory.specs.Interviews.{Interview, accepted, retracted}
-use Rattle.ls_theory.specs.Compatible.{compat, compatible_sets}
-use Rattle.ls_theory.specs.Queries.{blocks}
-use Rattle.ls_theory.specs.Blocks.{BlockRange, made}
-use Rattle.ls_theory.specs.Answering.{refusal, answer_with}
-use Rattle.ls_theory.specs.Forced.{known, next_question}
-use Rattle.ls_theory.specs.Bases.{Peak, peak_of, base, based, atom_sets}
-use Rattle.ls_theory.specs.Verdict.{base_verdict, verdict}
-use Rattle.ls_theory.specs.Projections.{projection}
-use Rattle.ls_theory.specs.Fringes.{fringes, state_of}
-use Rattle.ls_theory.specs.Paths.{is_order}
+use Rattle.ls_theory.specs.{BlockRange, Interview, Peak, accepted, answer_with, atom_sets, base, base_verdict, based, blocks, compat, compatible_sets, fringes, is_order, known, made, next_question, peak_of, projection, refusal, retracted, state_of, verdict}
 use Rattle.ls_theory.specs.declared.verdict.BaseVerdict.{BaseVerdict}
 use Rattle.ls_theory.specs.declared.verdict.BaseVerdict.TheVariants.{NotGraded, Learning}
 use Rattle.ls_theory.specs.declared.answer_fault.AnswerFault.TheVariants.{BadQuery}
 use Rattle.ls_theory.specs.declared.block_fault.BlockFault.{BlockFault}
 use Rattle.ls_theory.specs.declared.base_fault.BaseFault.{BaseFault}
 use Rattle.ls_theory.specs.declared.surmise_fault.SurmiseFault.{SurmiseFault}
-use Rattle.ls_lines.specs.Lines.{Text}
+use Rattle.ls_lines.specs.{Text}
 use Rattle.ls_domain.specs.Domains.{names_of_words, names_of_table}
 use Rattle.ls_domain.specs.declared.domain_fault.DomainFault.{DomainFault}
 use Rattle.ls_files.specs.SetFiles.{sets_of}

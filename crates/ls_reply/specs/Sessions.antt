@@ -1,9 +1,7 @@
 -- A session's state, and how a session begins.
 use Rattle.std.specs.Prelude.{Bool, not, ◌==◌, List, [], length}
-use Rattle.ls_theory.specs.Interviews.{begun}
-use Rattle.ls_theory.specs.Starts.{Free}
-use Rattle.ls_theory.specs.Settings.{standard}
-use Rattle.ls_lines.specs.Lines.{Text}
+use Rattle.ls_theory.specs.{Free, begun, standard}
+use Rattle.ls_lines.specs.{Text}
 pub use Rattle.ls_saved.specs.Sessions.{Pupil, pupil_states, Session}
 
 -- the session that begins with the names

@@ -1,7 +1,7 @@
 -- The lines of a reply. A word of a line may hold spaces of its own, as a set does.
 use Rattle.std.specs.Prelude.{ℕ, List, [], ◌∷◌, ◌++◌}
 use Rattle.std.specs.List.{join_with_byte, flat_map}
-use Rattle.ls_lines.specs.Lines.{Text}
+use Rattle.ls_lines.specs.{Text}
 
 -- a line: its words joined by single spaces, and a line feed
 unfoldable pub line_of : List Text → List ℕ

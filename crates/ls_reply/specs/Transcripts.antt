@@ -2,7 +2,7 @@
 use Rattle.std.specs.Prelude.{ℕ, Bool, false, ◌||◌, List, [], ◌∷◌, ◌++◌, map, Option, Some, None, count_by}
 use Rattle.std.specs.FinMap as map
 use Rattle.ls_edge.specs.Files.{Folder}
-use Rattle.ls_lines.specs.Lines.{Text, lines}
+use Rattle.ls_lines.specs.{Text, lines}
 use Rattle.ls_reply.specs.Sessions.{Session, started}
 use Rattle.ls_reply.specs.Scenes.{calls_of}
 use Rattle.ls_reply.specs.Effects.{Effect}

@@ -1,15 +1,8 @@
 -- Whether listed sets are those of the base that they give.
-use Rattle.std.proofs.Common.{◌≡◌, ℕ, Bool, true, false, cond, List, Some, None, Result, Ok, sym, ap, ◌∙◌, option_map}
-use Rattle.std.specs.Option.{option_map_or}
-use Rattle.std.specs.Result.{result_ok}
-use Rattle.std.specs.Cmp.Lexicographic.{pointwise, pointwise_decides}
-use Rattle.ls_set.specs.ItemSet.{Items, is_same}
+use Rattle.ls_restore.proofs.Vocabulary.{◌∙◌, ◌≡◌, Bool, Items, List, None, Ok, Result, Some, ℕ, ap, based, cond, false, is_base, is_same, only_if, option_map, option_map_or, pointwise, pointwise_decides, result_ok, sym, true}
 use Rattle.ls_set.proofs.Sets.{Decides-is_same}
 use Rattle.ls_theory.specs.Starts as theory
-use Rattle.ls_theory.specs.Bases.{based}
 use Rattle.ls_theory.specs.declared.base_fault.BaseFault.{BaseFault}
-use Rattle.ls_saved.specs.Readers.{only_if}
-use Rattle.ls_saved.specs.Standing.{is_base}
 
 -- the start by the sets, where the test holds of them
 pub kept : (n : ℕ) (sets : List Items) (b : Bool) → is_base n sets ≡ b → option_map theory.Sets (only_if (is_base n) (Some sets)) ≡ cond b (Some (theory.Sets sets)) None

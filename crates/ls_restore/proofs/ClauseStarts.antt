@@ -1,16 +1,8 @@
 -- The sets of clauses that were read are of the items.
-use Rattle.std.proofs.Common.{◌≡◌, inl, inr, ℕ, List, [], ◌∷◌, Some, sym, ◌∙◌, true≢false}
+use Rattle.ls_restore.proofs.Vocabulary.{◌∙◌, ◌∷◌, ◌≡◌, Data, IsOn, Items, List, Some, ℕ, [], all_clauses, inl, inr, is_among, on-from, or_cases, read_list, read_set, sym, true≢false}
 use Rattle.std.specs.List.{AllByRecursion}
-use Rattle.std.proofs.lemmas.Bool.{or_cases}
-use Rattle.serde_json.specs.Data.{Data}
-use Rattle.ls_set.specs.ItemSet.{Items, is_among}
 use Rattle.ls_set.proofs.Members.{among-append}
-use Rattle.ls_theory.specs.Clauses.{all_clauses}
-use Rattle.ls_laws.specs.Spans.{IsOn}
-use Rattle.ls_files.specs.SurmiseFiles.{read_list}
-use Rattle.ls_saved.specs.Parts.{read_set}
 use Rattle.ls_saved.proofs.Inverse.{list-some}
-use Rattle.ls_saved.proofs.Read.{on-from}
 
 each-on : (n : ℕ) (clauses : List (List Items)) → AllByRecursion (IsOn n) clauses → IsOn n (all_clauses clauses)
 each-on n [] h k c = absurd (true≢false (sym c))

@@ -1,3 +1,4 @@
+mod Vocabulary
 mod BaseStarts
 mod ClauseStarts
 mod BlockSizes

@@ -1,26 +1,11 @@
 -- Answers that were read, and whether they stand.
-use Rattle.std.proofs.Common.{◌≡◌, ℕ, Bool, true, false, cond, List, Option, Some, None, Result, Err, refl, sym, ap, ap₂, ◌∙◌, codes, option_map, true≢false}
-use Rattle.std.specs.Option.{option_zip}
-use Rattle.std.specs.Result.{is_ok}
+use Rattle.ls_restore.proofs.Vocabulary.{◌∙◌, ◌≡◌, Answer, BlockRange, Bool, Data, Err, Interview, IsStandingFault, List, None, Option, Result, Some, Start, ℕ, ap, ap₂, are_made, at_key, codes, cond, false, false_from_ne_true, interview_from, interview_on, is_ok, made, only_if, option_map, option_zip, read_answer, read_interview, read_list, read_number, refl, stands, stands-from, sym, true, true≢false}
 use Rattle.std.specs.declared.alloc.AllocError.{AllocError}
-use Rattle.std.proofs.lemmas.Bool.{false_from_ne_true}
-use Rattle.serde_json.specs.Data.{Data}
-use Rattle.ls_theory.specs.Starts.{Start}
-use Rattle.ls_theory.specs.Interviews.{Interview}
-use Rattle.ls_theory.specs.Blocks.{BlockRange, made}
-use Rattle.ls_theory.specs.declared.answer.Answer.{Answer}
 use Rattle.ls_theory.specs.declared.block_fault.BlockFault.{BlockFault}
-use Rattle.ls_files.specs.SurmiseFiles.{read_list}
 use Rattle.ls_expert.specs.declared.standing_fault.StandingFault.{StandingFault}
 use Rattle.ls_expert.specs.declared.standing_fault.StandingFault.TheVariants.{BadBlock, TooWide, BadAnswers, Memory}
-use Rattle.ls_expert.specs.Held.{interview_on}
 use Rattle.ls_expert.specs.Held as held
-use Rattle.ls_expert.specs.Saved.{IsStandingFault}
-use Rattle.ls_saved.specs.Readers.{only_if, read_number, at_key}
-use Rattle.ls_saved.specs.Standing.{are_made, stands}
-use Rattle.ls_saved.specs.Parts.{read_answer, read_interview, interview_from}
 use Rattle.ls_saved.specs.Whole as whole
-use Rattle.ls_saved.proofs.Answers.{stands-from}
 use Rattle.ls_saved.proofs.Sound.{stands-standing}
 
 -- ---- the parts

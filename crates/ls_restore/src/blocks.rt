@@ -1,8 +1,8 @@
 // The size of the blocks of a saved session.
 ghost use Rattle.std.specs.Prelude.{◌≡◌, ◌<◌, ◌≤◌};
 ghost use Rattle.serde_json.specs.View.{view};
-ghost use Rattle.ls_set.specs.ItemSet.{most_items};
-ghost use Rattle.ls_saved.specs.Parts.{read_block};
+ghost use Rattle.ls_set.specs.{most_items};
+ghost use Rattle.ls_saved.specs.{read_block};
 
 use ls_query::Blocks;
 use ls_saved::read_number;

@@ -1,12 +1,10 @@
 // The inquiry of a saved session.
 ghost use Rattle.std.specs.Prelude.{◌≡◌, ◌<◌, ◌≤◌, codes, true, option_map, IfOk};
 ghost use Rattle.serde_json.specs.View.{view};
-ghost use Rattle.ls_set.specs.ItemSet.{most_items};
+ghost use Rattle.ls_set.specs.{most_items};
 ghost use Rattle.ls_files.specs.SurmiseFiles.{read_list};
 ghost use Rattle.ls_expert.specs.Starts.{start_of, IsStartOn};
-ghost use Rattle.ls_saved.specs.Readers.{at_key, read_number};
-ghost use Rattle.ls_saved.specs.Standing.{are_made};
-ghost use Rattle.ls_saved.specs.Parts.{read_answer, read_interview};
+ghost use Rattle.ls_saved.specs.{are_made, at_key, read_answer, read_interview, read_number};
 
 use ls_expert::{Inquiry, StandingFault, Start};
 use ls_interior::Steps;

@@ -2,13 +2,11 @@
 ghost use Rattle.std.specs.Prelude.{◌≡◌, ◌<◌, ◌≤◌, if◌then◌else◌, ℕ, codes, bytes_eq, Some, None, option_map, IfOk, IfSome};
 ghost use Rattle.std.specs.Cmp.Lexicographic.{pointwise};
 ghost use Rattle.serde_json.specs.View.{view};
-ghost use Rattle.ls_set.specs.ItemSet.{is_same, most_items};
+ghost use Rattle.ls_set.specs.{is_same, most_items};
 ghost use Rattle.ls_theory.specs.Starts as theory;
 ghost use Rattle.ls_laws.specs.Spans.{IsOn};
 ghost use Rattle.ls_expert.specs.Starts.{start_of, IsStartOn};
-ghost use Rattle.ls_saved.specs.Readers.{only_if};
-ghost use Rattle.ls_saved.specs.Standing.{is_base};
-ghost use Rattle.ls_saved.specs.Parts.{read_base, read_surmise, read_start};
+ghost use Rattle.ls_saved.specs.{is_base, only_if, read_base, read_start, read_surmise};
 
 use ls_base::{Base, BaseFault, MOST_BASE_SETS};
 use ls_expert::Start;

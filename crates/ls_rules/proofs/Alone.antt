@@ -1,21 +1,5 @@
 -- Rules whose set A is one item alone, and what such an item takes with it.
-use Rattle.std.proofs.Common.{ℕ, zero, suc, ◌<◌, ◌≡◌, ◌≢◌, inl, inr, true, false, cond, not, Option, Some, None, List, [], ◌∷◌, ◌++◌, map, filter, length, get_or, set, drop, drop-cons, add-one, ◌+◌, refl, sym, ap, ap₂, ◌∙◌, subst, arith, true≢false}
-use Rattle.std.specs.List.{AllByRecursion, remove}
-use Rattle.std.specs.Option.{option_map_or}
-use Rattle.std.proofs.lemmas.Bool.{cases_Bool, cases_eq, cases_lt, and_parts, false_from_ne_true, not-true}
-use Rattle.std.proofs.lemmas.Bool.Decides.{nat_tests}
-use Rattle.std.proofs.lemmas.List.{get_or_past, get_or-set_same, get_or-set_other}
-use Rattle.ls_lists.proofs.Every.{each}
-use Rattle.ls_set.specs.ItemSet.{Items, has, empty, union, minus, single, with, without, least, is_same, set_of, IsWithin}
-use Rattle.ls_set.specs.declared.query.Query.{Query}
-use Rattle.ls_set.proofs.Sets.{members, has-empty, same_set, Decides-is_same, empty-within, without-within, union-left, union-right}
-use Rattle.ls_set.proofs.Ascending.{least-at}
-use Rattle.ls_set.proofs.Order.{Each-both}
-use Rattle.ls_theory.specs.Queries.{breaks, breaks_none}
-use Rattle.ls_laws.proofs.Breaks.{breaks-from}
-use Rattle.ls_rules.specs.Parts.{first_of, several}
-use Rattle.ls_rules.specs.Sets.{set_at}
-use Rattle.ls_rules.specs.Singles.{asked_alone, AreSingles, CoversSets}
+use Rattle.ls_rules.proofs.Vocabulary.{◌++◌, ◌+◌, ◌<◌, ◌∙◌, ◌∷◌, ◌≡◌, ◌≢◌, AllByRecursion, AreSingles, CoversSets, Decides-is_same, Each-both, IsWithin, Items, List, None, Option, Query, Some, ℕ, [], add-one, and_parts, ap, ap₂, arith, asked_alone, breaks, breaks-from, breaks_none, cases_Bool, cases_eq, cases_lt, cond, drop, drop-cons, each, empty, empty-within, false, false_from_ne_true, filter, first_of, get_or, get_or-set_other, get_or-set_same, get_or_past, has, has-empty, inl, inr, is_same, least, least-at, length, map, members, minus, nat_tests, not, not-true, option_map_or, refl, remove, same_set, set, set_at, set_of, several, single, subst, suc, sym, true, true≢false, union, union-left, union-right, with, without, without-within, zero}
 
 -- ---- the parts of a set
 

@@ -1,26 +1,6 @@
 -- The first round: looking at the rules whose sets A begin outside a set.
-use Rattle.std.proofs.Common.{ℕ, ◌≡◌, inl, inr, true, false, Option, List, [], ◌∷◌, map, filter, fold, None, Some, refl, sym, ap, ap₂, ◌∙◌, subst, arith, true≢false, ◌&&◌}
-use Rattle.std.specs.Option.{option_map_or}
-use Rattle.std.specs.List.{AllByRecursion, list_all}
-use Rattle.std.proofs.lemmas.Bool.{cases_Bool, cases_eq, and_from, false_from_ne_true}
-use Rattle.ls_lists.proofs.Every.{list_all-All, All-kept, each}
-use Rattle.ls_set.specs.ItemSet.{Items, has, empty, union, meet, minus, single, with, without, is_same, is_within, least, IsWithin}
-use Rattle.ls_set.specs.Query.{is_good}
-use Rattle.ls_set.specs.declared.query.Query.{Query}
-use Rattle.std.proofs.lemmas.Bool.Decides.{nat_tests}
-use Rattle.ls_set.proofs.Sets.{members, has-empty, has-meet, same_set, same_within, Decides-is_same, IsWithin-from, and-false}
-use Rattle.ls_set.proofs.Ascending.{least-cases}
-use Rattle.ls_set.proofs.Order.{Each-both}
-use Rattle.ls_theory.specs.Queries.{breaks, breaks_none}
-use Rattle.ls_laws.proofs.Breaks.{IsGood, Breaks-from, good-from}
-use Rattle.ls_rules.specs.Places.{PlaceList, places_at, IsIndexOf}
+use Rattle.ls_rules.proofs.Vocabulary.{◌&&◌, ◌∙◌, ◌∷◌, ◌≡◌, All-kept, AllByRecursion, AreFollowed, AreSingles, Breaks-from, CoversSets, Decides-is_same, Each-both, Follows, IsAwake, IsGood, IsIndexOf, IsWithin, IsWithin-from, Items, List, None, Option, PlaceList, Query, Round, Settling, Some, ℕ, [], and-false, and_from, ap, ap₂, arith, asked_alone, breaks, breaks_none, cases_Bool, cases_eq, each, empty, false, false_from_ne_true, filter, first_of, fold, good-from, has, has-empty, has-meet, inl, inr, is_good, is_same, is_within, least, least-cases, list_all, list_all-All, look, look_at, lose_all, map, meet, members, minus, nat_tests, option_map_or, places_at, refl, same_set, same_within, set_at, several, single, subst, sym, true, true≢false, union, with, without}
 use Rattle.ls_rules.proofs.Alone.{several-is, asked-has, asked-out}
-use Rattle.ls_rules.specs.Parts.{first_of, several}
-use Rattle.ls_rules.specs.Sets.{set_at}
-use Rattle.ls_rules.specs.Followers.{Follows, AreFollowed}
-use Rattle.ls_rules.specs.Singles.{asked_alone, AreSingles, CoversSets}
-use Rattle.ls_rules.specs.Waking.{look, look_at, lose_all, IsAwake, Settling}
-use Rattle.ls_rules.specs.declared.round.Round.{Round}
 use Rattle.ls_rules.proofs.Rounds.{After, After-more, After-lose, After-looks, looks-keep, looks-break_at, none_of_part, meets_rule, no_item, no_least, kept, turned, look-unbroken}
 
 -- the round with which the rules are looked at first

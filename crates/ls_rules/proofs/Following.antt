@@ -1,11 +1,5 @@
 -- Putting an item into the set of each item of another set.
-use Rattle.std.proofs.Common.{ℕ, ◌<◌, ◌≡◌, inl, inr, List, set, length, arith}
-use Rattle.std.proofs.lemmas.Bool.{cases_eq}
-use Rattle.std.proofs.lemmas.Bool.Decides.{nat_tests}
-use Rattle.ls_set.specs.ItemSet.{Items, empty, minus, with, without, IsWithin}
-use Rattle.ls_set.proofs.Sets.{members, without-within}
-use Rattle.ls_rules.specs.Sets.{set_at}
-use Rattle.ls_rules.specs.Followers.{Follows, Grows}
+use Rattle.ls_rules.proofs.Vocabulary.{◌<◌, ◌≡◌, Follows, Grows, IsWithin, Items, List, ℕ, arith, cases_eq, empty, inl, inr, length, members, minus, nat_tests, set, set_at, with, without, without-within}
 use Rattle.ls_rules.proofs.Indexing.{Grows-put, followed-put}
 
 -- of the items of a set, those that are not left are followed by q

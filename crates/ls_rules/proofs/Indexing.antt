@@ -1,24 +1,8 @@
 -- Places of sets by their items: after a push and a removal, and the rules at the places of an item.
-use Rattle.std.proofs.Common.{ℕ, zero, suc, ◌+◌, ◌-◌, ◌<◌, ◌≤◌, ◌≡◌, inl, inr, Bool, true, false, cond, not, List, [], ◌∷◌, ◌++◌, map, filter, length, drop, get_or, refl, sym, ap, ap₂, ◌∙◌, arith, eq-eqb, ne_eqb, lt-ltb, le-ltb, All, add-zero, set, ◌&&◌, ◌≢◌, true≢false, subst, zero-add}
-use Rattle.std.specs.List.{AllByRecursion, remove, list_all}
-use Rattle.std.proofs.lemmas.List.{map-append, length-map, get_or_past, get_or-set_same, get_or-set_other}
+use Rattle.ls_rules.proofs.Vocabulary.{◌&&◌, ◌++◌, ◌+◌, ◌-◌, ◌<◌, ◌∙◌, ◌∷◌, ◌≡◌, ◌≢◌, ◌≤◌, All, All-append, AllByRecursion, AreFollowed, Bool, Covers, Follows, Grows, IsIndexOf, IsIndexed, IsWithin, Items, List, PlaceList, Query, ℕ, [], add-zero, and-false, and-true, and_from, and_parts, ap, ap₂, arith, asked_alone, cases_Bool, cases_eq, cases_lt, cond, drop, each, empty, eq-eqb, false, filter, first_of, get_or, get_or-set_other, get_or-set_same, get_or_past, good-from, has, has-empty, has-without, inl, inr, is_good, is_same, le-ltb, least_spare, length, length-map, list_all, list_all-remove, lowered, lt-ltb, map, map-append, members, most_items, nat_tests, ne_eqb, no_places, not, places_at, places_from, refl, remove, rules_at, set, set_at, several, single, spare_at, spare_within, subst, suc, sym, true, true≢false, union, with, without, without-within, zero, zero-add}
 use Rattle.std.proofs.lemmas.List.Elements.{All-cons, All-nil}
 use Rattle.std.proofs.lemmas.List.Folds.{list_all-append}
-use Rattle.std.proofs.lemmas.Bool.{and_from, and_parts, cases_Bool, cases_lt, cases_eq}
-use Rattle.std.proofs.lemmas.Bool.Decides.{nat_tests}
-use Rattle.ls_lists.proofs.Every.{list_all-remove, each, All-append}
 use Rattle.ls_lists.proofs.Places.{map-remove, at_place}
-use Rattle.ls_set.specs.ItemSet.{Items, most_items, has, empty, union, single, with, without, is_same, IsWithin}
-use Rattle.ls_set.proofs.Sets.{members, has-empty, has-without, without-within, and-true, and-false}
-use Rattle.ls_set.specs.declared.query.Query.{Query}
-use Rattle.ls_laws.proofs.Breaks.{good-from}
-use Rattle.ls_rules.specs.Places.{PlaceList, no_places, places_at, Covers, spare_at, lowered, places_from, IsIndexOf, least_spare, spare_within}
-use Rattle.ls_set.specs.Query.{is_good}
-use Rattle.ls_rules.specs.Parts.{first_of, several}
-use Rattle.ls_rules.specs.Sets.{set_at}
-use Rattle.ls_rules.specs.Followers.{Follows, AreFollowed, Grows}
-use Rattle.ls_rules.specs.Singles.{asked_alone}
-use Rattle.ls_rules.specs.Waking.{rules_at, IsIndexed}
 use Rattle.ls_rules.proofs.Alone.{AreSingles-push, AreSingles-remove}
 
 -- ---- one more set

@@ -1,3 +1,4 @@
+mod Vocabulary
 pub mod Alone
 pub mod Indexing
 pub mod Rounds

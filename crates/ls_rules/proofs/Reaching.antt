@@ -1,23 +1,8 @@
 -- The interior under rules, round by round.
-use Rattle.std.proofs.Common.{ℕ, ◌<◌, ◌≡◌, inl, inr, true, false, not, List, [], ◌∷◌, filter, cond, Option, Some, None, unwrap_or, refl, sym, ap, ◌∙◌, true≢false, arith}
-use Rattle.std.specs.List.{AllByRecursion}
-use Rattle.std.proofs.lemmas.Bool.{and_parts, and_from, not-true, false_from_ne_true}
-use Rattle.ls_set.specs.ItemSet.{Items, empty, meet, minus, is_within, is_among, len, IsWithin}
-use Rattle.ls_set.specs.declared.query.Query.{Query}
-use Rattle.std.proofs.lemmas.Bool.Decides.{nat_tests}
-use Rattle.ls_set.proofs.Sets.{members, same_within, IsWithin-from, is_within-from, empty-within}
-use Rattle.ls_set.proofs.Members.{among-filter}
-use Rattle.ls_set.proofs.Sizes.{len-less}
-use Rattle.ls_theory.specs.Queries.{breaks, breaks_none}
-use Rattle.ls_theory.specs.Families.{interior}
+use Rattle.ls_rules.proofs.Vocabulary.{◌<◌, ◌∙◌, ◌∷◌, ◌≡◌, AllByRecursion, Breaks-from, IsAwake, IsInterior-interior, IsWithin, IsWithin-from, Items, List, None, NoneKeeps, Option, Query, Round, Settles, Settling, Some, ℕ, [], among-filter, and_from, and_parts, ap, arith, breaks, breaks_none, cond, empty, empty-within, false, false_from_ne_true, filter, inl, inr, interior, interior-greatest, interior-is, interior-within, is_among, is_within, is_within-from, is_within-interior, len, len-less, meet, members, minus, nat_tests, not, not-true, refl, same_within, some_missing, sym, true, true≢false, unwrap_or}
 use Rattle.ls_laws.specs.Families.{IsFamily}
-use Rattle.ls_laws.proofs.Breaks.{Breaks-from}
-use Rattle.ls_laws.proofs.Counts.{some_missing}
 use Rattle.ls_laws.proofs.Families.{ruled-IsFamily}
-use Rattle.ls_laws.proofs.Interiors.{is_within-interior, interior-is, interior-within, interior-greatest, IsInterior-interior}
 use Rattle.ls_interior.specs.Keeping.{interior_keeping}
-use Rattle.ls_rules.specs.Waking.{IsAwake, Settling, Settles, NoneKeeps}
-use Rattle.ls_rules.specs.declared.round.Round.{Round}
 use Rattle.ls_rules.proofs.Rounds.{meets_rule, no_item, none_broken}
 
 -- the round begins with what is lost of a settled set in its interior in the family, as far as it wakes a rule

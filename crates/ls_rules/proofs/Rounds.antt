@@ -1,29 +1,9 @@
 -- Looking at rules: what stays, what falls out, and that at the end no rule is broken.
-use Rattle.std.proofs.Common.{ℕ, ◌+◌, ◌*◌, ◌<◌, ◌≤◌, ◌≡◌, inl, inr, Bool, true, false, cond, not, Option, List, [], ◌∷◌, map, filter, fold, None, Some, refl, sym, ap, ◌∙◌, subst, arith, true≢false, length, get_or, drop, drop-cons, add-one, ap₂, slice_get}
-use Rattle.std.specs.Option.{option_map_or}
-use Rattle.std.specs.List.{AllByRecursion}
-use Rattle.std.proofs.lemmas.Bool.{cases_Bool, cases_eq, and_parts, and_from, not-true, not_from_false, false_from_ne_true}
-use Rattle.ls_lists.proofs.Every.{list_all-All, All-passing, All-filter, All-list_all}
-use Rattle.ls_set.specs.ItemSet.{Items, has, empty, full, union, meet, minus, single, with, without, is_same, len, least, IsWithin}
-use Rattle.ls_set.specs.declared.query.Query.{Query}
-use Rattle.std.proofs.lemmas.Bool.Decides.{nat_tests}
-use Rattle.ls_set.proofs.Sets.{members, has-empty, has-meet, minus-within, without-within, union-left, same_set, Decides-is_same}
-use Rattle.ls_set.proofs.Sizes.{len-less, len-within}
+use Rattle.ls_rules.proofs.Vocabulary.{◌*◌, ◌+◌, ◌<◌, ◌∙◌, ◌∷◌, ◌≡◌, ◌≤◌, All-filter, All-list_all, All-passing, AllByRecursion, AreSingles, Bool, Breaks-from, Decides-is_same, Each-both, IsAwake, IsIndexOf, IsWithin, Items, List, None, NoneKeeps, Option, PlaceList, Query, Round, Settles, Settling, Some, ℕ, [], add-one, and_from, and_parts, ap, ap₂, arith, asked_alone, breaks, breaks-from, breaks_none, cases_Bool, cases_eq, cond, drop, drop-cons, empty, false, false_from_ne_true, filter, first_of, fold, full, get_or, has, has-empty, has-meet, inl, inr, is_same, least, least-cases, len, len-less, len-parts, len-single, len-within, len-zero, length, list_all-All, look, look_at, lose_all, lost_with, map, meet, members, minus, minus-within, nat_tests, not, not-true, not_from_false, option_map_or, places_at, refl, rules_at, same_set, set_at, several, single, slice_get, some_item, subst, sym, true, true≢false, union, union-left, with, without, without-within}
 use Rattle.ls_set.proofs.Firsts.{items-none}
-use Rattle.ls_set.proofs.Ascending.{least-cases}
-use Rattle.ls_set.proofs.Order.{Each-both}
-use Rattle.ls_theory.specs.Queries.{breaks, breaks_none}
-use Rattle.ls_laws.proofs.Breaks.{Breaks-from, breaks-from}
-use Rattle.ls_laws.proofs.Counts.{len-single, len-parts, len-zero, some_item}
 use Rattle.std.proofs.lemmas.Option.{slice_get_read}
-use Rattle.ls_rules.specs.Places.{PlaceList, places_at, IsIndexOf}
 use Rattle.ls_rules.proofs.Alone.{several-is, asked-has, asked-out}
 use Rattle.ls_rules.proofs.Indexing.{indexed_rules}
-use Rattle.ls_rules.specs.Parts.{first_of, several}
-use Rattle.ls_rules.specs.Sets.{set_at}
-use Rattle.ls_rules.specs.Singles.{asked_alone, AreSingles}
-use Rattle.ls_rules.specs.Waking.{look, look_at, lose_all, lost_with, rules_at, IsAwake, Settling, Settles, NoneKeeps}
-use Rattle.ls_rules.specs.declared.round.Round.{Round}
 
 -- ---- sets
 

@@ -1,7 +1,7 @@
 -- For each item, the items that follow it by a rule: where it falls, so may they.
 use Rattle.std.specs.Prelude.{ℕ, ◌≡◌, true, List}
 use Rattle.std.specs.List.{AllByRecursion}
-use Rattle.ls_set.specs.ItemSet.{Items, has}
+use Rattle.ls_set.specs.{Items, has}
 use Rattle.ls_set.specs.declared.query.Query.{Query}
 use Rattle.ls_rules.specs.Sets.{set_at}
 

@@ -1,7 +1,7 @@
 -- Parts of the sets A of rules.
 use Rattle.std.specs.Prelude.{if◌then◌else◌}
 use Rattle.std.specs.Option.{option_map_or}
-use Rattle.ls_set.specs.ItemSet.{Items, empty, with, least, is_same}
+use Rattle.ls_set.specs.{Items, empty, is_same, least, with}
 
 -- the least item of the set alone
 abbrev pub first_of : Items → Items

@@ -1,6 +1,6 @@
 -- For each item, the places of the sets of a list that have it.
 use Rattle.std.specs.Prelude.{ℕ, suc, ◌-◌, ◌≡◌, ◌==◌, nat_lt, false, not, if◌then◌else◌, min, List, [], ◌∷◌, map, filter, length, slice_index_or}
-use Rattle.ls_set.specs.ItemSet.{Items, has}
+use Rattle.ls_set.specs.{Items, has}
 
 -- places, and how many more fit without memory
 pub record PlaceList : Type 0 where

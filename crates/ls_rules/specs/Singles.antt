@@ -1,6 +1,6 @@
 -- Rules whose set A is one item alone.
 use Rattle.std.specs.Prelude.{ℕ, ◌≡◌, false, List, map, filter}
-use Rattle.ls_set.specs.ItemSet.{Items, has, empty, single, is_same, set_of}
+use Rattle.ls_set.specs.{Items, empty, has, is_same, set_of, single}
 use Rattle.ls_set.specs.declared.query.Query.{Query}
 use Rattle.ls_rules.specs.Sets.{set_at}
 

@@ -1,10 +1,9 @@
 -- Rules that are looked at again where an item of theirs fell out.
 use Rattle.std.specs.Prelude.{ℕ, ◌≤◌, ◌≡◌, Bool, true, false, if◌then◌else◌, Option, None, Some, List, length, map, slice_get, fold}
 use Rattle.std.specs.List.{AllByRecursion, list_all, filter_map}
-use Rattle.ls_set.specs.ItemSet.{Items, most_items, has, empty, meet, minus, union, with, without, IsWithin}
+use Rattle.ls_set.specs.{IsWithin, Items, empty, has, is_good, meet, minus, most_items, union, with, without}
 use Rattle.ls_set.specs.declared.query.Query.{Query}
-use Rattle.ls_set.specs.Query.{is_good}
-use Rattle.ls_theory.specs.Queries.{breaks, breaks_none}
+use Rattle.ls_theory.specs.{breaks, breaks_none}
 use Rattle.ls_rules.specs.Followers.{AreFollowed}
 use Rattle.ls_rules.specs.Parts.{first_of, several}
 use Rattle.ls_rules.specs.Places.{PlaceList, places_at, IsIndexOf}

@@ -1,6 +1,6 @@
 // For each item, the items that follow it by a rule.
 ghost use Rattle.std.specs.Prelude.{◌≡◌, ℕ, ◌<◌, ◌≤◌, [], true, not, length, OnOk};
-ghost use Rattle.ls_set.specs.ItemSet.{has, empty, meet, is_same};
+ghost use Rattle.ls_set.specs.{empty, has, is_same, meet};
 ghost use Rattle.ls_rules.specs.Sets.{set_at};
 ghost use Rattle.ls_rules.specs.Followers.{Follows, Grows};
 
@@ -18,7 +18,7 @@ pub struct Followers {
 
 impl Model for Followers {
     ghost use Rattle.std.specs.Prelude.{List};
-    ghost use Rattle.ls_set.specs.ItemSet.{Items};
+    ghost use Rattle.ls_set.specs.{Items};
 
     ghost Value = { List Items };
 

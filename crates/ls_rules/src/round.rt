@@ -11,8 +11,8 @@ pub struct Round {
 }
 
 impl Round {
-    ghost use Rattle.ls_set.specs.ItemSet.{with, without};
-    ghost use Rattle.ls_theory.specs.Queries.{breaks};
+    ghost use Rattle.ls_set.specs.{with, without};
+    ghost use Rattle.ls_theory.specs.{breaks};
     ghost use Rattle.ls_rules.specs.Waking.{look, lose_all};
 
     /// Whether the kept set breaks the rule. Most sets have an item of most sets A, so that is asked

@@ -1,10 +1,8 @@
 // Families with rules.
 ghost use Rattle.std.specs.Prelude.{◌≡◌, ◌<◌, ◌++◌, ◌∷◌, [], true, length, remove, filter};
 ghost use Rattle.std.specs.Prelude.{OnOk, IfSome};
-ghost use Rattle.ls_set.specs.ItemSet.{full, without, is_among, IsWithin};
-ghost use Rattle.ls_set.specs.Query.{is_good};
-ghost use Rattle.ls_theory.specs.Queries.{breaks_none};
-ghost use Rattle.ls_theory.specs.Families.{interior};
+ghost use Rattle.ls_set.specs.{IsWithin, full, is_among, is_good, without};
+ghost use Rattle.ls_theory.specs.{breaks_none, interior};
 ghost use Rattle.ls_interior.specs.Keeping.{interior_keeping};
 ghost use Rattle.std.specs.List.{AllByRecursion};
 ghost use Rattle.ls_rules.specs.Waking.{Settling};

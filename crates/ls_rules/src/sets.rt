@@ -1,6 +1,6 @@
 // A set of items for each item.
 ghost use Rattle.std.specs.Prelude.{◌≡◌, ℕ, ◌<◌, ◌≤◌, [], length, set, OnOk};
-ghost use Rattle.ls_set.specs.ItemSet.{empty};
+ghost use Rattle.ls_set.specs.{empty};
 ghost use Rattle.ls_rules.specs.Sets.{set_at};
 
 use ls_set::{ItemSet, PLACES};
@@ -15,7 +15,7 @@ pub struct Sets {
 
 impl Model for Sets {
     ghost use Rattle.std.specs.Prelude.{List};
-    ghost use Rattle.ls_set.specs.ItemSet.{Items};
+    ghost use Rattle.ls_set.specs.{Items};
 
     ghost Value = { List Items };
 

@@ -2,8 +2,7 @@
 ghost use Rattle.std.specs.Prelude.{◌≡◌, ℕ, ◌<◌, ◌≤◌, [], true, false, None, if◌then◌else◌};
 ghost use Rattle.std.specs.Prelude.{length, All, OnOk, IfSome};
 ghost use Rattle.std.specs.List.{list_all};
-ghost use Rattle.ls_set.specs.ItemSet.{single, with, is_same};
-ghost use Rattle.ls_set.specs.Query.{is_good};
+ghost use Rattle.ls_set.specs.{is_good, is_same, single, with};
 ghost use Rattle.ls_rules.specs.Sets.{set_at};
 ghost use Rattle.ls_rules.specs.Singles.{asked_alone, CoversSets};
 
@@ -23,7 +22,7 @@ pub struct Singles {
 
 impl Model for Singles {
     ghost use Rattle.std.specs.Prelude.{List};
-    ghost use Rattle.ls_set.specs.ItemSet.{Items};
+    ghost use Rattle.ls_set.specs.{Items};
     ghost use Rattle.ls_rules.specs.Singles.{CoversSets};
 
     ghost Value = { List Items };

@@ -1,8 +1,7 @@
 // Going on from the items that fell out to the rules that they wake.
 ghost use Rattle.std.specs.Prelude.{◌≡◌, ℕ, ◌<◌, ◌≤◌, map, All, length, true, false, IfSome};
 ghost use Rattle.std.specs.List.{list_all};
-ghost use Rattle.ls_set.specs.ItemSet.{Items, has, empty, IsWithin};
-ghost use Rattle.ls_set.specs.Query.{is_good};
+ghost use Rattle.ls_set.specs.{IsWithin, Items, empty, has, is_good};
 ghost use Rattle.ls_rules.specs.Followers.{AreFollowed};
 ghost use Rattle.ls_rules.specs.Parts.{first_of, several};
 ghost use Rattle.ls_rules.specs.Places.{IsIndexOf, places_at};

@@ -1,28 +1,7 @@
 -- Answers and the rest of an interview, written and read.
-use Rattle.std.proofs.Common.{◌≡◌, ℕ, suc, ◌+◌, ◌-◌, ◌≤◌, ◌||◌, not, Bool, true, false, cond, eqb, leb, ltb, max, List, [], ◌∷◌, map, length, Some, Result, Err, refl, codes, sym, ap, arith, option_map, le-leb, ne_eqb, true≢false, ltb-false, Less, Equal, Greater}
-use Rattle.std.specs.Ordering.{nat_cmp}
-use Rattle.std.specs.Result.{is_ok}
-use Rattle.std.specs.List.{AllByRecursion, list_all, list_any, IsDistinct}
-use Rattle.std.specs.List.Sorted.{IsStrictlySortedBy}
-use Rattle.std.proofs.lemmas.Map.Keys.{sorted_from_strictly_increasing}
-use Rattle.std.proofs.lemmas.Bool.{and_from, not_from_false}
-use Rattle.serde_json.specs.Data.{Data}
-use Rattle.ls_lists.proofs.Every.{list_all-All, All-list_all, each}
-use Rattle.ls_set.specs.Query.{is_good}
-use Rattle.ls_theory.specs.declared.answer.Answer.{Answer}
-use Rattle.ls_theory.specs.Interviews.{Interview}
-use Rattle.ls_theory.specs.Fitting.{spaces_of}
-use Rattle.ls_theory.specs.Blocks.{BlockRange, made}
+use Rattle.ls_saved.proofs.Vocabulary.{◌+◌, ◌-◌, ◌||◌, ◌∷◌, ◌≡◌, ◌≤◌, All-list_all, AllByRecursion, Answer, BlockRange, Bool, Data, Equal, Err, Greater, Interview, IsDistinct, IsStanding, IsStrictlySortedBy, Less, List, Result, Some, ℕ, [], and_from, answer_from, answer_value, ap, are_apart, are_made, arith, at_key, codes, cond, each, eqb, false, good-from, interview_from, is_ascending, is_good, is_ok, is_same_query, le-leb, leb, length, list_all, list_all-All, list_any, list_value, ltb, ltb-false, made, map, max, most_answers, most_number, nat_cmp, ne_eqb, not, not_from_false, number_value, option_map, read_answer, read_block, read_interview, read_list, read_number, refl, sorted_from_strictly_increasing, spaces_of, stands, suc, sym, true, true≢false}
 use Rattle.ls_theory.specs.declared.block_fault.BlockFault.{BlockFault}
 use Rattle.ls_theory.specs.declared.block_fault.BlockFault.TheVariants.{BadBlock}
-use Rattle.ls_theory.specs.Answering.{is_same_query, most_answers, most_number}
-use Rattle.ls_laws.proofs.Breaks.{good-from}
-use Rattle.ls_files.specs.SurmiseFiles.{list_value, read_list}
-use Rattle.ls_saved.specs.Whole.{IsStanding}
-use Rattle.ls_saved.specs.Standing.{are_apart, is_ascending, are_made, stands}
-use Rattle.ls_saved.specs.Values.{number_value, answer_value}
-use Rattle.ls_saved.specs.Readers.{read_number, at_key}
-use Rattle.ls_saved.specs.Parts.{read_answer, answer_from, read_block, read_interview, interview_from}
 use Rattle.ls_saved.proofs.Lists.{read_list-list_value, kept, zipped}
 use Rattle.ls_saved.proofs.Starts.{set-back, item-back}
 

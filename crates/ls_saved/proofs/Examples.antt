@@ -1,34 +1,10 @@
 -- Examples: the texts of sessions on three items, byte for byte.
-use Rattle.std.proofs.Common.{ℕ, length, ◌≡◌, refl, true, List, [], ◌∷◌, ◌++◌, codes, replicate, Ok, Err}
+use Rattle.ls_saved.proofs.Vocabulary.{◌++◌, ◌∷◌, ◌≡◌, Clauses, Err, Free, List, Ok, Pupil, Query, Ratio, Ratios, Session, Sets, Settings, Start, ℕ, [], accepted, asked, base, begun, blocks, chars, codes, compat, families, fitting_spaces, flaw, half_split, heavy_after, imbalance, interior, is_of, is_pupil, is_too_wide, is_utf8, leader, length, made, names_from, refl, replicate, session_from, session_of, session_text, stands, surmise_from, true, weight}
 use Rattle.std.specs.Fmt.{digits}
-use Rattle.std.specs.Str.{is_utf8, chars}
 use Rattle.json.specs.Print.{escape_byte}
 use Rattle.serde_json.proofs.OnLiterals.{serde_json_on_literals}
-use Rattle.ls_set.specs.ItemSet.{Items, has, empty, full, with, union, meet, minus, single, differing, is_within, is_same, bound, items, least, comes_before, len}
-use Rattle.ls_set.specs.Cursor.{cursor, cursor_set, read_cursor}
-use Rattle.ls_set.specs.declared.query.Query.{Query}
-use Rattle.ls_theory.specs.Starts.{Start, Free, Clauses, Sets}
-use Rattle.ls_theory.specs.Interviews.{begun, accepted}
-use Rattle.ls_theory.specs.Families.{families, interior}
-use Rattle.ls_theory.specs.Compatible.{compat}
-use Rattle.ls_theory.specs.Fitting.{fitting_spaces}
-use Rattle.ls_theory.specs.Queries.{blocks}
-use Rattle.ls_theory.specs.Bases.{base}
-use Rattle.ls_theory.specs.Clauses.{flaw}
-use Rattle.ls_theory.specs.Blocks.{is_too_wide, made}
-use Rattle.ls_theory.specs.declared.ratio.Ratio.{Ratio}
-use Rattle.ls_theory.specs.declared.ratio.Ratios.{Ratios}
-use Rattle.ls_theory.specs.Settings.{Settings, heavy_after}
-use Rattle.ls_theory.specs.Weights.{weight}
-use Rattle.ls_theory.specs.Assessment.{imbalance, half_split, leader, asked}
-use Rattle.ls_lines.specs.Kinds.{is_of}
-use Rattle.ls_domain.specs.Domains.{names_from}
-use Rattle.ls_files.specs.SurmiseFiles.{surmise_from}
+use Rattle.ls_set.specs.{Items, bound, comes_before, cursor, cursor_set, differing, empty, full, has, is_same, is_within, items, least, len, meet, minus, read_cursor, single, union, with}
 use Rattle.ls_saved.specs.declared.cause.Cause.TheVariants as cause
-use Rattle.ls_saved.specs.Sessions.{Pupil, Session}
-use Rattle.ls_saved.specs.Standing.{stands, is_pupil}
-use Rattle.ls_saved.specs.Values.{session_text}
-use Rattle.ls_saved.specs.Reading.{session_from, session_of}
 
 -- an example that opens this opens each word
 unfoldable saving : ℕ

@@ -1,14 +1,5 @@
 -- What it means that something was read.
-use Rattle.std.proofs.Common.{◌≡◌, Bool, true, false, cond, List, [], ◌∷◌, Option, Some, None, Result, Ok, refl, sym, ap, ◌∙◌, subst, option_map, option_and_then}
-use Rattle.std.specs.List.{AllByRecursion}
-use Rattle.std.specs.Option.{option_zip}
-use Rattle.serde_json.specs.Data.{Data, Items, no_items, item}
-use Rattle.serde_json.specs.Find.{as_array}
-use Rattle.ls_files.specs.SurmiseFiles.{read_each, read_list}
-use Rattle.ls_saved.specs.declared.cause.Cause.{Cause}
-use Rattle.ls_saved.specs.Sessions.{Session}
-use Rattle.ls_saved.specs.Readers.{only_if, read_pair, two_values}
-use Rattle.ls_saved.specs.Reading.{or_cause}
+use Rattle.ls_saved.proofs.Vocabulary.{◌∙◌, ◌∷◌, ◌≡◌, AllByRecursion, Bool, Cause, Data, Items, List, None, Ok, Option, Result, Session, Some, [], ap, as_array, cond, false, item, no_items, only_if, option_and_then, option_map, option_zip, or_cause, read_each, read_list, read_pair, refl, subst, sym, true, two_values}
 
 pub or_cause-ok : {X : Type 0} (c : Cause) (o : Option X) (next : X → Result Session Cause) (s : Session) → or_cause c o next ≡ Ok s → (x : X) × (o ≡ Some x) × (next x ≡ Ok s)
 or_cause-ok c None next s e = absurd (let no : ⊥ = cc in no)

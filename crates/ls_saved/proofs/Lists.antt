@@ -1,12 +1,5 @@
 -- Lists and pairs of values, written and read.
-use Rattle.std.proofs.Common.{◌≡◌, ℕ, suc, ◌≤◌, Bool, true, cond, List, [], ◌∷◌, map, Option, Some, None, refl, ap, ◌∙◌, arith, option_and_then, option_map}
-use Rattle.std.specs.List.{AllByRecursion}
-use Rattle.std.specs.Option.{option_zip}
-use Rattle.serde_json.specs.Data.{Data, depth, items_depth}
-use Rattle.serde_json.specs.View.{items_of}
-use Rattle.ls_files.specs.SurmiseFiles.{list_value, read_each, read_list}
-use Rattle.ls_saved.specs.Values.{pair_value}
-use Rattle.ls_saved.specs.Readers.{only_if, read_pair}
+use Rattle.ls_saved.proofs.Vocabulary.{◌∙◌, ◌∷◌, ◌≡◌, ◌≤◌, AllByRecursion, Bool, Data, List, None, Option, Some, ℕ, [], ap, arith, cond, depth, items_depth, items_of, list_value, map, only_if, option_and_then, option_map, option_zip, pair_value, read_each, read_list, read_pair, refl, suc, true}
 use Rattle.ls_saved.proofs.Texts.{IsPlain, ArePlain}
 
 -- both hold of each element

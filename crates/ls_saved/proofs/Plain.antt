@@ -1,20 +1,6 @@
 -- Cursors, starts and lists of queries are plain, and do not nest deep.
-use Rattle.std.proofs.Common.{◌≡◌, ℕ, ◌<◌, ◌≤◌, ◌^◌, max, true, ltb, List, [], ◌∷◌, map, get_or, IsUtf8, codes, refl, arith}
-use Rattle.std.proofs.lemmas.Bool.{agree_below_at, and_from}
-use Rattle.json.proofs.Printed.Utf8.{are_ascii, IsUtf8-are_ascii}
-use Rattle.serde_json.specs.Data.{depth}
-use Rattle.ls_lists.proofs.Every.{All-given}
-use Rattle.ls_set.specs.ItemSet.{Items, numbers_from, most_items}
-use Rattle.ls_set.specs.Cursor.{cursor, cursor_length, hex, nibble_of}
-use Rattle.ls_set.specs.Query.{is_good}
-use Rattle.ls_set.specs.declared.query.Query.{Query}
-use Rattle.ls_set.proofs.Cursors.{nibble_of-lt}
-use Rattle.ls_theory.specs.Starts.{Start, Free, Clauses, Sets}
-use Rattle.ls_theory.specs.declared.answer.Answer.{Answer}
-use Rattle.ls_theory.specs.Settings.{Settings}
-use Rattle.ls_laws.proofs.Breaks.{good-from}
-use Rattle.ls_files.specs.SurmiseFiles.{list_value}
-use Rattle.ls_saved.specs.Values.{set_value, query_value, answer_value, ratios_value, start_value, odds_value}
+use Rattle.ls_saved.proofs.Vocabulary.{◌<◌, ◌^◌, ◌∷◌, ◌≡◌, ◌≤◌, All-given, Answer, Clauses, Free, IsUtf8, IsUtf8-are_ascii, List, Query, Sets, Settings, Start, ℕ, [], agree_below_at, and_from, answer_value, are_ascii, arith, codes, depth, get_or, good-from, list_value, ltb, map, max, nibble_of-lt, odds_value, query_value, ratios_value, refl, set_value, start_value, true}
+use Rattle.ls_set.specs.{Items, cursor, cursor_length, hex, is_good, most_items, nibble_of, numbers_from}
 use Rattle.ls_saved.proofs.Texts.{IsPlain}
 use Rattle.ls_saved.proofs.Lists.{plain-list_value, depth-list_value}
 

@@ -1,31 +1,12 @@
 -- Pupils, written and read.
-use Rattle.std.proofs.Common.{◌≡◌, ℕ, zero, suc, ◌+◌, ◌<◌, ◌≤◌, Bool, true, false, cond, eqb, leb, List, [], ◌∷◌, ◌++◌, length, find, codes, Some, refl, ap, subst, arith, option_map, eqb-true}
-use Rattle.std.specs.Prelude.{unwrap_or}
-use Rattle.std.specs.List.{AllByRecursion, list_all}
-use Rattle.std.proofs.lemmas.Bool.{and_parts}
-use Rattle.json.proofs.Printed.Utf8.{IsUtf8-are_ascii}
-use Rattle.serde_json.specs.Data.{Members, boolean, string, no_members, member, depth, members_depth}
-use Rattle.serde_json.specs.Find.{as_bool}
-use Rattle.ls_lists.proofs.Every.{list_all-All, each}
-use Rattle.ls_set.specs.ItemSet.{Items, numbers_from, most_items}
-use Rattle.ls_set.specs.Query.{is_good}
-use Rattle.ls_set.specs.declared.query.Query.{Query}
+use Rattle.ls_saved.proofs.Vocabulary.{◌++◌, ◌+◌, ◌<◌, ◌∷◌, ◌≡◌, ◌≤◌, AllByRecursion, Bool, IsPupil, IsUtf8-are_ascii, List, Members, Pupil, Query, Ratios, Some, ℕ, [], and_parts, ap, arith, as_bool, asked, boolean, codes, cond, depth, each, eqb, eqb-true, false, find, follow, half_split, has_share, imbalance, is_asked, is_name, is_name-utf8, is_pupil, leb, length, limits_value, list_all, list_all-All, list_value, member, members_depth, no_members, number_value, odds_value, option_map, pupil_from, pupil_states, pupil_value, query_value, read_course, read_item, read_list, read_pupil, read_query, read_reply, read_settings, refl, reply_from, reply_value, settings_from, start_value, string, subst, suc, true, unwrap_or, zero}
+use Rattle.ls_set.specs.{Items, is_good, most_items, numbers_from}
 use Rattle.ls_theory.specs.declared.reply.Reply.{Reply}
 use Rattle.ls_theory.specs.declared.reason.Reason.TheVariants.{Share, Budget}
 use Rattle.ls_theory.specs.declared.asked.Asked.{Asked}
 use Rattle.ls_theory.specs.declared.asked.Asked.TheVariants.{Item, Over}
-use Rattle.ls_theory.specs.declared.ratio.Ratios.{Ratios}
 use Rattle.ls_theory.specs.Settings.{Settings, are_settings}
-use Rattle.ls_theory.specs.Assessment.{asked, imbalance, half_split, has_share}
-use Rattle.ls_domain.specs.Domains.{is_name}
-use Rattle.ls_domain.proofs.Numbers.{is_name-utf8}
-use Rattle.ls_files.specs.SurmiseFiles.{list_value, read_list}
 use Rattle.ls_saved.specs.declared.version.Version.TheVariants as version
-use Rattle.ls_saved.specs.Sessions.{Pupil, pupil_states}
-use Rattle.ls_saved.specs.Whole.{IsPupil}
-use Rattle.ls_saved.specs.Standing.{is_asked, follow, is_pupil}
-use Rattle.ls_saved.specs.Values.{number_value, query_value, reply_value, pupil_value, limits_value, odds_value, start_value}
-use Rattle.ls_saved.specs.Parts.{read_item, read_query, read_reply, reply_from, read_settings, read_course, read_pupil, pupil_from, settings_from}
 use Rattle.ls_saved.proofs.Texts.{IsPlain}
 use Rattle.ls_saved.proofs.Lists.{read_list-list_value, plain-list_value, depth-list_value, read_pair-pair_value, kept, zipped}
 use Rattle.ls_saved.proofs.Settings.{settings-from as settings-parts, odds-back, limits-back, odds-plain, limits-plain}

@@ -1,32 +1,8 @@
 -- What is read of a session is a whole session.
-use Rattle.std.proofs.Common.{◌≡◌, ℕ, true, List, length, codes, Option, Some, None, Result, Ok, Err, sym, ap, subst, option_map, eqb, eqb-true}
-use Rattle.std.specs.Option.{option_zip}
-use Rattle.std.specs.Result.{result_ok}
-use Rattle.std.specs.Str.{bytes_eq}
-use Rattle.std.specs.List.{AllByRecursion}
-use Rattle.serde_json.specs.Data.{Data}
-use Rattle.serde_json.specs.Find.{as_str, get}
-use Rattle.ls_set.specs.ItemSet.{Items, full, IsWithin}
-use Rattle.ls_set.specs.Cursor.{read_cursor}
-use Rattle.ls_set.proofs.Cursors.{only}
-use Rattle.ls_set.proofs.Members.{Each-among}
-use Rattle.ls_theory.specs.Starts.{Start, Free, Clauses, Sets}
-use Rattle.ls_theory.specs.Interviews.{Interview}
+use Rattle.ls_saved.proofs.Vocabulary.{◌≡◌, AllByRecursion, Cause, Clauses, Data, Each-among, Err, Free, Interview, IsDomain, IsNarrow, IsOn, IsPupil, IsStart, IsWhole, List, None, Ok, Option, Pupil, Result, Session, Sets, Some, Start, Text, Version, ℕ, ap, are_made, are_pupils, as_str, at_key, bytes_eq, codes, eqb, eqb-true, get, interview_from, is_pupil, length, names_of_words, names_of_words-read, only, only_if, option_map, option_zip, pupil_from, read_answer, read_base, read_block, read_course, read_interview, read_limits, read_list, read_names, read_number, read_object, read_odds, read_pupil, read_pupils, read_set, read_settings, read_start, read_surmise, read_version, result_ok, session_from, session_of, settings_from, stands, start_from, start_within, subst, surmise_from, sym, true}
+use Rattle.ls_set.specs.{IsWithin, Items, full, read_cursor}
 use Rattle.ls_theory.specs.Settings.{Settings, are_settings}
-use Rattle.ls_laws.specs.Spans.{IsOn}
-use Rattle.ls_lines.specs.Lines.{Text}
-use Rattle.ls_domain.specs.Domains.{IsDomain, names_of_words}
-use Rattle.ls_domain.proofs.Readings.{names_of_words-read}
-use Rattle.ls_files.specs.SurmiseFiles.{read_list, surmise_from}
-use Rattle.ls_saved.specs.declared.cause.Cause.{Cause}
 use Rattle.ls_saved.specs.declared.cause.Cause.TheVariants as cause
-use Rattle.ls_saved.specs.declared.version.Version.{Version}
-use Rattle.ls_saved.specs.Sessions.{Pupil, Session}
-use Rattle.ls_saved.specs.Standing.{are_made, stands, is_pupil, are_pupils}
-use Rattle.ls_saved.specs.Whole.{IsNarrow, IsStart, IsPupil, IsWhole}
-use Rattle.ls_saved.specs.Readers.{read_number, only_if, at_key, read_object}
-use Rattle.ls_saved.specs.Parts.{read_version, read_names, read_limits, read_odds, settings_from, read_settings, read_set, read_base, read_surmise, start_within, start_from, read_start, read_block, interview_from, read_interview, read_answer, pupil_from, read_course, read_pupil, read_pupils}
-use Rattle.ls_saved.specs.Reading.{session_from, session_of}
 use Rattle.ls_saved.proofs.Inverse.{chosen, or_cause-ok, only_if-some, map-some, then-some, zip-some, list-some}
 use Rattle.ls_saved.proofs.Sound.{settings-sound, base-sound, block-sound, stands-standing}
 use Rattle.ls_saved.proofs.Surmises.{narrow-read}

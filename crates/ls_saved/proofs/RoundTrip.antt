@@ -1,30 +1,7 @@
 -- What is written for a whole session is read as that session.
-use Rattle.std.proofs.Common.{◌≡◌, ℕ, ◌<◌, ◌≤◌, ◌^◌, true, ltb, List, length, codes, Option, Some, Result, Ok, refl, sym, ap, ◌∙◌, arith, ltb-true, option_and_then}
-use Rattle.std.specs.Result.{result_ok}
-use Rattle.std.specs.List.{AllByRecursion, list_all}
-use Rattle.json.proofs.Printed.Utf8.{IsUtf8-are_ascii}
-use Rattle.serde_json.specs.Data.{Data, Members, string, object, no_members, member, depth, members_depth}
-use Rattle.serde_json.specs.Find.{as_str}
-use Rattle.serde_json.specs.Written.{compact_text}
-use Rattle.ls_lists.proofs.Every.{list_all-All, each, All-given}
-use Rattle.ls_set.specs.Query.{is_good}
-use Rattle.ls_set.specs.ItemSet.{most_items}
-use Rattle.ls_theory.specs.Interviews.{Interview}
-use Rattle.ls_lines.specs.Lines.{Text}
-use Rattle.ls_domain.specs.Domains.{is_name, IsDomain, names_of_words}
-use Rattle.ls_domain.proofs.Readings.{names_of_words-again}
-use Rattle.ls_domain.proofs.Numbers.{is_name-utf8}
-use Rattle.ls_files.specs.SurmiseFiles.{list_value}
-use Rattle.ls_saved.specs.Whole.{IsStanding, IsPupil, IsWhole}
-use Rattle.ls_saved.specs.declared.cause.Cause.{Cause}
+use Rattle.ls_saved.proofs.Vocabulary.{◌<◌, ◌^◌, ◌∙◌, ◌≡◌, ◌≤◌, All-given, AllByRecursion, Cause, Data, Interview, IsDomain, IsPupil, IsStanding, IsUtf8-are_ascii, IsWhole, List, Members, Ok, Option, Pupil, Result, Session, Some, Text, ℕ, answer_value, ap, are_pupils, arith, as_str, at_key, codes, compact_text, depth, each, is_good, is_name, is_name-utf8, length, limits_value, list_all, list_all-All, list_value, ltb, ltb-true, member, members_depth, most_items, names_of_words, names_of_words-again, no_members, number_value, object, odds_value, option_and_then, or_cause, pupil_value, read_block, read_interview, read_limits, read_names, read_object, read_odds, read_pupil, read_pupils, read_start, refl, result_ok, session_from, session_of, session_text, session_value, settings_from, start_value, string, sym, true}
 use Rattle.ls_saved.specs.declared.cause.Cause.TheVariants as cause
 use Rattle.ls_saved.specs.declared.version.Version.TheVariants as version
-use Rattle.ls_saved.specs.Sessions.{Pupil, Session}
-use Rattle.ls_saved.specs.Standing.{are_pupils}
-use Rattle.ls_saved.specs.Values.{number_value, answer_value, pupil_value, limits_value, odds_value, start_value, session_value, session_text}
-use Rattle.ls_saved.specs.Readers.{at_key, read_object}
-use Rattle.ls_saved.specs.Parts.{read_names, read_limits, read_odds, settings_from, read_start, read_block, read_interview, read_pupil, read_pupils}
-use Rattle.ls_saved.specs.Reading.{or_cause, session_from, session_of}
 use Rattle.ls_saved.proofs.Texts.{IsPlain, read_object-compact_text}
 use Rattle.ls_saved.proofs.Lists.{Each-both, read_list-list_value, plain-list_value, depth-list_value, kept}
 use Rattle.ls_saved.proofs.Settings.{odds-back, limits-back, odds-plain, limits-plain}

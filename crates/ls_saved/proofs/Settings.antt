@@ -1,14 +1,7 @@
 -- Settings, written and read.
-use Rattle.std.proofs.Common.{◌≡◌, ℕ, ◌≤◌, ◌&&◌, true, eqb, leb, ltb, length, Some, refl, ap, arith, option_map, leb-true, ltb-true, eqb-true, eq-eqb}
-use Rattle.std.specs.List.{AllByRecursion, list_all}
-use Rattle.std.proofs.lemmas.Bool.{and_parts}
-use Rattle.ls_lists.proofs.Every.{list_all-All, each}
-use Rattle.ls_theory.specs.declared.ratio.Ratio.{Ratio}
-use Rattle.ls_theory.specs.declared.ratio.Ratios.{Ratios}
+use Rattle.ls_saved.proofs.Vocabulary.{◌&&◌, ◌≡◌, ◌≤◌, AllByRecursion, Ratio, Ratios, Some, ℕ, and_parts, ap, arith, each, eq-eqb, eqb, eqb-true, leb, leb-true, length, limits_value, list_all, list_all-All, ltb, ltb-true, odds_value, option_map, ratio_value, ratios_from, ratios_value, read_limits, read_odds, read_ratio, read_ratios, refl, true}
 use Rattle.ls_theory.specs.Settings.{Settings, is_between, is_ratio, are_ratios, are_limits, are_settings}
 use Rattle.ls_saved.specs.declared.version.Version.TheVariants as version
-use Rattle.ls_saved.specs.Values.{ratio_value, ratios_value, limits_value, odds_value}
-use Rattle.ls_saved.specs.Parts.{read_ratio, read_ratios, ratios_from, read_odds, read_limits}
 use Rattle.ls_saved.proofs.Texts.{IsPlain}
 use Rattle.ls_saved.proofs.Lists.{read_list-list_value, plain-list_value, read_pair-pair_value, kept}
 

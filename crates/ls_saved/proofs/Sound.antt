@@ -1,32 +1,6 @@
 -- What is read of a session is a part of a whole one: settings, starts and interviews.
-use Rattle.std.proofs.Common.{◌≡◌, ℕ, ◌+◌, ◌&&◌, ◌||◌, not, Bool, true, false, cond, eqb, ltb, leb, List, [], ◌∷◌, map, filter, length, Some, Result, Ok, Err, Less, refl, sym, ap, ◌∙◌, subst, true≢false, leb-true}
-use Rattle.std.specs.Option.{option_map_or}
-use Rattle.std.specs.Ordering.{nat_cmp}
-use Rattle.std.specs.Result.{result_ok}
-use Rattle.std.specs.List.{AllByRecursion, list_all, list_any, IsDistinct}
-use Rattle.std.specs.List.Sorted.{IsStrictlySortedBy}
-use Rattle.std.specs.Cmp.Lexicographic.{pointwise, pointwise_decides}
-use Rattle.std.proofs.lemmas.Map.Keys.{IsStrictlyIncreasing-from_sorted}
-use Rattle.std.proofs.lemmas.Bool.{and_parts, and_from, not-true}
-use Rattle.serde_json.specs.Data.{Data}
-use Rattle.ls_lists.proofs.Every.{list_all-All, All-list_all, each}
-use Rattle.ls_set.specs.ItemSet.{Items, is_same}
-use Rattle.ls_set.specs.Query.{is_good}
-use Rattle.ls_set.proofs.Sets.{Decides-is_same}
-use Rattle.ls_theory.specs.declared.answer.Answer.{Answer}
-use Rattle.ls_theory.specs.Interviews.{Interview, no_queries}
-use Rattle.ls_theory.specs.Fitting.{spaces_of}
-use Rattle.ls_theory.specs.Bases.{based}
-use Rattle.ls_theory.specs.declared.base_fault.BaseFault.{BaseFault}
-use Rattle.ls_theory.specs.Answering.{is_same_query, most_answers, most_number}
-use Rattle.ls_theory.specs.declared.ratio.Ratios.{Ratios}
-use Rattle.ls_theory.specs.Settings.{is_ratio, are_ratios, are_limits, are_settings}
-use Rattle.ls_files.specs.SurmiseFiles.{read_list}
-use Rattle.ls_saved.specs.Whole.{IsStanding}
-use Rattle.ls_saved.specs.declared.version.Version.{Version}
-use Rattle.ls_saved.specs.Standing.{are_apart, is_ascending, is_base, are_made, stands}
-use Rattle.ls_saved.specs.Readers.{read_number, read_pair}
-use Rattle.ls_saved.specs.Parts.{read_limits, ratio_in, read_ratio, ratios_from, read_ratios, read_odds, settings_from, read_set, read_base, read_block}
+use Rattle.ls_saved.proofs.Vocabulary.{◌&&◌, ◌+◌, ◌||◌, ◌∙◌, ◌∷◌, ◌≡◌, All-list_all, AllByRecursion, Answer, BaseFault, Bool, Data, Decides-is_same, Err, Interview, IsDistinct, IsStanding, IsStrictlyIncreasing-from_sorted, IsStrictlySortedBy, Less, List, Ok, Ratios, Result, Some, Version, ℕ, [], and_from, and_parts, ap, are_apart, are_limits, are_made, are_ratios, are_settings, based, cond, each, eqb, false, filter, is_ascending, is_base, is_ratio, is_same_query, leb, leb-true, length, list_all, list_all-All, list_any, ltb, map, most_answers, most_number, nat_cmp, no_queries, not, not-true, option_map_or, pointwise, pointwise_decides, ratio_in, ratios_from, read_base, read_block, read_limits, read_list, read_number, read_odds, read_pair, read_ratio, read_ratios, read_set, refl, result_ok, settings_from, spaces_of, stands, subst, sym, true, true≢false}
+use Rattle.ls_set.specs.{Items, is_good, is_same}
 use Rattle.ls_saved.proofs.Inverse.{only_if-some, map-some, list-some, pair-some}
 
 -- ---- settings

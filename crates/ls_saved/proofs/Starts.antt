@@ -1,31 +1,8 @@
 -- Sets and starts, written and read.
-use Rattle.std.proofs.Common.{◌≡◌, ℕ, ◌<◌, Bool, true, false, ltb, cond, List, [], ◌∷◌, length, Option, Some, None, Result, Ok, Err, refl, sym, ap, ◌∙◌, option_map, option_and_then, lt-ltb, eqb, eq-eqb, []}
-use Rattle.std.specs.Option.{option_map_or}
-use Rattle.std.specs.Result.{result_ok}
-use Rattle.std.specs.List.{AllByRecursion}
-use Rattle.std.specs.Cmp.Lexicographic.{pointwise}
-use Rattle.std.proofs.lemmas.Bool.{and_parts, and_from}
-use Rattle.ls_lists.proofs.Every.{each}
-use Rattle.ls_set.specs.ItemSet.{Items, full, is_same, is_among, subsets, IsWithin}
-use Rattle.ls_set.specs.Query.{is_good}
-use Rattle.ls_set.specs.declared.query.Query.{Query}
-use Rattle.ls_set.proofs.Cursors.{read_back}
-use Rattle.ls_set.proofs.Sets.{Decides-is_same, IsWithin-from}
-use Rattle.ls_set.proofs.Members.{among-here, among-there, among-filter}
-use Rattle.ls_set.proofs.Order.{among-subsets}
-use Rattle.ls_theory.specs.Starts.{Start, Free, Clauses, Sets}
-use Rattle.ls_theory.specs.Compatible.{compat, is_compatible}
-use Rattle.ls_theory.specs.Bases.{base, based, first_missing}
-use Rattle.ls_theory.specs.declared.base_fault.BaseFault.{BaseFault}
+use Rattle.ls_saved.proofs.Vocabulary.{◌<◌, ◌∙◌, ◌∷◌, ◌≡◌, AllByRecursion, BaseFault, Bool, Clauses, Decides-is_same, Err, Free, IsNarrow, IsOn, IsStart, IsWithin-from, List, None, Ok, Option, Query, Result, Sets, Some, Start, ℕ, [], among-filter, among-here, among-subsets, among-there, and_from, and_parts, ap, base, based, compat, cond, each, eq-eqb, eqb, false, first_missing, good-from, is_base, is_compatible, length, list_value, lt-ltb, ltb, number_value, option_and_then, option_map, option_map_or, pointwise, query_from, query_value, read_back, read_base, read_item, read_list, read_query, read_set, read_start, read_surmise, refl, result_ok, set_value, start_value, surmise_from, sym, true}
+use Rattle.ls_set.specs.{IsWithin, Items, full, is_among, is_good, is_same, subsets}
 use Rattle.ls_theory.specs.declared.base_fault.BaseFault.TheVariants.{NotSpanning, Past}
-use Rattle.ls_laws.specs.Spans.{IsOn}
 use Rattle.ls_laws.proofs.Atoms.{base-member}
-use Rattle.ls_laws.proofs.Breaks.{good-from}
-use Rattle.ls_files.specs.SurmiseFiles.{list_value, read_list, surmise_from}
-use Rattle.ls_saved.specs.Whole.{IsNarrow, IsStart}
-use Rattle.ls_saved.specs.Standing.{is_base}
-use Rattle.ls_saved.specs.Values.{number_value, set_value, query_value, start_value}
-use Rattle.ls_saved.specs.Parts.{read_set, read_base, read_surmise, read_start, read_item, read_query, query_from}
 use Rattle.ls_saved.proofs.Surmises.{narrow-again, narrow-small}
 use Rattle.ls_saved.proofs.Lists.{read_list-list_value, read_pair-pair_value, kept}
 

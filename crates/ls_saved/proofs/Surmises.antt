@@ -1,24 +1,12 @@
 -- Surmise functions, written and read: the clauses of each item are put in order.
-use Rattle.std.proofs.Common.{◌≡◌, ℕ, zero, suc, ◌||◌, List, [], ◌∷◌, map, length, Option, Some, None, Result, Ok, Err, refl, sym, ap, ap₂, ◌∙◌, true≢false}
-use Rattle.std.specs.List.{AllByRecursion}
-use Rattle.std.specs.Option.{option_map_or, option_or}
-use Rattle.std.specs.Result.{result_ok}
-use Rattle.std.proofs.lemmas.Bool.{and_parts, and_from}
+use Rattle.ls_saved.proofs.Vocabulary.{◌||◌, ◌∙◌, ◌∷◌, ◌≡◌, All-given, AllByRecursion, Err, IsNarrow, IsOn, List, None, Ok, Option, Result, Some, ℕ, [], all_clauses, among-append, among-filter, among-subsets, and_from, and_parts, ap, ap₂, clauses_of, flaw, in_order, is_within-from, length, map, option_map_or, option_or, refl, result_ok, subsets_from-in_order, suc, surmise_from, sym, true≢false, wide, zero}
 use Rattle.ls_lists.proofs.Bools.{same_truth}
-use Rattle.ls_lists.proofs.Every.{All-given}
 use Rattle.ls_lists.proofs.Filters.{filter-agree}
-use Rattle.ls_set.specs.ItemSet.{Items, full, is_among, subsets, IsInOrder}
-use Rattle.ls_set.proofs.Sets.{is_within-from}
-use Rattle.ls_set.proofs.Members.{among-append, among-filter}
-use Rattle.ls_set.proofs.Order.{among-subsets, subsets_from-in_order}
-use Rattle.ls_theory.specs.Clauses.{all_clauses, clauses_of, flaw}
+use Rattle.ls_set.specs.{IsInOrder, Items, full, is_among, subsets}
 use Rattle.ls_theory.specs.declared.surmise_fault.SurmiseFault.{SurmiseFault}
-use Rattle.ls_laws.specs.Spans.{IsOn}
 use Rattle.ls_laws.proofs.Lists.{IsInOrder-filter, same_members}
 use Rattle.ls_clauses.specs.Surmise.{IsPutInOrder}
 use Rattle.ls_clauses.proofs.Flaws.{flawless-ordered, surmise-flawless}
-use Rattle.ls_files.specs.SurmiseFiles.{in_order, surmise_from, wide}
-use Rattle.ls_saved.specs.Whole.{IsNarrow}
 
 -- ---- the clauses of one item
 

@@ -1,14 +1,8 @@
 -- Lists of values, read one after another.
-use Rattle.std.proofs.Common.{◌≡◌, ℕ, zero, suc, true, ◌+◌, ◌<◌, ◌≤◌, List, [], ◌∷◌, ◌++◌, length, get_or, drop, Option, Some, None, refl, sym, ap, ◌∙◌, arith, option_map, option_and_then, append_assoc, append-nil, drop-cons}
+use Rattle.ls_saved.proofs.Vocabulary.{◌++◌, ◌+◌, ◌<◌, ◌∙◌, ◌∷◌, ◌≡◌, ◌≤◌, Data, List, None, Option, Some, Values, ℕ, [], among-here, among-there, ap, append-nil, append_assoc, arith, as_array, drop, drop-cons, four_values, get_or, items_view, length, option_and_then, option_map, read_each, read_list, refl, suc, sym, true, two_values, view, zero}
 use Rattle.std.proofs.lemmas.List.{drop_all}
-use Rattle.serde_json.specs.Data.{Data, Items as Values}
-use Rattle.serde_json.specs.Find.{as_array}
-use Rattle.serde_json.specs.View.{view, items_view}
 use Rattle.serde_json.specs.declared.value.Value.{Value}
-use Rattle.ls_set.specs.ItemSet.{Items, is_among}
-use Rattle.ls_set.proofs.Members.{among-here, among-there}
-use Rattle.ls_files.specs.SurmiseFiles.{read_each, read_list}
-use Rattle.ls_saved.specs.Readers.{two_values, four_values}
+use Rattle.ls_set.specs.{Items, is_among}
 
 -- what was read, and the rest, are the whole
 abbrev pub IsRead : {X : Type 0} → (Data → Option X) → List X → List Value → Option (List X) → Type 0

@@ -4,17 +4,16 @@ use Rattle.std.specs.Option.{option_zip}
 use Rattle.std.specs.Result.{result_ok}
 use Rattle.serde_json.specs.Data.{Data}
 use Rattle.serde_json.specs.Find.{as_array, as_bool, as_str, get}
-use Rattle.ls_set.specs.ItemSet.{Items}
-use Rattle.ls_set.specs.Cursor.{read_cursor}
+use Rattle.ls_set.specs.{Items, read_cursor}
 use Rattle.ls_set.specs.declared.query.Query.{Query}
 use Rattle.ls_theory.specs.Starts.{Start, Free, Clauses, Sets}
-use Rattle.ls_theory.specs.Interviews.{Interview}
+use Rattle.ls_theory.specs.{Interview}
 use Rattle.ls_theory.specs.declared.answer.Answer.{Answer}
 use Rattle.ls_theory.specs.declared.reply.Reply.{Reply}
 use Rattle.ls_theory.specs.declared.ratio.Ratio.{Ratio}
 use Rattle.ls_theory.specs.declared.ratio.Ratios.{Ratios}
 use Rattle.ls_theory.specs.Settings.{Settings, odds, is_ratio, are_limits}
-use Rattle.ls_lines.specs.Lines.{Text}
+use Rattle.ls_lines.specs.{Text}
 use Rattle.ls_domain.specs.Domains.{names_of_words}
 use Rattle.ls_files.specs.SurmiseFiles.{read_list, surmise_from}
 use Rattle.ls_saved.specs.declared.version.Version.{Version}

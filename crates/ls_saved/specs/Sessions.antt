@@ -1,13 +1,11 @@
 -- A session's state.
 use Rattle.std.specs.Prelude.{ℕ, List}
-use Rattle.ls_set.specs.ItemSet.{Items}
+use Rattle.ls_set.specs.{Items}
 use Rattle.ls_set.specs.declared.query.Query.{Query}
-use Rattle.ls_theory.specs.Starts.{Start}
-use Rattle.ls_theory.specs.Interviews.{Interview}
-use Rattle.ls_theory.specs.Compatible.{compat}
+use Rattle.ls_theory.specs.{Interview, Start, compat}
 use Rattle.ls_theory.specs.Settings.{Settings}
 use Rattle.ls_theory.specs.declared.reply.Reply.{Reply}
-use Rattle.ls_lines.specs.Lines.{Text}
+use Rattle.ls_lines.specs.{Text}
 
 -- a pupil: the name; the start, the Yes queries and the settings as they were when it began; and the replies
 pub record Pupil : Type 0 where

@@ -4,15 +4,9 @@ use Rattle.std.specs.Option.{option_map_or}
 use Rattle.std.specs.Result.{is_ok, result_ok}
 use Rattle.std.specs.List.{list_any, list_all}
 use Rattle.std.specs.Cmp.Lexicographic.{pointwise}
-use Rattle.ls_set.specs.ItemSet.{Items, is_same}
-use Rattle.ls_set.specs.Query.{is_good}
-use Rattle.ls_theory.specs.Interviews.{Interview}
-use Rattle.ls_theory.specs.Fitting.{spaces_of}
-use Rattle.ls_theory.specs.Blocks.{made}
-use Rattle.ls_theory.specs.Answering.{most_answers, most_number, is_same_query}
-use Rattle.ls_theory.specs.Bases.{based}
+use Rattle.ls_set.specs.{Items, is_good, is_same}
+use Rattle.ls_theory.specs.{Interview, asked, based, is_same_query, made, most_answers, most_number, spaces_of}
 use Rattle.ls_theory.specs.Settings.{Settings, is_between, most_states, heavy_after}
-use Rattle.ls_theory.specs.Assessment.{asked}
 use Rattle.ls_theory.specs.declared.reply.Reply.{Reply}
 use Rattle.ls_theory.specs.declared.asked.Asked.{Asked}
 use Rattle.ls_theory.specs.declared.asked.Asked.TheVariants.{Item, Over}

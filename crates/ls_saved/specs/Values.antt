@@ -2,8 +2,7 @@
 use Rattle.std.specs.Prelude.{ℕ, List, codes}
 use Rattle.serde_json.specs.Data.{Data, unsigned, boolean, number, string, array, object, no_items, item, no_members, member}
 use Rattle.serde_json.specs.Written.{compact_text}
-use Rattle.ls_set.specs.ItemSet.{Items}
-use Rattle.ls_set.specs.Cursor.{cursor}
+use Rattle.ls_set.specs.{Items, cursor}
 use Rattle.ls_set.specs.declared.query.Query.{Query}
 use Rattle.ls_theory.specs.Starts.{Start, Free, Clauses, Sets}
 use Rattle.ls_theory.specs.declared.answer.Answer.{Answer}

@@ -1,13 +1,9 @@
 -- Whole sessions: those that a program can come to.
 use Rattle.std.specs.Prelude.{◌≡◌, ℕ, ◌+◌, ◌<◌, ◌≤◌, true, List, map, length, None, Ok, ⊤}
 use Rattle.std.specs.List.{AllByRecursion, IsDistinct, list_all}
-use Rattle.ls_set.specs.ItemSet.{Items}
-use Rattle.ls_set.specs.Query.{is_good}
+use Rattle.ls_set.specs.{Items, is_good}
 use Rattle.ls_theory.specs.Starts.{Start, Free, Clauses, Sets}
-use Rattle.ls_theory.specs.Interviews.{Interview}
-use Rattle.ls_theory.specs.Answering.{most_answers, most_number, is_same_query}
-use Rattle.ls_theory.specs.Bases.{based}
-use Rattle.ls_theory.specs.Settings.{are_settings}
+use Rattle.ls_theory.specs.{Interview, are_settings, based, is_same_query, most_answers, most_number}
 use Rattle.ls_laws.specs.Forced.{IsSound, IsNumbered}
 use Rattle.ls_clauses.specs.Surmise.{IsSurmise}
 use Rattle.ls_domain.specs.Domains.{IsDomain}

@@ -1,9 +1,8 @@
 // Laws of saved sessions.
 ghost use Rattle.std.specs.Prelude.{◌≡◌, ℕ, List, Ok};
 ghost use Rattle.std.specs.Bool.{Decides};
-ghost use Rattle.ls_set.specs.ItemSet.{Items};
-ghost use Rattle.ls_theory.specs.Interviews.{Interview};
-ghost use Rattle.ls_theory.specs.Bases.{based};
+ghost use Rattle.ls_set.specs.{Items};
+ghost use Rattle.ls_theory.specs.{Interview, based};
 ghost use Rattle.ls_saved.specs.Whole.{IsStanding, IsWhole};
 ghost use Rattle.ls_saved.specs.Sessions.{Session};
 ghost use Rattle.ls_saved.specs.Standing.{is_base, stands};

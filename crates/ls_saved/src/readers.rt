@@ -2,8 +2,8 @@
 ghost use Rattle.std.specs.Prelude.{◌≡◌, ◌≤◌, IfOk, option_map, option_and_then};
 ghost use Rattle.serde_json.specs.Find.{as_array};
 ghost use Rattle.serde_json.specs.View.{view};
-ghost use Rattle.ls_set.specs.ItemSet.{most_items};
-ghost use Rattle.ls_theory.specs.Settings.{is_ratio, are_limits};
+ghost use Rattle.ls_set.specs.{most_items};
+ghost use Rattle.ls_theory.specs.{are_limits, is_ratio};
 ghost use Rattle.ls_files.specs.SurmiseFiles.{read_list};
 ghost use Rattle.ls_saved.specs.Readers.{read_number, two_values, four_values};
 ghost use Rattle.ls_saved.specs.Parts.{read_answer, read_item, read_limits, read_odds, read_query, read_ratio, read_ratios, read_reply, read_set, read_version, ratio_in};

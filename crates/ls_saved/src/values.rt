@@ -3,8 +3,7 @@ ghost use Rattle.std.specs.Prelude.{◌≡◌, ◌≤◌, true, IfOk, OnOk, code
 ghost use Rattle.std.specs.List.{list_all};
 ghost use Rattle.serde_json.specs.Data.{object, member, no_members, put};
 ghost use Rattle.serde_json.specs.View.{view, members_view};
-ghost use Rattle.ls_set.specs.ItemSet.{IsWithin, full, most_items};
-ghost use Rattle.ls_set.specs.Query.{is_good};
+ghost use Rattle.ls_set.specs.{IsWithin, full, is_good, most_items};
 ghost use Rattle.ls_laws.specs.Spans.{IsOn};
 ghost use Rattle.ls_files.specs.SurmiseFiles.{list_value};
 ghost use Rattle.ls_saved.specs.Values.{answer_value, pair_value, query_value, ratio_value, ratios_value, reply_value, set_value, number_value};

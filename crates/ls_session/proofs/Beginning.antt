@@ -1,25 +1,8 @@
 -- Where a domain stands, and where one begins.
-use Rattle.std.proofs.Common.{◌≡◌, false, Option, Some, None, Result, is_some, Vec, ℕ, refl, ap}
-use Rattle.std.specs.declared.alloc.AllocError.{AllocError}
+use Rattle.ls_session.proofs.Vocabulary.{◌≡◌, AllocError, CanRefuse, CourseState, Decides, Effect, Failed, FetchCause, Fetched, Fetches, Folder, HasNames, IsFetched, IsSayable, Makes, Missing, None, Option, Refused, Response, Result, Session, Some, Text, Vec, ℕ, ap, bytes_fetched, changes, decides_fetched, false, file_refusals, has_domain, has_domain-some, is_some, load_items_row, load_items_row-begins, makes_as, names_of_table, refl, standing_session, started_by}
 use Rattle.std.specs.declared.alloc.Global.{Global}
-use Rattle.ls_edge.specs.Files.{Folder, Fetches, FetchCause}
 use Rattle.ls_edge.specs.declared.traits.FetchFault.{FetchFault}
-use Rattle.ls_lines.specs.Lines.{Text}
-use Rattle.ls_domain.specs.Domains.{names_of_table}
-use Rattle.ls_reply.specs.Scenes.{Fetched, Missing, Failed}
-use Rattle.ls_reply.specs.Sessions.{Session, has_domain}
-use Rattle.ls_reply.specs.Effects.{Effect, changes}
-use Rattle.ls_reply.specs.Rows.{load_items_row, started_by, file_refusals, bytes_fetched}
 use Rattle.ls_reply.specs.declared.refusal.Refusal.{Refusal}
-use Rattle.ls_reply.specs.declared.response.Response.{Response}
-use Rattle.ls_reply.specs.declared.response.Response.TheVariants.{Refused}
-use Rattle.ls_reply.proofs.Effects.{has_domain-some, load_items_row-begins}
-use Rattle.ls_course.specs.States.{CourseState}
-use Rattle.ls_writing.specs.Names.{CanRefuse}
-use Rattle.ls_conduct.specs.Decides.{Makes, Decides, IsFetched}
-use Rattle.ls_conduct.proofs.Deciding.{makes_as}
-use Rattle.ls_conduct.proofs.Fetching.{decides_fetched}
-use Rattle.ls_session.specs.Courses.{standing_session, HasNames, IsSayable}
 
 -- a domain stands exactly where there is a course
 pub has_domain-is : (c : Option CourseState) → HasNames c → has_domain (standing_session c) ≡ is_some c

@@ -1,28 +1,15 @@
 -- A line that was decided, and then written.
-use Rattle.std.proofs.Common.{◌≡◌, ℕ, inl, inr, Bool, false, List, Result, Ok, Err, IsErrAnd, IsErrOf, refl, sym, ap, ap₂, ◌∙◌, subst, arith}
+use Rattle.ls_session.proofs.Vocabulary.{◌∙◌, ◌≡◌, AllocError, Bool, Calls, Decides, Effect, Err, Folder, IsErrAnd, IsErrOf, List, Ok, Response, Result, Session, Silence, ℕ, answers, ap, ap₂, arith, bytes_of, bytes_of-none, decides_made, false, inl, inr, is_refusal, is_refused, line_effect, lines_of, refl, reply_of, subst, sym}
 use Rattle.std.specs.declared.option.Option.{Option}
-use Rattle.std.specs.declared.alloc.AllocError.{AllocError}
 use Rattle.std.specs.Io.KnownBytes.{Appends}
 use Rattle.std.proofs.KnownBytes.{Keeps-refl, Appends-nil}
 use Rattle.ls_edge.specs.Causes.{AppendsFront}
-use Rattle.ls_edge.specs.Files.{Folder}
 use Rattle.ls_edge.specs.declared.traits.SinkFault.{SinkFault}
 use Rattle.ls_edge.specs.declared.traits.SinkFault.TheVariants as sink
-use Rattle.ls_reply.specs.Texts.{bytes_of}
-use Rattle.ls_reply.specs.Scenes.{Calls}
-use Rattle.ls_reply.specs.Sessions.{Session}
-use Rattle.ls_reply.specs.Lines.{lines_of}
-use Rattle.ls_reply.specs.Effects.{Effect, answers}
-use Rattle.ls_reply.specs.Replies.{line_effect, reply_of, is_refusal, is_refused}
-use Rattle.ls_reply.specs.declared.response.Response.{Response}
-use Rattle.ls_reply.specs.declared.response.Response.TheVariants.{Silence}
 use Rattle.ls_reply.proofs.Refusing.{is_refusal-lines_of}
 use Rattle.ls_texts.specs.Rooms.{Wrote}
-use Rattle.ls_writing.proofs.Joins.{bytes_of-none}
 use Rattle.ls_session.specs.Faults.{step_fault}
 use Rattle.ls_session.specs.Follows.{Follows, MovesSink}
-use Rattle.ls_conduct.specs.Decides.{Decides}
-use Rattle.ls_conduct.proofs.Deciding.{decides_made}
 use Rattle.ls_session.specs.declared.step_fault.StepFault.{StepFault}
 use Rattle.ls_session.specs.declared.step_fault.StepFault.TheVariants.{Write, Memory}
 

@@ -1,2 +1,3 @@
+mod Vocabulary
 pub mod Beginning
 pub mod Following

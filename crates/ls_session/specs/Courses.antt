@@ -1,10 +1,10 @@
 -- A session by its course, where a domain stands.
 use Rattle.std.specs.Prelude.{◌≡◌, ◌<◌, List, [], length, Option, Some, None, Result, Ok, IfOk, IfErr, ⊤}
 use Rattle.std.specs.Option.{ForSome}
-use Rattle.ls_lines.specs.Lines.{Text}
+use Rattle.ls_lines.specs.{Text}
 use Rattle.ls_domain.specs.Domains.{IsFaultOf}
 use Rattle.ls_domain.specs.declared.domain_fault.DomainFault.{DomainFault}
-use Rattle.ls_reply.specs.Sessions.{Session, started}
+use Rattle.ls_reply.specs.{Session, started}
 use Rattle.ls_reply.specs.declared.response.Response.{Response}
 use Rattle.ls_reply.specs.declared.response.Response.TheVariants.{Refused, Shown}
 use Rattle.ls_texts.specs.Rooms.{RoomState, no_reply}

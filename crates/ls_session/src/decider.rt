@@ -2,14 +2,8 @@
 ghost use Rattle.std.specs.Prelude.{◌≡◌, [], None, List, Result, IfOk, option_copied};
 ghost use Rattle.ls_domain.specs.Domains.{names_of_table};
 ghost use Rattle.ls_domain.specs.declared.domain_fault.DomainFault.{DomainFault as Fault};
-ghost use Rattle.ls_lines.specs.Lines.{Text};
-ghost use Rattle.ls_reply.specs.Texts.{bytes_of};
-ghost use Rattle.ls_reply.specs.Scenes.{Fetched};
-ghost use Rattle.ls_reply.specs.Lines.{lines_of};
-ghost use Rattle.ls_reply.specs.Effects.{changes};
-ghost use Rattle.ls_reply.specs.Rows.{items_row, load_items_row, started_by};
-ghost use Rattle.ls_reply.specs.Rows.{file_refusals, bytes_fetched};
-ghost use Rattle.ls_reply.specs.Replies.{line_effect, command_effect};
+ghost use Rattle.ls_lines.specs.{Text};
+ghost use Rattle.ls_reply.specs.{Fetched, bytes_fetched, bytes_of, changes, command_effect, file_refusals, items_row, line_effect, lines_of, load_items_row, started_by};
 ghost use Rattle.ls_texts.specs.Rooms.{Says};
 ghost use Rattle.ls_texts.specs.Names.{names_in};
 ghost use Rattle.ls_conduct.specs.Decides.{Decides, Makes, IsFetched, NeedsDomain};

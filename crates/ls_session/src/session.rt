@@ -2,11 +2,8 @@
 ghost use Rattle.std.specs.Prelude.{◌≡◌, true, List, ℕ, [], length, IfOk};
 ghost use Rattle.std.specs.declared.option.Option.{Option};
 ghost use Rattle.ls_edge.specs.Files.{Folder};
-ghost use Rattle.ls_lines.specs.Lines.{is_long};
-ghost use Rattle.ls_reply.specs.Scenes.{Calls};
-ghost use Rattle.ls_reply.specs.Sessions.{Session as State, started};
-ghost use Rattle.ls_reply.specs.Effects.{answers};
-ghost use Rattle.ls_reply.specs.Replies.{line_effect};
+ghost use Rattle.ls_lines.specs.{is_long};
+ghost use Rattle.ls_reply.specs.{Calls, Session as State, answers, line_effect, started};
 ghost use Rattle.ls_reply.specs.declared.response.Response.TheVariants.{Silence};
 ghost use Rattle.ls_texts.specs.Rooms.{Ends, no_reply};
 ghost use Rattle.ls_session.specs.Follows.{Follows, MovesSink};
@@ -42,7 +39,7 @@ fn is_passed(line: &[u8]) -> bool
 }
 
 impl Model for Session {
-    ghost use Rattle.ls_reply.specs.Sessions.{Session as State};
+    ghost use Rattle.ls_reply.specs.{Session as State};
     ghost use Rattle.ls_session.specs.Courses.{standing_session, IsIdle};
 
     ghost Value = { State };

@@ -1,13 +1,8 @@
 -- The items of a set as they are listed: in ascending order, exactly those that it has.
-use Rattle.std.proofs.Common.{ℕ, zero, suc, ◌+◌, ◌<◌, ◌≤◌, ◌≡◌, ◌↔◌, Bool, true, false, ◌&&◌, eqb, ltb, length, filter, get_or, None, Some, refl, sym, ap, ◌∙◌, arith, true≢false, ltb-true, lt-ltb, eqb-true}
-use Rattle.std.specs.List.{Contains, list_any}
+use Rattle.ls_set.proofs.Vocabulary.{◌&&◌, ◌+◌, ◌<◌, ◌↔◌, ◌∙◌, ◌≡◌, ◌≤◌, All-contains, Bool, Contains, Items, None, Some, ℕ, and_from, and_parts, ap, arith, bound, eqb, eqb-true, false, false_from_ne_true, filter, filter_passes, get_or, has, items, least, length, list_any, lt-ltb, ltb, ltb-true, nat_tests, next_item, numbers_from, refl, suc, sym, true, true≢false, zero}
 use Rattle.std.specs.List.Sorted.{IsStrictlyIncreasing}
-use Rattle.std.proofs.lemmas.Bool.{and_parts, and_from, false_from_ne_true}
-use Rattle.std.proofs.lemmas.Bool.Decides.{nat_tests}
-use Rattle.std.proofs.lemmas.List.Elements.{All-contains, filter_passes}
 use Rattle.std.proofs.lemmas.List.Kept.{IsStrictlyIncreasing-filter}
 use Rattle.std.proofs.lemmas.Map.Views.{Contains-from_any}
-use Rattle.ls_set.specs.ItemSet.{Items, has, numbers_from, bound, items, least, next_item}
 use Rattle.ls_set.proofs.Ascending.{bound-has, find-filter, find_some, least-at, least-cases, next_item-at}
 use Rattle.ls_set.proofs.Firsts.{items-none}
 

@@ -1,10 +1,5 @@
 -- A digit of a cursor, by the bits of its four items.
-use Rattle.std.proofs.Common.{ℕ, ◌+◌, ◌*◌, ◌/◌, ◌%◌, ◌^◌, ◌<◌, ◌≡◌, Bool, true, cond, eqb, get_or, codes, refl, sym, ap, ◌∙◌, arith, eqb-true, div-add-mod', shr-shr}
-use Rattle.std.specs.Int.{bit_at}
-use Rattle.std.proofs.lemmas.Bool.{agree_below_at}
-use Rattle.std.proofs.lemmas.Nat.Bits.{bit_at_cat_low}
-use Rattle.ls_set.specs.ItemSet.{Items, has}
-use Rattle.ls_set.specs.Cursor.{hex, nibble_of}
+use Rattle.ls_set.proofs.Vocabulary.{◌%◌, ◌*◌, ◌+◌, ◌/◌, ◌<◌, ◌^◌, ◌∙◌, ◌≡◌, Bool, Items, ℕ, agree_below_at, ap, arith, bit_at, bit_at_cat_low, codes, cond, div-add-mod', eqb, eqb-true, get_or, has, hex, nibble_of, refl, shr-shr, sym, true}
 
 -- four bits as a digit's value, the first as the highest
 abbrev nibble : Bool → Bool → Bool → Bool → ℕ

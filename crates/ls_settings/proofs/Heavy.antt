@@ -1,11 +1,5 @@
 -- The greatest number of ratios, and the least number of replies after which a total may pass.
-use Rattle.std.proofs.Common.{◌≡◌, ℕ, suc, ◌+◌, ◌-◌, ◌*◌, ◌^◌, ◌<◌, ◌≤◌, true, false, cond, max, ltb, List, [], ◌∷◌, fold, find, Some, None, sym, ap, ◌∙◌, arith, add-one}
-use Rattle.std.specs.List.{list_all}
-use Rattle.std.proofs.lemmas.Bool.{and_parts, lt-ltb, le-ltb}
-use Rattle.std.proofs.lemmas.Bool.Decides.{nat_tests}
-use Rattle.std.proofs.Math.Nat.{pow-suc}
-use Rattle.ls_set.specs.ItemSet.{numbers_from}
-use Rattle.ls_theory.specs.declared.ratio.Ratios.{Ratios}
+use Rattle.ls_settings.proofs.Vocabulary.{◌*◌, ◌+◌, ◌-◌, ◌<◌, ◌^◌, ◌∙◌, ◌∷◌, ◌≡◌, ◌≤◌, List, None, Ratios, Some, ℕ, [], add-one, and_parts, ap, arith, cond, false, find, fold, le-ltb, list_all, lt-ltb, ltb, max, nat_tests, numbers_from, pow-suc, suc, sym, true}
 use Rattle.ls_theory.specs.Settings.{Settings, are_ratios, greatest, is_heavy, heavy_after}
 use Rattle.ls_theory.proofs.Numbers.{numbers_first, numbers_none}
 

@@ -1,7 +1,5 @@
 -- Lists of one element, each of which passes.
-use Rattle.std.proofs.Common.{◌≡◌, ℕ, zero, suc, Bool, true, replicate, refl}
-use Rattle.std.specs.List.{list_all}
-use Rattle.std.proofs.lemmas.Bool.{and_from}
+use Rattle.ls_settings.proofs.Vocabulary.{◌≡◌, Bool, ℕ, and_from, list_all, refl, replicate, suc, true, zero}
 
 pub list_all-replicate : {X : Type 0} (p : X → Bool) (n : ℕ) (x : X) → p x ≡ true → list_all p (replicate n x) ≡ true
 list_all-replicate p zero x e = refl

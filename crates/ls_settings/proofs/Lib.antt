@@ -1,3 +1,4 @@
+mod Vocabulary
 pub mod Light
 pub mod Heavy
 pub mod Kept

@@ -1,16 +1,7 @@
 -- How small and how great weights and totals are.
-use Rattle.std.proofs.Common.{◌≡◌, ℕ, zero, suc, ◌+◌, ◌*◌, ◌^◌, ◌<◌, ◌≤◌, inl, inr, Bool, true, false, cond, max, List, [], ◌∷◌, length, find, get_or, Some, None, refl, sym, ap, ◌∙◌, subst, arith}
-use Rattle.std.specs.List.{list_all}
-use Rattle.std.proofs.lemmas.Bool.{and_parts, cases_lt, ltb-false}
-use Rattle.std.proofs.lemmas.Bool.Decides.{nat_tests}
+use Rattle.ls_settings.proofs.Vocabulary.{◌*◌, ◌+◌, ◌<◌, ◌^◌, ◌∙◌, ◌∷◌, ◌≡◌, ◌≤◌, Bool, Items, List, None, Ratio, Ratios, Some, ℕ, [], agrees, and_parts, ap, arith, cases_lt, cond, factor, false, find, get_or, inl, inr, length, list_all, ltb-false, max, mul-le, nat_tests, no_ratios, numbers_from, one-le-mul, pow-succ', pow-zero, refl, subst, suc, sym, total, true, weight, zero}
 use Rattle.std.proofs.lemmas.List.Sums.{sum_by-le}
-use Rattle.std.proofs.lemmas.Nat.{mul-le}
-use Rattle.std.proofs.Math.Nat.{pow-zero, pow-succ', one-le-mul}
-use Rattle.ls_set.specs.ItemSet.{Items, numbers_from}
-use Rattle.ls_theory.specs.declared.ratio.Ratio.{Ratio}
-use Rattle.ls_theory.specs.declared.ratio.Ratios.{Ratios}
 use Rattle.ls_theory.specs.declared.reply.Reply.{Reply}
-use Rattle.ls_theory.specs.Weights.{agrees, no_ratios, factor, weight, total}
 use Rattle.ls_theory.specs.Settings.{Settings, is_ratio, are_ratios, greatest, is_heavy, heavy_after}
 
 -- ---- factors

@@ -1,7 +1,7 @@
 -- What is true of the settings of every assessment.
 use Rattle.std.specs.Prelude.{◌≡◌, ◌≤◌, true, length}
 use Rattle.std.specs.List.{list_all}
-use Rattle.ls_set.specs.ItemSet.{most_items}
+use Rattle.ls_set.specs.{most_items}
 use Rattle.ls_theory.specs.Settings.{Settings, are_ratios, are_limits}
 
 -- there are not too many items, and each ratio and both limits can be set

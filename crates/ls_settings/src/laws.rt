@@ -1,10 +1,10 @@
 // How great the weights and totals of light settings are.
 ghost use Rattle.std.specs.Prelude.{◌≡◌, ◌<◌, ◌≤◌, ◌*◌, ◌^◌, true, List, length, None};
 ghost use Rattle.std.specs.List.{list_all};
-ghost use Rattle.ls_set.specs.ItemSet.{Items};
+ghost use Rattle.ls_set.specs.{Items};
 ghost use Rattle.ls_theory.specs.declared.ratio.Ratios.{Ratios};
 ghost use Rattle.ls_theory.specs.declared.reply.Reply.{Reply};
-ghost use Rattle.ls_theory.specs.Weights.{weight, total};
+ghost use Rattle.ls_theory.specs.{total, weight};
 ghost use Rattle.ls_theory.specs.Settings.{Settings, are_ratios, greatest, heavy_after};
 
 /// A weight is at least 1, and at most the greatest number of the ratios to the power of the number

@@ -1,29 +1,9 @@
 -- Lines that are answered one after another.
-use Rattle.std.proofs.Common.{◌≡◌, ◌⊎◌, ℕ, ◌-◌, ◌≤◌, inl, inr, ◌||◌, Bool, true, false, List, [], ◌∷◌, ◌++◌, take, drop, Some, None, refl, sym, ap, ◌∙◌, subst, append-nil, append_assoc, arith}
+use Rattle.ls_shell.proofs.Vocabulary.{◌++◌, ◌-◌, ◌||◌, ◌∙◌, ◌∷◌, ◌≡◌, ◌≤◌, ◌⊎◌, Answers, AnswersEnded, AnswersWhole, Appends, Bool, Calls, Effect, Folder, HasAnswered, Holds, IsAnswered, IsBegun, IsTaken, LeavesFiles, List, Marked, None, Rose, Run, Session, Some, StopsAt, TakesAndStops, World, ℕ, [], ahead, ahead-lines, answers, ap, append-nil, append_assoc, appends_keep, appends_more, appends_none, arith, bare_lines, bare_lines-append, begun_over, bytes_of, calls_of, command, command_effect, command_of, cut, drop, effect_at, false, folder_with, forms, goes_on, inl, inr, is_begun, is_of, is_refusal, line_effect, lines, marked, parts, refl, refuses, refuses-snoc, replies, replies-snoc, reply_at, reply_of, spelling, started, subst, sym, take, true, words, world_after, world_after-snoc, world_next}
 use Rattle.std.proofs.Math.Bool.{or-false}
 use Rattle.std.specs.declared.option.Option.{Option}
-use Rattle.std.specs.Io.KnownBytes.{Appends}
-use Rattle.ls_edge.specs.Causes.{Rose}
-use Rattle.ls_edge.specs.Files.{Folder}
-use Rattle.ls_edge.proofs.Known.{appends_more, appends_keep, appends_none}
-use Rattle.ls_lines.specs.Lines.{lines, words}
-use Rattle.ls_lines.specs.Kinds.{is_of}
-use Rattle.ls_lines.specs.Forms.{spelling, parts, command, forms}
-use Rattle.ls_lines.specs.Commands.{cut, is_begun, command_of}
-use Rattle.ls_lines.specs.Cutting.{Holds, IsTaken, ahead}
-use Rattle.ls_lines.proofs.Cuts.{goes_on, ahead-lines}
-use Rattle.ls_reply.specs.Sessions.{Session, started}
-use Rattle.ls_reply.specs.Scenes.{Calls, calls_of}
-use Rattle.ls_reply.specs.Effects.{Effect, answers}
-use Rattle.ls_reply.specs.Texts.{bytes_of}
-use Rattle.ls_reply.specs.Replies.{command_effect, line_effect, reply_of, is_refusal}
 use Rattle.ls_reply.specs.declared.response.Response.TheVariants.{Silence}
-use Rattle.ls_reply.specs.Transcripts.{World, Marked, folder_with, begun_over, bare_lines, effect_at, reply_at, world_next, replies, world_after, refuses}
-use Rattle.ls_shell.specs.declared.run.Run.{Run}
-use Rattle.ls_shell.specs.Progress.{HasAnswered, Answers, LeavesFiles, StopsAt, IsAnswered, IsBegun}
-use Rattle.ls_shell.specs.Runs.{AnswersWhole, AnswersEnded, TakesAndStops}
 use Rattle.ls_shell.proofs.Past.{past_place}
-use Rattle.ls_reply.proofs.Marks.{world_after-snoc, replies-snoc, refuses-snoc, bare_lines-append, marked}
 use Rattle.ls_shell.proofs.Rises.{few-snoc, few-none}
 
 -- an empty line has no reply

@@ -1,9 +1,5 @@
 -- What words ask for: no script but that of the input, where there is none.
-use Rattle.std.proofs.Common.{◌≡◌, ℕ, Bool, true, false, cond, List, [], ◌∷◌, map, Option, Some, None, bytes_eq, codes, refl}
-use Rattle.ls_lines.specs.Lines.{Text}
-use Rattle.ls_lines.specs.Kinds.{is_file, is_from_to}
-use Rattle.ls_words.specs.declared.mode.Mode.{Mode}
-use Rattle.ls_words.specs.declared.mode.Mode.TheVariants.{Input, File, Drill}
+use Rattle.ls_shell.proofs.Vocabulary.{◌∷◌, ◌≡◌, Bool, Drill, File, Input, List, Mode, None, Option, Some, Text, ℕ, [], bytes_eq, codes, cond, false, is_file, is_from_to, map, refl, true}
 use Rattle.ls_words.specs.Modes.{mode_of, mode_of_option, file, drill, number_of, most_drilled}
 
 no_file : (name : Text) → file name ≡ Some Input → ⊥

@@ -1,22 +1,8 @@
 -- The script of a named file, by what was fetched; and a run over a script that is there whole.
-use Rattle.std.proofs.Common.{◌≡◌, ℕ, ◌≤◌, Bool, true, false, cond, ltb, List, [], ◌∷◌, ◌++◌, length, Option, Some, None, Result, Ok, Err, IsErrOf, IsErrAnd, Vec, MatchResult, refl, sym, ap, ◌∙◌, subst, arith, le-ltb}
-use Rattle.std.specs.declared.alloc.AllocError.{AllocError}
+use Rattle.ls_shell.proofs.Vocabulary.{◌++◌, ◌∙◌, ◌∷◌, ◌≡◌, ◌≤◌, AllocError, AnswersFile, AnswersGiven, AnswersNamed, AnswersScript, AnswersWhole, Bool, Done, Err, FetchFault, FetchedFrom, Fetches, FewMarks, Folder, GivesBytes, HasAnswered, InputLong, IsErrAnd, IsErrOf, LeavesAll, List, Marked, MatchResult, Memory, NoMemory, NoScript, None, Ok, Option, ReadFault, Refused, Result, Rose, Some, Status, Stays, StepFault, StopsAt, Text, Usage, Vec, Write, WriteFault, ℕ, [], ap, arith, cond, false, given, le-ltb, length, lines, longest_file, ltb, refl, subst, sym, true}
 use Rattle.std.specs.declared.alloc.Global.{Global}
 use Rattle.std.specs.FinMap as map
-use Rattle.ls_edge.specs.Causes.{Rose}
-use Rattle.ls_edge.specs.Files.{Folder, longest_file, given, Fetches, FetchedFrom, GivesBytes, Stays}
-use Rattle.ls_edge.specs.declared.traits.FetchFault.{FetchFault}
 use Rattle.ls_edge.specs.declared.traits.FetchFault.TheVariants as fetch
-use Rattle.ls_lines.specs.Lines.{Text, lines}
-use Rattle.ls_reply.specs.Transcripts.{Marked}
-use Rattle.ls_shell.specs.Progress.{FewMarks, HasAnswered, StopsAt}
-use Rattle.ls_shell.specs.Runs.{AnswersWhole}
-use Rattle.ls_shell.specs.Named.{LeavesAll, AnswersFile, AnswersGiven, AnswersNamed}
-use Rattle.ls_shell.specs.declared.status.Status.{Status}
-use Rattle.ls_shell.specs.declared.status.Status.TheVariants.{Done, Refused, Usage, ReadFault, WriteFault, InputLong, NoMemory, NoScript}
-use Rattle.ls_session.specs.declared.step_fault.StepFault.{StepFault}
-use Rattle.ls_session.specs.declared.step_fault.StepFault.TheVariants.{Write, Memory}
-use Rattle.ls_shell.specs.Scripts.{AnswersScript}
 use Rattle.ls_shell.proofs.Scripts.{whole_unmarked}
 
 -- ---- what a fetch has to give, by what was fetched

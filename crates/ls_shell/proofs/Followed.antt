@@ -1,24 +1,9 @@
 -- A line whose answer was followed, over told files, is answered or begun.
-use Rattle.std.proofs.Common.{◌≡◌, ℕ, ◌⊎◌, inl, inr, ◌||◌, Bool, true, false, cond, List, [], length, Result, Ok, Err, OnOk, OnErr, IsErr, IsErrOf, Some, refl, sym, ap, ◌∙◌, subst}
+use Rattle.ls_shell.proofs.Vocabulary.{◌||◌, ◌∙◌, ◌≡◌, ◌⊎◌, AnswersLine, Appends, Appends-kept, Appends-nil, AppendsFront, Bool, Calls, Effect, Ended, Err, Fetched, Folder, Follows, Gives, IsErr, IsErrOf, IsUndone, Keeps, List, Marked, MovesSink, Ok, OnErr, OnOk, Result, Run, Said, Session, Some, Text, World, ℕ, [], ap, calls_of, cond, effect_at, ended_of, false, folder_with, inl, inr, is_long, kept, length, line_effect, refl, reply_of, subst, sym, true}
 use Rattle.std.proofs.Math.Path.{fun_ext}
 use Rattle.std.specs.declared.option.Option.{Option}
-use Rattle.std.specs.Io.KnownBytes.{Appends, Keeps}
-use Rattle.std.proofs.KnownBytes.{Appends-nil, Appends-kept}
-use Rattle.ls_edge.specs.Causes.{AppendsFront}
-use Rattle.ls_edge.specs.Files.{Folder}
-use Rattle.ls_lines.specs.Lines.{Text, is_long}
-use Rattle.ls_lines.specs.Cutting.{kept, ended_of}
-use Rattle.ls_lines.specs.declared.ended.Ended.{Ended}
 use Rattle.ls_lines.specs.declared.ended.Ended.TheVariants.{Whole, Long}
-use Rattle.ls_reply.specs.Sessions.{Session}
-use Rattle.ls_reply.specs.Scenes.{Fetched, Calls, calls_of}
-use Rattle.ls_reply.specs.Effects.{Effect}
-use Rattle.ls_reply.specs.Replies.{line_effect, reply_of}
-use Rattle.ls_reply.specs.Transcripts.{World, Marked, folder_with, effect_at}
 use Rattle.ls_conduct.specs.Decides.{Sees, IsDecided}
-use Rattle.ls_session.specs.Follows.{Said, IsUndone, Gives, Follows, MovesSink}
-use Rattle.ls_shell.specs.declared.run.Run.{Run}
-use Rattle.ls_shell.specs.Progress.{AnswersLine}
 
 -- where the files are told, what was seen is the folder, with the line's mark
 pub seen_whole : (calls : Calls) (folder : Option Folder) (before now : ℕ) (m : Folder) → Sees calls folder before now → folder ≡ Some m → calls ≡ calls_of m calls.failed

@@ -1,17 +1,9 @@
 -- What a run over the input did, by its status.
-use Rattle.std.proofs.Common.{◌≡◌, ℕ, ◌<◌, ◌++◌, List, [], Bool, true, false, Some, Result, Ok, Err, length, refl, subst, arith, length-append}
+use Rattle.ls_shell.proofs.Vocabulary.{◌++◌, ◌<◌, ◌≡◌, AllocError, AnswersScript, AnswersWhole, Bool, Consumes, Err, Folder, List, MarksScript, Ok, Result, Rose, RunFault, Some, TakesAndAnswers, TakesAndStops, TakesFew, TakesScript, ℕ, [], arith, false, input_status, length, length-append, longest_script, refl, subst, true}
 use Rattle.std.specs.declared.option.Option.{Option}
-use Rattle.std.specs.declared.alloc.AllocError.{AllocError}
-use Rattle.std.specs.Io.KnownBytes.{Consumes}
-use Rattle.ls_edge.specs.Causes.{Rose}
-use Rattle.ls_edge.specs.Files.{Folder}
 use Rattle.ls_session.specs.declared.step_fault.StepFault.TheVariants as fault
-use Rattle.ls_shell.specs.declared.run_fault.RunFault.{RunFault}
 use Rattle.ls_shell.specs.declared.run_fault.RunFault.TheVariants.{Long, Read, Write, Memory}
 use Rattle.ls_shell.specs.declared.status.Status.TheVariants as status
-use Rattle.ls_shell.specs.Statuses.{input_status}
-use Rattle.ls_shell.specs.Runs.{longest_script, AnswersWhole, TakesAndAnswers, TakesAndStops, TakesScript}
-use Rattle.ls_shell.specs.Scripts.{TakesFew, AnswersScript, MarksScript}
 use Rattle.ls_shell.proofs.Answered.{takes_if}
 use Rattle.ls_shell.proofs.Scripts.{took_few, taken_more, whole_script, stops_script, whole_unmarked}
 

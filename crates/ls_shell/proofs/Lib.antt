@@ -1,3 +1,4 @@
+mod Vocabulary
 pub mod Joined
 pub mod Past
 pub mod Rises

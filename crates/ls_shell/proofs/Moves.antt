@@ -1,11 +1,6 @@
 -- Counts that rise, and what is done to a sink in several steps.
-use Rattle.std.proofs.Common.{ℕ, ◌≤◌, List, ◌++◌, Result, IsErrOf, arith}
+use Rattle.ls_shell.proofs.Vocabulary.{◌++◌, ◌≤◌, Appends, IsErrOf, IsExtended, List, MovesSink, Result, Rose, ℕ, appends_more, arith}
 use Rattle.std.specs.declared.option.Option.{Option}
-use Rattle.std.specs.Io.KnownBytes.{Appends}
-use Rattle.ls_edge.specs.Causes.{Rose}
-use Rattle.ls_edge.proofs.Known.{appends_more}
-use Rattle.ls_session.specs.Follows.{MovesSink}
-use Rattle.ls_shell.specs.Runs.{IsExtended}
 
 -- a count that rose since later rose since before
 pub rose_since : (a b c : ℕ) → a ≤ b → Rose b c → Rose a c

@@ -1,17 +1,7 @@
 -- A script that is read piece by piece.
-use Rattle.std.proofs.Common.{◌≡◌, ℕ, ◌+◌, ◌<◌, ◌≤◌, ◌^◌, inl, List, [], ◌++◌, Bool, false, Some, None, IfSome, length, refl, sym, subst, append-nil, arith, length-append}
+use Rattle.ls_shell.proofs.Vocabulary.{◌++◌, ◌+◌, ◌<◌, ◌^◌, ◌≡◌, ◌≤◌, Answers, AnswersWhole, Bool, Consumes, Consumes-kept, Consumes-nil, Consumes-trans, Folder, IfSome, IsAtEnd, IsFresh, Keeps, List, None, Run, Some, StopsAt, TakesAndAnswers, TakesAndStops, TakesWhole, ℕ, [], append-nil, appends_none, arith, false, inl, length, length-append, lines, longest_script, marked, refl, replies, subst, sym, world_after}
 use Rattle.std.specs.declared.option.Option.{Option}
-use Rattle.std.specs.Io.KnownBytes.{Consumes, Keeps, IsAtEnd}
-use Rattle.std.proofs.KnownBytes.{Consumes-nil, Consumes-trans, Consumes-kept}
-use Rattle.ls_edge.specs.Files.{Folder}
-use Rattle.ls_edge.proofs.Known.{appends_none}
-use Rattle.ls_lines.specs.Lines.{lines}
-use Rattle.ls_reply.specs.Transcripts.{replies, world_after}
-use Rattle.ls_shell.specs.declared.run.Run.{Run}
-use Rattle.ls_shell.specs.Progress.{Answers, IsFresh, StopsAt}
-use Rattle.ls_shell.specs.Runs.{longest_script, AnswersWhole, TakesWhole, TakesAndAnswers, TakesAndStops}
 use Rattle.ls_shell.proofs.Past.{lines-first}
-use Rattle.ls_reply.proofs.Marks.{marked}
 use Rattle.ls_shell.proofs.Rises.{few-one}
 use Rattle.ls_shell.proofs.Answered.{answers_ended}
 

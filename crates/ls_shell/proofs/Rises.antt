@@ -1,10 +1,6 @@
 -- Marks are no more than the count of faults rose.
-use Rattle.std.proofs.Common.{◌≡◌, ℕ, ◌+◌, ◌<◌, ◌≤◌, ◌^◌, ◌-◌, Bool, true, false, List, [], ◌∷◌, ◌++◌, refl, inl, inr, arith}
+use Rattle.ls_shell.proofs.Vocabulary.{◌++◌, ◌+◌, ◌-◌, ◌<◌, ◌^◌, ◌∷◌, ◌≡◌, ◌≤◌, Bool, FewMarks, List, Marked, Rose, ℕ, [], arith, bare_lines, count_marks, count_marks-cons, count_marks-snoc, false, inl, inr, mark_count, marked, none-marked, refl, true, unmarked}
 use Rattle.std.proofs.lemmas.Bool.{cases_lt}
-use Rattle.ls_edge.specs.Causes.{Rose}
-use Rattle.ls_reply.specs.Transcripts.{Marked, bare_lines, count_marks, unmarked}
-use Rattle.ls_reply.proofs.Marks.{marked, mark_count, count_marks-cons, count_marks-snoc, none-marked}
-use Rattle.ls_shell.specs.Progress.{FewMarks}
 
 mark-cause : (failed : Bool) (then now : ℕ) → then ≤ now → (failed ≡ true → Rose then now) → now < 2 ^ 64 - 1 → then + mark_count failed ≤ now
 mark-cause true then now later cause below = let rose : Rose then now = cause refl in omega arith

@@ -1,15 +1,6 @@
 -- A script whose source is told, and no marks.
-use Rattle.std.proofs.Common.{◌≡◌, ℕ, ◌<◌, ◌≤◌, List, [], ◌++◌, Bool, Some, None, IfSome, length, refl, sym, ap, ◌∙◌, subst, append-nil, arith, length-append}
-use Rattle.std.proofs.lemmas.List.{append_cancel_right}
+use Rattle.ls_shell.proofs.Vocabulary.{◌++◌, ◌<◌, ◌∙◌, ◌≡◌, ◌≤◌, AnswersWhole, Appends, Bool, Consumes, Folder, IfSome, IsAtEnd, List, Marked, None, Rose, Some, StopsAt, TakesAndStops, TakesFew, TakesWhole, WritesTranscript, ℕ, [], ap, append-nil, append_cancel_right, arith, begun_over, length, length-append, lines, longest_script, refl, refuses, replies, subst, sym, unmarked, world_after}
 use Rattle.std.specs.declared.option.Option.{Option}
-use Rattle.std.specs.Io.KnownBytes.{Consumes, Appends, IsAtEnd}
-use Rattle.ls_edge.specs.Causes.{Rose}
-use Rattle.ls_edge.specs.Files.{Folder}
-use Rattle.ls_lines.specs.Lines.{lines}
-use Rattle.ls_reply.specs.Transcripts.{Marked, begun_over, unmarked, replies, world_after, refuses}
-use Rattle.ls_shell.specs.Progress.{StopsAt}
-use Rattle.ls_shell.specs.Runs.{longest_script, AnswersWhole, TakesWhole, TakesAndStops}
-use Rattle.ls_shell.specs.Scripts.{TakesFew, WritesTranscript}
 use Rattle.ls_shell.proofs.Rises.{no_marks}
 
 -- few bytes were taken, and not more

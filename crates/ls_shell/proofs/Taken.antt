@@ -1,14 +1,6 @@
 -- The line that ended in a piece, and the last line.
-use Rattle.std.proofs.Common.{◌≡◌, ℕ, ◌-◌, ◌<◌, ◌^◌, false, List, [], ◌∷◌, ◌++◌, length, take, drop, Result, Ok, Err, IsErrOf, Some, sym, ap, ◌∙◌, subst, arith}
+use Rattle.ls_shell.proofs.Vocabulary.{◌++◌, ◌-◌, ◌<◌, ◌^◌, ◌∙◌, ◌∷◌, ◌≡◌, Answers, AnswersLine, AnswersWhole, Ended, Ends, Err, Folder, Holds, IsErrOf, IsTaken, List, Ok, Result, Run, Some, StopsAt, ℕ, [], ap, arith, bare_lines, begun_over, drop, ended_of, false, kept, length, lines, subst, sym, take, world_after}
 use Rattle.std.specs.declared.option.Option.{Option}
-use Rattle.ls_edge.specs.Files.{Folder}
-use Rattle.ls_lines.specs.Lines.{lines}
-use Rattle.ls_lines.specs.Cutting.{Holds, IsTaken, Ends, kept, ended_of}
-use Rattle.ls_lines.specs.declared.ended.Ended.{Ended}
-use Rattle.ls_reply.specs.Transcripts.{begun_over, bare_lines, world_after}
-use Rattle.ls_shell.specs.declared.run.Run.{Run}
-use Rattle.ls_shell.specs.Progress.{Answers, StopsAt, AnswersLine}
-use Rattle.ls_shell.specs.Runs.{AnswersWhole}
 use Rattle.ls_shell.proofs.Joined.{few_pending}
 use Rattle.ls_shell.proofs.Answered.{Continues, line_more, line_stops, answers_taken, cut_past, lines_last, answers_last, empty_more}
 

@@ -1,15 +1,10 @@
 -- How a run over the script of a source ended, by what it came to.
-use Rattle.std.proofs.Common.{◌≡◌, ℕ, List, Bool, Result, Ok, Err, IsErrOf, refl, ap, sym, ◌∙◌}
+use Rattle.ls_shell.proofs.Vocabulary.{◌∙◌, ◌≡◌, Bool, Err, Folder, IsErrOf, IsExtended, List, Ok, Result, Rose, RunFault, StepFault, TakesAndAnswers, TakesAndStops, TakesScript, TakesWhole, ℕ, ap, refl, sym}
 use Rattle.std.specs.Prelude.{IsErrAnd}
 use Rattle.std.specs.declared.option.Option.{Option}
-use Rattle.ls_edge.specs.Causes.{Rose}
-use Rattle.ls_edge.specs.Files.{Folder}
-use Rattle.ls_session.specs.declared.step_fault.StepFault.{StepFault}
 use Rattle.ls_session.specs.declared.step_fault.StepFault.TheVariants as fault
-use Rattle.ls_shell.specs.declared.run_fault.RunFault.{RunFault}
 use Rattle.ls_shell.specs.declared.run_fault.RunFault.TheVariants as run
 use Rattle.ls_shell.specs.Faults.{run_fault}
-use Rattle.ls_shell.specs.Runs.{IsExtended, TakesWhole, TakesAndAnswers, TakesAndStops, TakesScript}
 use Rattle.ls_shell.proofs.Answered.{takes_if}
 
 told : (r : Result Bool RunFault) (f : StepFault) (k : RunFault) → IsErrAnd r (λ x. x ≡ run_fault f) → IsErrOf r k → run_fault f ≡ k

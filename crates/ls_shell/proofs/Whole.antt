@@ -1,19 +1,7 @@
 -- What a run over the script of a named file did, by its status.
-use Rattle.std.proofs.Common.{◌≡◌, ℕ, List, Bool, true, false, Result, Ok, Err, IfOk, OnErr, IsErrOf, refl}
-use Rattle.std.specs.Prelude.{⊤}
+use Rattle.ls_shell.proofs.Vocabulary.{◌≡◌, AnswersFile, AnswersGiven, AnswersWhole, Bool, Done, Err, FetchFault, FetchedFrom, Folder, IfOk, IsErrOf, LeavesAll, List, Memory, NoMemory, Ok, OnErr, ReadFault, Refused, Result, Rose, StepFault, StopsAt, Usage, Write, WriteFault, ℕ, false, given, lines, refl, true, unread_status, whole_status, ⊤}
 use Rattle.std.specs.declared.option.Option.{Option}
-use Rattle.ls_edge.specs.Causes.{Rose}
-use Rattle.ls_edge.specs.Files.{Folder, given, FetchedFrom}
-use Rattle.ls_edge.specs.declared.traits.FetchFault.{FetchFault}
 use Rattle.ls_edge.specs.declared.traits.FetchFault.TheVariants as fetch
-use Rattle.ls_lines.specs.Lines.{lines}
-use Rattle.ls_session.specs.declared.step_fault.StepFault.{StepFault}
-use Rattle.ls_session.specs.declared.step_fault.StepFault.TheVariants.{Write, Memory}
-use Rattle.ls_shell.specs.Progress.{StopsAt}
-use Rattle.ls_shell.specs.Runs.{AnswersWhole}
-use Rattle.ls_shell.specs.Named.{LeavesAll, AnswersFile, AnswersGiven}
-use Rattle.ls_shell.specs.Statuses.{whole_status, unread_status}
-use Rattle.ls_shell.specs.declared.status.Status.TheVariants.{Done, Refused, Usage, ReadFault, WriteFault, NoMemory}
 use Rattle.ls_shell.proofs.Answered.{stops_if}
 use Rattle.ls_shell.proofs.Fetched.{found-missing, found-long, found-failed, found-none}
 

@@ -7,7 +7,7 @@ use Rattle.ls_edge.specs.Causes.{Rose, AppendsFront}
 use Rattle.ls_edge.specs.Files.{Folder, given}
 use Rattle.ls_edge.specs.declared.traits.FetchFault.{FetchFault}
 use Rattle.ls_edge.specs.declared.traits.FetchFault.TheVariants as fetch
-use Rattle.ls_lines.specs.Lines.{Text, lines}
+use Rattle.ls_lines.specs.{Text, lines}
 use Rattle.ls_words.specs.declared.mode.Mode.{Mode}
 use Rattle.ls_words.specs.declared.mode.Mode.TheVariants.{File, Drill}
 use Rattle.ls_shell.specs.Progress.{StopsAt}

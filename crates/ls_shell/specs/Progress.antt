@@ -5,11 +5,8 @@ use Rattle.std.specs.declared.option.Option.{Option}
 use Rattle.std.specs.Io.KnownBytes.{Appends, Keeps}
 use Rattle.ls_edge.specs.Causes.{Rose, AppendsFront}
 use Rattle.ls_edge.specs.Files.{Folder}
-use Rattle.ls_lines.specs.Lines.{lines}
-use Rattle.ls_lines.specs.Cutting.{Holds, ahead}
-use Rattle.ls_reply.specs.Replies.{is_refusal}
-use Rattle.ls_reply.specs.Transcripts.{World, Marked, begun_over, bare_lines, count_marks}
-use Rattle.ls_reply.specs.Transcripts.{reply_at, world_next, world_after, replies, refuses}
+use Rattle.ls_lines.specs.{Holds, ahead, lines}
+use Rattle.ls_reply.specs.{Marked, World, bare_lines, begun_over, count_marks, is_refusal, refuses, replies, reply_at, world_after, world_next}
 use Rattle.ls_shell.specs.declared.run.Run.{Run}
 
 -- the marks are no more than the rise of the shelf's count, where its counter is not at its

@@ -4,8 +4,8 @@ use Rattle.std.specs.declared.option.Option.{Option}
 use Rattle.std.specs.Io.KnownBytes.{Appends}
 use Rattle.ls_edge.specs.Causes.{Rose, AppendsFront}
 use Rattle.ls_edge.specs.Files.{Folder}
-use Rattle.ls_lines.specs.Lines.{lines}
-use Rattle.ls_reply.specs.Transcripts.{transcript, is_some_refused, final_folder}
+use Rattle.ls_lines.specs.{lines}
+use Rattle.ls_reply.specs.{final_folder, is_some_refused, transcript}
 use Rattle.ls_shell.specs.Progress.{StopsAt}
 use Rattle.ls_shell.specs.Runs.{longest_script, AnswersWhole}
 use Rattle.ls_shell.specs.declared.status.Status.{Status}

@@ -1,6 +1,6 @@
 // Running the drill.
 ghost use Rattle.std.specs.Prelude.{◌≡◌, ◌<◌, ◌≤◌, IfOk};
-ghost use Rattle.ls_lines.specs.Kinds.{greatest_number};
+ghost use Rattle.ls_lines.specs.{greatest_number};
 ghost use Rattle.ls_drill.specs.Summaries.{drill_text};
 ghost use Rattle.ls_drill.specs.HiddenOrders.{most_drilled};
 ghost use Rattle.ls_shell.specs.Runs.{IsExtended};

@@ -3,7 +3,7 @@ ghost use Rattle.std.specs.Prelude.{◌≡◌, ◌≢◌, ◌<◌, ◌≤◌, �
 ghost use Rattle.std.specs.Io.KnownBytes.{Keeps};
 ghost use Rattle.ls_edge.specs.Causes.{Rose};
 ghost use Rattle.ls_edge.specs.Files.{Folder, Stays};
-ghost use Rattle.ls_lines.specs.Lines.{lines};
+ghost use Rattle.ls_lines.specs.{lines};
 ghost use Rattle.ls_shell.specs.Progress.{IsFresh, StopsAt};
 ghost use Rattle.ls_shell.specs.Runs.{IsExtended, AnswersWhole};
 ghost use Rattle.ls_shell.specs.Named.{AnswersNamed};

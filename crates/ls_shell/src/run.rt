@@ -3,9 +3,8 @@ ghost use Rattle.std.specs.Prelude.{◌≡◌, ◌<◌, ◌≤◌, ◌^◌, ◌+
 ghost use Rattle.std.specs.Prelude.{IfOk, OnOk, OnErr, IsErrOf};
 ghost use Rattle.std.specs.declared.option.Option.{Option};
 ghost use Rattle.ls_edge.specs.Files.{Folder};
-ghost use Rattle.ls_lines.specs.Lines.{lines};
-ghost use Rattle.ls_lines.specs.Cutting.{kept, ended_of};
-ghost use Rattle.ls_reply.specs.Replies.{line_effect};
+ghost use Rattle.ls_lines.specs.{ended_of, kept, lines};
+ghost use Rattle.ls_reply.specs.{line_effect};
 ghost use Rattle.ls_session.specs.Follows.{Follows, MovesSink};
 
 use ls_edge::{Shelf, Sink};

@@ -3,7 +3,7 @@ ghost use Rattle.std.specs.Prelude.{◌≡◌, ◌≢◌, ◌<◌, ◌≤◌, �
 ghost use Rattle.std.specs.FinMap as map;
 ghost use Rattle.std.specs.Io.KnownBytes.{Keeps};
 ghost use Rattle.ls_edge.specs.Files.{Folder, longest_file};
-ghost use Rattle.ls_lines.specs.Lines.{Text};
+ghost use Rattle.ls_lines.specs.{Text};
 ghost use Rattle.ls_words.specs.Modes.{mode_of};
 ghost use Rattle.ls_words.specs.declared.mode.Mode.TheVariants.{File, Drill};
 ghost use Rattle.ls_drill.specs.Summaries.{drill_text};

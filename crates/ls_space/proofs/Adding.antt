@@ -1,16 +1,7 @@
 -- The first member with a missing union, by a walk over the members.
-use Rattle.std.proofs.Common.{ℕ, suc, zero, ◌+◌, ◌<◌, ◌≤◌, ◌≡◌, inl, inr, true, false, List, [], ◌∷◌, ◌++◌, length, take, drop, find, get_or, eqb, eqb-true, Some, None, refl, sym, ap, ◌∙◌, subst, true≢false}
-use Rattle.std.specs.List.{list_any}
-use Rattle.std.specs.Option.{option_or}
-use Rattle.std.proofs.lemmas.Bool.{or_cases, or_right}
-use Rattle.std.proofs.lemmas.List.{take-append-drop, take_all, take_more}
+use Rattle.ls_space.proofs.Vocabulary.{◌++◌, ◌+◌, ◌<◌, ◌∙◌, ◌∷◌, ◌≡◌, ◌≤◌, Decides-is_same, IsGrown, IsInOrder, Items, List, None, Some, ℕ, [], among-append, among-cases, among-here, ap, drop, drop-next, empty, eqb, eqb-true, false, find, get_or, has, has-empty, has-with, inl, inr, is_among, is_missing, is_same, lacks_apart, length, list_any, option_or, or_cases, or_right, refl, subst, suc, sym, take, take-append-drop, take_all, take_more, true, true≢false, with, zero}
 use Rattle.std.proofs.lemmas.List.Folds.{find-append}
-use Rattle.ls_lists.proofs.Places.{drop-next}
-use Rattle.ls_set.specs.ItemSet.{Items, has, empty, with, is_same, is_among, IsInOrder}
-use Rattle.ls_set.proofs.Sets.{has-empty, has-with, Decides-is_same}
-use Rattle.ls_set.proofs.Members.{among-here, among-cases, among-append}
 use Rattle.ls_laws.proofs.Lists.{find-none}
-use Rattle.ls_spans.specs.Unions.{is_missing, lacks_apart, IsGrown}
 use Rattle.ls_spans.proofs.Fewer.{missing-apart}
 
 -- no union of a set of the list with one of g is missing

@@ -1,23 +1,12 @@
 -- The verdict on a space, by a walk over its base.
-use Rattle.std.proofs.Common.{ℕ, ◌+◌, ◌-◌, ◌<◌, ◌≤◌, ◌≡◌, true, false, nat_lt, List, [], length, take, drop, get_or, slice_index, Some, None, unwrap_or, refl, sym, ap, ◌∙◌, lt-ltb, le-ltb}
-use Rattle.std.specs.Option.{option_map_or}
-use Rattle.std.proofs.lemmas.List.{drop_all}
+use Rattle.ls_space.proofs.Vocabulary.{◌+◌, ◌-◌, ◌<◌, ◌∙◌, ◌≡◌, ◌≤◌, IsInOrder, Items, Learning, List, None, NotGraded, Some, ℕ, [], ap, base, base-below, base-in_order, base-needed, drop, drop-next, drop_all, false, first_double, get_or, graded_by, is_same, is_space, items, le-ltb, least, len, length, lt-ltb, minus, nat_lt, needed, no_first, not_graded, option_map_or, own_by, refl, slice_index, spanned, spanned-IsUnionFamily, spanned-has, sym, take, true, union_below, unions, unwrap_or, without}
 use Rattle.std.proofs.lemmas.Option.{unwrap_or-slice_get}
-use Rattle.ls_lists.proofs.Places.{drop-next, no_first}
-use Rattle.ls_set.specs.ItemSet.{Items, minus, without, len, least, items, is_same, IsInOrder}
 use Rattle.ls_set.proofs.Firsts.{items-least}
 use Rattle.ls_theory.specs.declared.verdict.BaseVerdict.{BaseVerdict}
-use Rattle.ls_theory.specs.declared.verdict.BaseVerdict.TheVariants.{NotGraded, Learning}
-use Rattle.ls_theory.specs.Families.{unions, is_space}
-use Rattle.ls_theory.specs.Bases.{base}
-use Rattle.ls_laws.specs.Spans.{union_below, needed, spanned}
 use Rattle.ls_laws.proofs.Interiors.{space-to, unions-member}
 use Rattle.ls_laws.proofs.Atoms.{base-member, base-spans}
-use Rattle.ls_laws.proofs.Spans.{spanned-has, spanned-IsUnionFamily, base-in_order, base-needed}
 use Rattle.ls_base.proofs.Spanned.{base-on}
 use Rattle.ls_base.proofs.OwnItems.{own-place, own-less}
-use Rattle.ls_spans.specs.Verdicts.{own_by, first_double, not_graded, graded_by}
-use Rattle.ls_spans.proofs.Below.{base-below}
 
 -- ---- the two least items
 

@@ -1,3 +1,4 @@
+mod Vocabulary
 pub mod Adding
 pub mod Judging
 pub mod Passing

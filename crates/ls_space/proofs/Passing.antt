@@ -1,17 +1,5 @@
 -- A set that is the union of sets after it is not needed.
-use Rattle.std.proofs.Common.{ℕ, ◌+◌, ◌-◌, ◌<◌, ◌≡◌, Bool, true, List, min, arith, length, take, drop, reverse, get_or, slice_index_or, refl, sym, ap, subst, ◌∙◌}
-use Rattle.std.proofs.lemmas.Bool.{or_left}
-use Rattle.std.proofs.lemmas.List.{take-append-drop, take_all, take_min, length-drop, get_or_read_under}
-use Rattle.std.proofs.lemmas.List.FromFn.{get_or-map-range_with_len}
-use Rattle.ls_lists.proofs.Places.{drop-next}
-use Rattle.ls_set.specs.ItemSet.{Items, empty, is_same, is_among, IsInOrder}
-use Rattle.ls_set.proofs.Sets.{Decides-is_same}
-use Rattle.ls_set.proofs.Members.{among-append}
-use Rattle.ls_theory.specs.Families.{interior}
-use Rattle.ls_laws.specs.Spans.{needed}
-use Rattle.ls_base.proofs.Below.{interior-through}
-use Rattle.ls_base.proofs.Reduced.{needed-spans, needed-passed, drop-in_order}
-use Rattle.ls_space.specs.NextSets.{next_sets, is_union_of_next, unions_of_next}
+use Rattle.ls_space.proofs.Vocabulary.{◌+◌, ◌-◌, ◌<◌, ◌∙◌, ◌≡◌, Bool, Decides-is_same, IsInOrder, Items, List, ℕ, among-append, ap, arith, drop, drop-in_order, drop-next, empty, get_or, get_or-map-range_with_len, get_or_read_under, interior, interior-through, is_among, is_same, is_union_of_next, length, length-drop, min, needed, needed-passed, needed-spans, next_sets, or_left, refl, reverse, slice_index_or, subst, sym, take, take-append-drop, take_all, take_min, true, unions_of_next}
 
 among-take : (n : ℕ) (f : List Items) (l : Items) → is_among (take n f) l ≡ true → is_among f l ≡ true
 among-take n f l h =

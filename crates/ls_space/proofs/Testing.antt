@@ -1,15 +1,5 @@
 -- The verdict on a family, by what the test finds.
-use Rattle.std.proofs.Common.{◌≡◌, true, false, List, find, Some, None, refl, sym, ap, ◌∙◌, subst}
-use Rattle.std.specs.List.{list_any}
-use Rattle.ls_set.specs.ItemSet.{Items, empty, is_among, IsInOrder}
-use Rattle.ls_theory.specs.declared.verdict.Verdict.TheVariants.{NoEmpty, NoFull, NotClosed}
-use Rattle.ls_theory.specs.Verdict.{with_base, verdict}
-use Rattle.ls_laws.specs.Spans.{needed}
-use Rattle.ls_laws.proofs.Spans.{base-in_order}
-use Rattle.ls_spans.specs.Unions.{is_missing, first_partner}
-use Rattle.ls_spans.specs.Verdicts.{graded_by}
-use Rattle.ls_spans.proofs.Below.{base-below}
-use Rattle.ls_spans.proofs.Verdicts.{verdict-by-unions}
+use Rattle.ls_space.proofs.Vocabulary.{◌∙◌, ◌≡◌, IsInOrder, Items, List, NoEmpty, NoFull, None, NotClosed, Some, ap, base-below, base-in_order, empty, false, find, first_partner, graded_by, is_among, is_missing, list_any, needed, refl, subst, sym, true, verdict, verdict-by-unions, with_base}
 use Rattle.ls_space.proofs.Judging.{needed-base}
 
 pub no_empty : (whole : Items) (f : List Items) → is_among f empty ≡ false → verdict whole f ≡ NoEmpty

@@ -1,8 +1,8 @@
 -- Unions of the sets that stand soon after a set of a list.
 use Rattle.std.specs.Prelude.{ℕ, ◌+◌, Bool, List, length, map, take, drop, slice_index_or}
 use Rattle.std.specs.List.{range_with_len}
-use Rattle.ls_set.specs.ItemSet.{Items, empty, is_same}
-use Rattle.ls_theory.specs.Families.{interior}
+use Rattle.ls_set.specs.{Items, empty, is_same}
+use Rattle.ls_theory.specs.{interior}
 
 -- the sets after place i, at most 32 of them
 abbrev pub next_sets : List Items → ℕ → List Items

@@ -1,7 +1,7 @@
 // Whether a space is well graded, by its base.
 ghost use Rattle.std.specs.Prelude.{◌≡◌, slice_index};
-ghost use Rattle.ls_set.specs.ItemSet.{items, IsInOrder};
-ghost use Rattle.ls_theory.specs.Verdict.{base_verdict};
+ghost use Rattle.ls_set.specs.{IsInOrder, items};
+ghost use Rattle.ls_theory.specs.{base_verdict};
 ghost use Rattle.ls_theory.specs.declared.verdict.BaseVerdict.TheVariants.{NotGraded};
 ghost use Rattle.ls_laws.specs.Spans.{needed};
 ghost use Rattle.ls_base.specs.Bases.{family};

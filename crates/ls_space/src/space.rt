@@ -1,7 +1,7 @@
 // The test on a family.
 ghost use Rattle.std.specs.Prelude.{◌≡◌, IfOk};
-ghost use Rattle.ls_set.specs.ItemSet.{full, IsInOrder};
-ghost use Rattle.ls_theory.specs.Verdict.{with_base, verdict};
+ghost use Rattle.ls_set.specs.{IsInOrder, full};
+ghost use Rattle.ls_theory.specs.{verdict, with_base};
 ghost use Rattle.ls_laws.specs.Spans.{needed};
 ghost use Rattle.ls_spans.specs.Verdicts.{graded_by};
 

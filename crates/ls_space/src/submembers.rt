@@ -1,7 +1,7 @@
 // The base of a family, by unions of proper submembers.
 ghost use Rattle.std.specs.Prelude.{◌≡◌, ◌<◌, length, reverse, IfOk};
-ghost use Rattle.ls_set.specs.ItemSet.{is_same, IsInOrder};
-ghost use Rattle.ls_theory.specs.Families.{interior};
+ghost use Rattle.ls_set.specs.{IsInOrder, is_same};
+ghost use Rattle.ls_theory.specs.{interior};
 ghost use Rattle.ls_laws.specs.Spans.{needed};
 ghost use Rattle.ls_space.specs.NextSets.{is_union_of_next, unions_of_next};
 

@@ -1,7 +1,7 @@
 // Whether a family is closed under union.
 ghost use Rattle.std.specs.Prelude.{◌≡◌, true, find};
 ghost use Rattle.std.specs.List.{list_any};
-ghost use Rattle.ls_set.specs.ItemSet.{is_among};
+ghost use Rattle.ls_set.specs.{is_among};
 ghost use Rattle.ls_spans.specs.Unions.{is_missing, is_apart, lacks_apart, IsGrown};
 ghost use Rattle.ls_laws.specs.Spans.{touches};
 

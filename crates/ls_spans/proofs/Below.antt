@@ -1,18 +1,6 @@
 -- Atoms by the union of what lies below a set: the set is an atom at its items that this union lacks.
-use Rattle.std.proofs.Common.{ℕ, ◌≡◌, Bool, true, false, not, ◌&&◌, List, filter, max, refl, sym, ap, ◌∙◌, arith}
-use Rattle.std.specs.List.{list_any}
-use Rattle.std.proofs.lemmas.Bool.{and_parts, and_from}
-use Rattle.std.proofs.lemmas.List.Elements.{filter_agree}
+use Rattle.ls_spans.proofs.Vocabulary.{◌&&◌, ◌∙◌, ◌≡◌, Bool, IsInOrder, IsWithin-from, Items, List, ℕ, among-filter, and_from, and_parts, ap, arith, atom_items, base, base-needed, both_ways, bound, false, filter, filter_agree, from-interior, has, has-minus, interior-member, is_among, is_atom_at, is_proper, is_same, is_within, items, items-below, list_any, max, minus, needed, not, numbers_from, refl, some-among, some-from, sym, to-interior, true, union_below}
 use Rattle.ls_lists.proofs.Filters.{filter-both}
-use Rattle.ls_set.specs.ItemSet.{Items, has, minus, is_same, is_within, is_among, items, bound, numbers_from, IsInOrder}
-use Rattle.ls_set.proofs.Sets.{has-minus, both_ways, IsWithin-from}
-use Rattle.ls_set.proofs.Members.{among-filter}
-use Rattle.ls_set.proofs.Sizes.{items-below}
-use Rattle.ls_theory.specs.Bases.{is_atom_at, atom_items, base}
-use Rattle.ls_laws.specs.Spans.{is_proper, union_below, needed}
-use Rattle.ls_laws.proofs.Lists.{some-among, some-from}
-use Rattle.ls_laws.proofs.Interiors.{from-interior, to-interior, interior-member}
-use Rattle.ls_laws.proofs.Spans.{base-needed}
 use Rattle.ls_spans.proofs.Spanning.{lesser}
 
 has-below : (f : List Items) (k : Items) (q : ℕ) → has (union_below f k) q ≡ list_any (lesser q k) f

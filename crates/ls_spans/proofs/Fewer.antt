@@ -1,17 +1,7 @@
 -- Whether a union of a member with a set of a list is missing, by fewer unions.
-use Rattle.std.proofs.Common.{ℕ, ◌≡◌, inl, inr, Bool, true, false, not, List, ◌∷◌, ◌++◌, refl, sym, ap, ◌∙◌, true≢false, eqb, eqb-true, arith}
-use Rattle.std.specs.List.{list_any}
-use Rattle.std.proofs.lemmas.Bool.{cases_Bool, and_parts, or_cases, or_right, not-true, not_from_true, false_from_ne_true}
+use Rattle.ls_spans.proofs.Vocabulary.{◌++◌, ◌∙◌, ◌∷◌, ◌≡◌, Bool, Decides-is_same, Each-among, IsGrown, IsInOrder, IsWithin, IsWithin-from, Items, List, ℕ, among-append, among-cases, among-here, and_parts, ap, arith, cases_Bool, comes_before, comes_before-asymmetric, comes_before-irreflexive, empty, eqb, eqb-true, false, false_from_ne_true, has, has-meet, has-with, inl, inr, is_among, is_apart, is_missing, is_same, is_within, lacks_apart, list_any, meet, members, not, not-true, not_from_true, or_cases, or_right, refl, same_set, some-among, some-from, some_item, sym, touches, true, true≢false, union, with}
 use Rattle.std.proofs.lemmas.Bool.Decides.{nat_tests}
 use Rattle.ls_lists.proofs.Bools.{same_truth}
-use Rattle.ls_set.specs.ItemSet.{Items, has, empty, union, meet, with, is_same, is_within, is_among, comes_before, IsWithin, IsInOrder}
-use Rattle.ls_set.proofs.Sets.{members, has-with, has-meet, same_set, Decides-is_same, IsWithin-from}
-use Rattle.ls_set.proofs.Members.{among-here, among-cases, among-append, Each-among}
-use Rattle.ls_set.proofs.Order.{comes_before-irreflexive, comes_before-asymmetric}
-use Rattle.ls_laws.specs.Spans.{touches}
-use Rattle.ls_laws.proofs.Lists.{some-among, some-from}
-use Rattle.ls_laws.proofs.Counts.{some_item}
-use Rattle.ls_spans.specs.Unions.{is_missing, is_apart, lacks_apart, IsGrown}
 use Rattle.ls_spans.proofs.Unclosed.{before-part}
 
 -- an item of two sets

@@ -1,3 +1,4 @@
+mod Vocabulary
 pub mod Traces
 pub mod Spoken
 pub mod Spanning

@@ -1,16 +1,5 @@
 -- Atoms are told by any members that span.
-use Rattle.std.proofs.Common.{ℕ, ◌≡◌, Bool, true, not, ◌&&◌, List, sym, ap, ◌∙◌, subst, true≢false}
-use Rattle.std.specs.List.{list_any}
-use Rattle.std.proofs.lemmas.Bool.{and_parts, and_from, not_from_false, not-true, false_from_ne_true}
-use Rattle.std.proofs.lemmas.List.Elements.{filter_agree}
-use Rattle.ls_set.specs.ItemSet.{Items, has, is_same, is_within, is_among, items, IsWithin, IsInOrder}
-use Rattle.ls_set.proofs.Sets.{same_within, both_ways, Decides-is_same, IsWithin-from, is_within-from}
-use Rattle.ls_set.proofs.Members.{among-filter}
-use Rattle.ls_theory.specs.Bases.{is_atom_at, atoms_at, atom_items}
-use Rattle.ls_laws.specs.Spans.{IsPart, Spans}
-use Rattle.ls_laws.proofs.Lists.{some-among, some-from, IsInOrder-filter, same_members}
-use Rattle.ls_laws.proofs.Interiors.{from-interior}
-use Rattle.ls_laws.proofs.Atoms.{IsAtom, IsAtom-from, is_atom_at-from}
+use Rattle.ls_spans.proofs.Vocabulary.{◌&&◌, ◌∙◌, ◌≡◌, Bool, Decides-is_same, IsAtom, IsAtom-from, IsInOrder, IsInOrder-filter, IsPart, IsWithin, IsWithin-from, Items, List, Spans, ℕ, among-filter, and_from, and_parts, ap, atom_items, atoms_at, both_ways, false_from_ne_true, filter_agree, from-interior, has, is_among, is_atom_at, is_atom_at-from, is_same, is_within, is_within-from, items, list_any, not, not-true, not_from_false, same_members, same_within, some-among, some-from, subst, sym, true, true≢false}
 
 -- ---- smaller sets with an item
 

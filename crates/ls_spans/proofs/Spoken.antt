@@ -1,26 +1,9 @@
 -- Which sets and items a verdict speaks of.
-use Rattle.std.proofs.Common.{ℕ, zero, suc, ◌<◌, ◌≡◌, inl, inr, Bool, true, false, cond, not, ◌&&◌, List, [], ◌∷◌, ◌++◌, Option, length, filter, map, find, Some, None, refl, sym, ap, ◌∙◌, subst, arith, true≢false}
+use Rattle.ls_spans.proofs.Vocabulary.{◌&&◌, ◌++◌, ◌<◌, ◌∙◌, ◌∷◌, ◌≡◌, BaseVerdict, Bool, IsOn, IsPart, IsWithin, Items, List, None, Option, Some, ℕ, [], among-here, among-there, and_from, and_parts, ap, arith, atom_items, base, base-member, base_verdict, bound, cases_Bool, closed-pair, cond, double-found, double_atom, empty, false, filter, find, full, graded-space, has, has-meet, inl, inner_fringe, inr, is_among, is_atom_at, is_double, is_same, is_space, is_union_closed, is_well_graded, items, items-below, length, list_all, list_any, map, members, not, numbers_from, outer_fringe, pairs, projection, projection-from, refl, state_of, subst, suc, sym, true, true≢false, unclosed_pair, union, verdict, verdict_from, with, with_base, without, zero}
 use Rattle.std.specs.Prelude.{slice_index}
-use Rattle.std.specs.List.{list_any, list_all}
-use Rattle.std.proofs.lemmas.Bool.{cases_Bool, and_parts, and_from}
-use Rattle.ls_set.specs.ItemSet.{Items, has, with, without, bound, full, empty, union, items, is_among, is_same, numbers_from, IsWithin}
-use Rattle.ls_set.proofs.Sets.{members, has-meet}
-use Rattle.ls_set.proofs.Members.{among-here, among-there}
-use Rattle.ls_set.proofs.Sizes.{items-below}
-use Rattle.ls_theory.specs.Words.{pairs}
-use Rattle.ls_theory.specs.Families.{is_space, is_union_closed}
-use Rattle.ls_theory.specs.Bases.{base, is_atom_at, atom_items}
-use Rattle.ls_theory.specs.Verdict.{is_well_graded, double_atom, base_verdict, unclosed_pair, with_base, verdict_from, verdict}
-use Rattle.ls_theory.specs.declared.verdict.BaseVerdict.{BaseVerdict}
 use Rattle.ls_theory.specs.declared.verdict.BaseVerdict.TheVariants as of_base
 use Rattle.ls_theory.specs.declared.verdict.Verdict.TheVariants.{NoEmpty, NoFull, NotGraded, Learning}
-use Rattle.ls_laws.specs.Spans.{IsOn, IsPart, is_double}
-use Rattle.ls_theory.specs.Fringes.{inner_fringe, outer_fringe, state_of}
-use Rattle.ls_theory.specs.Projections.{projection}
-use Rattle.ls_laws.proofs.Atoms.{base-member}
 use Rattle.ls_laws.proofs.ReadBack.{has-inner_fringe, has-outer_fringe}
-use Rattle.ls_laws.proofs.Projecting.{projection-from}
-use Rattle.ls_laws.proofs.Judged.{graded-space, double-found, closed-pair}
 use Rattle.ls_spans.specs.Speaking.{IsDoubleOn, IsBaseVerdictOn, IsVerdictOn}
 
 -- ---- the items at which a set is an atom

@@ -1,21 +1,7 @@
 -- Projections: the meets of the sets that span a family span its projection, and its interiors are meets of interiors.
-use Rattle.std.proofs.Common.{ℕ, ◌≡◌, inl, inr, true, List, [], ◌∷◌, refl, sym, ap, ap₂, ◌∙◌, subst, arith, true≢false}
-use Rattle.std.specs.List.{list_any}
-use Rattle.std.proofs.lemmas.Bool.{cases_Bool, and_parts, and_from}
-use Rattle.ls_set.specs.ItemSet.{Items, has, empty, full, union, meet, minus, is_same, is_among, subsets, IsWithin, IsInOrder}
-use Rattle.ls_set.proofs.Sets.{members, has-meet, same_set, same_within, Decides-is_same, is_within-from}
-use Rattle.ls_set.proofs.Members.{among-here, among-there, among-cases, among-filter}
-use Rattle.ls_set.proofs.Order.{among-subsets, subsets_from-in_order}
-use Rattle.ls_theory.specs.Families.{interior}
-use Rattle.ls_theory.specs.Bases.{base}
-use Rattle.ls_theory.specs.Projections.{projection}
-use Rattle.ls_laws.specs.Spans.{IsOn, IsPart, Spans, needed, spanned}
+use Rattle.ls_spans.proofs.Vocabulary.{◌∙◌, ◌∷◌, ◌≡◌, Decides-is_same, IsInOrder, IsInOrder-filter, IsOn, IsPart, IsWithin, Items, List, Spans, ℕ, [], among-cases, among-filter, among-here, among-subsets, among-there, and_from, and_parts, ap, ap₂, arith, base, base-needed, base-of, cases_Bool, empty, from-interior, full, has, has-meet, inl, inr, interior, interior-whole, is_among, is_same, is_within-from, list_any, meet, members, minus, needed, projection, projection-from, refl, same_members, same_set, same_within, some-among, spanned, spanned-has, spanned-in_order, spanned-same, spanned-whole, subsets, subsets_from-in_order, subst, sym, to-interior, true, true≢false, union}
 use Rattle.ls_laws.specs.Families.{IsFamily}
-use Rattle.ls_laws.proofs.Lists.{some-among, IsInOrder-filter, same_members}
-use Rattle.ls_laws.proofs.Interiors.{from-interior, to-interior, interior-whole}
-use Rattle.ls_laws.proofs.Spans.{base-of, base-needed, spanned-has, spanned-in_order, spanned-same, spanned-whole}
 use Rattle.ls_laws.proofs.Families.{family_sets, spanned-IsFamily}
-use Rattle.ls_laws.proofs.Projecting.{projection-from}
 use Rattle.ls_clauses.proofs.Spanning.{spans-same, part-same}
 use Rattle.ls_spans.specs.Traces.{meets_with}
 

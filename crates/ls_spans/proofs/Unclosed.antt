@@ -1,23 +1,8 @@
 -- Whether a list is closed under union, and the pair that is named where it is not, by any of its sets that span it.
-use Rattle.std.proofs.Common.{ℕ, ◌≡◌, ◌⊎◌, inl, inr, Bool, true, false, cond, not, ◌||◌, List, [], ◌∷◌, ◌++◌, map, length, filter, find, Option, Some, None, option_map, refl, sym, ap, ◌∙◌, subst, true≢false, append_assoc, arith}
-use Rattle.std.specs.List.{list_any, list_all}
-use Rattle.std.specs.Option.{option_or}
-use Rattle.std.proofs.lemmas.Bool.{cases_Bool, and_parts, or_cases, or_right, not_from_true, not_from_false}
+use Rattle.ls_spans.proofs.Vocabulary.{◌++◌, ◌||◌, ◌∙◌, ◌∷◌, ◌≡◌, ◌⊎◌, Bool, Each-among, IsInOrder, IsPart, IsWithin, Items, List, None, Option, Some, Spans, ℕ, [], among-append, among-cases, among-filter, among-here, among-there, and_parts, ap, append_assoc, arith, both_ways, cases_Bool, closed-from, closed-to, comes_before, comes_before-asymmetric, comes_before-at, comes_before-irreflexive, cond, empty, every-among, every-from, false, filter, find, find-none, first_partner, has, has-empty, inl, inr, interior, is_among, is_closed_with, is_missing, is_union_closed, is_within, least, len, len-zero, length, list_all, list_any, map, members, minus, not, not_from_false, not_from_true, option_map, option_or, or_cases, or_right, pairs, refl, same_set, same_within, some-among, some-from, subst, sym, true, true≢false, unclosed_pair, unclosed_pair_by, union, union-empty_right, union-left, union_assoc, unions}
 use Rattle.std.proofs.lemmas.List.Folds.{find-append}
-use Rattle.ls_set.specs.ItemSet.{Items, has, empty, len, union, minus, least, is_within, is_among, comes_before, IsWithin, IsInOrder}
-use Rattle.ls_set.proofs.Sets.{members, same_set, same_within, both_ways, union-left, union_assoc, union-empty_right, has-empty}
-use Rattle.ls_set.proofs.Members.{among-here, among-there, among-cases, among-append, among-filter, Each-among}
 use Rattle.ls_set.proofs.Ascending.{least-cases}
-use Rattle.ls_set.proofs.Order.{comes_before-at, comes_before-irreflexive, comes_before-asymmetric}
-use Rattle.ls_theory.specs.Words.{pairs}
-use Rattle.ls_theory.specs.Families.{unions, interior, is_union_closed}
-use Rattle.ls_theory.specs.Verdict.{unclosed_pair}
-use Rattle.ls_laws.specs.Spans.{IsPart, Spans}
-use Rattle.ls_laws.proofs.Lists.{every-among, every-from, some-among, some-from, find-none}
-use Rattle.ls_laws.proofs.Interiors.{closed-from, closed-to}
-use Rattle.ls_laws.proofs.Counts.{len-zero}
 use Rattle.ls_set.proofs.Firsts.{items-none}
-use Rattle.ls_spans.specs.Unions.{is_missing, is_closed_with, first_partner, unclosed_pair_by}
 
 -- ---- unions, set by set
 

@@ -1,20 +1,6 @@
 -- The verdict by the unions of what lies below the members.
-use Rattle.std.proofs.Common.{ℕ, ◌≡◌, inl, inr, Bool, true, false, cond, not, nat_lt, ◌||◌, List, [], ◌∷◌, length, find, slice_index, Some, None, Option, unwrap_or, refl, sym, ap, ap₂, ◌∙◌}
-use Rattle.std.specs.List.{list_any}
-use Rattle.std.specs.Option.{option_map_or}
-use Rattle.std.proofs.lemmas.Bool.{cases_Bool}
-use Rattle.ls_set.specs.ItemSet.{Items, empty, is_among, items, len, IsInOrder}
-use Rattle.ls_set.proofs.Sets.{same_set}
-use Rattle.ls_theory.specs.declared.verdict.BaseVerdict.{BaseVerdict}
+use Rattle.ls_spans.proofs.Vocabulary.{◌||◌, ◌∙◌, ◌∷◌, ◌≡◌, BaseVerdict, Bool, IsInOrder, IsPart, Items, List, None, Option, Some, Spans, ℕ, [], ap, ap₂, atom_items, base, base-member, base-spans, base_verdict, cases_Bool, closed-from, closed-pair, cond, empty, false, find, graded-space, inl, inr, is_among, is_double, is_space, items, len, length, list_any, nat_lt, needed, not, option_map_or, refl, same_set, slice_index, space-to, spanned, sym, true, unclosed_pair, unclosed_pair_by, unwrap_or, verdict, verdict-space, with_base}
 use Rattle.ls_theory.specs.declared.verdict.BaseVerdict.TheVariants.{NotGraded, Learning}
-use Rattle.ls_theory.specs.Families.{is_space}
-use Rattle.ls_theory.specs.Bases.{atom_items, base}
-use Rattle.ls_theory.specs.Verdict.{with_base, base_verdict, verdict, unclosed_pair}
-use Rattle.ls_laws.specs.Spans.{IsPart, Spans, needed, spanned, is_double}
-use Rattle.ls_laws.proofs.Interiors.{space-to, closed-from}
-use Rattle.ls_laws.proofs.Atoms.{base-member, base-spans}
-use Rattle.ls_laws.proofs.Judged.{closed-pair, graded-space, verdict-space}
-use Rattle.ls_spans.specs.Unions.{unclosed_pair_by}
 use Rattle.ls_spans.specs.Verdicts.{own_by, first_double, not_graded, graded_by, verdict_by_unions}
 use Rattle.ls_spans.proofs.Spanning.{is_atom_at-spanning}
 use Rattle.ls_spans.proofs.Below.{atom-below, atom_items-below, base-below}

@@ -1,6 +1,6 @@
 -- Which sets and items a verdict speaks of.
 use Rattle.std.specs.Prelude.{ℕ, ◌<◌, ⊤}
-use Rattle.ls_set.specs.ItemSet.{Items, full, IsWithin}
+use Rattle.ls_set.specs.{IsWithin, Items, full}
 use Rattle.ls_theory.specs.declared.verdict.Verdict.{Verdict}
 use Rattle.ls_theory.specs.declared.verdict.Verdict.TheVariants.{NoEmpty, NoFull, NotClosed, NotGraded, Learning}
 use Rattle.ls_theory.specs.declared.verdict.BaseVerdict.{BaseVerdict}

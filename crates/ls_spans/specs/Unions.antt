@@ -1,7 +1,7 @@
 -- The test whether a list is closed under union, by any sets that span it.
 use Rattle.std.specs.Prelude.{ℕ, ◌≡◌, Bool, true, false, not, ◌&&◌, List, find, Option, option_map, unwrap_or}
 use Rattle.std.specs.List.{list_any, list_all}
-use Rattle.ls_set.specs.ItemSet.{Items, has, empty, union, with, is_within, is_among}
+use Rattle.ls_set.specs.{Items, empty, has, is_among, is_within, union, with}
 use Rattle.ls_laws.specs.Spans.{touches}
 
 -- the union of the two is missing

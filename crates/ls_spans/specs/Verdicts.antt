@@ -1,12 +1,12 @@
 -- The verdict on a family, by the unions of what lies below its members.
 use Rattle.std.specs.Prelude.{not, nat_lt, if◌then◌else◌, List, find, slice_index, Option}
 use Rattle.std.specs.Option.{option_map_or}
-use Rattle.ls_set.specs.ItemSet.{Items, empty, minus, is_among, items, len}
+use Rattle.ls_set.specs.{Items, empty, is_among, items, len, minus}
 use Rattle.ls_theory.specs.declared.verdict.Verdict.{Verdict}
 use Rattle.ls_theory.specs.declared.verdict.Verdict.TheVariants.{NoEmpty, NoFull, NotClosed}
 use Rattle.ls_theory.specs.declared.verdict.BaseVerdict.{BaseVerdict}
 use Rattle.ls_theory.specs.declared.verdict.BaseVerdict.TheVariants.{NotGraded, Learning}
-use Rattle.ls_theory.specs.Verdict.{with_base}
+use Rattle.ls_theory.specs.{with_base}
 use Rattle.ls_laws.specs.Spans.{union_below, needed}
 use Rattle.ls_spans.specs.Unions.{unclosed_pair_by}
 

@@ -1,9 +1,7 @@
 // Laws of projections.
 ghost use Rattle.std.specs.Prelude.{◌≡◌, ℕ, List};
-ghost use Rattle.ls_set.specs.ItemSet.{Items, full, union, meet, minus, is_among, IsInOrder};
-ghost use Rattle.ls_theory.specs.Families.{interior};
-ghost use Rattle.ls_theory.specs.Bases.{base};
-ghost use Rattle.ls_theory.specs.Projections.{projection};
+ghost use Rattle.ls_set.specs.{IsInOrder, Items, full, is_among, meet, minus, union};
+ghost use Rattle.ls_theory.specs.{base, interior, projection};
 ghost use Rattle.ls_laws.specs.Spans.{IsOn, IsPart, Spans, needed, spanned};
 ghost use Rattle.ls_laws.specs.Families.{IsFamily};
 ghost use Rattle.ls_spans.specs.Traces.{meets_with};

@@ -1,8 +1,7 @@
 // Laws of what verdicts speak of.
 ghost use Rattle.std.specs.Prelude.{◌≡◌, ℕ, true, List};
-ghost use Rattle.ls_set.specs.ItemSet.{Items, full};
-ghost use Rattle.ls_theory.specs.Families.{is_space};
-ghost use Rattle.ls_theory.specs.Verdict.{base_verdict, verdict};
+ghost use Rattle.ls_set.specs.{Items, full};
+ghost use Rattle.ls_theory.specs.{base_verdict, is_space, verdict};
 ghost use Rattle.ls_laws.specs.Spans.{IsOn};
 ghost use Rattle.ls_spans.specs.Speaking.{IsBaseVerdictOn, IsVerdictOn};
 

@@ -1,7 +1,7 @@
 // Laws of the test on families.
 ghost use Rattle.std.specs.Prelude.{◌≡◌, ◌∷◌, ◌++◌, ℕ, true, false, List};
 ghost use Rattle.std.specs.List.{list_any};
-ghost use Rattle.ls_set.specs.ItemSet.{Items, has, minus, items, is_among, IsInOrder};
+ghost use Rattle.ls_set.specs.{IsInOrder, Items, has, is_among, items, minus};
 ghost use Rattle.ls_theory.specs.Families.{is_union_closed, is_space};
 ghost use Rattle.ls_theory.specs.Bases.{base, is_atom_at, atoms_at, atom_items};
 ghost use Rattle.ls_theory.specs.Verdict.{base_verdict, unclosed_pair, verdict};

@@ -1,18 +1,10 @@
 -- Queries of which no two are the same, one more at a time.
-use Rattle.std.proofs.Common.{◌≡◌, ℕ, ◌+◌, ◌<◌, Bool, true, false, cond, not, ◌&&◌, ◌||◌, List, [], ◌∷◌, ◌++◌, length, get_or, take, drop, refl, sym, ap, ◌∙◌}
-use Rattle.std.specs.List.{list_any}
+use Rattle.ls_store.proofs.Vocabulary.{◌&&◌, ◌++◌, ◌+◌, ◌<◌, ◌||◌, ◌∙◌, ◌∷◌, ◌≡◌, Bool, List, Query, ℕ, [], ap, apart-distinct, are_apart, cond, drop, drop-next, false, get_or, is_same_query, length, list_any, not, query_order, refl, same-by_query_order, same_queries, sym, take, take-append-drop, take_more, true}
 use Rattle.std.specs.Ordering.{is_eq}
 use Rattle.std.proofs.Math.Bool.{and-false}
-use Rattle.std.proofs.lemmas.List.{take_more, take-append-drop}
 use Rattle.std.proofs.lemmas.List.Folds.{list_any-append}
 use Rattle.std.proofs.lemmas.Map.Keys.{IsDistinct-push}
-use Rattle.ls_lists.proofs.Places.{drop-next}
-use Rattle.ls_set.specs.declared.query.Query.{Query}
-use Rattle.ls_theory.specs.Answering.{is_same_query}
-use Rattle.ls_saved.specs.Standing.{are_apart}
-use Rattle.ls_saved.proofs.Sound.{apart-distinct}
 use Rattle.ls_saved.proofs.Answers.{apart-from}
-use Rattle.ls_store.specs.QueryOrders.{query_order, same-by_query_order, same_queries}
 
 -- one more, which none of the others is
 one-more : (queries : List Query) (r : Query) → are_apart is_same_query queries ≡ true → list_any (is_same_query r) queries ≡ false

@@ -1,20 +1,6 @@
 -- The case of a pupil that is read, from the pupil after the replies.
-use Rattle.std.proofs.Common.{◌≡◌, ℕ, ◌&&◌, ◌≤◌, Bool, true, false, leb, leb-true, List, [], length, Option, Some, None, is_none, is_some, refl, sym, ap, ap₂, ◌∙◌, subst}
-use Rattle.std.specs.Prelude.{IfSome}
-use Rattle.std.specs.List.{list_all}
-use Rattle.ls_set.specs.ItemSet.{Items}
-use Rattle.ls_set.specs.Query.{is_good}
-use Rattle.ls_set.specs.declared.query.Query.{Query}
-use Rattle.ls_theory.specs.Compatible.{compat}
-use Rattle.ls_theory.specs.Starts.{Start}
+use Rattle.ls_store.proofs.Vocabulary.{◌&&◌, ◌∙◌, ◌≡◌, ◌≤◌, Bool, IfSome, IsCase, IsStartOn, Items, List, None, Option, Pupil, PupilCase, Query, Reply, Some, Start, Weighing, ℕ, [], ap, ap₂, compat, false, follow, is_good, is_none, is_some, leb, leb-true, length, list_all, refl, start_of, subst, sym, true}
 use Rattle.ls_theory.specs.Settings.{Settings, most_states, heavy_after}
-use Rattle.ls_theory.specs.declared.reply.Reply.{Reply}
-use Rattle.ls_weight.specs.Weighings.{Weighing}
-use Rattle.ls_expert.specs.Starts.{start_of, IsStartOn}
-use Rattle.ls_saved.specs.Sessions.{Pupil}
-use Rattle.ls_saved.specs.Standing.{follow}
-use Rattle.ls_pupils.specs.Cases.{IsCase}
-use Rattle.ls_pupils.specs.declared.cases.PupilCase.{PupilCase}
 
 -- the pupil of the states, after the replies
 abbrev pub after : ℕ → Settings → Start → List Query → List Reply → Weighing

@@ -1,22 +1,7 @@
 -- How the parts of a session go on one after another.
-use Rattle.std.proofs.Common.{◌≡◌, ℕ, List, length, codes, Option, Some, None, true, Result, Ok, Err, IfErr, IsErrAnd, sym, ap, ◌∙◌, subst}
-use Rattle.serde_json.specs.Data.{Data}
-use Rattle.ls_theory.specs.Starts.{Start}
-use Rattle.ls_theory.specs.Settings.{Settings}
-use Rattle.ls_theory.specs.Interviews.{Interview}
-use Rattle.ls_theory.specs.declared.ratio.Ratios.{Ratios}
-use Rattle.ls_lines.specs.Lines.{Text}
+use Rattle.ls_store.proofs.Vocabulary.{◌∙◌, ◌≡◌, Data, Err, IfErr, Interview, IsErrAnd, IsSessionFault, List, None, Ok, Option, Pupil, Ratios, Result, Session, Settings, Some, Start, Text, Version, ℕ, ap, are_made, at-sound, at_key, block-sound, codes, interview-sound, interview_chain, length, or_cause, read_block, read_interview, read_limits, read_names, read_object, read_odds, read_pupils, read_start, read_version, session_from, session_of, settings_chain, settings_from, subst, sym, true}
 use Rattle.ls_saved.specs.declared.cause.Cause.{Cause}
 use Rattle.ls_saved.specs.declared.cause.Cause.TheVariants as cause
-use Rattle.ls_saved.specs.declared.version.Version.{Version}
-use Rattle.ls_saved.specs.Sessions.{Pupil, Session}
-use Rattle.ls_saved.specs.Readers.{at_key, read_object}
-use Rattle.ls_saved.specs.Parts.{read_version, read_names, read_limits, read_odds, settings_from, read_start, read_block, read_interview, read_pupils}
-use Rattle.ls_saved.specs.Reading.{or_cause, session_from, session_of}
-use Rattle.ls_saved.specs.Standing.{are_made}
-use Rattle.ls_saved.proofs.Read.{at-sound, interview-sound}
-use Rattle.ls_saved.proofs.Sound.{block-sound}
-use Rattle.ls_store.specs.Chains.{IsSessionFault, settings_chain, interview_chain}
 use Rattle.ls_store.specs.declared.fault.SessionFault.{SessionFault}
 
 none : {X : Type 0} (c : Cause) (o : Option X) (next : X → Result Session Cause) → None ≡ o → or_cause c o next ≡ Err c

@@ -1,3 +1,4 @@
+mod Vocabulary
 pub mod CaseParts
 pub mod ApartQueries
 pub mod Going

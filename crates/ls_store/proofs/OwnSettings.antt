@@ -1,17 +1,5 @@
 -- The settings that an object has.
-use Rattle.std.proofs.Common.{◌≡◌, ℕ, ◌&&◌, true, eqb, List, length, codes, Option, Some, None, refl, sym, ap, ◌∙◌, option_map, eqb-true}
-use Rattle.std.specs.Option.{option_zip}
-use Rattle.std.specs.List.{list_all}
-use Rattle.std.proofs.lemmas.Bool.{and_parts}
-use Rattle.serde_json.specs.Data.{Data}
-use Rattle.ls_theory.specs.Settings.{Settings, are_ratios, are_limits}
-use Rattle.ls_theory.specs.declared.ratio.Ratios.{Ratios}
-use Rattle.ls_saved.specs.declared.version.Version.{Version}
-use Rattle.ls_saved.specs.Values.{pair_value, number_value}
-use Rattle.ls_saved.specs.Readers.{at_key}
-use Rattle.ls_saved.specs.Parts.{read_limits, read_odds, read_settings, settings_from}
-use Rattle.ls_saved.proofs.Read.{at-sound}
-use Rattle.ls_saved.proofs.Sound.{settings-sound}
+use Rattle.ls_store.proofs.Vocabulary.{◌&&◌, ◌∙◌, ◌≡◌, Data, List, None, Option, Ratios, Settings, Some, Version, ℕ, and_parts, ap, are_limits, are_ratios, at-sound, at_key, codes, eqb, eqb-true, length, list_all, number_value, option_map, option_zip, pair_value, read_limits, read_odds, read_settings, refl, settings-sound, settings_from, sym, true}
 
 pub record AreRead (n : ℕ) (limits : ℕ × ℕ) (ratios : List Ratios) : Type 0 where
   pub count : length ratios ≡ n

@@ -1,12 +1,7 @@
 -- The value of a session has no float.
-use Rattle.std.proofs.Common.{◌≡◌, ℕ, List, [], ◌∷◌, false, refl}
-use Rattle.serde_json.specs.Data.{Data}
+use Rattle.ls_store.proofs.Vocabulary.{◌∷◌, ◌≡◌, Data, List, Pupil, Session, ℕ, [], answer_value, false, list_value, pupil_value, query_value, ratios_value, refl, reply_value, session_value, set_value, start_value, string}
 use Rattle.serde_json.specs.Written.{has_float}
 use Rattle.ls_theory.specs.Starts.{Start, Free, Clauses, Sets}
-use Rattle.ls_files.specs.SurmiseFiles.{list_value}
-use Rattle.ls_saved.specs.Sessions.{Pupil, Session}
-use Rattle.serde_json.specs.Data.{string}
-use Rattle.ls_saved.specs.Values.{set_value, query_value, answer_value, reply_value, ratios_value, start_value, pupil_value, session_value}
 
 list-no_float : {X : Type 0} (value : X → Data) → ((x : X) → has_float (value x) ≡ false) → (xs : List X) → has_float (list_value value xs) ≡ false
 list-no_float value h [] = refl

@@ -1,24 +1,8 @@
 -- Lists of pupils: which are read, and in which a name comes twice or which are too long.
-use Rattle.std.proofs.Common.{◌≡◌, ℕ, suc, inl, inr, ◌+◌, ◌<◌, ◌≤◌, Bool, true, false, cond, not, ◌&&◌, ◌||◌, leb, List, [], ◌∷◌, ◌++◌, map, drop, get_or, length, Option, Some, None, option_map, option_and_then, refl, sym, ap, ap₂, ◌∙◌, append_assoc, subst}
-use Rattle.std.specs.Prelude.{bytes_eq}
-use Rattle.std.specs.List.{list_any}
-use Rattle.std.proofs.lemmas.Bool.{cases_Bool, and_parts, and_from, lt-leb, le-leb}
-use Rattle.std.proofs.lemmas.List.{length-map, map_push}
+use Rattle.ls_store.proofs.Vocabulary.{◌&&◌, ◌++◌, ◌+◌, ◌<◌, ◌||◌, ◌∙◌, ◌∷◌, ◌≡◌, ◌≤◌, ArePupils, Bool, Data, IsRead, List, None, Option, Pupil, PupilCase, Some, ℕ, [], and_from, and_parts, ap, append_assoc, ap₂, are_apart, are_pupils, as_array, bytes_eq, cases_Bool, cond, drop, false, get_or, have_own_names, inl, inr, is_named, items_view, le-leb, leb, length, length-map, list_any, lt-leb, map, map_push, most_pupils, name_of, not, only_if, option_and_then, option_map, pupil_of, pupils_of, read-last, read-next, read-none, read_each, read_list, refl, subst, suc, sym, true, view}
 use Rattle.std.proofs.lemmas.Slice.Eq.{bytes_eq-Decides}
-use Rattle.serde_json.specs.Data.{Data}
-use Rattle.serde_json.specs.Find.{as_array}
-use Rattle.serde_json.specs.View.{view, items_view}
 use Rattle.serde_json.specs.declared.value.Value.{Value}
-use Rattle.ls_files.specs.SurmiseFiles.{read_each, read_list}
 use Rattle.ls_set.proofs.Sets.{and-false}
-use Rattle.ls_saved.specs.Sessions.{Pupil, most_pupils}
-use Rattle.ls_saved.specs.Standing.{are_apart, are_pupils}
-use Rattle.ls_saved.specs.Readers.{only_if}
-use Rattle.ls_saved.proofs.Walks.{IsRead, read-next, read-none, read-last}
-use Rattle.ls_pupils.specs.Own.{is_named, have_own_names}
-use Rattle.ls_pupils.specs.Cases.{pupil_of, pupils_of, ArePupils}
-use Rattle.ls_pupils.specs.declared.cases.PupilCase.{PupilCase}
-use Rattle.ls_pupils.proofs.Named.{name_of}
 
 abbrev names_of : List Pupil → List (List ℕ)
 names_of ps = map (λ p. p.name) ps

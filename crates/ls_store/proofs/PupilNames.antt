@@ -1,25 +1,5 @@
 -- The names of pupils that are read, among those that stand.
-use Rattle.std.proofs.Common.{◌≡◌, ℕ, Bool, true, false, cond, List, codes, Option, Some, None, option_map, is_some, sym, ap, ◌∙◌, subst}
-use Rattle.std.specs.Prelude.{IfSome}
-use Rattle.std.specs.Option.{option_zip}
-use Rattle.std.specs.List.{list_any, position}
-use Rattle.serde_json.specs.Data.{Data}
-use Rattle.serde_json.specs.Find.{as_str}
-use Rattle.ls_set.specs.declared.query.Query.{Query}
-use Rattle.ls_lists.proofs.Places.{is_some-position}
-use Rattle.ls_theory.specs.Starts.{Start}
-use Rattle.ls_theory.specs.Settings.{Settings}
-use Rattle.ls_theory.specs.declared.reply.Reply.{Reply}
-use Rattle.ls_lines.specs.Lines.{Text}
-use Rattle.ls_saved.specs.declared.version.Version.{Version}
-use Rattle.ls_saved.specs.Sessions.{Pupil}
-use Rattle.ls_saved.specs.Standing.{is_pupil}
-use Rattle.ls_saved.specs.Readers.{at_key, only_if}
-use Rattle.ls_saved.specs.Parts.{read_settings, read_start, read_course, read_pupil, pupil_from}
-use Rattle.ls_pupils.specs.Own.{is_named}
-use Rattle.ls_pupils.specs.Cases.{pupil_of}
-use Rattle.ls_pupils.specs.declared.cases.PupilCase.{PupilCase}
-use Rattle.ls_pupils.proofs.Named.{name_of}
+use Rattle.ls_store.proofs.Vocabulary.{◌∙◌, ◌≡◌, Bool, Data, IfSome, List, None, Option, Pupil, PupilCase, Query, Reply, Settings, Some, Start, Text, Version, ℕ, ap, as_str, at_key, codes, cond, false, is_named, is_pupil, is_some, is_some-position, list_any, name_of, only_if, option_map, option_zip, position, pupil_from, pupil_of, read_course, read_pupil, read_settings, read_start, subst, sym, true}
 
 -- ---- the name of a pupil is the one that stands in its object
 

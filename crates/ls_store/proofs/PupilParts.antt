@@ -1,23 +1,5 @@
 -- A pupil, from the parts of its object.
-use Rattle.std.proofs.Common.{◌≡◌, ℕ, Bool, true, false, cond, ◌&&◌, List, codes, Option, Some, None, option_map, refl, sym, ap, ◌∙◌}
-use Rattle.std.specs.Option.{option_zip}
-use Rattle.std.specs.List.{list_all}
-use Rattle.serde_json.specs.Data.{Data}
-use Rattle.serde_json.specs.Find.{as_str}
-use Rattle.ls_set.specs.Query.{is_good}
-use Rattle.ls_set.specs.declared.query.Query.{Query}
-use Rattle.ls_theory.specs.Starts.{Start}
-use Rattle.ls_theory.specs.Answering.{is_same_query}
-use Rattle.ls_theory.specs.Settings.{Settings}
-use Rattle.ls_theory.specs.declared.reply.Reply.{Reply}
-use Rattle.ls_domain.specs.Domains.{is_name}
-use Rattle.ls_files.specs.SurmiseFiles.{read_list}
-use Rattle.ls_lines.specs.Lines.{Text}
-use Rattle.ls_saved.specs.declared.version.Version.{Version}
-use Rattle.ls_saved.specs.Sessions.{Pupil}
-use Rattle.ls_saved.specs.Standing.{are_apart, is_pupil}
-use Rattle.ls_saved.specs.Readers.{at_key, only_if}
-use Rattle.ls_saved.specs.Parts.{read_settings, read_start, read_query, read_reply, read_pupil, pupil_from}
+use Rattle.ls_store.proofs.Vocabulary.{◌&&◌, ◌∙◌, ◌≡◌, Bool, Data, List, None, Option, Pupil, Query, Reply, Settings, Some, Start, Text, Version, ℕ, ap, are_apart, as_str, at_key, codes, cond, false, is_good, is_name, is_pupil, is_same_query, list_all, only_if, option_map, option_zip, pupil_from, read_list, read_pupil, read_query, read_reply, read_settings, read_start, refl, sym, true}
 use Rattle.ls_store.proofs.CaseParts.{can_follow}
 
 -- ---- the tests

@@ -1,19 +1,10 @@
 -- The states of a pupil, listed.
-use Rattle.std.proofs.Common.{◌≡◌, ℕ, ◌<◌, ◌≤◌, Bool, true, false, cond, leb, List, [], length, filter, Some, None, leb-true, refl, sym, ap, ◌∙◌, subst}
-use Rattle.std.proofs.lemmas.Bool.{lt-leb, le-leb}
-use Rattle.ls_set.specs.ItemSet.{Items, most_items}
-use Rattle.ls_set.specs.declared.query.Query.{Query}
-use Rattle.ls_theory.specs.Starts.{Start}
-use Rattle.ls_theory.specs.Queries.{breaks_none}
-use Rattle.ls_theory.specs.Compatible.{compat}
+use Rattle.ls_store.proofs.Vocabulary.{◌<◌, ◌∙◌, ◌≡◌, ◌≤◌, Bool, IsWeighable, Items, List, None, Query, Some, Start, StartOn, ℕ, [], ap, breaks_none, compat, cond, false, filter, le-leb, leb, leb-true, length, lt-leb, most_items, only_if, refl, subst, sym, true}
 use Rattle.ls_theory.specs.Settings.{Settings, most_states}
 use Rattle.ls_laws.specs.Families.{IsFamily}
 use Rattle.ls_laws.proofs.Families.{compat-IsFamily}
-use Rattle.ls_weight.specs.Weighings.{IsWeighable}
 use Rattle.ls_weight.proofs.Weighable.{family-weighable}
-use Rattle.ls_expert.specs.Starts.{StartOn}
 use Rattle.ls_expert.proofs.Ruling.{ruled-compat}
-use Rattle.ls_saved.specs.Readers.{only_if}
 
 pub are-states : (inner : StartOn) (rules : List Query) (n : ℕ) (start : Start) (own : List Query) (sets : List Items) → inner ≡ (let s : StartOn = record { item_count = n; start = start } in s) → rules ≡ own
     → sets ≡ filter (breaks_none rules) (compat inner.item_count inner.start []) → sets ≡ compat n start own

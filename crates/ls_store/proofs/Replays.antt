@@ -1,16 +1,9 @@
 -- Replies that are given once more, one after another.
-use Rattle.std.proofs.Common.{◌≡◌, ℕ, ◌+◌, ◌<◌, true, false, ◌&&◌, inl, inr, eqb, List, [], ◌∷◌, ◌++◌, take, drop, get_or, length, Option, Some, None, refl, sym, ap, ◌∙◌}
-use Rattle.std.proofs.lemmas.Bool.{cases_Bool}
-use Rattle.ls_lists.proofs.Places.{drop-next}
-use Rattle.ls_set.specs.ItemSet.{Items}
-use Rattle.ls_theory.specs.Settings.{Settings}
-use Rattle.ls_theory.specs.Assessment.{asked, reply_fault}
-use Rattle.ls_theory.specs.declared.reply.Reply.{Reply}
+use Rattle.ls_store.proofs.Vocabulary.{◌&&◌, ◌++◌, ◌+◌, ◌<◌, ◌∙◌, ◌∷◌, ◌≡◌, Items, List, None, Option, Reply, Settings, Some, ℕ, [], ap, asked, cases_Bool, drop, drop-next, eqb, false, follow, get_or, inl, inr, is_asked, length, refl, reply_fault, sym, take, true}
 use Rattle.ls_theory.specs.declared.asked.Asked.{Asked}
 use Rattle.ls_theory.specs.declared.asked.Asked.TheVariants.{Item, Over}
 use Rattle.ls_theory.specs.declared.reply_fault.ReplyFault.{ReplyFault}
 use Rattle.ls_theory.specs.declared.reply_fault.ReplyFault.TheVariants.{WrongItem}
-use Rattle.ls_saved.specs.Standing.{is_asked, follow}
 
 asked-taken : (x : Asked) (q : ℕ) → reply_fault x q ≡ None → is_asked x q ≡ true
 asked-taken (Over reason) q h = absurd (cc h)

@@ -4,14 +4,11 @@
 use Rattle.std.specs.Prelude.{ℕ, ◌≡◌, Result, Ok, Err, codes, ⊤}
 use Rattle.serde_json.specs.Data.{Data}
 use Rattle.ls_theory.specs.Settings.{Settings}
-use Rattle.ls_theory.specs.Interviews.{Interview}
+use Rattle.ls_theory.specs.{Interview}
 use Rattle.ls_saved.specs.declared.cause.Cause.{Cause}
 use Rattle.ls_saved.specs.declared.cause.Cause.TheVariants as cause
 use Rattle.ls_saved.specs.declared.version.Version.{Version}
-use Rattle.ls_saved.specs.Sessions.{Session}
-use Rattle.ls_saved.specs.Readers.{at_key}
-use Rattle.ls_saved.specs.Reading.{or_cause}
-use Rattle.ls_saved.specs.Parts.{read_limits, read_odds, settings_from, read_start, read_block, read_interview}
+use Rattle.ls_saved.specs.{Session, at_key, or_cause, read_block, read_interview, read_limits, read_odds, read_start, settings_from}
 use Rattle.ls_store.specs.declared.fault.SessionFault.{SessionFault}
 use Rattle.ls_store.specs.declared.fault.SessionFault.TheVariants.{BadSession, Memory}
 

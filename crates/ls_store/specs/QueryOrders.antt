@@ -6,7 +6,7 @@ use Rattle.std.specs.Cmp.{then_total, on_total, both_tied, nat_cmp_total, unsign
 use Rattle.std.specs.declared.cmp.Ordering.{Ordering}
 use Rattle.ls_set.specs.declared.query.Query.{Query}
 use Rattle.ls_clauses.specs.Orderings.{order_of}
-use Rattle.ls_theory.specs.Answering.{is_same_query}
+use Rattle.ls_theory.specs.{is_same_query}
 use Rattle.ls_family.specs.Orders.{order_of-total, same-order}
 
 -- how the first stands to the second

@@ -4,8 +4,8 @@ ghost use Rattle.std.proofs.Common.{rules};
 ghost use Rattle.std.specs.Cmp.Rules.{comparing};
 ghost use Rattle.std.specs.Ordering.{as_partial_cmp};
 ghost use Rattle.std.specs.Cmp.{partial_equiv_from_equiv};
-ghost use Rattle.ls_theory.specs.Answering.{is_same_query};
-ghost use Rattle.ls_saved.specs.Standing.{are_apart};
+ghost use Rattle.ls_theory.specs.{is_same_query};
+ghost use Rattle.ls_saved.specs.{are_apart};
 ghost use Rattle.ls_store.specs.QueryOrders.{query_order, query_order-total, query_order-partial, same-by_query_order, same_queries};
 
 use ls_set::Query;

@@ -1,7 +1,7 @@
 // The text of a session.
 ghost use Rattle.std.specs.Prelude.{◌≡◌, length, IfOk};
 ghost use Rattle.serde_json.specs.View.{view};
-ghost use Rattle.ls_saved.specs.Values.{session_text, session_value};
+ghost use Rattle.ls_saved.specs.{session_text, session_value};
 ghost use Rattle.ls_pupils.specs.Cases.{pupils_of, ArePupils};
 
 use crate::values::{pupils_value, start_value};

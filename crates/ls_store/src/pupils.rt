@@ -3,14 +3,11 @@ ghost use Rattle.std.specs.Prelude.{◌≡◌, ◌<◌, ◌≤◌, ◌&&◌, fal
 ghost use Rattle.std.specs.List.{list_all, list_any};
 ghost use Rattle.serde_json.specs.Find.{as_str};
 ghost use Rattle.serde_json.specs.View.{view};
-ghost use Rattle.ls_set.specs.Query.{is_good};
-ghost use Rattle.ls_theory.specs.Answering.{is_same_query};
+ghost use Rattle.ls_set.specs.{is_good};
+ghost use Rattle.ls_theory.specs.{is_same_query};
 ghost use Rattle.ls_domain.specs.Domains.{is_name};
 ghost use Rattle.ls_files.specs.SurmiseFiles.{read_list};
-ghost use Rattle.ls_saved.specs.Sessions.{Pupil};
-ghost use Rattle.ls_saved.specs.Readers.{at_key};
-ghost use Rattle.ls_saved.specs.Standing.{are_apart};
-ghost use Rattle.ls_saved.specs.Parts.{read_pupil, read_pupils, read_query, read_reply, read_settings};
+ghost use Rattle.ls_saved.specs.{Pupil, are_apart, at_key, read_pupil, read_pupils, read_query, read_reply, read_settings};
 ghost use Rattle.ls_pupils.specs.Own.{is_named};
 ghost use Rattle.ls_pupils.specs.Cases.{pupil_of, pupils_of, IsCase, ArePupils};
 ghost use Rattle.ls_pupils.specs.declared.cases.PupilCase.{PupilCase as Case};

@@ -1,7 +1,7 @@
 // Reading a session.
 ghost use Rattle.std.specs.Prelude.{◌≡◌, ◌<◌, ◌≤◌, length, Ok, IfOk, IfErr};
 ghost use Rattle.serde_json.specs.View.{view};
-ghost use Rattle.ls_saved.specs.Reading.{session_from, session_of};
+ghost use Rattle.ls_saved.specs.{session_from, session_of};
 ghost use Rattle.ls_pupils.specs.Cases.{ArePupils};
 ghost use Rattle.ls_store.specs.Chains.{GoesOn, IsSessionFault, interview_chain, settings_chain};
 ghost use Rattle.ls_store.specs.Stored.{session_of_parts};

@@ -1,7 +1,6 @@
 // Saved sessions.
 ghost use Rattle.std.specs.Prelude.{◌≡◌, length, Ok, IfOk, IfErr};
-ghost use Rattle.ls_saved.specs.Values.{session_text};
-ghost use Rattle.ls_saved.specs.Reading.{session_of};
+ghost use Rattle.ls_saved.specs.{session_of, session_text};
 ghost use Rattle.ls_pupils.specs.Cases.{ArePupils};
 ghost use Rattle.ls_store.specs.Chains.{IsSessionFault};
 ghost use Rattle.ls_store.specs.Stored.{session_of_saved};

@@ -5,7 +5,7 @@ ghost use Rattle.serde_json.specs.View.{view};
 ghost use Rattle.ls_clauses.specs.Surmise.{IsSurmise};
 ghost use Rattle.ls_expert.specs.Starts.{start_of, IsStartOn};
 ghost use Rattle.ls_files.specs.SurmiseFiles.{list_value};
-ghost use Rattle.ls_saved.specs.Values.{pupil_value, set_value, start_value};
+ghost use Rattle.ls_saved.specs.{pupil_value, set_value, start_value};
 ghost use Rattle.ls_pupils.specs.Cases.{pupil_of, pupils_of, IsCase};
 
 use ls_expert::Start;

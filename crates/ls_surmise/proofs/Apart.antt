@@ -1,21 +1,8 @@
 -- Clauses of which none lies within another, found by their order.
-use Rattle.std.proofs.Common.{◌≡◌, inl, inr, ℕ, ◌+◌, ◌-◌, ◌<◌, true, false, List, [], ◌∷◌, length, drop, get_or, None, refl, length-drop, sym, ap, ap₂, ◌∙◌, arith, true≢false}
+use Rattle.ls_surmise.proofs.Vocabulary.{◌+◌, ◌-◌, ◌<◌, ◌∙◌, ◌∷◌, ◌≡◌, AllByRecursion, AreApart, Decides-is_same, IsDistinct, IsInOrder, IsPutInOrder, IsWithin-from, Items, List, None, ℕ, [], among-at, ap, ap₂, are_comparable, arith, cases_eq, cases_order, clauses_of, comes_before, comes_before-irreflexive, comparable_in, differs_first, drop, empty, false, false_from_ne_true, get_or, get_or-drop, in_order-at, inl, inr, is_among, is_same, is_within, length, length-drop, list_any, none-comparable, place-of, refl, same_truth, some-among, sym, true, true≢false}
 use Rattle.std.specs.Cmp.{IsEquivalence}
-use Rattle.std.specs.List.{AllByRecursion, IsDistinct, list_any}
-use Rattle.std.proofs.lemmas.Bool.{cases_eq, cases_order, false_from_ne_true}
-use Rattle.std.proofs.lemmas.List.{get_or-drop}
 use Rattle.std.proofs.lemmas.Map.Made.{length-from_keys, IsDistinct-from_count}
 use Rattle.std.proofs.lemmas.Map.Keys.{apart_from_distinct}
-use Rattle.ls_lists.proofs.Bools.{same_truth}
-use Rattle.ls_set.specs.ItemSet.{Items, empty, is_same, is_within, is_among, comes_before, IsInOrder}
-use Rattle.ls_set.proofs.Sets.{Decides-is_same, IsWithin-from}
-use Rattle.ls_set.proofs.Order.{differs_first, comes_before-irreflexive}
-use Rattle.ls_laws.proofs.Lists.{some-among}
-use Rattle.ls_theory.specs.Clauses.{clauses_of, are_comparable, comparable_in}
-use Rattle.ls_clauses.specs.Surmise.{IsPutInOrder}
-use Rattle.ls_clauses.proofs.Places.{place-of, among-at, in_order-at}
-use Rattle.ls_clauses.proofs.Flaws.{none-comparable}
-use Rattle.ls_surmise.specs.Surmises.{AreApart}
 
 -- a set does not lie within one that it comes before
 pub earlier-apart : (s t : Items) → comes_before s t ≡ true → is_within s t ≡ false

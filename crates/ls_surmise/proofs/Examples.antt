@@ -1,12 +1,6 @@
 -- Examples on the items a b c: the clauses that bases give.
-use Rattle.std.proofs.Common.{ℕ, ◌≡◌, List, [], ◌∷◌, Result, Ok, Err, refl}
-use Rattle.ls_set.specs.ItemSet.{Items, has, empty, full, with, without, union, meet, minus, single, differing, is_within, is_same, bound, items, len, least, comes_before}
-use Rattle.ls_theory.specs.Families.{interior}
-use Rattle.ls_laws.specs.Spans.{spanned}
-use Rattle.ls_base.specs.Bases.{BaseState}
-use Rattle.ls_surmise.specs.Surmises.{surmised}
+use Rattle.ls_surmise.proofs.Vocabulary.{◌∷◌, ◌≡◌, BaseState, Err, Items, List, NotSpanning, Ok, Result, ℕ, [], bound, comes_before, differing, empty, full, has, interior, is_same, is_within, items, least, len, meet, minus, refl, single, spanned, surmised, union, with, without}
 use Rattle.ls_surmise.specs.declared.fault.FromFault.{FromFault}
-use Rattle.ls_surmise.specs.declared.fault.FromFault.TheVariants.{NotSpanning}
 
 -- an example that opens this opens each word
 unfoldable words : ℕ

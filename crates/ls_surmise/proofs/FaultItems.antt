@@ -1,19 +1,8 @@
 -- The items that a flaw names are items.
-use Rattle.std.proofs.Common.{◌≡◌, inl, inr, ℕ, zero, suc, ◌+◌, ◌<◌, Bool, true, false, not, cond, ◌==◌, List, [], ◌∷◌, length, find, Option, Some, None, refl, sym, ◌∙◌, subst, option_map, arith, ltb-true}
-use Rattle.std.specs.List.{All}
-use Rattle.std.specs.Option.{option_or}
+use Rattle.ls_surmise.proofs.Vocabulary.{◌+◌, ◌<◌, ◌==◌, ◌∙◌, ◌∷◌, ◌≡◌, All, Bool, Comparable, IsOn, Items, List, NoClause, None, NotClosed, Option, Reflexive, Some, SurmiseFault, ℕ, [], all_clauses, among-all, among-at, are_comparable, arith, bound, clause_at, clauses_of, comparable_at, comparable_in, cond, false, find, first_some, flaw, has, has-full, has_clause_within, inl, inr, items, lacking_in, length, ltb-true, no_clause, not, numbers_from, option_map, option_or, places_after, places_of, refl, subst, suc, surmise_items, sym, true, unclosed_at, unclosed_in, zero}
 use Rattle.ls_lists.specs.Lists.{IsIn}
-use Rattle.ls_set.specs.ItemSet.{Items, has, bound, items, numbers_from}
-use Rattle.ls_set.proofs.Sets.{has-full}
 use Rattle.ls_lists.proofs.Elements.{filter-in}
-use Rattle.ls_laws.specs.Spans.{IsOn}
 use Rattle.ls_laws.proofs.Listed.{numbers-in}
-use Rattle.ls_theory.specs.Clauses.{clauses_of, all_clauses, has_clause_within, first_some, clause_at, places_of, places_after, are_comparable, no_clause, lacking_in, unclosed_at, unclosed_in, comparable_at, comparable_in, flaw}
-use Rattle.ls_theory.specs.declared.surmise_fault.SurmiseFault.{SurmiseFault}
-use Rattle.ls_theory.specs.declared.surmise_fault.SurmiseFault.TheVariants.{NoClause, Reflexive, NotClosed, Comparable}
-use Rattle.ls_clauses.proofs.Clauses.{among-all}
-use Rattle.ls_clauses.proofs.Places.{among-at}
-use Rattle.ls_files.specs.SurmiseFiles.{surmise_items}
 
 abbrev AreItems : ℕ → SurmiseFault → Type 0
 AreItems n fault = All (λ q. q < n) (surmise_items fault)

@@ -1,27 +1,7 @@
 -- The surmise function of a file, step by step; and the items that a fault names.
-use Rattle.std.proofs.Common.{◌≡◌, inl, inr, ℕ, suc, ◌<◌, Bool, true, false, cond, ◌&&◌, List, [], ◌∷◌, map, length, Option, Some, None, is_some, Result, Ok, Err, refl, sym, ap, ◌∙◌, subst, bytes_eq, true≢false}
+use Rattle.ls_surmise.proofs.Vocabulary.{◌&&◌, ◌<◌, ◌∙◌, ◌∷◌, ◌≡◌, BadJson, BaseState, Bool, Comparable, Err, IsOn, IsSurmiseFaultOf, IsSurmiseOf, IsWideOf, IsWithin, Items, List, Memory, NoClause, None, NotClosed, Ok, Option, Reflexive, Result, Some, SurmiseFault, Table, Text, UnknownItem, Wide, ℕ, [], all_clauses, among-append, among-cases, and_parts, ap, are_named, base, bytes_eq, clauses_from, clauses_in, clauses_read, cond, empty-within, false, family, flaw, full, in_order, inl, inr, is_among, is_some, is_some-position, is_table_named, item_of-some, items, length, list_all, lookup, map, option_map_or, option_or, or_cases, position-lt, refl, result_ok, row_under, spanned, subst, suc, surmise_from, surmise_in, surmise_of, sym, table_of, true, true≢false, wide, with-within}
 use Rattle.std.specs.Prelude.{unwrap_or}
-use Rattle.std.specs.List.{list_all}
-use Rattle.std.specs.Map.{lookup}
-use Rattle.std.specs.Option.{option_map_or, option_or}
-use Rattle.std.proofs.lemmas.Bool.{and_parts, or_cases}
-use Rattle.std.specs.Result.{result_ok}
-use Rattle.ls_lists.proofs.Places.{is_some-position, position-lt}
-use Rattle.ls_set.specs.ItemSet.{Items, full, items, is_among, IsWithin}
-use Rattle.ls_set.proofs.Members.{among-cases, among-append}
-use Rattle.ls_set.proofs.Sets.{empty-within}
-use Rattle.ls_theory.specs.Clauses.{all_clauses, flaw}
-use Rattle.ls_theory.specs.declared.surmise_fault.SurmiseFault.{SurmiseFault}
-use Rattle.ls_theory.specs.declared.surmise_fault.SurmiseFault.TheVariants.{BadJson, UnknownItem, NoClause, Reflexive, NotClosed, Comparable, Wide, Memory}
-use Rattle.ls_theory.specs.Bases.{base}
-use Rattle.ls_laws.specs.Spans.{IsOn, spanned}
-use Rattle.ls_base.specs.Bases.{BaseState, family}
-use Rattle.ls_lines.specs.Lines.{Text}
 use Rattle.ls_domain.specs.Meanings.{is_named, number_of, item_of, items_of}
-use Rattle.ls_domain.proofs.Numbers.{item_of-some, with-within}
-use Rattle.ls_files.specs.SurmiseFiles.{Table, table_of, are_named, is_table_named, row_under, clauses_in, in_order, wide, surmise_from, surmise_in, surmise_of, IsSurmiseFaultOf}
-use Rattle.ls_surmise.specs.Reading.{clauses_from, clauses_read}
-use Rattle.ls_surmise.specs.Surmises.{IsSurmiseOf, IsWideOf}
 use Rattle.ls_surmise.proofs.Orderings.{put-surmise}
 
 -- ---- from what is read

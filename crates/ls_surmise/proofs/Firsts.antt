@@ -1,7 +1,5 @@
 -- Searches through numbers, by what is left of them.
-use Rattle.std.proofs.Common.{ℕ, suc, ◌+◌, ◌-◌, ◌<◌, ◌≡◌, Bool, false, ◌∷◌, find, Option, None, refl, sym, ap, ◌∙◌, arith}
-use Rattle.ls_set.specs.ItemSet.{numbers_from}
-use Rattle.ls_theory.specs.Clauses.{first_some}
+use Rattle.ls_surmise.proofs.Vocabulary.{◌+◌, ◌-◌, ◌<◌, ◌∙◌, ◌∷◌, ◌≡◌, Bool, None, Option, ℕ, ap, arith, false, find, first_some, numbers_from, refl, suc, sym}
 
 numbers-next : (j end : ℕ) → j < end → numbers_from j (end - j) ≡ j ∷ numbers_from (j + 1) (end - (j + 1))
 numbers-next j end l =

@@ -1,19 +1,9 @@
 -- Sets of a list in order that can't lie within a set, and are passed over at once.
-use Rattle.std.proofs.Common.{◌≡◌, inl, inr, ℕ, zero, suc, ◌+◌, ◌-◌, ◌<◌, ◌≤◌, Bool, true, false, not, ◌||◌, ◌&&◌, List, [], ◌∷◌, length, get_or, take, drop, Some, None, refl, sym, ap, ◌∙◌, subst, true≢false, arith, ltb}
-use Rattle.std.specs.List.{AllByRecursion, list_any}
+use Rattle.ls_surmise.proofs.Vocabulary.{◌&&◌, ◌+◌, ◌-◌, ◌<◌, ◌||◌, ◌∙◌, ◌∷◌, ◌≡◌, ◌≤◌, AllByRecursion, Bool, IsInOrder, IsWithin-from, Items, List, None, Some, ℕ, [], and_parts, ap, arith, back_in, cases_eq, cases_order, comes_before, comes_before-asymmetric, comes_before-at, comes_before-transitive, differs_first, drop, drop-drop, drop-next, drop_all, empty, false, false_from_ne_true, full, get_or, get_or_default, has, has-empty, has-minus, in_order-at, inl, inr, is_within, is_within-from, keep_before, least, len, length, list_any, ltb, members, minus, nat_tests, not, not-true, refl, subst, suc, sym, take, take_all, true, true≢false, union, zero}
 use Rattle.std.specs.List.Sorted.{IsPartitionedBy}
-use Rattle.std.proofs.lemmas.Bool.{cases_eq, cases_order, and_parts, not-true, false_from_ne_true}
-use Rattle.std.proofs.lemmas.Bool.Decides.{nat_tests}
-use Rattle.std.proofs.lemmas.List.{drop_all, drop-drop, take_all, get_or_default}
-use Rattle.ls_lists.proofs.Bools.{back_in}
-use Rattle.ls_lists.proofs.Places.{drop-next}
-use Rattle.ls_set.specs.ItemSet.{Items, has, empty, full, union, minus, keep_before, least, len, is_within, comes_before, IsInOrder}
-use Rattle.ls_set.proofs.Sets.{members, has-empty, has-minus, IsWithin-from, is_within-from}
 use Rattle.ls_set.proofs.Ascending.{least-cases}
 use Rattle.ls_set.proofs.Firsts.{items-none}
-use Rattle.ls_set.proofs.Order.{comes_before-at, differs_first, comes_before-asymmetric, comes_before-transitive}
 use Rattle.ls_laws.proofs.Counts.{len-zero}
-use Rattle.ls_clauses.proofs.Places.{in_order-at}
 
 -- the first set after d that may lie within c, where x is the least item of d that c lacks
 abbrev pub after : Items → Items → ℕ → Items

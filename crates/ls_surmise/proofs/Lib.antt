@@ -1,3 +1,4 @@
+mod Vocabulary
 mod OfBases
 mod PutMembers
 mod Printed

@@ -1,20 +1,6 @@
 -- Words that name items, one after another; and tables whose names are items.
-use Rattle.std.proofs.Common.{◌≡◌, ℕ, ◌+◌, ◌<◌, ◌≤◌, Bool, true, false, cond, ◌&&◌, List, ◌∷◌, length, get_or, drop, Option, Some, None, is_some, refl, sym, ap, ◌∙◌, option_map, option_and_then, bytes_eq, arith}
-use Rattle.std.specs.List.{list_all}
-use Rattle.std.proofs.lemmas.Bool.Decides.{nat_tests}
-use Rattle.std.proofs.lemmas.List.{drop_all}
-use Rattle.serde_json.specs.Data.{Items as Values}
-use Rattle.serde_json.specs.Find.{as_str}
-use Rattle.serde_json.specs.View.{view, items_view}
-use Rattle.serde_json.specs.declared.value.Value.{Value}
-use Rattle.ls_set.specs.ItemSet.{Items, empty, with, union}
-use Rattle.ls_set.proofs.Sets.{members, same_set, union-empty_left}
-use Rattle.ls_lists.proofs.Places.{is_some-position}
-use Rattle.ls_lines.specs.Lines.{Text}
+use Rattle.ls_surmise.proofs.Vocabulary.{◌&&◌, ◌+◌, ◌<◌, ◌∙◌, ◌∷◌, ◌≡◌, ◌≤◌, Bool, Items, List, None, Option, Some, Text, Value, Values, ℕ, ap, arith, as_str, bytes_eq, cond, drop, drop_all, empty, false, get_or, is_named-none, is_named-some, is_some, is_some-position, item_of-some, items_view, length, list_all, members, named_set, nat_tests, option_and_then, option_map, read_each, refl, same_set, sym, true, union, union-empty_left, view, with}
 use Rattle.ls_domain.specs.Meanings.{is_named, number_of, item_of, items_of}
-use Rattle.ls_domain.proofs.Numbers.{is_named-some, is_named-none, item_of-some}
-use Rattle.ls_files.specs.SurmiseFiles.{read_each}
-use Rattle.ls_surmise.specs.Reading.{named_set}
 use Rattle.ls_surmise.proofs.Walks.{next-item}
 
 -- a word has a number where it is a name

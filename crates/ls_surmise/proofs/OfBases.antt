@@ -1,19 +1,11 @@
 -- The surmise function of a base.
-use Rattle.std.proofs.Common.{ℕ, ◌≡◌, List, Option, Some, None, Result, Ok, Err, IfOk, refl, sym, ap, ◌∙◌}
+use Rattle.ls_surmise.proofs.Vocabulary.{◌∙◌, ◌≡◌, BaseState, Err, IfOk, IsSurmiseOf, Items, List, None, NotSpanning, Ok, Option, Result, Some, ℕ, all_clauses, ap, base, base-clauses, clauses_at, family, first_missing, full, interior, is_among, least, minus, refl, surmised, sym}
 use Rattle.std.specs.declared.alloc.AllocError.{AllocError}
-use Rattle.ls_set.specs.ItemSet.{Items, full, minus, least, is_among}
-use Rattle.ls_theory.specs.Families.{interior}
-use Rattle.ls_theory.specs.Bases.{base, first_missing}
 use Rattle.ls_laws.proofs.Families.{spanned-IsFamily}
-use Rattle.ls_base.specs.Bases.{BaseState, family}
 use Rattle.ls_base.proofs.Spanned.{base-on, interior-spanned}
 use Rattle.ls_base.proofs.Given.{first_missing-is}
-use Rattle.ls_theory.specs.Clauses.{all_clauses, clauses_at}
-use Rattle.ls_clauses.proofs.Clauses.{base-clauses}
 use Rattle.ls_clauses.proofs.Covers.{cover-least, cover-member}
 use Rattle.ls_clauses.proofs.FamilyClauses.{family-surmise, family-met}
-use Rattle.ls_surmise.specs.Surmises.{IsSurmiseOf, surmised}
-use Rattle.ls_surmise.specs.declared.fault.FromFault.TheVariants.{NotSpanning}
 
 -- the least item that the interior of the full set leaves is the least in no set of the base
 pub missing-is : (b : BaseState) (n : ℕ) (all inside left : Items) (found : Option ℕ) → base (family b) ≡ b.sets → n ≡ b.item_count → all ≡ full n → inside ≡ interior (family b) all → left ≡ minus all inside → found ≡ least left → found ≡ first_missing b.item_count b.sets

@@ -1,33 +1,11 @@
 -- Sets put in order, and the base of the clauses that are put in order.
-use Rattle.std.proofs.Common.{◌≡◌, ℕ, zero, suc, ◌+◌, ◌<◌, ◌≤◌, Bool, true, false, cond, List, [], ◌∷◌, ◌++◌, map, length, get_or, take, Option, Some, None, Ok, Err, refl, sym, ap, ap₂, ◌∙◌, subst, arith, le-ltb, lt-ltb}
+use Rattle.ls_surmise.proofs.Vocabulary.{◌++◌, ◌+◌, ◌<◌, ◌∙◌, ◌∷◌, ◌≡◌, ◌≤◌, BaseState, Bool, Clauses, Err, IsInOrder, IsInOrder-filter, IsOn, IsPutInOrder, IsSurmise, IsSurmiseOf, Items, List, None, Ok, Option, Sets, Some, Wide, ℕ, [], all_clauses, among-all, among-filter, among-subsets, and_from, and_parts, ap, ap₂, arith, base, based, clause-within, clauses_of, compat, compat-spanned, cond, false, family, first_missing, flaw, flawless-ordered, from-all, full, get_or, has_clause_within, in_order, is_among, is_same, is_within-from, le-ltb, length, limited, lt-ltb, map, map-append, most_base_sets, option_map_or, refl, result_ok, same_members, same_truth, spanned, subsets, subsets_from-in_order, subst, suc, sym, take, take_more, true, wide, within-clause, zero}
 use Rattle.std.specs.Prelude.{nat_lt, unwrap_or}
-use Rattle.std.specs.Option.{option_map_or}
-use Rattle.std.specs.Result.{result_ok}
-use Rattle.std.proofs.lemmas.Bool.{and_parts, and_from}
-use Rattle.std.proofs.lemmas.List.{map-append, take_more}
 use Rattle.std.proofs.lemmas.List.Elements.{filter_agree}
-use Rattle.ls_lists.proofs.Bools.{same_truth}
-use Rattle.ls_set.specs.ItemSet.{Items, full, is_same, is_among, subsets, IsInOrder}
-use Rattle.ls_set.proofs.Sets.{is_within-from}
-use Rattle.ls_set.proofs.Members.{among-filter}
-use Rattle.ls_set.proofs.Order.{among-subsets, subsets_from-in_order}
-use Rattle.ls_theory.specs.Starts.{Clauses, Sets}
-use Rattle.ls_theory.specs.Compatible.{compat}
-use Rattle.ls_theory.specs.Bases.{base, based, limited, first_missing, most_base_sets}
-use Rattle.ls_theory.specs.Clauses.{clauses_of, all_clauses, has_clause_within, flaw}
 use Rattle.ls_theory.specs.declared.base_fault.BaseFault.TheVariants.{NotSpanning, Past}
-use Rattle.ls_theory.specs.declared.surmise_fault.SurmiseFault.TheVariants.{Wide}
-use Rattle.ls_laws.specs.Spans.{IsOn, spanned}
-use Rattle.ls_laws.proofs.Lists.{IsInOrder-filter, same_members}
 use Rattle.ls_laws.proofs.Spans.{spanned-base, spanned-in_order, spanned-IsUnionFamily}
 use Rattle.ls_laws.proofs.BaseStarts.{compat-sets}
-use Rattle.ls_base.specs.Bases.{BaseState, family}
 use Rattle.ls_base.proofs.Below.{interior-same}
-use Rattle.ls_clauses.specs.Surmise.{IsSurmise, IsPutInOrder}
-use Rattle.ls_clauses.proofs.Clauses.{among-all, from-all, clause-within, within-clause, compat-spanned}
-use Rattle.ls_clauses.proofs.Flaws.{flawless-ordered}
-use Rattle.ls_files.specs.SurmiseFiles.{in_order, wide}
-use Rattle.ls_surmise.specs.Surmises.{IsSurmiseOf}
 
 -- ---- sets in order
 

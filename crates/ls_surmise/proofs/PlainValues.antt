@@ -1,18 +1,12 @@
 -- Values of texts, arrays and objects alone: the compact text is UTF-8, and reads as the value.
-use Rattle.std.proofs.Common.{◌≡◌, suc, ◌≤◌, max, Bool, true, false, [], ◌∷◌, Some, IsUtf8, refl, ap, sym, ◌∙◌, arith, append-nil, option_and_then, option_map}
-use Rattle.std.specs.Prelude.{⊤}
-use Rattle.std.proofs.lemmas.Str.{IsUtf8-append, is_utf8-from_IsUtf8}
+use Rattle.ls_surmise.proofs.Vocabulary.{◌∙◌, ◌∷◌, ◌≡◌, ◌≤◌, Bool, IsUtf8, IsUtf8-append, IsUtf8-are_ascii, IsUtf8-quoted, Some, [], ap, append-nil, arith, comma_if, compact_text, false, is_utf8-from_IsUtf8, items_outline, items_text, max, max_depth, members_outline, members_text, of_items, of_json, of_members, option_and_then, option_map, outline, read, refl, suc, sym, true, value_of, ⊤}
 use Rattle.json.specs.Json as json
 use Rattle.json.specs.Tree as tree
 use Rattle.json.specs.Lex.{tokens}
 use Rattle.json.proofs.Printed.Trees.{ArePrintable-json_tokens, value-json_tokens}
 use Rattle.json.proofs.Printed.Tokens.{tokens-print}
-use Rattle.json.proofs.Printed.Utf8.{IsUtf8-are_ascii, IsUtf8-quoted}
 use Rattle.serde_json.specs.Data.{Data, null, boolean, number, string, array, object, Items, no_items, item, Members, no_members, member, depth, items_depth, members_depth, put}
-use Rattle.serde_json.specs.Read.{read, max_depth, of_json, of_items, of_members}
-use Rattle.serde_json.specs.Written.{compact_text, items_text, members_text, comma_if, outline, items_outline, members_outline}
 use Rattle.serde_json.proofs.Texts.{print-outline}
-use Rattle.ls_files.specs.SurmiseFiles.{value_of}
 use Rattle.ls_surmise.proofs.PutMembers.{put_all}
 
 -- Each text is UTF-8, each object has its keys in order, and there is nothing else.

@@ -1,18 +1,6 @@
 -- The value of a surmise function, put together from the last item on.
-use Rattle.std.proofs.Common.{◌≡◌, ℕ, ◌+◌, ◌<◌, List, [], ◌∷◌, ◌++◌, length, map, drop, String, string_bytes, Global, false, refl, sym, ap, ap₂, ◌∙◌, rules, arith}
-use Rattle.std.specs.Prelude.{⊤}
-use Rattle.std.proofs.lemmas.List.{drop_more, drop_all, map_push}
-use Rattle.serde_json.specs.Data.{Data, string, Members, no_members, member, put}
-use Rattle.serde_json.specs.View.{view, items_of as values_of}
-use Rattle.serde_json.specs.Written.{has_float, items_have_float, members_have_float}
-use Rattle.serde_json.specs.declared.value.Value.{Value, the_lemmas}
+use Rattle.ls_surmise.proofs.Vocabulary.{◌++◌, ◌+◌, ◌<◌, ◌∙◌, ◌∷◌, ◌≡◌, All-given, Data, Global, Items, List, Members, String, Text, Value, ℕ, [], ap, ap₂, arith, clause_value, clauses_of, drop, drop_all, drop_more, false, has_float, items_have_float, length, list_value, map, map_push, member, members_from, members_have_float, name_of, names_of_set, no_members, put, refl, rules, string, string_bytes, surmise_value, sym, the_lemmas, values_of, view, ⊤}
 use Rattle.serde_json.specs.declared.value.Value.TheVariants as variant
-use Rattle.ls_lists.proofs.Every.{All-given}
-use Rattle.ls_set.specs.ItemSet.{Items}
-use Rattle.ls_theory.specs.Clauses.{clauses_of}
-use Rattle.ls_lines.specs.Lines.{Text}
-use Rattle.ls_domain.specs.Texts.{name_of, names_of_set}
-use Rattle.ls_files.specs.SurmiseFiles.{clause_value, list_value, members_from, surmise_value}
 use Rattle.ls_surmise.proofs.PutMembers.{EachMember, each-members}
 
 view-String : (s : String Global) → view (variant.String s) ≡ string (string_bytes s)

@@ -1,14 +1,5 @@
 -- Members that are put one after another: what holds of each, and that their keys stand in order.
-use Rattle.std.proofs.Common.{◌≡◌, List, [], ◌∷◌, Ordering, Less, Equal, Greater, nat_cmp, refl, sym, ap, ◌∙◌, subst}
-use Rattle.std.specs.Prelude.{⊤}
-use Rattle.std.specs.List.{AllByRecursion}
-use Rattle.std.specs.Ordering.{match_ordering, ordering_reverse}
-use Rattle.std.specs.Cmp.Lexicographic.{slice_cmp}
-use Rattle.std.proofs.lemmas.Cmp.{nat_list_cmp_total}
-use Rattle.serde_json.specs.Data.{Data, Members, no_members, member, put}
-use Rattle.ls_set.specs.ItemSet.{Items}
-use Rattle.ls_lines.specs.Lines.{Text}
-use Rattle.ls_files.specs.SurmiseFiles.{clause_value, list_value, members_from}
+use Rattle.ls_surmise.proofs.Vocabulary.{◌∙◌, ◌∷◌, ◌≡◌, AllByRecursion, Data, Equal, Greater, Items, Less, List, Members, Ordering, Text, [], ap, clause_value, list_value, match_ordering, member, members_from, nat_cmp, nat_list_cmp_total, no_members, ordering_reverse, put, refl, slice_cmp, subst, sym, ⊤}
 
 -- ---- each member
 

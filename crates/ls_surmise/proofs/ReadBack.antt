@@ -1,32 +1,8 @@
 -- What is printed of a surmise function is read as the same function.
-use Rattle.std.proofs.Common.{◌≡◌, ℕ, suc, ◌≤◌, ◌&&◌, true, false, List, [], ◌∷◌, map, length, Some, None, Ok, refl, sym, ap, ap₂, ◌∙◌, subst, arith, le-ltb}
-use Rattle.std.specs.Option.{option_map_or}
-use Rattle.std.specs.List.{AllByRecursion, IsDistinct, list_all}
+use Rattle.ls_surmise.proofs.Vocabulary.{◌&&◌, ◌∙◌, ◌∷◌, ◌≡◌, ◌≤◌, All-list_all, AllByRecursion, Clauses, IsDistinct, IsDomain, IsInOrder, IsInOrder-filter, IsOn, IsSurmise, Items, List, None, Ok, Some, Table, Text, ℕ, [], all-small, all_clauses, among-filter, among-here, among-subsets, among-there, and_from, and_parts, ap, ap₂, are_named, arith, base, base-ordered, bytes_eq-Decides, clauses_in, clauses_of, compat, each, false, full, in_order, is_among, is_table_named, is_within-from, le-ltb, length, list_all, list_all-All, map, most_base_sets, names_of_set, nat_list_eq_equiv, option_map_or, or_right, refl, row_under, same_members, same_truth, subsets, subsets_from-in_order, subst, suc, surmise-flawless, surmise_from, surmise_of, surmise_text, sym, table_of, true, wide}
 use Rattle.std.specs.Str.{bytes_eq}
-use Rattle.std.proofs.lemmas.Bool.{and_parts, and_from, or_right}
-use Rattle.std.proofs.lemmas.Cmp.{nat_list_eq_equiv}
-use Rattle.std.proofs.lemmas.Slice.Eq.{bytes_eq-Decides}
-use Rattle.ls_lists.proofs.Bools.{same_truth}
-use Rattle.ls_lists.proofs.Every.{All-list_all, each, list_all-All}
-use Rattle.ls_set.specs.ItemSet.{Items, full, subsets, is_among, IsInOrder}
-use Rattle.ls_set.proofs.Sets.{is_within-from}
-use Rattle.ls_set.proofs.Members.{among-here, among-there, among-filter}
-use Rattle.ls_set.proofs.Order.{among-subsets, subsets_from-in_order}
-use Rattle.ls_theory.specs.Starts.{Clauses}
-use Rattle.ls_theory.specs.Compatible.{compat}
-use Rattle.ls_theory.specs.Bases.{base, most_base_sets}
-use Rattle.ls_theory.specs.Clauses.{all_clauses, clauses_of}
-use Rattle.ls_laws.specs.Spans.{IsOn}
-use Rattle.ls_laws.proofs.Lists.{IsInOrder-filter, same_members}
-use Rattle.ls_clauses.specs.Surmise.{IsSurmise}
-use Rattle.ls_clauses.proofs.Clauses.{all-small, base-ordered}
-use Rattle.ls_clauses.proofs.Flaws.{surmise-flawless}
-use Rattle.ls_lines.specs.Lines.{Text}
-use Rattle.ls_domain.specs.Texts.{names_of_set}
 use Rattle.ls_domain.specs.Meanings.{is_named, items_of}
-use Rattle.ls_domain.specs.Domains.{IsDomain}
 use Rattle.ls_domain.proofs.NamedSets.{set-back, set-named}
-use Rattle.ls_files.specs.SurmiseFiles.{Table, are_named, clauses_in, in_order, is_table_named, row_under, surmise_from, surmise_of, surmise_text, table_of, wide}
 use Rattle.ls_surmise.proofs.RowTables.{insert_row, row_of, table_from, lookup-here, lookup-other, each-row, read-table}
 use Rattle.ls_surmise.proofs.SurmiseValues.{value_of-surmise_text}
 

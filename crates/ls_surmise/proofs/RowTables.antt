@@ -1,22 +1,8 @@
 -- The table that is read of members which are put one after another.
-use Rattle.std.proofs.Common.{◌≡◌, Bool, true, false, cond, List, [], ◌∷◌, map, Ordering, Less, Equal, Greater, nat_cmp, is_eq, Option, Some, None, option_map, option_and_then, refl, sym, ap, ◌∙◌, subst}
-use Rattle.std.specs.List.{list_all}
-use Rattle.std.specs.Ordering.{match_ordering}
-use Rattle.std.specs.Cmp.Lexicographic.{slice_cmp}
+use Rattle.ls_surmise.proofs.Vocabulary.{◌∙◌, ◌∷◌, ◌≡◌, Bool, Data, Equal, Greater, Items, Less, List, Members, None, Option, Ordering, Some, Table, Text, [], and_from, and_parts, ap, as_str, bytes_eq-Decides, clause_value, cond, false, is_eq, is_eq-slice_cmp, list_all, list_value, lookup, map, match_ordering, member, members_from, names_of_set, nat_cmp, no_members, option_and_then, option_map, put, read_clauses, read_each, read_members, refl, slice_cmp, string, subst, sym, true, values_of}
 use Rattle.std.specs.Str.{bytes_eq}
-use Rattle.std.specs.Map.{lookup}
 use Rattle.std.specs.BTreeMap.{insert_entry}
-use Rattle.std.proofs.lemmas.Bool.{and_parts, and_from}
-use Rattle.std.proofs.lemmas.Map.Text.{is_eq-slice_cmp}
 use Rattle.std.proofs.lemmas.Option.{same_Some}
-use Rattle.std.proofs.lemmas.Slice.Eq.{bytes_eq-Decides}
-use Rattle.serde_json.specs.Data.{Data, string, Members, no_members, member, put}
-use Rattle.serde_json.specs.Find.{as_str}
-use Rattle.serde_json.specs.View.{items_of as values_of}
-use Rattle.ls_set.specs.ItemSet.{Items}
-use Rattle.ls_lines.specs.Lines.{Text}
-use Rattle.ls_domain.specs.Texts.{names_of_set}
-use Rattle.ls_files.specs.SurmiseFiles.{Table, clause_value, list_value, members_from, read_each, read_members, read_clauses}
 
 -- ---- what was read
 

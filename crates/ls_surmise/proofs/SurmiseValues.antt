@@ -1,17 +1,5 @@
 -- The value of a surmise function is read from its text.
-use Rattle.std.proofs.Common.{◌≡◌, ℕ, zero, suc, ◌≤◌, true, List, [], ◌∷◌, map, Some, IsUtf8, refl, arith}
-use Rattle.std.specs.Prelude.{⊤}
-use Rattle.std.specs.List.{AllByRecursion, list_all}
-use Rattle.json.proofs.Printed.Utf8.{IsUtf8-are_ascii}
-use Rattle.serde_json.specs.Data.{Data, string, Members, no_members, member, depth, items_depth, members_depth}
-use Rattle.serde_json.specs.View.{items_of as values_of}
-use Rattle.ls_lists.proofs.Every.{All-given, each, list_all-All}
-use Rattle.ls_set.specs.ItemSet.{Items, items}
-use Rattle.ls_lines.specs.Lines.{Text}
-use Rattle.ls_domain.specs.Texts.{name_of, names_of_set}
-use Rattle.ls_domain.specs.Domains.{is_name}
-use Rattle.ls_domain.proofs.Numbers.{is_name-utf8}
-use Rattle.ls_files.specs.SurmiseFiles.{clause_value, list_value, members_from, surmise_value, surmise_text, value_of}
+use Rattle.ls_surmise.proofs.Vocabulary.{◌∷◌, ◌≡◌, ◌≤◌, All-given, AllByRecursion, Data, IsUtf8, IsUtf8-are_ascii, Items, List, Members, Some, Text, ℕ, [], arith, clause_value, depth, each, is_name, is_name-utf8, items, items_depth, list_all, list_all-All, list_value, map, member, members_depth, members_from, name_of, names_of_set, no_members, refl, string, suc, surmise_text, surmise_value, true, value_of, values_of, zero, ⊤}
 use Rattle.ls_surmise.proofs.PutMembers.{EachMember, each-members, sorted-members, put_all-sorted}
 use Rattle.ls_surmise.proofs.PlainValues.{IsPlain, ArePlain, MembersArePlain, value_of-compact_text}
 

@@ -1,22 +1,9 @@
 -- Tables whose names are those of items: what is read of them step by step is what they are defined to give.
-use Rattle.std.proofs.Common.{◌≡◌, ℕ, suc, ◌+◌, Bool, true, false, cond, ◌&&◌, List, [], ◌∷◌, map, length, get_or, Option, Some, None, is_some, unwrap_or, Ok, Err, refl, sym, ap, ap₂, ◌∙◌, subst, option_map, option_and_then, bytes_eq, true≢false, arith}
-use Rattle.std.specs.List.{list_all}
-use Rattle.std.specs.Map.{lookup}
-use Rattle.std.specs.Option.{option_map_or}
+use Rattle.ls_surmise.proofs.Vocabulary.{◌&&◌, ◌+◌, ◌∙◌, ◌∷◌, ◌≡◌, BadJson, Bool, Data, Err, List, Members, None, Ok, Option, Some, Table, Text, UnknownItem, Values, ℕ, [], and_parts, ap, ap₂, are_known, are_named, arith, array, as_array, as_str, boolean, bytes_eq, clauses_from, clauses_in, clauses_read, cond, false, get_member, get_or, is_eq-slice_cmp, is_known, is_some, is_table_named, item, length, list_all, lookup, map, member, no_items, no_members, null, number, numbers_from, object, option_and_then, option_map, option_map_or, read_all, read_clause, read_clauses, read_each, read_list, read_members, read_sets, read_table, refl, row_under, slice_cmp, string, subst, suc, sym, table_of, true, true≢false, unwrap_or, value_of}
 use Rattle.std.specs.Ordering.{is_eq, nat_cmp, match_ordering}
-use Rattle.std.specs.Cmp.Lexicographic.{slice_cmp}
 use Rattle.std.specs.declared.cmp.Ordering.{Ordering}
 use Rattle.std.specs.declared.cmp.Ordering.TheVariants.{Less, Equal, Greater}
-use Rattle.std.proofs.lemmas.Bool.{and_parts}
-use Rattle.std.proofs.lemmas.Map.Text.{is_eq-slice_cmp}
-use Rattle.serde_json.specs.Data.{Data, null, boolean, number, string, array, object, Items as Values, no_items, item, Members, no_members, member}
-use Rattle.serde_json.specs.Find.{as_str, as_array, get_member}
-use Rattle.ls_set.specs.ItemSet.{numbers_from}
-use Rattle.ls_theory.specs.declared.surmise_fault.SurmiseFault.TheVariants.{BadJson, UnknownItem}
-use Rattle.ls_lines.specs.Lines.{Text}
 use Rattle.ls_domain.specs.Meanings.{is_named, items_of}
-use Rattle.ls_files.specs.SurmiseFiles.{Table, read_each, read_list, read_members, read_clauses, read_table, value_of, table_of, are_named, is_table_named, row_under, clauses_in}
-use Rattle.ls_surmise.specs.Reading.{read_clause, read_sets, are_known, is_known, read_all, clauses_from, clauses_read}
 
 -- ---- values that are kept where they pass a test
 

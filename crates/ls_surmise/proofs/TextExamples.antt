@@ -1,10 +1,6 @@
 -- An example of the text of a surmise function: the item b comes first, and the key a.
-use Rattle.std.proofs.Common.{◌≡◌, ℕ, List, [], ◌∷◌, codes, refl}
+use Rattle.ls_surmise.proofs.Vocabulary.{◌∷◌, ◌≡◌, Items, List, Text, ℕ, [], bound, codes, has, items, members_from, names_of_set, refl, surmise_text}
 use Rattle.json.specs.Print.{escape_byte}
-use Rattle.ls_set.specs.ItemSet.{Items, has, bound, items}
-use Rattle.ls_lines.specs.Lines.{Text}
-use Rattle.ls_domain.specs.Texts.{names_of_set}
-use Rattle.ls_files.specs.SurmiseFiles.{members_from, surmise_text}
 
 abbrev set : ℕ → Items
 set digits = record { digits = digits }

@@ -1,9 +1,5 @@
 -- Lists of values and members of an object, read one after another.
-use Rattle.std.proofs.Common.{◌≡◌, ℕ, suc, ◌+◌, ◌<◌, Bool, List, [], ◌∷◌, ◌++◌, length, get_or, drop, Option, Some, None, is_some, refl, sym, ap, ◌∙◌, arith, option_map, option_and_then, append_assoc, drop-cons}
-use Rattle.serde_json.specs.Data.{Data, Items as Values}
-use Rattle.serde_json.specs.View.{view, items_view}
-use Rattle.serde_json.specs.declared.value.Value.{Value}
-use Rattle.ls_files.specs.SurmiseFiles.{read_each}
+use Rattle.ls_surmise.proofs.Vocabulary.{◌++◌, ◌+◌, ◌<◌, ◌∙◌, ◌∷◌, ◌≡◌, Bool, Data, List, None, Option, Some, Value, Values, ℕ, [], ap, append_assoc, arith, drop, drop-cons, get_or, is_some, items_view, length, option_and_then, option_map, read_each, refl, suc, sym, view}
 
 -- what was read, and the rest, are the whole
 abbrev pub IsRead : {X : Type 0} → (Data → Option X) → List X → List Value → Option (List X) → Type 0

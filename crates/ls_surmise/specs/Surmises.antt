@@ -1,12 +1,10 @@
 -- Surmise functions: what contracts see of them, and which one a base gives.
 use Rattle.std.specs.Prelude.{ℕ, ◌<◌, ◌≡◌, false, List, [], length, slice_index_or, Option, Some, Result, Ok, Err, ⊤}
 use Rattle.std.specs.Option.{option_map_or}
-use Rattle.ls_set.specs.ItemSet.{Items, empty}
+use Rattle.ls_set.specs.{Items, empty}
 use Rattle.ls_theory.specs.Starts.{Clauses}
-use Rattle.ls_theory.specs.Compatible.{compat}
-use Rattle.ls_theory.specs.Bases.{base, first_missing}
+use Rattle.ls_theory.specs.{are_comparable, base, clauses_at, compat, first_missing}
 use Rattle.ls_base.specs.Bases.{BaseState, family}
-use Rattle.ls_theory.specs.Clauses.{clauses_at, are_comparable}
 use Rattle.ls_theory.specs.declared.surmise_fault.SurmiseFault.{SurmiseFault}
 use Rattle.ls_theory.specs.declared.surmise_fault.SurmiseFault.TheVariants as surmise
 use Rattle.ls_clauses.specs.Surmise.{IsSurmise}

@@ -1,11 +1,10 @@
 // Laws of surmise functions and their texts.
 ghost use Rattle.std.specs.Prelude.{◌≡◌, ◌≤◌, List, [], Ok, length};
-ghost use Rattle.ls_set.specs.ItemSet.{Items};
+ghost use Rattle.ls_set.specs.{Items};
 ghost use Rattle.ls_theory.specs.Starts.{Clauses};
-ghost use Rattle.ls_theory.specs.Compatible.{compat};
-ghost use Rattle.ls_theory.specs.Bases.{base, most_base_sets};
+ghost use Rattle.ls_theory.specs.{base, compat, most_base_sets};
 ghost use Rattle.ls_clauses.specs.Surmise.{IsSurmise};
-ghost use Rattle.ls_lines.specs.Lines.{Text};
+ghost use Rattle.ls_lines.specs.{Text};
 ghost use Rattle.ls_domain.specs.Domains.{IsDomain};
 ghost use Rattle.ls_files.specs.SurmiseFiles.{surmise_of, surmise_text};
 

@@ -1,7 +1,6 @@
 // Clauses in the order of sets, and the base of distinct ones.
 ghost use Rattle.std.specs.Prelude.{◌≡◌, ◌≤◌, ℕ, None, Err, Ok, map, IfOk, IfErr, OnOk};
-ghost use Rattle.ls_theory.specs.Bases.{base};
-ghost use Rattle.ls_theory.specs.Clauses.{all_clauses};
+ghost use Rattle.ls_theory.specs.{all_clauses, base};
 ghost use Rattle.ls_laws.specs.Spans.{IsOn, spanned};
 ghost use Rattle.ls_base.specs.Bases.{family};
 ghost use Rattle.ls_files.specs.SurmiseFiles.{in_order, wide};

@@ -1,7 +1,7 @@
 // Whether a set of a list in order lies within another set.
 ghost use Rattle.std.specs.Prelude.{◌≡◌, ◌≤◌, ◌<◌, ℕ, true, length, slice_index_or};
 ghost use Rattle.std.specs.List.{list_any};
-ghost use Rattle.ls_set.specs.ItemSet.{empty, is_within, comes_before, IsInOrder};
+ghost use Rattle.ls_set.specs.{IsInOrder, comes_before, empty, is_within};
 
 use ls_set::ItemSet;
 

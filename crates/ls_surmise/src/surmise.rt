@@ -1,10 +1,9 @@
 // Surmise functions.
 ghost use Rattle.std.specs.Prelude.{◌≡◌, ◌<◌, ◌≤◌, Ok, length, IfOk, IfErr};
 ghost use Rattle.std.specs.List.{All};
-ghost use Rattle.ls_set.specs.ItemSet.{Items, is_among, most_items};
-ghost use Rattle.ls_theory.specs.Bases.{base};
+ghost use Rattle.ls_set.specs.{Items, is_among, most_items};
+ghost use Rattle.ls_theory.specs.{all_clauses, base, clauses_at, clauses_of};
 ghost use Rattle.ls_base.specs.Bases.{family};
-ghost use Rattle.ls_theory.specs.Clauses.{clauses_of, all_clauses, clauses_at};
 ghost use Rattle.ls_laws.specs.Spans.{IsOn};
 ghost use Rattle.ls_clauses.specs.Surmise.{IsSurmise};
 ghost use Rattle.ls_files.specs.SurmiseFiles.{surmise_from, surmise_of, surmise_items, IsSurmiseFaultOf};

@@ -1,8 +1,5 @@
 -- The items at which a set is an atom, as they are told.
-use Rattle.std.proofs.Common.{◌≡◌, ℕ, ◌<◌, Bool, true, false, ◌&&◌, List, length, map, get_or, refl, sym, ap, ◌∙◌}
-use Rattle.std.proofs.lemmas.List.{get_or-map}
-use Rattle.ls_set.specs.ItemSet.{Items, has, set_of}
-use Rattle.ls_theory.specs.Bases.{is_atom_at, atom_items}
+use Rattle.ls_texts.proofs.Vocabulary.{◌&&◌, ◌<◌, ◌∙◌, ◌≡◌, Bool, Items, List, ℕ, ap, atom_items, false, get_or, get_or-map, has, is_atom_at, length, map, refl, set_of, sym, true}
 use Rattle.ls_laws.proofs.ReadBack.{has-chosen}
 
 absorbed : (a b : Bool) → (a && (a && b)) ≡ (a && b)

@@ -1,28 +1,14 @@
 -- The text of a surmise function is that of its pieces.
-use Rattle.std.proofs.Common.{◌≡◌, ◌≢◌, ℕ, zero, suc, ◌+◌, ◌<◌, Bool, true, false, cond, List, [], ◌∷◌, ◌++◌, length, map, get_or, Less, Equal, Greater, refl, sym, ap, ap₂, ◌∙◌, arith, append_assoc, codes}
-use Rattle.std.specs.List.{All, IsDistinct, join_with_byte}
+use Rattle.ls_texts.proofs.Vocabulary.{◌++◌, ◌+◌, ◌<◌, ◌∙◌, ◌∷◌, ◌≡◌, ◌≢◌, All, All-head, All-tail, Bool, Equal, Greater, IsDistinct, IsDomain, Items, Less, List, Text, ℕ, [], ap, append_assoc, ap₂, arith, atoms_at, by_name, bytes_eq-Decides, clause_text, clauses_at, clauses_text, codes, comma_if, compact_text, cond, false, get_or, insert_by_name, items, items_by_name, items_text, join_with_byte, length, line_of, listed, map, members_text, name_of, names_of_set, numbers_from, quoted, quoted_name, refl, row_text, rows_text, slice_cmp, suc, sym, true, zero}
 use Rattle.std.specs.Ordering.{nat_cmp, is_lt, is_eq, match_ordering}
-use Rattle.std.specs.Cmp.Lexicographic.{slice_cmp}
 use Rattle.std.specs.Str.{bytes_eq}
-use Rattle.std.proofs.lemmas.List.Elements.{All-head, All-tail}
 use Rattle.std.proofs.lemmas.Map.Made.{AllPairs-from_IsDistinct}
 use Rattle.std.proofs.lemmas.Map.Text.{is_eq-slice_cmp}
-use Rattle.std.proofs.lemmas.Slice.Eq.{bytes_eq-Decides}
-use Rattle.json.specs.Print.{quoted}
 use Rattle.serde_json.specs.Data.{Data, string, Members, no_members, member, put}
 use Rattle.serde_json.specs.View.{items_of as values_of}
-use Rattle.serde_json.specs.Written.{comma_if, compact_text, items_text, members_text}
-use Rattle.ls_set.specs.ItemSet.{Items, items, numbers_from}
-use Rattle.ls_theory.specs.Bases.{atoms_at}
-use Rattle.ls_theory.specs.Clauses.{clauses_at}
-use Rattle.ls_lines.specs.Lines.{Text}
-use Rattle.ls_domain.specs.Texts.{name_of, names_of_set}
-use Rattle.ls_domain.specs.Domains.{IsDomain}
-use Rattle.ls_reply.specs.Texts.{line_of}
 use Rattle.ls_reply.specs.Lines.{surmise_words}
 use Rattle.ls_files.specs.SurmiseFiles.{list_value, clause_value, members_from, surmise_text}
 use Rattle.ls_texts.proofs.Names.{numbers-All, by_name-All}
-use Rattle.ls_texts.specs.SurmiseTexts.{insert_by_name, by_name, items_by_name, listed, quoted_name, clause_text, clauses_text, row_text, rows_text}
 
 -- ---- arrays
 

@@ -1,22 +1,8 @@
 -- The names of a set's items, group by group.
-use Rattle.std.proofs.Common.{◌≡◌, ℕ, zero, suc, ◌+◌, ◌-◌, ◌*◌, ◌/◌, ◌%◌, ◌^◌, ◌<◌, ◌≤◌, ◌≢◌, inl, inr, min, Bool, true, false, cond, eqb, List, [], ◌∷◌, ◌++◌, length, map, filter, drop, get_or, refl, sym, ap, ap₂, ◌∙◌, append-nil, arith, eq-eqb, ne_eqb, eqb-true}
-use Rattle.std.proofs.Math.ListN.{drop_of_length-le}
-use Rattle.std.specs.Int.{bit_at}
-use Rattle.std.specs.List.{flat_map, join_with_byte}
-use Rattle.std.proofs.lemmas.Bool.{cases_lt, agree_below_at}
-use Rattle.std.proofs.lemmas.Bool.Decides.{nat_tests}
-use Rattle.std.proofs.lemmas.List.{map-append}
-use Rattle.std.proofs.lemmas.List.Elements.{filter-append}
-use Rattle.std.proofs.lemmas.Grind.{flat_map-append}
+use Rattle.ls_texts.proofs.Vocabulary.{◌%◌, ◌*◌, ◌++◌, ◌+◌, ◌-◌, ◌/◌, ◌<◌, ◌^◌, ◌∙◌, ◌∷◌, ◌≡◌, ◌≢◌, ◌≤◌, Bool, IsWithin, Items, List, Text, ℕ, [], agree_below_at, ap, append-nil, ap₂, arith, bit_at, cases_lt, cond, drop, drop_of_length-le, eq-eqb, eqb, eqb-true, false, filter, filter-append, flat_map, flat_map-append, full, get_or, group_count, group_items, group_text, group_texts, has, inl, inr, items, join-spaced-one, join_with_byte, joined_names, length, map, map-append, min, name_of, names_of_set, nat_tests, ne_eqb, numbers_from, refl, single, spaced, spaced_names, suc, sym, true, zero}
 use Rattle.std.proofs.lemmas.Nat.Bits.{bit_at-zero}
-use Rattle.ls_set.specs.ItemSet.{Items, has, single, items, full, numbers_from, IsWithin}
 use Rattle.ls_set.proofs.Sets.{has-single}
 use Rattle.ls_set.proofs.Sizes.{numbers_from-add, filter-none, items-within}
-use Rattle.ls_lines.specs.Lines.{Text}
-use Rattle.ls_domain.specs.Texts.{name_of, names_of_set, joined_names}
-use Rattle.ls_texts.specs.SetTexts.{group_count, group_items, spaced_names, group_text, group_texts}
-use Rattle.ls_lists.specs.Lists.{spaced}
-use Rattle.ls_lists.proofs.Joins.{join-spaced-one}
 
 -- ---- numbers in a row
 

@@ -1,14 +1,5 @@
 -- The line of a set, and lines that are joined piece by piece.
-use Rattle.std.proofs.Common.{◌≡◌, ℕ, ◌+◌, ◌<◌, List, [], ◌∷◌, ◌++◌, length, map, take, get_or, ap, sym, ◌∙◌, append_assoc, append-nil, codes}
-use Rattle.std.specs.List.{join_with_byte}
-use Rattle.ls_set.specs.ItemSet.{Items}
-use Rattle.ls_set.specs.Cursor.{cursor}
-use Rattle.ls_lines.specs.Lines.{Text}
-use Rattle.ls_domain.specs.Texts.{joined_names}
-use Rattle.ls_reply.specs.Lines.{set_words}
-use Rattle.ls_lists.specs.Lists.{spaced}
-use Rattle.ls_lists.proofs.Joins.{join-spaced, join-spaced-one, spaced-next}
-use Rattle.ls_reply.specs.Texts.{line_of}
+use Rattle.ls_texts.proofs.Vocabulary.{◌++◌, ◌+◌, ◌<◌, ◌∙◌, ◌∷◌, ◌≡◌, Items, List, Text, ℕ, [], ap, append-nil, append_assoc, codes, cursor, get_or, join-spaced, join-spaced-one, join_with_byte, joined_names, length, line_of, map, set_words, spaced, spaced-next, sym, take}
 
 -- ---- lines
 

@@ -1,9 +1,5 @@
 -- Parts of bytes, which stay as they are where more bytes follow.
-use Rattle.std.proofs.Common.{◌≡◌, ℕ, suc, ◌≤◌, List, [], ◌∷◌, ◌++◌, length, map, refl, ap₂, ◌∙◌, arith, length-append}
-use Rattle.std.specs.List.{slice_range, All}
-use Rattle.std.proofs.lemmas.List.{map-append}
-use Rattle.std.proofs.lemmas.List.Elements.{All-push}
-use Rattle.ls_lists.proofs.Places.{part-kept, part-last}
+use Rattle.ls_texts.proofs.Vocabulary.{◌++◌, ◌∙◌, ◌∷◌, ◌≡◌, ◌≤◌, All, All-push, List, ℕ, [], ap₂, arith, length, length-append, map, map-append, part-kept, part-last, refl, slice_range, suc}
 
 -- parts by their bounds
 module _ {X : Type 0} (start end : X → ℕ) (ordered : (p : X) → start p ≤ end p) where

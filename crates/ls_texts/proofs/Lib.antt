@@ -1,3 +1,4 @@
+mod Vocabulary
 pub mod Saying
 pub mod Joins
 pub mod Kept

@@ -1,10 +1,5 @@
 -- Texts that are listed with commas: what was said, and what is left to say.
-use Rattle.std.proofs.Common.{◌≡◌, ℕ, ◌+◌, ◌<◌, ◌≤◌, Bool, true, false, List, [], ◌∷◌, ◌++◌, length, drop, filter, get_or, refl, sym, ap, ◌∙◌, append_assoc, append-nil}
-use Rattle.std.proofs.lemmas.List.{drop_more, drop_all}
-use Rattle.serde_json.specs.Written.{comma_if}
-use Rattle.ls_lists.proofs.Places.{drop-next}
-use Rattle.ls_lines.specs.Lines.{Text}
-use Rattle.ls_texts.specs.SurmiseTexts.{listed}
+use Rattle.ls_texts.proofs.Vocabulary.{◌++◌, ◌+◌, ◌<◌, ◌∙◌, ◌∷◌, ◌≡◌, ◌≤◌, Bool, List, Text, ℕ, [], ap, append-nil, append_assoc, comma_if, drop, drop-next, drop_all, drop_more, false, filter, get_or, length, listed, refl, sym, true}
 
 -- the list that is left is said behind what was given, and that is the whole
 abbrev pub Completes : {X : Type 0} → (X → Text) → Text → Bool → List X → Text → Type 0

@@ -1,19 +1,7 @@
 -- Names in quotes, and items in the order of their names.
-use Rattle.std.proofs.Common.{◌≡◌, ℕ, zero, suc, ◌+◌, ◌-◌, ◌<◌, ◌≤◌, Bool, true, false, cond, List, [], ◌∷◌, ◌++◌, inl, inr, length, get_or, refl, sym, ap, ap₂, ◌∙◌, arith}
-use Rattle.std.specs.List.{All, insert, list_all}
+use Rattle.ls_texts.proofs.Vocabulary.{◌++◌, ◌+◌, ◌-◌, ◌<◌, ◌∙◌, ◌∷◌, ◌≡◌, ◌≤◌, All, All-cons, All-head, All-nil, All-same, All-tail, Bool, IsDomain, List, Text, ℕ, [], and_parts, ap, ap₂, arith, by_name, cases_Bool, cond, escape, escape_byte, false, get_or, inl, inr, insert, insert_by_name, is_name, is_name_byte, is_of, items_by_name, length, list_all, name_of, nat_tests, numbers_from, quoted_name, refl, slice_cmp, suc, sym, true, zero}
 use Rattle.std.specs.Ordering.{nat_cmp, is_lt}
-use Rattle.std.specs.Cmp.Lexicographic.{slice_cmp}
-use Rattle.std.proofs.lemmas.Bool.{cases_Bool, and_parts}
-use Rattle.std.proofs.lemmas.Bool.Decides.{nat_tests}
-use Rattle.std.proofs.lemmas.List.Elements.{All-nil, All-cons, All-head, All-tail, All-same}
 use Rattle.std.proofs.lemmas.List.Folds.{list_all_at}
-use Rattle.json.specs.Print.{escape, escape_byte}
-use Rattle.ls_set.specs.ItemSet.{numbers_from}
-use Rattle.ls_lines.specs.Lines.{Text}
-use Rattle.ls_lines.specs.Kinds.{is_of, is_name_byte}
-use Rattle.ls_domain.specs.Domains.{is_name, IsDomain}
-use Rattle.ls_domain.specs.Texts.{name_of}
-use Rattle.ls_texts.specs.SurmiseTexts.{insert_by_name, by_name, items_by_name, quoted_name}
 
 -- ---- quotes
 

@@ -1,17 +1,5 @@
 -- Fronts of paths and their texts.
-use Rattle.std.proofs.Common.{◌≡◌, ℕ, ◌+◌, ◌<◌, false, true, List, [], ◌∷◌, ◌++◌, length, take, drop, get_or, eqb, Option, Some, None, IfSome, MatchOption, Bor, ap, sym, ◌∙◌, subst, arith, append_assoc, codes, length-append}
-use Rattle.std.specs.Cmp.Lexicographic.{pointwise}
-use Rattle.std.proofs.lemmas.Bool.Decides.{Decides-eqb}
-use Rattle.std.proofs.lemmas.Slice.Eq.{strip_prefix_is}
-use Rattle.std.proofs.lemmas.List.{get_or-append-add}
-use Rattle.std.specs.List.{All}
-use Rattle.std.proofs.lemmas.Grind.{flat_map-append}
-use Rattle.ls_lists.specs.Lists.{spaced}
-use Rattle.ls_lines.specs.Lines.{Text}
-use Rattle.ls_domain.specs.Texts.{name_of}
-use Rattle.ls_reply.specs.Texts.{line_of}
-use Rattle.ls_reply.specs.Lines.{path_words}
-use Rattle.ls_texts.specs.PathTexts.{PathFront, IsTextOf}
+use Rattle.ls_texts.proofs.Vocabulary.{◌++◌, ◌+◌, ◌<◌, ◌∙◌, ◌∷◌, ◌≡◌, All, Bor, Decides-eqb, IfSome, IsTextOf, List, MatchOption, None, Option, PathFront, Some, Text, ℕ, [], ap, append_assoc, arith, codes, drop, eqb, false, flat_map-append, get_or, get_or-append-add, length, length-append, line_of, name_of, path_words, pointwise, spaced, strip_prefix_is, subst, sym, take, true}
 use Rattle.ls_texts.proofs.Joins.{line-images}
 
 -- what stands behind a front

@@ -1,13 +1,11 @@
 -- What is said, piece by piece.
-use Rattle.std.proofs.Common.{◌≡◌, ℕ, ◌≤◌, List, [], ◌++◌, Result, Ok, Err, Some, None, length, take, drop, is_some, true, refl, sym, ap, ◌∙◌, subst, arith, append_assoc, append-nil, take-append-drop, length-append}
-use Rattle.std.proofs.Math.Seq.{take-length, take-append_seam}
+use Rattle.ls_texts.proofs.Vocabulary.{◌++◌, ◌∙◌, ◌≡◌, ◌≤◌, Ends, Err, HasSaid, List, None, Ok, Result, RoomState, Says, Sends, Some, Wrote, ℕ, [], ap, append-nil, append_assoc, arith, drop, is_some, length, length-append, no_reply, refl, subst, sym, take, take-append-drop, take-append_seam, take-length, true}
 use Rattle.std.specs.declared.option.Option.{Option}
 use Rattle.std.specs.Io.KnownBytes.{Appends}
 use Rattle.ls_edge.specs.Causes.{Rose, AppendsFront, HasSinkCause}
 use Rattle.ls_edge.specs.declared.traits.SinkFault.{SinkFault}
 use Rattle.ls_edge.specs.declared.traits.SinkFault.TheVariants as sink
 use Rattle.ls_edge.proofs.Known.{appends_more, appends_none}
-use Rattle.ls_texts.specs.Rooms.{RoomState, HasSaid, Says, Sends, Wrote, Ends, no_reply}
 
 -- ---- one after the other
 

@@ -1,6 +1,6 @@
 -- The names of items, where a domain stands.
 use Rattle.std.specs.Prelude.{◌<◌, ℕ, List, [], length, Option, Some, None, All}
-use Rattle.ls_lines.specs.Lines.{Text}
+use Rattle.ls_lines.specs.{Text}
 
 -- the names of the items, none where no domain stands
 abbrev pub names_in : Option (List Text) → List Text

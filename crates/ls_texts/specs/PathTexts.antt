@@ -1,7 +1,7 @@
 -- The front of a learning path, with its text.
 use Rattle.std.specs.Prelude.{◌≡◌, ℕ, List, []}
 use Rattle.ls_lists.specs.Lists.{spaced}
-use Rattle.ls_lines.specs.Lines.{Text}
+use Rattle.ls_lines.specs.{Text}
 use Rattle.ls_domain.specs.Texts.{name_of}
 
 -- the first items of an order, and a text

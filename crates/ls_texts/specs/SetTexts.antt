@@ -2,8 +2,8 @@
 use Rattle.std.specs.Prelude.{ℕ, ◌+◌, ◌-◌, ◌*◌, ◌/◌, ◌%◌, Bool, ◌==◌, min, List, ◌∷◌, map, filter, length}
 use Rattle.std.specs.Int.{bit_at}
 use Rattle.std.specs.List.{flat_map}
-use Rattle.ls_set.specs.ItemSet.{numbers_from}
-use Rattle.ls_lines.specs.Lines.{Text}
+use Rattle.ls_set.specs.{numbers_from}
+use Rattle.ls_lines.specs.{Text}
 use Rattle.ls_domain.specs.Texts.{name_of}
 
 -- how many groups n items have

@@ -4,9 +4,9 @@ use Rattle.std.specs.Ordering.{nat_cmp, is_lt}
 use Rattle.std.specs.Cmp.Lexicographic.{slice_cmp}
 use Rattle.json.specs.Print.{quoted}
 use Rattle.serde_json.specs.Written.{comma_if}
-use Rattle.ls_set.specs.ItemSet.{Items, items, numbers_from}
-use Rattle.ls_theory.specs.Bases.{atoms_at}
-use Rattle.ls_lines.specs.Lines.{Text}
+use Rattle.ls_set.specs.{Items, items, numbers_from}
+use Rattle.ls_theory.specs.{atoms_at}
+use Rattle.ls_lines.specs.{Text}
 use Rattle.ls_domain.specs.Texts.{name_of}
 
 -- ---- the order of names

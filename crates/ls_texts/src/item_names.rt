@@ -1,9 +1,9 @@
 // The names of items in a domain, where one stands.
 ghost use Rattle.std.specs.Prelude.{◌≡◌, ◌<◌, ◌∷◌, [], ◌++◌, length, option_copied};
 ghost use Rattle.ls_lists.specs.Lists.{spaced};
-ghost use Rattle.ls_set.specs.ItemSet.{items};
+ghost use Rattle.ls_set.specs.{items};
 ghost use Rattle.ls_domain.specs.Texts.{name_of, joined_names};
-ghost use Rattle.ls_reply.specs.Refusals.{double_words};
+ghost use Rattle.ls_reply.specs.{double_words};
 ghost use Rattle.ls_texts.specs.Rooms.{Says};
 ghost use Rattle.ls_texts.specs.Names.{names_in, AreNamed};
 

@@ -2,10 +2,9 @@
 ghost use Rattle.std.specs.Prelude.{◌≡◌, ◌<◌, ◌≤◌, false, length, map};
 ghost use Rattle.std.specs.List.{All};
 ghost use Rattle.serde_json.specs.Written.{comma_if};
-ghost use Rattle.ls_set.specs.ItemSet.{full, items, set_of, IsWithin};
-ghost use Rattle.ls_theory.specs.Bases.{atoms_at, atom_items};
-ghost use Rattle.ls_theory.specs.Clauses.{clauses_at};
-ghost use Rattle.ls_reply.specs.Texts.{line_of};
+ghost use Rattle.ls_set.specs.{IsWithin, full, items, set_of};
+ghost use Rattle.ls_theory.specs.{atom_items, atoms_at, clauses_at};
+ghost use Rattle.ls_reply.specs.{line_of};
 ghost use Rattle.ls_reply.specs.Lines.{surmise_words};
 ghost use Rattle.ls_texts.specs.Rooms.{Says};
 ghost use Rattle.ls_texts.specs.SurmiseTexts.{listed, quoted_name, clause_text, row_text};

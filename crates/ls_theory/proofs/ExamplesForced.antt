@@ -1,12 +1,6 @@
 -- Examples: interviews on a few items, what their answers force, and what is asked next.
-use Rattle.std.proofs.Common.{◌≡◌, refl, true, false, [], ◌∷◌, length, Some, None}
-use Rattle.ls_set.specs.ItemSet.{subsets}
+use Rattle.ls_theory.proofs.Vocabulary.{◌∷◌, ◌≡◌, Free, Interview, None, Some, [], accepted, begun, compatible_sets, false, is_settled, known, length, next_question, refl, retracted, spaces_of, subsets, true}
 use Rattle.ls_theory.specs.declared.known.Known.TheVariants as Known
-use Rattle.ls_theory.specs.Starts.{Free}
-use Rattle.ls_theory.specs.Interviews.{Interview, begun, accepted, retracted}
-use Rattle.ls_theory.specs.Compatible.{compatible_sets}
-use Rattle.ls_theory.specs.Fitting.{spaces_of}
-use Rattle.ls_theory.specs.Forced.{known, next_question, is_settled}
 use Rattle.ls_theory.proofs.Small.{words, ∅, a, b, ab, ac, c, ◌∶◌, six}
 
 fitting : length (spaces_of six) ≡ 14

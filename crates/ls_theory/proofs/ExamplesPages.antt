@@ -1,9 +1,6 @@
 -- Examples: pages of sets and of learning paths.
-use Rattle.std.proofs.Common.{◌≡◌, refl, true, false, [], ◌∷◌, Some, None}
-use Rattle.ls_set.specs.ItemSet.{comes_before, subsets}
-use Rattle.ls_theory.specs.Words.{is_lex_before}
+use Rattle.ls_theory.proofs.Vocabulary.{◌∷◌, ◌≡◌, None, Some, [], comes_before, false, is_lex_before, paths, refl, subsets, true}
 use Rattle.ls_theory.specs.Pages.{page}
-use Rattle.ls_theory.specs.Paths.{paths}
 use Rattle.ls_theory.proofs.Small.{words, ∅, a, b, ab, c, ac, bc, abc, six_states}
 
 -- from the start, after a member, and after a set that is none

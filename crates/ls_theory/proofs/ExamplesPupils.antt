@@ -1,5 +1,5 @@
 -- Examples: two pupils assessed on the six states, reply by reply.
-use Rattle.std.proofs.Common.{ℕ, ◌≡◌, refl, true, false, List, [], ◌∷◌, map, take, Some, None}
+use Rattle.ls_theory.proofs.Vocabulary.{◌∷◌, ◌≡◌, List, None, Some, ℕ, [], asked, class_results, false, map, mass, outcome, refl, reply_fault, take, total, true, weight}
 use Rattle.ls_theory.specs.declared.ratio.Ratio.{Ratio}
 use Rattle.ls_theory.specs.declared.reply.Reply.{Reply}
 use Rattle.ls_theory.specs.declared.reason.Reason.TheVariants.{Share, Budget}
@@ -7,10 +7,7 @@ use Rattle.ls_theory.specs.declared.reply_fault.ReplyFault.TheVariants as fault
 use Rattle.ls_theory.specs.declared.reply_fault.ReplyFault.TheVariants.{WrongItem}
 use Rattle.ls_theory.specs.declared.asked.Asked.{Asked}
 use Rattle.ls_theory.specs.declared.asked.Asked.TheVariants.{Item, Over}
-use Rattle.ls_theory.specs.Weights.{weight, mass, total}
 use Rattle.ls_theory.specs.Settings.{Settings, odds, standard, with_all, with_limits, are_settings, heavy_after}
-use Rattle.ls_theory.specs.Assessment.{asked, outcome, reply_fault}
-use Rattle.ls_theory.specs.Classes.{class_results}
 use Rattle.ls_theory.proofs.Small.{words, ∅, a, ac, six_states}
 
 abbrev right : ℕ → Reply

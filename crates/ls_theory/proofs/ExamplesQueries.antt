@@ -1,13 +1,6 @@
 -- Examples: queries that sets break, blocks, interiors, starts and compatible sets on the items a b c.
-use Rattle.std.proofs.Common.{◌≡◌, refl, true, false, [], ◌∷◌, length}
+use Rattle.ls_theory.proofs.Vocabulary.{◌∷◌, ◌≡◌, Free, Sets, [], accepted, begun, blocks, breaks, closure, compat, compatible_sets, false, interior, length, pairs, queries, query_before, refl, retracted, subsets, true, yes_queries}
 use Rattle.std.specs.List.{list_all}
-use Rattle.ls_set.specs.ItemSet.{subsets}
-use Rattle.ls_theory.specs.Words.{pairs}
-use Rattle.ls_theory.specs.Queries.{breaks, query_before, blocks, queries}
-use Rattle.ls_theory.specs.Families.{interior, closure}
-use Rattle.ls_theory.specs.Starts.{Free, Sets}
-use Rattle.ls_theory.specs.Interviews.{begun, accepted, retracted, yes_queries}
-use Rattle.ls_theory.specs.Compatible.{compat, compatible_sets}
 use Rattle.ls_theory.proofs.Small.{words, ∅, a, b, ab, c, ac, bc, abc, ◌∶◌, six, six_states}
 
 -- only a set with b and without a breaks it

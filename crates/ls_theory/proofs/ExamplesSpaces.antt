@@ -1,10 +1,5 @@
 -- Examples: surmise functions, bases, peaks and verdicts on the items a b c.
-use Rattle.std.proofs.Common.{◌≡◌, refl, true, false, [], ◌∷◌, Some, None}
-use Rattle.ls_theory.specs.declared.verdict.Verdict.TheVariants.{NoEmpty, NoFull, NotClosed, NotGraded, Learning}
-use Rattle.ls_theory.specs.Starts.{Start, Free, Clauses}
-use Rattle.ls_theory.specs.Compatible.{compat}
-use Rattle.ls_theory.specs.Bases.{atoms_at, base, peak, peak_of}
-use Rattle.ls_theory.specs.Verdict.{is_learning_space, verdict}
+use Rattle.ls_theory.proofs.Vocabulary.{◌∷◌, ◌≡◌, Clauses, Free, Learning, NoEmpty, NoFull, None, NotClosed, NotGraded, Some, Start, [], atoms_at, base, compat, false, is_learning_space, peak, peak_of, refl, true, verdict}
 use Rattle.ls_theory.proofs.Small.{words, ∅, a, b, ab, c, ac, bc, abc, ◌∶◌, six, six_states}
 
 -- a surmise function in which b has two clauses

@@ -1,8 +1,5 @@
 -- Examples: fringes and projections of the six states.
-use Rattle.std.proofs.Common.{◌≡◌, refl, [], ◌∷◌, Some, None}
-use Rattle.ls_theory.specs.declared.verdict.Verdict.TheVariants.{Learning}
-use Rattle.ls_theory.specs.Verdict.{verdict}
-use Rattle.ls_theory.specs.Fringes.{inner_fringe, outer_fringe, fringes, state_of}
+use Rattle.ls_theory.proofs.Vocabulary.{◌∷◌, ◌≡◌, Learning, None, Some, [], fringes, inner_fringe, outer_fringe, refl, state_of, verdict}
 use Rattle.ls_theory.specs.Projections.{projection}
 use Rattle.ls_theory.proofs.Small.{words, ∅, a, b, c, ac, bc, six_states}
 

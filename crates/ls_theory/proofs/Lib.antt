@@ -1,3 +1,4 @@
+mod Vocabulary
 pub mod Numbers
 mod Small
 mod ExamplesQueries

@@ -1,6 +1,5 @@
 -- Numbers in a row, and the items of a set among them.
-use Rattle.std.proofs.Common.{ℕ, zero, suc, ◌+◌, ◌-◌, ◌<◌, ◌≤◌, ◌≡◌, [], ◌∷◌, ◌++◌, ap, ◌∙◌, arith, add-one}
-use Rattle.ls_set.specs.ItemSet.{numbers_from}
+use Rattle.ls_theory.proofs.Vocabulary.{◌++◌, ◌+◌, ◌-◌, ◌<◌, ◌∙◌, ◌∷◌, ◌≡◌, ◌≤◌, ℕ, [], add-one, ap, arith, numbers_from, suc, zero}
 
 numbers_suc : (i m : ℕ) → numbers_from i (suc m) ≡ numbers_from i m ++ (i + m) ∷ []
 numbers_suc i zero = ap (λ k. k ∷ []) (let e : i ≡ i + 0 = omega arith in e)

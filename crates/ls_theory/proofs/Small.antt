@@ -1,21 +1,7 @@
 -- What the examples share: sets of the items a b c, queries on them, and the interview in which all who fail a fail b.
 use Rattle.std.specs.Prelude.{ℕ, true, List, [], ◌∷◌}
-use Rattle.ls_set.specs.ItemSet.{Items, has, empty, full, with, without, union, meet, minus, single, differing, is_within, is_same, bound, items, len, least, comes_before}
+use Rattle.ls_theory.proofs.Vocabulary.{Free, Interview, Items, accepted, asked, base, begun, block_before, blocks, bound, class_results, comes_before, compat, differing, empty, families, fitting_spaces, full, half_split, has, imbalance, inner_fringe, interior, is_joined, is_same, is_settled, is_well_graded, is_within, items, known, leader, least, len, meet, minus, next_question, orders_of, outer_fringe, paths, peak, queries, query_before, replies_in, single, state_of, union, verdict, weight, with, without}
 use Rattle.ls_set.specs.declared.query.Query.{Query}
-use Rattle.ls_theory.specs.Queries.{block_before, query_before, blocks, queries}
-use Rattle.ls_theory.specs.Starts.{Free}
-use Rattle.ls_theory.specs.Families.{families, interior}
-use Rattle.ls_theory.specs.Interviews.{Interview, begun, accepted}
-use Rattle.ls_theory.specs.Compatible.{compat}
-use Rattle.ls_theory.specs.Fitting.{fitting_spaces}
-use Rattle.ls_theory.specs.Forced.{known, next_question, is_settled}
-use Rattle.ls_theory.specs.Bases.{base, peak}
-use Rattle.ls_theory.specs.Verdict.{is_joined, is_well_graded, verdict}
-use Rattle.ls_theory.specs.Fringes.{inner_fringe, outer_fringe, state_of}
-use Rattle.ls_theory.specs.Paths.{orders_of, paths}
-use Rattle.ls_theory.specs.Weights.{weight}
-use Rattle.ls_theory.specs.Assessment.{imbalance, half_split, leader, asked}
-use Rattle.ls_theory.specs.Classes.{replies_in, class_results}
 
 -- an example that opens this opens each word
 unfoldable pub words : ℕ

@@ -2,8 +2,7 @@
 --     refusal i r is_yes      why the interview does not take the answer to r, if it does not
 use Rattle.std.specs.Prelude.{ℕ, ◌≡◌, Bool, true, false, ◌&&◌, ◌||◌, ◌==◌, nat_lt, nat_le, if◌then◌else◌, length, find, Option, Some, None, ⊤}
 use Rattle.std.specs.Option.{option_map}
-use Rattle.ls_set.specs.ItemSet.{is_same}
-use Rattle.ls_set.specs.Query.{is_good}
+use Rattle.ls_set.specs.{is_good, is_same}
 use Rattle.ls_set.specs.declared.query.Query.{Query}
 use Rattle.ls_theory.specs.declared.answer.Answer.{Answer}
 use Rattle.ls_theory.specs.declared.known.Known.{Known}

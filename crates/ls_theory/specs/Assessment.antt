@@ -1,7 +1,7 @@
 -- The assessment of one pupil: the half-split question, the leader, and when it is over.
 use Rattle.std.specs.Prelude.{ℕ, ◌*◌, Bool, ◌==◌, nat_le, if◌then◌else◌, List, length, Option, Some, None, unwrap_or}
 use Rattle.std.specs.Int.{abs_diff}
-use Rattle.ls_set.specs.ItemSet.{Items, empty, numbers_from}
+use Rattle.ls_set.specs.{Items, empty, numbers_from}
 use Rattle.ls_theory.specs.Words.{first_least, first_greatest}
 use Rattle.ls_theory.specs.declared.ratio.Ratios.{Ratios}
 use Rattle.ls_theory.specs.declared.reply.Reply.{Reply}

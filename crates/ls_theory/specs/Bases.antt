@@ -2,7 +2,7 @@
 use Rattle.std.specs.Prelude.{ℕ, suc, Bool, not, ◌&&◌, nat_lt, if◌then◌else◌, List, [], map, filter, find, length, take, Option, option_map, Result, Ok, Err}
 use Rattle.std.specs.List.{list_any}
 use Rattle.std.specs.Option.{option_map_or}
-use Rattle.ls_set.specs.ItemSet.{Items, has, full, minus, least, is_same, is_within, items, set_of, numbers_from}
+use Rattle.ls_set.specs.{Items, full, has, is_same, is_within, items, least, minus, numbers_from, set_of}
 use Rattle.ls_set.specs.declared.query.Query.{Query}
 use Rattle.ls_theory.specs.declared.base_fault.BaseFault.{BaseFault}
 use Rattle.ls_theory.specs.declared.base_fault.BaseFault.TheVariants.{NotSpanning, Past}

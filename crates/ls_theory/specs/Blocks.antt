@@ -2,7 +2,7 @@
 --     made n k      the blocks up to k of n items, or what is wrong
 use Rattle.std.specs.Prelude.{ℕ, ◌-◌, ◌≡◌, Bool, ◌||◌, ◌==◌, nat_lt, max, if◌then◌else◌, length, find, Result, Ok, Err, ⊤}
 use Rattle.std.specs.Option.{option_map_or}
-use Rattle.ls_set.specs.ItemSet.{numbers_from}
+use Rattle.ls_set.specs.{numbers_from}
 use Rattle.ls_theory.specs.declared.block_fault.BlockFault.{BlockFault}
 use Rattle.ls_theory.specs.declared.block_fault.BlockFault.TheVariants.{BadBlock, TooWide, Memory}
 use Rattle.ls_theory.specs.Queries.{blocks}

@@ -1,6 +1,6 @@
 -- Which assessments a program of 128 bits can follow.
 use Rattle.std.specs.Prelude.{◌*◌, ◌^◌, ◌<◌, List}
-use Rattle.ls_set.specs.ItemSet.{Items}
+use Rattle.ls_set.specs.{Items}
 use Rattle.ls_theory.specs.declared.reply.Reply.{Reply}
 use Rattle.ls_theory.specs.Weights.{weight, total}
 use Rattle.ls_theory.specs.Settings.{Settings}

@@ -1,6 +1,6 @@
 -- A class: each pupil's assessment, answered by a table.
 use Rattle.std.specs.Prelude.{ℕ, zero, suc, if◌then◌else◌, List, [], ◌∷◌, ◌++◌, map, length}
-use Rattle.ls_set.specs.ItemSet.{Items, has}
+use Rattle.ls_set.specs.{Items, has}
 use Rattle.ls_theory.specs.declared.reply.Reply.{Reply}
 use Rattle.ls_theory.specs.declared.reason.Reason.{Reason}
 use Rattle.ls_theory.specs.declared.reason.Reason.TheVariants.{Share, Budget}

@@ -4,7 +4,7 @@
 use Rattle.std.specs.Prelude.{ℕ, suc, ◌+◌, ◌-◌, Bool, not, ◌||◌, ◌==◌, List, [], ◌∷◌, map, length, find, slice_index_or, Option, None, option_map}
 use Rattle.std.specs.List.{list_any, flat_map}
 use Rattle.std.specs.Option.{option_or}
-use Rattle.ls_set.specs.ItemSet.{Items, has, empty, is_within, items, numbers_from}
+use Rattle.ls_set.specs.{Items, empty, has, is_within, items, numbers_from}
 use Rattle.ls_theory.specs.declared.surmise_fault.SurmiseFault.{SurmiseFault}
 use Rattle.ls_theory.specs.declared.surmise_fault.SurmiseFault.TheVariants.{NoClause, Reflexive, NotClosed, Comparable}
 use Rattle.ls_theory.specs.Bases.{atoms_at}

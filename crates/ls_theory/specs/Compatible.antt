@@ -1,6 +1,6 @@
 -- Compatible sets: the knowledge states that the Yes answers leave.
 use Rattle.std.specs.Prelude.{ℕ, Bool, ◌&&◌, List, filter}
-use Rattle.ls_set.specs.ItemSet.{Items, subsets}
+use Rattle.ls_set.specs.{Items, subsets}
 use Rattle.ls_set.specs.declared.query.Query.{Query}
 use Rattle.ls_theory.specs.Queries.{breaks_none}
 use Rattle.ls_theory.specs.Starts.{Start, meets}

@@ -1,7 +1,7 @@
 -- Families, which are lists of distinct sets in the order; knowledge spaces, interiors and closures.
 use Rattle.std.specs.Prelude.{ℕ, Bool, ◌&&◌, List, [], ◌∷◌, filter}
 use Rattle.std.specs.List.{list_all}
-use Rattle.ls_set.specs.ItemSet.{Items, empty, union, minus, is_within, is_among, subsets}
+use Rattle.ls_set.specs.{Items, empty, is_among, is_within, minus, subsets, union}
 use Rattle.ls_theory.specs.Words.{sublists}
 
 -- the items in some of the sets

@@ -1,7 +1,7 @@
 -- The knowledge spaces that fit the answers.
 use Rattle.std.specs.Prelude.{ℕ, Bool, ◌&&◌, List, filter}
 use Rattle.std.specs.List.{list_all}
-use Rattle.ls_set.specs.ItemSet.{Items, full}
+use Rattle.ls_set.specs.{Items, full}
 use Rattle.ls_set.specs.declared.query.Query.{Query}
 use Rattle.ls_theory.specs.Queries.{some_breaks}
 use Rattle.ls_theory.specs.Starts.{Start}

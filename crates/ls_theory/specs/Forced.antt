@@ -1,7 +1,7 @@
 -- What the standing answers force, and the next question. (Inference in the QUERY routine.)
 use Rattle.std.specs.Prelude.{ℕ, Bool, not, ◌&&◌, if◌then◌else◌, List, filter, find, Option, option_map, unwrap_or}
 use Rattle.std.specs.List.{list_any, list_all}
-use Rattle.ls_set.specs.ItemSet.{Items}
+use Rattle.ls_set.specs.{Items}
 use Rattle.ls_set.specs.declared.query.Query.{Query}
 use Rattle.ls_theory.specs.declared.no.No.{No}
 use Rattle.ls_theory.specs.declared.known.Known.{Known}

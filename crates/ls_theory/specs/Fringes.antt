@@ -1,6 +1,6 @@
 -- Fringes, and the member that two fringes tell.
 use Rattle.std.specs.Prelude.{ℕ, ◌&&◌, List, filter, find, Option}
-use Rattle.ls_set.specs.ItemSet.{Items, full, minus, with, without, is_same, is_among, items, set_of}
+use Rattle.ls_set.specs.{Items, full, is_among, is_same, items, minus, set_of, with, without}
 use Rattle.ls_theory.specs.declared.fringe_pair.FringePair.{FringePair}
 
 -- the inner fringe: the items of K whose removal gives a member

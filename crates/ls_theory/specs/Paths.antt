@@ -1,7 +1,7 @@
 -- Learning paths: the orders in which the items can be learned, one by one.
 use Rattle.std.specs.Prelude.{ℕ, zero, suc, Bool, ◌&&◌, ◌==◌, List, [], ◌∷◌, map, filter, length, take}
 use Rattle.std.specs.List.{list_all, flat_map}
-use Rattle.ls_set.specs.ItemSet.{Items, full, without, is_same, is_among, items, set_of, numbers_from}
+use Rattle.ls_set.specs.{Items, full, is_among, is_same, items, numbers_from, set_of, without}
 
 -- the lists of m items of s, each once, in lexicographic order: by the first item, then by the same rule on the others
 unfoldable pub orders_of : ℕ → Items → List (List ℕ)

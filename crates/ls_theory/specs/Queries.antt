@@ -2,8 +2,7 @@
 -- asked. (The questions and blocks of the QUERY routine. A query is good by `is_good` of ls_set.)
 use Rattle.std.specs.Prelude.{ℕ, Bool, not, ◌&&◌, ◌||◌, ◌==◌, nat_lt, List, map, filter}
 use Rattle.std.specs.List.{list_any, list_all, flat_map}
-use Rattle.ls_set.specs.ItemSet.{Items, has, empty, meet, is_same, items, len, numbers_from, subsets}
-use Rattle.ls_set.specs.Query.{is_good}
+use Rattle.ls_set.specs.{Items, empty, has, is_good, is_same, items, len, meet, numbers_from, subsets}
 use Rattle.ls_set.specs.declared.query.Query.{Query}
 use Rattle.ls_theory.specs.Words.{is_lex_before}
 

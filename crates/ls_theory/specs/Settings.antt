@@ -1,7 +1,7 @@
 -- Settings of assessments: which can be set, how they begin and change, and when they are too heavy.
 use Rattle.std.specs.Prelude.{ℕ, suc, ◌*◌, ◌^◌, Bool, ◌&&◌, ◌==◌, nat_lt, nat_le, max, List, [], ◌∷◌, find, length, set, replicate, Option}
 use Rattle.std.specs.List.{list_all}
-use Rattle.ls_set.specs.ItemSet.{numbers_from}
+use Rattle.ls_set.specs.{numbers_from}
 use Rattle.ls_theory.specs.declared.ratio.Ratio.{Ratio}
 use Rattle.ls_theory.specs.declared.ratio.Ratios.{Ratios}
 

@@ -1,7 +1,7 @@
 -- Starts: all sets, a surmise function by its clauses, or a base by its sets.
 use Rattle.std.specs.Prelude.{Bool, true, List, [], slice_index_or}
 use Rattle.std.specs.List.{list_any, list_all}
-use Rattle.ls_set.specs.ItemSet.{Items, is_same, is_within, items}
+use Rattle.ls_set.specs.{Items, is_same, is_within, items}
 use Rattle.ls_theory.specs.Families.{interior}
 
 -- no restriction; for each item in turn, its clauses; or the listed sets

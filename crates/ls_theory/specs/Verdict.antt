@@ -1,7 +1,7 @@
 -- Well-gradedness, learning spaces, and the verdict on a family.
 use Rattle.std.specs.Prelude.{ℕ, zero, suc, Bool, not, ◌&&◌, ◌==◌, nat_lt, if◌then◌else◌, List, filter, find, length, slice_index, Option, Some, None, unwrap_or}
 use Rattle.std.specs.List.{list_any, list_all}
-use Rattle.ls_set.specs.ItemSet.{Items, empty, union, differing, is_same, is_among, len}
+use Rattle.ls_set.specs.{Items, differing, empty, is_among, is_same, len, union}
 use Rattle.ls_theory.specs.declared.verdict.Verdict.{Verdict}
 use Rattle.ls_theory.specs.declared.verdict.Verdict.TheVariants.{NoEmpty, NoFull, NotClosed, NotGraded, Learning}
 use Rattle.ls_theory.specs.declared.verdict.BaseVerdict.{BaseVerdict}

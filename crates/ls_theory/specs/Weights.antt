@@ -1,6 +1,6 @@
 -- Weights of states after replies: the multiplicative rule, with prior 1.
 use Rattle.std.specs.Prelude.{ℕ, Bool, not, if◌then◌else◌, List, map, filter, slice_index_or, sum_by}
-use Rattle.ls_set.specs.ItemSet.{Items, has}
+use Rattle.ls_set.specs.{Items, has}
 use Rattle.ls_theory.specs.declared.ratio.Ratio.{Ratio}
 use Rattle.ls_theory.specs.declared.ratio.Ratios.{Ratios}
 use Rattle.ls_theory.specs.declared.reply.Reply.{Reply}

@@ -1,9 +1,7 @@
 -- Examples: the base of listed sets, and a surmise function of five items, of which three share clauses.
 use Rattle.std.proofs.Common.{ℕ, ◌≡◌, refl, List, [], ◌∷◌, Ok, Err}
-use Rattle.ls_set.specs.ItemSet.{Items, has, empty, full, with, without, union, meet, minus, single, differing, is_within, is_same, bound, items, len, least, comes_before, set_of}
-use Rattle.ls_theory.specs.Families.{interior}
-use Rattle.ls_theory.specs.Compatible.{compat}
-use Rattle.ls_theory.specs.Bases.{base, based}
+use Rattle.ls_set.specs.{Items, bound, comes_before, differing, empty, full, has, is_same, is_within, items, least, len, meet, minus, set_of, single, union, with, without}
+use Rattle.ls_theory.specs.{base, based, compat, interior}
 use Rattle.ls_theory.specs.declared.base_fault.BaseFault.TheVariants.{NotSpanning}
 use Rattle.ls_laws.specs.Spans.{spanned}
 use Rattle.ls_base.specs.Bases.{BaseState}

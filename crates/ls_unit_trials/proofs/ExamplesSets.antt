@@ -1,11 +1,9 @@
 -- Examples: sets of the first and the last item of each of the four words of which a set is made.
 use Rattle.std.proofs.Common.{ℕ, ◌≡◌, refl, true, false, List, [], ◌∷◌, map, codes, replicate, Some, None, Ok, Err}
 use Rattle.std.specs.List.{list_all}
-use Rattle.ls_set.specs.ItemSet.{Items, has, empty, full, with, without, union, meet, minus, single, differing, is_within, is_same, bound, items, len, least, next_item, comes_before, keep_before, set_of, subsets}
-use Rattle.ls_set.specs.Cursor.{cursor, cursor_set, read_cursor}
-use Rattle.ls_set.specs.Query.{is_good}
+use Rattle.ls_set.specs.{Items, bound, comes_before, cursor, cursor_set, differing, empty, full, has, is_good, is_same, is_within, items, keep_before, least, len, meet, minus, next_item, read_cursor, set_of, single, subsets, union, with, without}
 use Rattle.ls_set.specs.declared.cursor.CursorFault.TheVariants.{Length, Digit, Spare}
-use Rattle.ls_theory.specs.Words.{pairs}
+use Rattle.ls_theory.specs.{pairs}
 
 -- an example that opens this opens each word
 unfoldable words : ℕ

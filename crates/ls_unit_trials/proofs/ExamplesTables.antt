@@ -1,8 +1,7 @@
 -- Examples: the names of tables and of words, and the first fault of those that are no names of items.
 use Rattle.std.proofs.Common.{ℕ, ◌≡◌, refl, List, [], ◌∷◌, ◌++◌, map, codes, replicate, Result, Ok, Err}
 use Rattle.csv.proofs.OnLiterals.{csv_on_literals}
-use Rattle.ls_lines.specs.Lines.{Text}
-use Rattle.ls_lines.specs.Kinds.{is_of}
+use Rattle.ls_lines.specs.{Text, is_of}
 use Rattle.ls_domain.specs.Domains.{names_from, names_of_words, names_of_table}
 use Rattle.ls_domain.specs.declared.domain_fault.DomainFault.{DomainFault}
 use Rattle.ls_domain.specs.declared.domain_fault.DomainFault.TheVariants.{NoItems, BadCsv, BadName, Repeat}

@@ -1,6 +1,6 @@
 -- All sets of some items can be weighed, where they are not too many.
 use Rattle.std.proofs.Common.{ℕ, ◌<◌, ◌≤◌, ◌≡◌, length}
-use Rattle.ls_set.specs.ItemSet.{subsets, most_items}
+use Rattle.ls_set.specs.{most_items, subsets}
 use Rattle.ls_theory.specs.Settings.{Settings, most_states}
 use Rattle.ls_laws.proofs.Families.{subsets-IsFamily}
 use Rattle.ls_weight.specs.Weighings.{IsWeighable}

@@ -1,7 +1,7 @@
 // Listings and tables over the family of all sets of three items.
 ghost use Rattle.std.specs.Prelude.{◌≡◌, ◌<◌};
 ghost use Rattle.std.specs.Option.{ForSome};
-ghost use Rattle.ls_set.specs.ItemSet.{full, IsWithin};
+ghost use Rattle.ls_set.specs.{IsWithin, full};
 
 use crate::tally::Tally;
 use ls_enum::{States, first, next_after, page};

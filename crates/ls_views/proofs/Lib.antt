@@ -1,3 +1,4 @@
+mod Vocabulary
 mod Shown
 pub mod Replying
 mod Listing

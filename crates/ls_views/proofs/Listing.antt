@@ -1,15 +1,6 @@
 -- The bytes of a page of learning paths, line by line.
-use Rattle.std.proofs.Common.{◌≡◌, ℕ, zero, suc, ◌+◌, ◌-◌, ◌<◌, ◌≤◌, Bool, true, false, ltb, lt-ltb, List, [], ◌∷◌, ◌++◌, length, map, take, filter, is_some, Some, None, MatchOption, refl, sym, ap, ap₂, ◌∙◌, arith}
-use Rattle.std.specs.declared.option.Option.{Option}
-use Rattle.ls_set.specs.ItemSet.{Items}
-use Rattle.ls_theory.specs.Pages.{Page}
-use Rattle.ls_theory.specs.Paths.{paths}
-use Rattle.ls_lines.specs.Lines.{Text}
-use Rattle.ls_reply.specs.Texts.{line_of, bytes_of}
-use Rattle.ls_reply.specs.Lines.{more_words, path_words, path_lines}
-use Rattle.ls_writing.proofs.Joins.{bytes_of-one, bytes_of-append}
+use Rattle.ls_views.proofs.Vocabulary.{◌++◌, ◌+◌, ◌-◌, ◌<◌, ◌∙◌, ◌∷◌, ◌≡◌, ◌≤◌, Bool, Items, List, MatchOption, None, Option, Page, Some, Text, ℕ, [], ap, ap₂, arith, bytes_of, bytes_of-append, bytes_of-one, false, filter, is_some, left_bytes, length, line_of, lt-ltb, ltb, map, more_words, path_lines, path_words, paths, paths_after, refl, suc, sym, take, true, zero}
 use Rattle.std.proofs.lemmas.Bool.Decides.{nat_tests}
-use Rattle.ls_views.specs.PathPages.{paths_after, left_bytes}
 
 -- all paths come after none
 filter-all : {X : Type 0} (xs : List X) → filter (λ x. true) xs ≡ xs

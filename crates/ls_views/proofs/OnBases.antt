@@ -1,28 +1,12 @@
 -- What stands on the base of an interview, by the family of the base.
-use Rattle.std.proofs.Common.{◌≡◌, true, List, sym, ap, ap₂, ◌∙◌}
-use Rattle.std.specs.declared.option.Option.{Option}
-use Rattle.ls_set.specs.ItemSet.{Items, full}
-use Rattle.ls_theory.specs.Interviews.{Interview, yes_queries}
-use Rattle.ls_theory.specs.Compatible.{compatible_sets}
-use Rattle.ls_theory.specs.Families.{is_space}
-use Rattle.ls_theory.specs.Projections.{projection}
-use Rattle.ls_theory.specs.Bases.{Peak, base}
-use Rattle.ls_laws.specs.Spans.{spanned}
-use Rattle.ls_laws.specs.Forced.{IsSound}
+use Rattle.ls_views.proofs.Vocabulary.{◌otherwise◌, ◌∙◌, ◌≡◌, Interview, IsFollowedBase, IsSound, Items, List, Option, Peak, Response, View, ap, ap₂, base, based_on, based_row, compat-in_order, compatible_sets, full, is_based, is_space, past_refusal, projection, refuse_fault, spanned, sym, true, view_row, yes_queries}
 use Rattle.ls_laws.proofs.Spans.{spanned-base}
 use Rattle.ls_laws.proofs.Interiors.{space-to}
 use Rattle.ls_laws.proofs.Answering.{compatible_fit, compat_family}
-use Rattle.ls_laws.proofs.Compat.{compat-in_order}
 use Rattle.ls_laws.proofs.Families.{family_sets, spanned-IsFamily}
 use Rattle.ls_spans.proofs.Traces.{projection-IsFamily}
 use Rattle.ls_base.specs.Bases.{BaseState, family}
-use Rattle.ls_base.specs.Followed.{IsFollowedBase}
-use Rattle.ls_reply.specs.Effects.{refuse_fault, ◌otherwise◌}
-use Rattle.ls_reply.specs.Rows.{view_row, based_row, past_refusal}
-use Rattle.ls_reply.specs.declared.response.Response.{Response}
-use Rattle.ls_reply.specs.declared.request.View.{View}
 use Rattle.ls_reply.specs.declared.request.View.TheVariants as view
-use Rattle.ls_views.specs.Views.{is_based, based_on}
 
 pub compatible-space : (i : Interview) → IsSound i → is_space (full i.count) (compatible_sets i) ≡ true
 compatible-space i sound =

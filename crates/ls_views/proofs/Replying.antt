@@ -1,22 +1,8 @@
 -- The effect of a command that looks at an interview, and the bytes of responses.
-use Rattle.std.proofs.Common.{◌≡◌, ◌<◌, Bool, true, cond, List, [], ◌∷◌, length, Some, ap, sym, ◌∙◌}
-use Rattle.std.proofs.lemmas.Bool.{true≢false}
-use Rattle.ls_theory.specs.Interviews.{Interview}
-use Rattle.ls_lines.specs.Lines.{Text}
+use Rattle.ls_views.proofs.Vocabulary.{◌<◌, ◌∙◌, ◌∷◌, ◌≡◌, Bool, Calls, Interview, List, Response, Session, Some, Text, View, [], answers, ap, asked_effect, bytes_of, command_effect, cond, is_reading, length, lines_of, reply_of, request_of, session_with, sym, true, true≢false, unnamed_at, unnamed_places, view_row}
 use Rattle.ls_lines.specs.declared.command.Command.{Command}
-use Rattle.ls_reply.specs.Scenes.{Calls}
-use Rattle.ls_reply.specs.Texts.{bytes_of}
-use Rattle.ls_reply.specs.Sessions.{Session}
-use Rattle.ls_reply.specs.Meanings.{unnamed_places, request_of}
-use Rattle.ls_reply.specs.Lines.{lines_of}
-use Rattle.ls_reply.specs.Effects.{answers}
-use Rattle.ls_reply.specs.Rows.{view_row}
-use Rattle.ls_reply.specs.Replies.{asked_effect, unnamed_at, command_effect, reply_of}
-use Rattle.ls_reply.specs.declared.request.View.{View}
 use Rattle.ls_reply.specs.declared.request.Request.TheVariants as request
-use Rattle.ls_reply.specs.declared.response.Response.{Response}
 use Rattle.ls_reply.proofs.Effects.{has_domain-some, command_effect-asked}
-use Rattle.ls_views.specs.Views.{is_reading, session_with}
 
 pub said_bytes : (s : Session) (a b : Response) → a ≡ b → bytes_of (lines_of s b) ≡ bytes_of (lines_of s a)
 said_bytes s a b e = ap (λ (x : Response). bytes_of (lines_of s x)) (sym e)

@@ -1,58 +1,27 @@
 -- What can be said of an interview.
-use Rattle.std.proofs.Common.{inl, inr, ◌≡◌, ℕ, [], Bool, true, false, not, List, length, Some, None, IfSome, Ok, Err, refl, sym, ◌∙◌, subst, arith}
-use Rattle.std.specs.Prelude.{slice_index}
-use Rattle.std.proofs.lemmas.Bool.{cases_Bool, and_from}
-use Rattle.std.specs.declared.option.Option.{Option}
+use Rattle.ls_views.proofs.Vocabulary.{◌otherwise◌, ◌∙◌, ◌≡◌, AreNamed, BaseVerdict, Bool, CanRefuse, CanSay, Err, IfSome, Interview, IsAfter, IsFollowed, IsOn, IsSound, IsWithin, Items, List, None, Ok, Option, Peak, Response, Some, Text, View, ℕ, [], and_from, arith, atom_items, atom_sets, base, base-member, base_verdict, based_row, cases_Bool, compat-IsUnionFamily, compatible_sets, double_atom, false, followed_sets, fringes, full, inl, inr, is_among, is_based, is_good, is_learning_space, is_order, is_space, is_well_graded, known, learned, learning_refusals, length, next_question, not, outer_fringe, past_refusal, paths_shown, peak_of, project_row, projection, refl, refusal_items, refuse, refuse_fault, slice_index, state_of, state_shown, states_row, subst, sym, true, view_row, yes_queries}
 use Rattle.std.specs.Option.{ForSome}
-use Rattle.ls_set.specs.ItemSet.{Items, full, is_among, IsWithin}
 use Rattle.ls_set.specs.declared.cursor.CursorFault.{CursorFault}
 use Rattle.ls_set.proofs.Sets.{is_within-from}
 use Rattle.std.specs.declared.result.Result.{Result}
-use Rattle.ls_set.specs.Query.{is_good}
 use Rattle.ls_set.specs.declared.query.Query.{Query}
-use Rattle.ls_theory.specs.Interviews.{yes_queries}
-use Rattle.ls_theory.specs.Bases.{Peak, peak_of, base, atom_items, atom_sets}
-use Rattle.ls_theory.specs.Families.{is_space}
-use Rattle.ls_theory.specs.Projections.{projection}
-use Rattle.ls_theory.specs.Fringes.{outer_fringe, fringes, state_of}
-use Rattle.ls_theory.specs.Paths.{is_order}
-use Rattle.ls_theory.specs.Verdict.{is_well_graded, is_learning_space, double_atom, base_verdict}
-use Rattle.ls_theory.specs.declared.verdict.BaseVerdict.{BaseVerdict}
 use Rattle.ls_theory.specs.declared.verdict.BaseVerdict.TheVariants as of_base
-use Rattle.ls_laws.specs.Spans.{IsOn}
-use Rattle.ls_laws.specs.Forced.{IsSound}
-use Rattle.ls_laws.proofs.Compat.{compat-IsUnionFamily}
-use Rattle.ls_laws.proofs.Atoms.{base-member}
 use Rattle.ls_laws.proofs.Projecting.{projection-space}
 use Rattle.ls_spans.specs.Speaking.{IsDoubleOn, IsBaseVerdictOn}
 use Rattle.ls_spans.proofs.Spoken.{base_verdict-on, inner-within, outer-within, state_of-within, projection-within}
 use Rattle.ls_theory.specs.declared.known.Known.{Known}
-use Rattle.ls_theory.specs.Forced.{known, next_question}
 use Rattle.ls_theory.specs.declared.answer_fault.AnswerFault.TheVariants.{BadQuery}
 use Rattle.ls_expert.proofs.Ruling.{question-good}
-use Rattle.ls_lines.specs.Lines.{Text}
-use Rattle.ls_reply.specs.Refusals.{refusal_items}
-use Rattle.ls_reply.specs.Effects.{refuse, refuse_fault, ◌otherwise◌}
-use Rattle.ls_reply.specs.Rows.{view_row, based_row, states_row, project_row, past_refusal, learning_refusals, learned, state_shown, paths_shown}
 use Rattle.ls_reply.specs.declared.refusal.Refusal.{Refusal}
 use Rattle.ls_reply.specs.declared.refusal.Refusal.TheVariants as refusal_of
-use Rattle.ls_reply.specs.declared.response.Response.{Response}
 use Rattle.ls_reply.specs.declared.response.Response.TheVariants.{Shown}
 use Rattle.ls_reply.specs.declared.response.Shown.TheVariants as shown
-use Rattle.ls_reply.specs.declared.request.View.{View}
 use Rattle.ls_reply.specs.declared.request.View.TheVariants as view
 use Rattle.ls_meanings.specs.Asked as asked_on
-use Rattle.ls_meanings.specs.Asked.{IsAfter}
-use Rattle.ls_texts.specs.Names.{AreNamed}
-use Rattle.ls_writing.specs.Names.{CanRefuse}
 use Rattle.ls_writing.proofs.Names.{double-named}
-use Rattle.ls_views.specs.Views.{CanSay, is_based}
 use Rattle.ls_views.proofs.OnBases.{compatible-space}
-use Rattle.ls_base.specs.Followed.{IsFollowed, followed_sets}
 use Rattle.ls_base.specs.declared.followed.Followed.{Followed}
 use Rattle.ls_base.specs.declared.followed.Followed.TheVariants.{Within, Past}
-use Rattle.ls_theory.specs.Interviews.{Interview}
-use Rattle.ls_theory.specs.Compatible.{compatible_sets}
 
 -- a refusal that names no item can be told
 pub names_none : (names : List Text) (r : Refusal) → refusal_items r ≡ [] → CanRefuse names r

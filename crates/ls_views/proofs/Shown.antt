@@ -1,20 +1,8 @@
 -- The bytes of what is shown, and the sets of a base.
-use Rattle.std.proofs.Common.{◌≡◌, ◌<◌, ℕ, zero, suc, List, [], ◌∷◌, ◌++◌, map, codes, true, refl, ap, sym, subst, ◌∙◌, length, append_assoc, arith}
-use Rattle.std.specs.Prelude.{slice_index_or}
-use Rattle.std.specs.List.{All}
-use Rattle.ls_set.specs.ItemSet.{Items, full, IsWithin, is_among, set_of, numbers_from}
-use Rattle.ls_theory.specs.Interviews.{Interview, yes_queries}
-use Rattle.ls_theory.specs.Compatible.{compatible_sets}
-use Rattle.ls_theory.specs.Bases.{base, atoms_at, atom_items, atom_sets}
-use Rattle.ls_theory.specs.Clauses.{clauses_at}
+use Rattle.ls_views.proofs.Vocabulary.{◌++◌, ◌<◌, ◌∙◌, ◌∷◌, ◌≡◌, All, Interview, IsWithin, Items, List, Text, ℕ, [], ap, append_assoc, arith, atom_items, atom_sets, atoms_at, base, base-member, base-spans, bytes_of, clauses_at, codes, compat-IsUnionFamily, compat-in_order, compatible_sets, full, is_among, length, line_of, map, numbers_from, refl, set_of, shown_lines, slice_index_or, subst, suc, sym, true, yes_queries, zero}
 use Rattle.ls_set.proofs.Members.{among-here, among-there}
-use Rattle.ls_laws.proofs.Atoms.{base-member, base-spans}
 use Rattle.ls_spans.proofs.Spanning.{atom_items-spanning}
-use Rattle.ls_laws.proofs.Compat.{compat-IsUnionFamily, compat-in_order}
 use Rattle.ls_base.proofs.Spanned.{atoms_at-base}
-use Rattle.ls_reply.specs.Texts.{line_of, bytes_of}
-use Rattle.ls_lines.specs.Lines.{Text}
-use Rattle.ls_reply.specs.Lines.{shown_lines}
 use Rattle.ls_reply.specs.declared.response.Shown.{Shown}
 
 -- the line of a question, from its pieces

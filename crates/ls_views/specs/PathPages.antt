@@ -1,12 +1,9 @@
 -- Pages of learning paths, by those that are left.
 use Rattle.std.specs.Prelude.{ℕ, List, filter, take, length, nat_lt, Option}
-use Rattle.ls_set.specs.ItemSet.{Items}
-use Rattle.ls_theory.specs.Pages.{Page, comes_after}
-use Rattle.ls_theory.specs.Words.{is_lex_before}
-use Rattle.ls_theory.specs.Paths.{paths}
-use Rattle.ls_lines.specs.Lines.{Text}
-use Rattle.ls_reply.specs.Texts.{bytes_of}
-use Rattle.ls_reply.specs.Lines.{path_lines}
+use Rattle.ls_set.specs.{Items}
+use Rattle.ls_theory.specs.{Page, comes_after, is_lex_before, paths}
+use Rattle.ls_lines.specs.{Text}
+use Rattle.ls_reply.specs.{bytes_of, path_lines}
 
 -- the learning paths that come after the order, or all of them
 abbrev pub paths_after : ℕ → List Items → Option (List ℕ) → List (List ℕ)

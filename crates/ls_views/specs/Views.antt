@@ -2,23 +2,16 @@
 use Rattle.std.specs.Prelude.{ℕ, ◌≡◌, ◌+◌, ◌*◌, Bool, true, false, List, length, ⊤}
 use Rattle.std.specs.List.{All}
 use Rattle.std.specs.Option.{ForSome}
-use Rattle.ls_set.specs.ItemSet.{Items, full, IsWithin}
-use Rattle.ls_set.specs.Query.{is_good}
-use Rattle.ls_theory.specs.Interviews.{Interview}
-use Rattle.ls_theory.specs.Compatible.{compatible_sets}
-use Rattle.ls_theory.specs.Bases.{base, atom_sets}
-use Rattle.ls_theory.specs.Projections.{projection}
-use Rattle.ls_theory.specs.Verdict.{base_verdict, is_learning_space}
-use Rattle.ls_theory.specs.Fringes.{state_of}
+use Rattle.ls_set.specs.{IsWithin, Items, full, is_good}
+use Rattle.ls_theory.specs.{Interview, atom_sets, base, base_verdict, compatible_sets, is_learning_space, is_order, projection, state_of}
 use Rattle.ls_theory.specs.declared.fringe_pair.FringePair.{FringePair}
-use Rattle.ls_theory.specs.Paths.{is_order}
 use Rattle.ls_laws.specs.Spans.{IsOn}
 use Rattle.ls_spans.specs.Speaking.{IsBaseVerdictOn, IsVerdictOn}
-use Rattle.ls_reply.specs.Rows.{learned, state_shown, paths_shown}
-use Rattle.ls_lines.specs.Lines.{Text}
+use Rattle.ls_reply.specs.{learned, paths_shown, state_shown}
+use Rattle.ls_lines.specs.{Text}
 use Rattle.ls_lines.specs.declared.command.Command.{Command}
 use Rattle.ls_lines.specs.declared.command.Command.TheVariants as command
-use Rattle.ls_reply.specs.Sessions.{Session}
+use Rattle.ls_reply.specs.{Session}
 use Rattle.ls_reply.specs.declared.request.View.{View}
 use Rattle.ls_reply.specs.declared.request.View.TheVariants as view
 use Rattle.ls_reply.specs.declared.response.Response.{Response}

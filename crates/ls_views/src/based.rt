@@ -1,20 +1,16 @@
 // What stands on the base of an interview, decided.
 ghost use Rattle.std.specs.Prelude.{◌≡◌, true, IfOk};
 ghost use Rattle.std.specs.Option.{option_map_or};
-ghost use Rattle.ls_set.specs.ItemSet.{full, IsWithin};
-ghost use Rattle.ls_theory.specs.Families.{is_space};
-ghost use Rattle.ls_theory.specs.Interviews.{yes_queries};
-ghost use Rattle.ls_theory.specs.Paths.{is_order};
-ghost use Rattle.ls_theory.specs.Fringes.{state_of};
-ghost use Rattle.ls_theory.specs.Projections.{projection};
+ghost use Rattle.ls_set.specs.{IsWithin, full};
+ghost use Rattle.ls_theory.specs.{is_order, is_space, projection, state_of, yes_queries};
 ghost use Rattle.ls_theory.specs.Bases as bases;
-ghost use Rattle.ls_theory.specs.Verdict.{base_verdict};
+ghost use Rattle.ls_theory.specs.{base_verdict};
 ghost use Rattle.ls_base.specs.Bases.{family};
 ghost use Rattle.ls_base.specs.Followed.{IsFollowed};
 ghost use Rattle.ls_meanings.specs.Asked.{IsOn};
 ghost use Rattle.ls_reply.specs.declared.response.Response.TheVariants as response;
 ghost use Rattle.ls_reply.specs.declared.response.Shown.TheVariants as shown;
-ghost use Rattle.ls_reply.specs.Rows.{view_row, learned, state_shown, paths_shown};
+ghost use Rattle.ls_reply.specs.{learned, paths_shown, state_shown, view_row};
 ghost use Rattle.ls_views.specs.Views.{is_based, based_on};
 
 use ls_base::{Base, Followed};

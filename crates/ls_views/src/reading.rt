@@ -2,16 +2,9 @@
 ghost use Rattle.std.specs.Prelude.{◌≡◌, ◌≤◌, ◌+◌, true, [], length, IfOk, OnOk, OnErr};
 ghost use Rattle.std.specs.Io.KnownBytes.{Appends};
 ghost use Rattle.ls_edge.specs.Causes.{AppendsFront, HasSinkCause};
-ghost use Rattle.ls_reply.specs.Scenes.{Calls};
-ghost use Rattle.ls_reply.specs.Sessions.{Session};
-ghost use Rattle.ls_reply.specs.Texts.{bytes_of};
-ghost use Rattle.ls_reply.specs.Lines.{lines_of};
-ghost use Rattle.ls_reply.specs.Meanings.{unnamed_places};
-ghost use Rattle.ls_reply.specs.Effects.{answers};
-ghost use Rattle.ls_reply.specs.Replies.{command_effect, reply_of, is_refusal};
-ghost use Rattle.ls_theory.specs.Interviews.{yes_queries};
+ghost use Rattle.ls_reply.specs.{Calls, Session, answers, bytes_of, command_effect, is_refusal, lines_of, reply_of, unnamed_places, view_row};
+ghost use Rattle.ls_theory.specs.{yes_queries};
 ghost use Rattle.ls_base.specs.Followed.{IsFollowed, followed_sets};
-ghost use Rattle.ls_reply.specs.Rows.{view_row};
 ghost use Rattle.ls_meanings.specs.Asked.{IsOn};
 ghost use Rattle.ls_texts.specs.Rooms.{Says, Wrote, no_reply};
 ghost use Rattle.ls_views.specs.Views.{CanSay, is_reading, command_steps, response_steps, view_steps, session_with};

@@ -1,9 +1,8 @@
 // What is shown of an interview, said.
 ghost use Rattle.std.specs.Prelude.{◌≡◌, ◌≤◌, ◌+◌, ◌*◌, true, length, Some};
 ghost use Rattle.std.specs.Option.{ForSome};
-ghost use Rattle.ls_set.specs.ItemSet.{full, IsWithin, comes_before};
-ghost use Rattle.ls_set.specs.Query.{is_good};
-ghost use Rattle.ls_theory.specs.Pages.{page};
+ghost use Rattle.ls_set.specs.{IsWithin, comes_before, full, is_good};
+ghost use Rattle.ls_theory.specs.{page};
 ghost use Rattle.ls_reply.specs.Texts.{line_of, bytes_of};
 ghost use Rattle.ls_reply.specs.Lines.{known_words, question_words, page_lines, shown_lines};
 ghost use Rattle.ls_texts.specs.Rooms.{Says};

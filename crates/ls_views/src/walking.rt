@@ -1,14 +1,10 @@
 // Pages of learning paths, said.
 ghost use Rattle.std.specs.Prelude.{◌≡◌, true, length};
 ghost use Rattle.std.specs.Option.{ForSome};
-ghost use Rattle.ls_set.specs.ItemSet.{full};
-ghost use Rattle.ls_theory.specs.Pages.{page};
-ghost use Rattle.ls_theory.specs.Words.{is_lex_before};
-ghost use Rattle.ls_theory.specs.Verdict.{is_learning_space};
-ghost use Rattle.ls_theory.specs.Paths.{is_order, paths};
+ghost use Rattle.ls_set.specs.{full};
+ghost use Rattle.ls_theory.specs.{is_learning_space, is_lex_before, is_order, page, paths};
 ghost use Rattle.ls_paths.specs.Left.{paths_left};
-ghost use Rattle.ls_reply.specs.Texts.{bytes_of};
-ghost use Rattle.ls_reply.specs.Lines.{path_lines};
+ghost use Rattle.ls_reply.specs.{bytes_of, path_lines};
 ghost use Rattle.ls_texts.specs.Rooms.{Says};
 ghost use Rattle.ls_views.specs.PathPages.{paths_after};
 

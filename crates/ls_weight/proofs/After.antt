@@ -1,18 +1,6 @@
 -- Weights and sums after one more reply.
-use Rattle.std.proofs.Common.{ℕ, ◌+◌, ◌-◌, ◌*◌, ◌<◌, ◌≤◌, ◌≡◌, Bool, true, false, cond, not, ◌&&◌, List, [], ◌∷◌, ◌++◌, map, nat_lt, sum_by, length, get_or, refl, ap, ap₂, ◌∙◌, sym, arith}
-use Rattle.std.specs.List.{list_all, IsFirstMaxByKey}
-use Rattle.std.proofs.lemmas.Bool.{and_parts}
-use Rattle.std.proofs.lemmas.Bool.Decides.{nat_tests}
-use Rattle.std.proofs.lemmas.List.{length-map, get_or-map, get_or_default}
-use Rattle.std.proofs.lemmas.List.Sums.{sum_by-cons}
+use Rattle.ls_weight.proofs.Vocabulary.{◌&&◌, ◌*◌, ◌++◌, ◌+◌, ◌-◌, ◌<◌, ◌∙◌, ◌∷◌, ◌≡◌, ◌≤◌, Bool, IsFirstMaxByKey, Items, List, Ratios, Reply, ℕ, [], add-mul, agreeing_with, agrees, and_parts, ap, ap₂, arith, cond, empty, factor, false, get_or, get_or-map, get_or_default, has, length, length-map, list_all, map, mass, mass-sum, mul-add, mul-le-mul_left, mul-le-mul_right, mul-lt-mul_of_pos_right, mul-zero, mul_comm, nat_lt, nat_tests, not, ratio_for, refl, state_at, sum_by, sum_by-cons, sym, total, true, weight, weight-more}
 use Rattle.std.proofs.lemmas.Grind.{same_number_lists}
-use Rattle.std.proofs.Math.Nat.{add-mul, mul-add, mul-zero, mul_comm, mul-le-mul_left, mul-le-mul_right, mul-lt-mul_of_pos_right}
-use Rattle.ls_set.specs.ItemSet.{Items, has, empty}
-use Rattle.ls_theory.specs.declared.ratio.Ratios.{Ratios}
-use Rattle.ls_theory.specs.declared.reply.Reply.{Reply}
-use Rattle.ls_theory.specs.Weights.{agrees, factor, ratio_for, weight, total, mass}
-use Rattle.ls_laws.proofs.Weights.{mass-sum, weight-more}
-use Rattle.ls_weight.specs.Rows.{agreeing_with, state_at}
 use Rattle.ls_weight.proofs.SumsBelow.{sum_below-same, sum_by-below}
 
 -- ---- sums

@@ -1,11 +1,5 @@
 -- What the cells of the tables come to after a pass over the states.
-use Rattle.std.proofs.Common.{ℕ, ◌+◌, ◌*◌, ◌/◌, ◌%◌, ◌<◌, ◌≤◌, ◌≡◌, Bool, true, cond, not, ◌&&◌, eqb, List, sum, length, get_or, ap, ap₂, ◌∙◌, arith}
-use Rattle.std.specs.Int.{bit_at}
-use Rattle.ls_set.specs.ItemSet.{Items, has}
-use Rattle.ls_theory.specs.declared.reply.Reply.{Reply}
-use Rattle.ls_theory.specs.Weights.{agrees}
-use Rattle.ls_weight.specs.Sums.{sum_below, cells_with, table_cells}
-use Rattle.ls_weight.specs.Rows.{AreRows, agrees_in, agreeing_with, cell_of, has_in, row_at, state_at, width_of}
+use Rattle.ls_weight.proofs.Vocabulary.{◌%◌, ◌&&◌, ◌*◌, ◌+◌, ◌/◌, ◌<◌, ◌∙◌, ◌≡◌, ◌≤◌, AreRows, Bool, Items, List, Reply, ℕ, agreeing_with, agrees, agrees_in, ap, ap₂, arith, bit_at, cell_of, cells_with, cond, eqb, get_or, has, has_in, length, not, row_at, state_at, sum, sum_below, table_cells, true, width_of}
 use Rattle.ls_weight.proofs.SumsBelow.{sum_below-same, sum_below-le, sum_below-classes, sum_by-below}
 use Rattle.ls_weight.proofs.Passing.{part-le, row-index, row-full}
 

@@ -1,21 +1,7 @@
 -- What is known of weights and sums that are kept.
-use Rattle.std.proofs.Common.{ℕ, ◌*◌, ◌^◌, ◌<◌, ◌≤◌, ◌≡◌, true, List, [], ◌∷◌, map, sum, count_by, length, get_or, replicate, refl, ap, ◌∙◌, sym, arith}
-use Rattle.std.specs.List.{All, IsFirstMaxByKey, range_with_len}
-use Rattle.std.proofs.lemmas.Bool.Decides.{nat_tests}
-use Rattle.std.proofs.lemmas.List.{length-map, get_or-map, get_or-replicate, length-replicate}
-use Rattle.std.proofs.lemmas.List.FromFn.{get_or-map-range_with_len}
-use Rattle.std.proofs.lemmas.List.Sums.{sum-map, sum_by-cons, get_or-le-sum_by}
+use Rattle.ls_weight.proofs.Vocabulary.{◌*◌, ◌<◌, ◌^◌, ◌∙◌, ◌∷◌, ◌≡◌, ◌≤◌, All, IsFirstMaxByKey, IsWeighed, Items, KeptSums, List, Ratio, Ratios, Reply, Weighing, ℕ, [], ap, arith, count_by, empty, get_or, get_or-le-sum_by, get_or-map, get_or-map-range_with_len, get_or-replicate, has, is_ratio, length, length-map, length-replicate, light-total, map, mass, mass-sum, nat_tests, range_with_len, refl, replicate, sum, sum-map, sum_by-cons, sym, total, true, weight}
 use Rattle.std.proofs.lemmas.Nat.{mul-le}
 use Rattle.ls_lists.proofs.Filters.{sum_by-filter-le}
-use Rattle.ls_set.specs.ItemSet.{Items, has, empty}
-use Rattle.ls_theory.specs.declared.ratio.Ratio.{Ratio}
-use Rattle.ls_theory.specs.declared.ratio.Ratios.{Ratios}
-use Rattle.ls_theory.specs.declared.reply.Reply.{Reply}
-use Rattle.ls_theory.specs.Settings.{is_ratio}
-use Rattle.ls_theory.specs.Weights.{weight, total, mass}
-use Rattle.ls_laws.proofs.Weights.{mass-sum}
-use Rattle.ls_settings.proofs.Light.{light-total}
-use Rattle.ls_weight.specs.Weighings.{Weighing, KeptSums, IsWeighed}
 
 -- ---- before any reply
 

@@ -1,15 +1,6 @@
 -- The first of greatest weight stands where the first greatest of the weights stands.
-use Rattle.std.proofs.Common.{ℕ, suc, zero, ◌<◌, ◌≤◌, ◌≡◌, Bool, true, false, ◌&&◌, List, [], ◌∷◌, map, length, get_or, find, slice_get, Some, nat_le, refl, ap, ◌∙◌, arith}
-use Rattle.std.specs.List.{IsFirstMaxByKey, list_all}
-use Rattle.std.proofs.lemmas.Bool.Decides.{nat_tests}
-use Rattle.std.proofs.lemmas.List.{length-map, get_or-map}
+use Rattle.ls_weight.proofs.Vocabulary.{◌&&◌, ◌<◌, ◌∙◌, ◌∷◌, ◌≡◌, ◌≤◌, Bool, IsFirstMaxByKey, Items, List, Ratios, Reply, Some, ℕ, [], ap, arith, empty, false, find, first_greatest, get_or, get_or-map, leader, length, length-map, list_all, map, nat_le, nat_tests, refl, slice_get, suc, true, weight, zero}
 use Rattle.std.proofs.lemmas.Option.{slice_get-get_or}
-use Rattle.ls_set.specs.ItemSet.{Items, empty}
-use Rattle.ls_theory.specs.declared.ratio.Ratios.{Ratios}
-use Rattle.ls_theory.specs.declared.reply.Reply.{Reply}
-use Rattle.ls_theory.specs.Words.{first_greatest}
-use Rattle.ls_theory.specs.Weights.{weight}
-use Rattle.ls_theory.specs.Assessment.{leader}
 
 -- the first that passes stands at b where the one at b passes, and none before it
 find-place : {X : Type 0} (p : X → Bool) (xs : List X) (b : ℕ) (d : X) → b < length xs → p (get_or xs b d) ≡ true → ((k : ℕ) → k < b → p (get_or xs k d) ≡ false) → find p xs ≡ slice_get xs b

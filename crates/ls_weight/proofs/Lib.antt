@@ -1,3 +1,4 @@
+mod Vocabulary
 pub mod SumsBelow
 pub mod Passing
 pub mod Rowing

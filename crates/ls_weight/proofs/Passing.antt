@@ -1,11 +1,5 @@
 -- What a pass over the states adds up.
-use Rattle.std.proofs.Common.{ℕ, ◌+◌, ◌-◌, ◌*◌, ◌<◌, ◌≤◌, ◌≡◌, Bool, true, false, cond, ◌&&◌, eqb, List, sum, length, take, drop, set, get_or, inl, inr, ap, ◌∙◌, sym, arith}
-use Rattle.std.proofs.lemmas.Bool.{cases_lt}
-use Rattle.std.proofs.lemmas.List.{get_or-set_same, get_or-set_other, get_or-take, get_or-drop, length-take, length-drop}
-use Rattle.std.proofs.Math.Nat.{mul-add, mul-le-mul_left, mul-one}
-use Rattle.ls_theory.specs.declared.reply.Reply.{Reply}
-use Rattle.ls_weight.specs.Sums.{sum_below}
-use Rattle.ls_weight.specs.Rows.{agrees_in, row_at, cell_of}
+use Rattle.ls_weight.proofs.Vocabulary.{◌&&◌, ◌*◌, ◌+◌, ◌-◌, ◌<◌, ◌∙◌, ◌≡◌, ◌≤◌, Bool, List, Reply, ℕ, agrees_in, ap, arith, cases_lt, cell_of, cond, drop, eqb, false, get_or, get_or-drop, get_or-set_other, get_or-set_same, get_or-take, inl, inr, length, length-drop, length-take, mul-add, mul-le-mul_left, mul-one, row_at, set, sum, sum_below, sym, take, true}
 use Rattle.ls_weight.proofs.SumsBelow.{sum_below-next, sum_below-le, sum_below-fewer, sum_by-below}
 
 -- the part of the bytes for a state is its row

@@ -1,15 +1,5 @@
 -- What is kept after one more reply.
-use Rattle.std.proofs.Common.{ℕ, ◌+◌, ◌-◌, ◌*◌, ◌^◌, ◌<◌, ◌≤◌, ◌≡◌, true, cond, List, [], ◌∷◌, ◌++◌, map, length, get_or, ap, ap₂, ◌∙◌, subst, arith}
-use Rattle.std.specs.List.{IsFirstMaxByKey}
-use Rattle.std.proofs.lemmas.Bool.Decides.{nat_tests}
-use Rattle.std.proofs.lemmas.List.{length-append, get_or_default}
-use Rattle.ls_theory.specs.declared.ratio.Ratio.{Ratio}
-use Rattle.ls_theory.specs.declared.reply.Reply.{Reply}
-use Rattle.ls_theory.specs.Settings.{is_ratio}
-use Rattle.ls_theory.specs.Weights.{agrees, ratio_for, weight, total, mass}
-use Rattle.ls_settings.proofs.Light.{light-total}
-use Rattle.ls_weight.specs.Rows.{agreeing_with, state_at}
-use Rattle.ls_weight.specs.Weighings.{Weighing, KeptSums, IsWeighed}
+use Rattle.ls_weight.proofs.Vocabulary.{◌*◌, ◌++◌, ◌+◌, ◌-◌, ◌<◌, ◌^◌, ◌∙◌, ◌∷◌, ◌≡◌, ◌≤◌, IsFirstMaxByKey, IsWeighed, KeptSums, List, Ratio, Reply, Weighing, ℕ, [], agreeing_with, agrees, ap, ap₂, arith, cond, get_or, get_or_default, is_ratio, length, length-append, light-total, map, mass, nat_tests, ratio_for, state_at, subst, total, true, weight}
 use Rattle.ls_weight.proofs.Kept.{kept-long, mass-le}
 use Rattle.ls_weight.proofs.After.{after-total, after-mass, after-weights, first-stays, items-more}
 

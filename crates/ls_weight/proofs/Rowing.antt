@@ -1,11 +1,5 @@
 -- Rows of bytes that are put one behind another.
-use Rattle.std.proofs.Common.{ℕ, ◌+◌, ◌*◌, ◌/◌, ◌%◌, ◌<◌, ◌≤◌, ◌≡◌, inl, inr, eqb, List, length, take, drop, get_or, ap, ◌∙◌, sym, arith}
-use Rattle.std.specs.Int.{bit_at}
-use Rattle.std.proofs.lemmas.Bool.{cases_lt}
-use Rattle.std.proofs.lemmas.List.{get_or-take, get_or-drop, length-take}
-use Rattle.std.proofs.Math.Nat.{mul-add, mul-le-mul_left, mul-one}
-use Rattle.ls_set.specs.ItemSet.{Items, has, empty}
-use Rattle.ls_weight.specs.Rows.{AreRows, has_in, row_at, width_of}
+use Rattle.ls_weight.proofs.Vocabulary.{◌%◌, ◌*◌, ◌+◌, ◌/◌, ◌<◌, ◌∙◌, ◌≡◌, ◌≤◌, AreRows, Items, List, ℕ, ap, arith, bit_at, cases_lt, drop, empty, eqb, get_or, get_or-drop, get_or-take, has, has_in, inl, inr, length, length-take, mul-add, mul-le-mul_left, mul-one, row_at, sym, take, width_of}
 use Rattle.ls_weight.proofs.Passing.{row-index}
 
 -- rows with the same byte for the item both have it or lack it

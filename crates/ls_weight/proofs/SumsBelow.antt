@@ -1,9 +1,5 @@
 -- Sums over the numbers below a number.
-use Rattle.std.proofs.Common.{ℕ, zero, suc, ◌+◌, ◌<◌, ◌≤◌, ◌≡◌, inl, inr, Bool, true, false, cond, ◌&&◌, eqb, List, [], ◌∷◌, sum_by, length, get_or, refl, ap, ap₂, ◌∙◌, sym, arith, add-one, eqb-true}
-use Rattle.std.proofs.lemmas.Bool.{cases_Bool}
-use Rattle.std.proofs.lemmas.Bool.Decides.{nat_tests}
-use Rattle.std.proofs.lemmas.List.Sums.{sum_by-cons}
-use Rattle.ls_weight.specs.Sums.{sum_below}
+use Rattle.ls_weight.proofs.Vocabulary.{◌&&◌, ◌+◌, ◌<◌, ◌∙◌, ◌∷◌, ◌≡◌, ◌≤◌, Bool, List, ℕ, [], add-one, ap, ap₂, arith, cases_Bool, cond, eqb, eqb-true, false, get_or, inl, inr, length, nat_tests, refl, suc, sum_below, sum_by, sum_by-cons, sym, true, zero}
 
 pub sum_below-none : (f : ℕ → ℕ) → sum_below 0 f ≡ 0
 unfolding sum_below

@@ -1,11 +1,9 @@
 -- Families whose members can be weighed.
-use Rattle.std.proofs.Common.{ℕ, ◌<◌, ◌≤◌, ◌≡◌, true, List, [], ◌∷◌, length, sym, arith, true≢false}
-use Rattle.ls_set.specs.ItemSet.{Items, empty, full, is_among, is_within, most_items}
+use Rattle.ls_weight.proofs.Vocabulary.{◌<◌, ◌∷◌, ◌≡◌, ◌≤◌, IsWeighable, Items, List, ℕ, [], arith, empty, full, is_among, is_within, length, most_items, sym, true, true≢false}
 use Rattle.ls_set.proofs.Sets.{is_within-from}
 use Rattle.ls_theory.specs.Settings.{Settings, most_states}
 use Rattle.ls_laws.specs.Families.{IsFamily}
 use Rattle.ls_laws.proofs.Lists.{every-from}
-use Rattle.ls_weight.specs.Weighings.{IsWeighable}
 
 some-states : (f : List Items) (k : Items) → is_among f k ≡ true → 0 < length f
 some-states [] k h = absurd (true≢false (sym h))

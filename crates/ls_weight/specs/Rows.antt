@@ -2,10 +2,9 @@
 use Rattle.std.specs.Prelude.{ℕ, ◌+◌, ◌*◌, ◌/◌, ◌%◌, ◌<◌, ◌≡◌, ◌≤◌, Bool, not, ◌&&◌, ◌==◌, if◌then◌else◌, List, length, take, drop, slice_index, slice_index_or, count_by, map}
 use Rattle.std.specs.Int.{bit_at}
 use Rattle.std.specs.List.{range_with_len}
-use Rattle.ls_set.specs.ItemSet.{Items, has, empty, most_items}
+use Rattle.ls_set.specs.{Items, empty, has, most_items}
 use Rattle.ls_theory.specs.declared.reply.Reply.{Reply}
-use Rattle.ls_theory.specs.Settings.{most_states}
-use Rattle.ls_theory.specs.Weights.{agrees}
+use Rattle.ls_theory.specs.{agrees, most_states}
 use Rattle.ls_weight.specs.Sums.{sum_below}
 
 -- how many bytes hold n items

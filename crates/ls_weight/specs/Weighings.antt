@@ -1,10 +1,10 @@
 -- The weights of listed states after replies, as contracts see them.
 use Rattle.std.specs.Prelude.{ℕ, ◌*◌, ◌≡◌, ◌<◌, ◌≤◌, true, List, map, length, nat_lt, slice_index, None}
 use Rattle.std.specs.List.{list_all, IsFirstMaxByKey}
-use Rattle.ls_set.specs.ItemSet.{Items, full, is_within, most_items, IsInOrder}
+use Rattle.ls_set.specs.{IsInOrder, Items, full, is_within, most_items}
 use Rattle.ls_theory.specs.declared.reply.Reply.{Reply}
 use Rattle.ls_theory.specs.Settings.{Settings, most_states, heavy_after}
-use Rattle.ls_theory.specs.Weights.{weight, mass, total}
+use Rattle.ls_theory.specs.{mass, total, weight}
 use Rattle.ls_weight.specs.Sums.{table_cells}
 use Rattle.ls_weight.specs.Rows.{width_of}
 use Rattle.ls_settings.specs.Allowed.{IsAllowed}

@@ -1,9 +1,8 @@
 // Listed states, with their items as rows of bytes.
 ghost use Rattle.std.specs.Prelude.{◌≡◌, ◌+◌, ◌*◌, ◌/◌, ◌%◌, ◌<◌, ◌≤◌, ◌^◌, ℕ, if◌then◌else◌, length, drop, take, map, slice_index, sum, count_by, All, IfOk, OnOk};
 ghost use Rattle.std.specs.List.{range_with_len};
-ghost use Rattle.ls_set.specs.ItemSet.{has, most_items};
-ghost use Rattle.ls_theory.specs.Settings.{most_states};
-ghost use Rattle.ls_theory.specs.Weights.{agrees};
+ghost use Rattle.ls_set.specs.{has, most_items};
+ghost use Rattle.ls_theory.specs.{agrees, most_states};
 ghost use Rattle.ls_weight.specs.Sums.{table_cells, cells_with};
 ghost use Rattle.ls_weight.specs.Rows.{width_of, row_at, has_in, state_at, agreeing_with, AreRows};
 

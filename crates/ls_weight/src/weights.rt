@@ -1,10 +1,8 @@
 // The weights of listed states after replies.
 ghost use Rattle.std.specs.Prelude.{◌≡◌, ◌<◌, ◌≤◌, ◌++◌, ◌∷◌, ◌^◌, [], ℕ, length, slice_get, nat_lt, true, Some, None, Err, IfOk, OnOk};
 ghost use Rattle.std.specs.List.{list_all};
-ghost use Rattle.ls_set.specs.ItemSet.{Items};
-ghost use Rattle.ls_theory.specs.Settings.{heavy_after};
-ghost use Rattle.ls_theory.specs.Weights.{weight, mass, total};
-ghost use Rattle.ls_theory.specs.Assessment.{leader};
+ghost use Rattle.ls_set.specs.{Items};
+ghost use Rattle.ls_theory.specs.{heavy_after, leader, mass, total, weight};
 ghost use Rattle.ls_weight.specs.Weighings.{IsWeighable};
 
 use crate::fault::WeightFault;

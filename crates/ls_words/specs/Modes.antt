@@ -1,9 +1,7 @@
 -- What the words after the program's name ask for. An option and its value are two words, the value directly after the
 -- option; the word after an option is its value whatever it is.
 use Rattle.std.specs.Prelude.{ℕ, ◌<◌, ◌≤◌, ◌&&◌, if◌then◌else◌, List, [], ◌∷◌, bytes_eq, codes, Option, Some, None, ⊤}
-use Rattle.ls_lines.specs.Lines.{Text}
-use Rattle.ls_lines.specs.Numbers.{number_up_to}
-use Rattle.ls_lines.specs.Kinds.{is_from_to, is_file, greatest_number}
+use Rattle.ls_lines.specs.{Text, greatest_number, is_file, is_from_to, number_up_to}
 use Rattle.ls_words.specs.declared.mode.Mode.{Mode}
 use Rattle.ls_words.specs.declared.mode.Mode.TheVariants.{Input, File, Drill}
 

@@ -1,7 +1,7 @@
 // Reading the words of the command line.
 ghost use Rattle.std.specs.Prelude.{◌≡◌, ◌↔◌, ◌≤◌, [], Ok, IfOk, IfSome, IsErrOf, None, Some, map};
 ghost use Rattle.std.specs.Option.{ForSome};
-ghost use Rattle.ls_lines.specs.Kinds.{greatest_number};
+ghost use Rattle.ls_lines.specs.{greatest_number};
 ghost use Rattle.ls_words.specs.Modes.{mode_of, mode_of_option, mode_of_options, IsInRange};
 ghost use Rattle.ls_words.specs.declared.mode.Mode.TheVariants.{Input};
 ghost use Rattle.ls_words.specs.Modes.{file, drill, number_of};

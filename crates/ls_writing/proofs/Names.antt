@@ -1,12 +1,7 @@
 -- The names of items that a verdict names.
-use Rattle.std.proofs.Common.{ℕ, ◌<◌, List, ◌∷◌, length, filter, arith}
-use Rattle.std.specs.List.{All}
+use Rattle.ls_writing.proofs.Vocabulary.{◌<◌, ◌∷◌, All, AreNamed, IsDoubleOn, Items, List, Text, ℕ, arith, filter, has, items, length, numbers_from}
 use Rattle.std.proofs.lemmas.List.Elements.{All-cons, All-same, All-filter}
-use Rattle.ls_set.specs.ItemSet.{Items, has, items, numbers_from}
 use Rattle.ls_set.proofs.Sizes.{items-within}
-use Rattle.ls_lines.specs.Lines.{Text}
-use Rattle.ls_spans.specs.Speaking.{IsDoubleOn}
-use Rattle.ls_texts.specs.Names.{AreNamed}
 use Rattle.ls_texts.proofs.Names.{numbers-All}
 
 -- the items of a set and two more

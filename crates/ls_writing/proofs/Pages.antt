@@ -1,13 +1,6 @@
 -- The bytes of a page, line by line.
-use Rattle.std.proofs.Common.{◌≡◌, ℕ, ◌+◌, ◌-◌, ◌<◌, ◌≤◌, Bool, false, ltb, List, [], ◌∷◌, ◌++◌, length, map, take, is_some, MatchOption, sym, ap, ap₂, ◌∙◌}
+use Rattle.ls_writing.proofs.Vocabulary.{◌++◌, ◌+◌, ◌-◌, ◌<◌, ◌∙◌, ◌∷◌, ◌≡◌, ◌≤◌, Bool, Items, List, MatchOption, Page, Text, ℕ, [], ap, ap₂, bytes_of, comes_before, false, is_some, left_after, length, line_of, ltb, map, more-ended, more-full, more-left, more_words, page, page_lines, set_words, sym, take, take-ended, take-full, take-left}
 use Rattle.std.specs.declared.option.Option.{Option}
-use Rattle.ls_set.specs.ItemSet.{Items, comes_before}
-use Rattle.ls_theory.specs.Pages.{Page, page}
-use Rattle.ls_enum.specs.Listings.{left_after}
-use Rattle.ls_enum.proofs.Left.{take-left, more-left, take-ended, more-ended, take-full, more-full}
-use Rattle.ls_lines.specs.Lines.{Text}
-use Rattle.ls_reply.specs.Texts.{line_of, bytes_of}
-use Rattle.ls_reply.specs.Lines.{set_words, page_lines, more_words}
 use Rattle.ls_writing.proofs.Joins.{bytes_of-one, bytes_of-append}
 
 -- ---- pages

@@ -1,8 +1,7 @@
 // The lines of assessments.
 ghost use Rattle.std.specs.Prelude.{◌∷◌, [], length};
-ghost use Rattle.ls_set.specs.ItemSet.{full, IsWithin};
-ghost use Rattle.ls_reply.specs.Texts.{line_of, bytes_of};
-ghost use Rattle.ls_reply.specs.Lines.{asked_words, outcome_words, fringes_words};
+ghost use Rattle.ls_set.specs.{IsWithin, full};
+ghost use Rattle.ls_reply.specs.{asked_words, bytes_of, fringes_words, line_of, outcome_words};
 ghost use Rattle.ls_texts.specs.Rooms.{Says};
 ghost use Rattle.ls_writing.specs.Names.{CanAsk};
 

@@ -1,9 +1,8 @@
 // The lines of verdicts, and of states and their fringes.
 ghost use Rattle.std.specs.Prelude.{◌<◌, ◌∷◌, [], length, codes};
-ghost use Rattle.ls_set.specs.ItemSet.{full, IsWithin};
+ghost use Rattle.ls_set.specs.{IsWithin, full};
 ghost use Rattle.ls_domain.specs.Texts.{set_text, fringe_words};
-ghost use Rattle.ls_reply.specs.Texts.{line_of};
-ghost use Rattle.ls_reply.specs.Lines.{learning_words, verdict_words};
+ghost use Rattle.ls_reply.specs.{learning_words, line_of, verdict_words};
 ghost use Rattle.ls_spans.specs.Speaking.{IsBaseVerdictOn, IsVerdictOn};
 ghost use Rattle.ls_texts.specs.Rooms.{Says};
 

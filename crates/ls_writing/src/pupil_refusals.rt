@@ -1,7 +1,6 @@
 // The lines of refusals of settings, of pupils and of classes.
 ghost use Rattle.std.specs.Prelude.{◌≡◌, ◌∷◌, true, codes, option_copied};
-ghost use Rattle.ls_reply.specs.Texts.{line_of};
-ghost use Rattle.ls_reply.specs.Refusals.{refusal_words, reply_words, reply_items, reason_word};
+ghost use Rattle.ls_reply.specs.{line_of, reason_word, refusal_words, reply_items, reply_words};
 ghost use Rattle.ls_texts.specs.Rooms.{Says};
 ghost use Rattle.ls_texts.specs.Names.{names_in, AreNamed};
 ghost use Rattle.ls_writing.specs.Names.{CanRefuse, is_of_pupils};

@@ -1,8 +1,6 @@
 // The lines of refusals, and of commands that were carried out.
 ghost use Rattle.std.specs.Prelude.{◌≡◌, [], ◌∷◌, codes, decimal, option_copied};
-ghost use Rattle.ls_reply.specs.Texts.{line_of};
-ghost use Rattle.ls_reply.specs.Refusals.{domain_words, block_words, answer_words, cursor_words};
-ghost use Rattle.ls_reply.specs.Refusals.{refusal_words, cause_word};
+ghost use Rattle.ls_reply.specs.{answer_words, block_words, cause_word, cursor_words, domain_words, line_of, refusal_words};
 ghost use Rattle.ls_texts.specs.Rooms.{Says};
 ghost use Rattle.ls_texts.specs.Names.{names_in};
 ghost use Rattle.ls_writing.specs.Names.{CanRefuse};

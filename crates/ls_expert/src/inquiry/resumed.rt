@@ -1,10 +1,8 @@
 // Inquiries that go on from answers.
 ghost use Rattle.std.specs.Prelude.{◌≡◌, ◌<◌, ◌≤◌, true, Ok, IfOk, IfErr, OnOk};
 ghost use Rattle.std.specs.List.{list_all};
-ghost use Rattle.ls_set.specs.Query.{is_good};
-ghost use Rattle.ls_theory.specs.Interviews.{nos, yes_queries};
-ghost use Rattle.ls_theory.specs.Compatible.{compat};
-ghost use Rattle.ls_theory.specs.Blocks.{made};
+ghost use Rattle.ls_set.specs.{is_good};
+ghost use Rattle.ls_theory.specs.{compat, made, nos, yes_queries};
 ghost use Rattle.ls_expert.specs.Starts.{start_of, IsStartOn};
 ghost use Rattle.ls_infer.specs.Tables.{table_of, AreStates};
 ghost use Rattle.ls_expert.specs.Held.{blocks_of, interview_on, single_items, IsStanding};

@@ -1,9 +1,8 @@
 // Answers that an inquiry takes and takes back.
 ghost use Rattle.std.specs.Prelude.{◌≡◌, ◌+◌, ◌≤◌, true, false, Some, None, IfOk, IfErr, OnOk, OnErr};
-ghost use Rattle.ls_theory.specs.Interviews.{accepted, retracted};
-ghost use Rattle.ls_theory.specs.Forced.{known};
+ghost use Rattle.ls_theory.specs.{accepted, known, retracted};
 ghost use Rattle.ls_theory.specs.declared.known.Known.TheVariants as Known;
-ghost use Rattle.ls_theory.specs.Answering.{refusal, standing_number, answer_with, is_full};
+ghost use Rattle.ls_theory.specs.{answer_with, is_full, refusal, standing_number};
 ghost use Rattle.ls_expert.specs.Steps.{steps_back, most_steps};
 
 use crate::answers::{opposed, put_last, rules_before, take_out};

@@ -2,15 +2,9 @@
 ghost use Rattle.std.specs.Prelude.{◌≡◌, ◌+◌, ◌<◌, ◌≤◌, ◌&&◌, ℕ, true, List, Some, length, filter, find, slice_get};
 ghost use Rattle.std.specs.List.{position};
 ghost use Rattle.std.specs.Option.{ForSome, option_map, option_map_or};
-ghost use Rattle.ls_set.specs.ItemSet.{Items, full, has, is_same, IsWithin};
-ghost use Rattle.ls_set.specs.Query.{is_good};
-ghost use Rattle.ls_theory.specs.Queries.{block_before, query_before};
+ghost use Rattle.ls_set.specs.{IsWithin, Items, full, has, is_good, is_same};
+ghost use Rattle.ls_theory.specs.{Interview, block_before, closure, comes_after, compatible_sets, known, next_question, nos, query_before};
 ghost use Rattle.ls_theory.specs.declared.no.No.{No};
-ghost use Rattle.ls_theory.specs.Families.{closure};
-ghost use Rattle.ls_theory.specs.Interviews.{Interview, nos};
-ghost use Rattle.ls_theory.specs.Compatible.{compatible_sets};
-ghost use Rattle.ls_theory.specs.Forced.{known, next_question};
-ghost use Rattle.ls_theory.specs.Pages.{comes_after};
 ghost use Rattle.ls_laws.specs.Forced.{IsSound, IsNumbered};
 ghost use Rattle.ls_query.specs.Blocks.{sets_of, queries_of};
 

@@ -1,6 +1,6 @@
 use Rattle.std.proofs.Common.{ℕ, ◌≡◌, ◌<◌, ◌≤◌, length, unwrap_or, ap, ◌∙◌, sym, arith}
 use Rattle.ls_theory.specs.Settings.{Settings}
-use Rattle.ls_theory.specs.Assessment.{imbalance, half_split}
+use Rattle.ls_theory.specs.{half_split, imbalance}
 use Rattle.ls_ask.proofs.Nearest.{least-found}
 use Rattle.ls_ask.proofs.asking.half_split.Goals as goal
 

@@ -1,5 +1,5 @@
 use Rattle.std.proofs.Common.{ℕ, ◌≡◌, ◌<◌, ◌≤◌}
-use Rattle.ls_theory.specs.Assessment.{imbalance}
+use Rattle.ls_theory.specs.{imbalance}
 use Rattle.ls_ask.proofs.asking.half_split.Given as goal
 
 -- the best so far is the first nearest of the items that were looked at

@@ -1,7 +1,4 @@
-use Rattle.std.proofs.Common.{◌≤◌, not, ◌&&◌, sym, ap₂, ◌∙◌, arith, le-leb}
-use Rattle.ls_set.specs.ItemSet.{len}
-use Rattle.ls_laws.specs.Spans.{joins}
-use Rattle.ls_base.specs.Gains.{least_size}
+use Rattle.ls_base.proofs.Vocabulary.{◌&&◌, ◌∙◌, ◌≤◌, ap₂, arith, joins, le-leb, least_size, len, not, sym}
 use Rattle.ls_base.proofs.Joins.{any-joins, none-below}
 use Rattle.ls_base.proofs.least.is_gained.Goals as goal
 

@@ -1,8 +1,4 @@
-use Rattle.std.proofs.Common.{◌+◌, map, drop, sym, ap, ◌∙◌}
-use Rattle.ls_set.specs.ItemSet.{union}
-use Rattle.ls_laws.specs.Spans.{joins}
-use Rattle.ls_base.specs.Gains.{least_size}
-use Rattle.ls_lists.proofs.Places.{drop-next}
+use Rattle.ls_base.proofs.Vocabulary.{◌+◌, ◌∙◌, ap, drop, drop-next, joins, least_size, map, sym, union}
 use Rattle.ls_base.proofs.Joins.{least_size-append}
 use Rattle.ls_base.proofs.least.least_join.Goals as goal
 

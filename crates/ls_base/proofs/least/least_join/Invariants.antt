@@ -1,6 +1,4 @@
-use Rattle.std.proofs.Common.{◌≡◌, drop}
-use Rattle.ls_laws.specs.Spans.{joins}
-use Rattle.ls_base.specs.Gains.{least_size}
+use Rattle.ls_base.proofs.Vocabulary.{◌≡◌, drop, joins, least_size}
 use Rattle.ls_base.proofs.least.least_join.Given as goal
 
 -- the least so far, and the joins that are left, have the least of all

@@ -1,6 +1,4 @@
-use Rattle.std.proofs.Common.{◌≡◌, map, drop}
-use Rattle.ls_set.specs.ItemSet.{union}
-use Rattle.ls_base.specs.Gains.{least_size}
+use Rattle.ls_base.proofs.Vocabulary.{◌≡◌, drop, least_size, map, union}
 use Rattle.ls_base.proofs.least.least_union.Given as goal
 
 -- the least so far, and the unions that are left, have the least of all

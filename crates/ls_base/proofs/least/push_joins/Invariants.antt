@@ -1,6 +1,4 @@
-use Rattle.std.proofs.Common.{◌≡◌, ◌++◌, filter, drop}
-use Rattle.ls_laws.specs.Spans.{joins}
-use Rattle.ls_base.specs.Gains.{is_gained}
+use Rattle.ls_base.proofs.Vocabulary.{◌++◌, ◌≡◌, drop, filter, is_gained, joins}
 use Rattle.ls_base.proofs.least.push_joins.Given as goal
 
 -- what was appended, and the joins that are left, are all joins that are gained

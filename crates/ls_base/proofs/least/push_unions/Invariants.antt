@@ -1,6 +1,4 @@
-use Rattle.std.proofs.Common.{◌≡◌, ◌++◌, map, filter, take}
-use Rattle.ls_set.specs.ItemSet.{union}
-use Rattle.ls_base.specs.Gains.{is_gained}
+use Rattle.ls_base.proofs.Vocabulary.{◌++◌, ◌≡◌, filter, is_gained, map, take, union}
 use Rattle.ls_base.proofs.least.push_unions.Given as goal
 
 abbrev pub invariant-loop-other : goal.invariant-loop-other

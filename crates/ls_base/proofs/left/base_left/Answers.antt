@@ -1,8 +1,4 @@
-use Rattle.std.proofs.Common.{◌++◌, sym, ap, ◌∙◌}
-use Rattle.std.proofs.lemmas.Result.{IfOk-weaker}
-use Rattle.ls_set.specs.ItemSet.{is_among}
-use Rattle.ls_changes.specs.Least.{least_sets}
-use Rattle.ls_base.specs.Gains.{gained_below}
+use Rattle.ls_base.proofs.Vocabulary.{◌++◌, ◌∙◌, IfOk-weaker, ap, gained_below, is_among, least_sets, sym}
 use Rattle.ls_base.proofs.Gains.{base-left, base-unbroken}
 use Rattle.ls_base.proofs.left.base_left.Goals as goal
 

@@ -1,5 +1,4 @@
-use Rattle.std.proofs.Common.{◌≡◌, ◌++◌}
-use Rattle.ls_base.specs.Gains.{gained_below}
+use Rattle.ls_base.proofs.Vocabulary.{◌++◌, ◌≡◌, gained_below}
 use Rattle.ls_base.proofs.left.push_all_gained.Given as goal
 
 abbrev pub invariant-loop-i : goal.invariant-loop-i

@@ -1,4 +1,4 @@
-use Rattle.std.proofs.Common.{◌≡◌, ◌+◌, ◌-◌, arith, length, sym, subst, ◌∙◌}
+use Rattle.ls_base.proofs.Vocabulary.{◌+◌, ◌-◌, ◌∙◌, ◌≡◌, arith, length, subst, sym}
 use Rattle.ls_base.proofs.OwnItems.{IsOwn, own-none, own-taken, own-one}
 use Rattle.ls_base.proofs.own.own_items.Goals as goal
 

@@ -1,6 +1,4 @@
-use Rattle.std.proofs.Common.{sym, ap, ◌∙◌}
-use Rattle.std.proofs.lemmas.Result.{IfOk-weaker}
-use Rattle.ls_laws.specs.Spans.{needed}
+use Rattle.ls_base.proofs.Vocabulary.{◌∙◌, IfOk-weaker, ap, needed, sym}
 use Rattle.ls_base.proofs.Spanned.{base-listed}
 use Rattle.ls_base.proofs.reduction.base_of.Goals as goal
 

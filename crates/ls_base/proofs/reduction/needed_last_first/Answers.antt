@@ -1,7 +1,4 @@
-use Rattle.std.proofs.Common.{◌≡◌, ◌+◌, ◌-◌, ℕ, reverse, drop, arith, sym, ap, subst, ◌∙◌}
-use Rattle.ls_set.specs.ItemSet.{is_same}
-use Rattle.ls_theory.specs.Families.{interior}
-use Rattle.ls_laws.specs.Spans.{needed}
+use Rattle.ls_base.proofs.Vocabulary.{◌+◌, ◌-◌, ◌∙◌, ◌≡◌, ℕ, ap, arith, drop, interior, is_same, needed, reverse, subst, sym}
 use Rattle.ls_base.proofs.Reduced.{walk-none, walk-passed, walk-taken}
 use Rattle.ls_base.proofs.reduction.needed_last_first.Goals as goal
 

@@ -1,5 +1,4 @@
-use Rattle.std.proofs.Common.{◌≡◌, reverse, drop}
-use Rattle.ls_laws.specs.Spans.{needed}
+use Rattle.ls_base.proofs.Vocabulary.{◌≡◌, drop, needed, reverse}
 use Rattle.ls_base.proofs.reduction.needed_last_first.Given as goal
 
 abbrev pub invariant-loop-place : goal.invariant-loop-place

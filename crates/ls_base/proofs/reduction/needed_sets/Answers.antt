@@ -1,5 +1,4 @@
-use Rattle.std.proofs.Common.{length, arith, ap}
-use Rattle.std.proofs.lemmas.List.{length-reverse}
+use Rattle.ls_base.proofs.Vocabulary.{ap, arith, length, length-reverse}
 use Rattle.ls_base.proofs.Reduced.{needed-few}
 use Rattle.ls_base.proofs.reduction.needed_sets.Goals as goal
 

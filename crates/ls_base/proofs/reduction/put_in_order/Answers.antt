@@ -1,9 +1,4 @@
-use Rattle.std.proofs.Common.{◌≡◌, IsPermutation, sym, ap, ◌∙◌, subst, arith}
-use Rattle.std.specs.List.{dedup}
-use Rattle.std.proofs.lemmas.List.{with_items_is}
-use Rattle.std.proofs.lemmas.List.Filters.{dedup_is}
-use Rattle.std.proofs.lemmas.List.Sorted.{length_permutation, list_any-IsPermutation}
-use Rattle.ls_set.specs.ItemSet.{is_among, is_same, IsInOrder}
+use Rattle.ls_base.proofs.Vocabulary.{◌∙◌, ◌≡◌, IsInOrder, IsPermutation, ap, arith, dedup, dedup_is, is_among, is_same, length_permutation, list_any-IsPermutation, subst, sym, with_items_is}
 use Rattle.ls_base.proofs.Orders.{Ascends-sorted, among-dedup, dedup-in_order}
 use Rattle.ls_base.proofs.reduction.put_in_order.Goals as goal
 

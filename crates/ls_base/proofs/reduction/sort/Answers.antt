@@ -1,6 +1,4 @@
-use Rattle.std.proofs.Common.{rules}
-use Rattle.std.proofs.lemmas.List.Sorted.{answers_always}
-use Rattle.ls_set.specs.ItemSet.{comes_before}
+use Rattle.ls_base.proofs.Vocabulary.{answers_always, comes_before, rules}
 use Rattle.ls_base.proofs.Orders.{order_of_sets}
 use Rattle.ls_base.proofs.reduction.sort.Goals as goal
 

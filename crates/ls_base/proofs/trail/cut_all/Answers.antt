@@ -1,7 +1,5 @@
-use Rattle.std.proofs.Common.{ap, sym, ◌∙◌}
-use Rattle.std.proofs.Math.ListN.{set}
+use Rattle.ls_base.proofs.Vocabulary.{◌∙◌, ap, cut, set, sym}
 use Rattle.std.proofs.lemmas.List.Edits.{map_over_more}
-use Rattle.ls_base.specs.Trail.{cut}
 use Rattle.ls_base.proofs.trail.cut_all.Goals as goal
 
 pub loop-entry-preserved : goal.loop-entry-preserved

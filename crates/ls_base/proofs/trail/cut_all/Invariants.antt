@@ -1,5 +1,4 @@
-use Rattle.std.proofs.Common.{◌≡◌, ◌++◌, map, take, drop}
-use Rattle.ls_base.specs.Trail.{cut}
+use Rattle.ls_base.proofs.Vocabulary.{◌++◌, ◌≡◌, cut, drop, map, take}
 use Rattle.ls_base.proofs.trail.cut_all.Given as goal
 
 -- those so far are cut, and those that are left are as they were

@@ -1,11 +1,4 @@
-use Rattle.std.proofs.Common.{◌+◌, ◌-◌, take, IfSome, sym, ap, ◌∙◌, subst, arith}
-use Rattle.std.proofs.Math.ListN.{set}
-use Rattle.std.specs.List.{All}
-use Rattle.std.specs.Option.{option_map_or}
-use Rattle.std.proofs.lemmas.List.Elements.{All-weaker}
-use Rattle.ls_base.specs.Followed.{IsAskable}
-use Rattle.ls_base.specs.Trail.{IsTrail, AreAskable, reached}
-use Rattle.ls_base.specs.declared.trail.Entry.{Entry}
+use Rattle.ls_base.proofs.Vocabulary.{◌+◌, ◌-◌, ◌∙◌, All, All-weaker, AreAskable, Entry, IfSome, IsAskable, IsTrail, ap, arith, option_map_or, reached, set, subst, sym, take}
 use Rattle.ls_base.proofs.Trails.{last-read, last-same, last-set, last-push, trail-set, trail-push}
 use Rattle.ls_base.proofs.trail.follow_next.Goals as goal
 

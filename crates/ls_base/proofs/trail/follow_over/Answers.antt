@@ -1,9 +1,4 @@
-use Rattle.std.proofs.Common.{◌+◌, slice_get, IfSome, refl, sym, ap, ◌∙◌, subst, arith}
-use Rattle.std.specs.List.{All}
-use Rattle.std.specs.Option.{option_map_or}
-use Rattle.std.proofs.lemmas.Option.{slice_get_read}
-use Rattle.ls_base.specs.Followed.{IsAskable}
-use Rattle.ls_base.specs.declared.trail.Entry.{Entry}
+use Rattle.ls_base.proofs.Vocabulary.{◌+◌, ◌∙◌, All, Entry, IfSome, IsAskable, ap, arith, option_map_or, refl, slice_get, slice_get_read, subst, sym}
 use Rattle.ls_base.proofs.Trails.{trail-end}
 use Rattle.ls_base.proofs.trail.follow_over.Goals as goal
 

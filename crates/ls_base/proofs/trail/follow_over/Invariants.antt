@@ -1,6 +1,4 @@
-use Rattle.std.proofs.Common.{◌≡◌, ◌<◌, ℕ, length}
-use Rattle.ls_theory.specs.Starts.{Start}
-use Rattle.ls_base.specs.Trail.{IsTrail, AreAskable, begins_at_none, reached}
+use Rattle.ls_base.proofs.Vocabulary.{◌<◌, ◌≡◌, AreAskable, IsTrail, Start, ℕ, begins_at_none, length, reached}
 use Rattle.ls_base.proofs.trail.follow_over.Given as goal
 
 abbrev pub invariant-loop-place : goal.invariant-loop-place

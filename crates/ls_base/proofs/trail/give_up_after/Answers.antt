@@ -1,7 +1,5 @@
-use Rattle.std.proofs.Common.{nat_le, map, length, rules, arith, ap, ◌∙◌}
+use Rattle.ls_base.proofs.Vocabulary.{◌∙◌, ap, arith, cut, length, length-map, map, nat_le, rules, with_items_is}
 use Rattle.std.proofs.lemmas.Fn.{filter_same}
-use Rattle.std.proofs.lemmas.List.{with_items_is, length-map}
-use Rattle.ls_base.specs.Trail.{cut}
 use Rattle.ls_base.proofs.trail.give_up_after.Goals as goal
 
 pub returns : goal.returns

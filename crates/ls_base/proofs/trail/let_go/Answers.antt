@@ -1,4 +1,4 @@
-use Rattle.std.proofs.Common.{arith}
+use Rattle.ls_base.proofs.Vocabulary.{arith}
 use Rattle.ls_base.proofs.Trails.{let_go-more}
 use Rattle.ls_base.proofs.trail.let_go.Goals as goal
 

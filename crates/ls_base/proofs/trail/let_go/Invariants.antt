@@ -1,4 +1,4 @@
-use Rattle.std.proofs.Common.{length}
+use Rattle.ls_base.proofs.Vocabulary.{length}
 use Rattle.ls_base.proofs.Trails.{IsLetGo}
 use Rattle.ls_base.proofs.trail.let_go.Given as goal
 

@@ -1,6 +1,4 @@
-use Rattle.std.proofs.Common.{sym, ◌∙◌}
-use Rattle.ls_set.specs.ItemSet.{is_same}
-use Rattle.ls_set.proofs.Sets.{Decides-is_same}
+use Rattle.ls_base.proofs.Vocabulary.{◌∙◌, Decides-is_same, is_same, sym}
 use Rattle.ls_base.proofs.Turns.{united-none, united-taken, united-passed, united-whole, united-all}
 use Rattle.ls_base.proofs.Below.{below-unites}
 use Rattle.ls_base.proofs.unions.union_below.Goals as goal

@@ -1,4 +1,4 @@
-use Rattle.ls_laws.specs.Spans.{union_below}
+use Rattle.ls_base.proofs.Vocabulary.{union_below}
 use Rattle.ls_base.proofs.Turns.{IsUnited}
 use Rattle.ls_base.proofs.unions.union_below.Given as goal
 

@@ -1,4 +1,4 @@
-use Rattle.ls_theory.specs.Families.{interior}
+use Rattle.ls_base.proofs.Vocabulary.{interior}
 use Rattle.ls_base.proofs.Turns.{IsUnited}
 use Rattle.ls_base.proofs.unions.union_within.Given as goal
 

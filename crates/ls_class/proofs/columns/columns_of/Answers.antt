@@ -1,11 +1,5 @@
-use Rattle.std.proofs.Common.{◌≡◌, ◌==◌, ◌∷◌, [], ap₂, map, Some, ◌<◌, ◌∙◌, ◌+◌, length-drop, ap, sym, length, arith, drop, take, option_and_then}
+use Rattle.ls_class.proofs.Vocabulary.{◌+◌, ◌<◌, ◌==◌, ◌∙◌, ◌∷◌, ◌≡◌, Items, PLACES, Some, [], ap, ap₂, arith, drop, fields_of, full, is_named, item_of, items_of, length, length-drop, list_all, map, number_of, option_and_then, sym, take, take_all}
 use Rattle.std.proofs.lemmas.List.Elements.{All-append, All-cons, All-nil}
-use Rattle.ls_set.specs.ItemSet.{Items, full}
-use Rattle.ls_set.specs.declared.item_set.TheConstants.{PLACES}
-use Rattle.std.specs.List.{list_all}
-use Rattle.std.proofs.lemmas.List.{take_all}
-use Rattle.csv.specs.Records.{fields_of}
-use Rattle.ls_domain.specs.Meanings.{number_of, is_named, item_of, items_of}
 use Rattle.ls_class.proofs.Headers.{is_same-digits, columns_of-good, columns_of-left_out, field-behind, next-items, next-named, next-set, unnamed, columns_of-length, columns_of-unnamed}
 use Rattle.ls_class.proofs.columns.columns_of.Goals as goal
 

@@ -1,8 +1,4 @@
-use Rattle.std.proofs.Common.{◌≡◌, ◌<◌, true, All, map, take, drop}
-use Rattle.std.specs.List.{list_all}
-use Rattle.csv.specs.Records.{fields_of}
-use Rattle.ls_set.specs.declared.item_set.TheConstants.{PLACES}
-use Rattle.ls_domain.specs.Meanings.{is_named, item_of, items_of}
+use Rattle.ls_class.proofs.Vocabulary.{◌<◌, ◌≡◌, All, PLACES, drop, fields_of, is_named, item_of, items_of, list_all, map, take, true}
 use Rattle.ls_class.proofs.columns.columns_of.Given as goal
 
 -- the columns so far are items' names

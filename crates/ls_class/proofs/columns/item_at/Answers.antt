@@ -1,5 +1,4 @@
-use Rattle.std.proofs.Common.{◌∙◌, ap, sym, option_and_then}
-use Rattle.ls_domain.specs.Meanings.{number_of}
+use Rattle.ls_class.proofs.Vocabulary.{◌∙◌, ap, number_of, option_and_then, sym}
 use Rattle.ls_class.proofs.Headers.{number_of-bytes}
 use Rattle.ls_class.proofs.columns.item_at.Goals as goal
 

@@ -1,7 +1,4 @@
-use Rattle.std.proofs.Common.{◌≡◌, ◌<◌, ◌≤◌, ◌∙◌, true, false, refl, ap, sym, arith, length, length-drop, drop, Some}
-use Rattle.csv.specs.Records.{fields_of}
-use Rattle.ls_set.proofs.Sets.{union-empty_left}
-use Rattle.ls_class.specs.Tables.{is_mark}
+use Rattle.ls_class.proofs.Vocabulary.{◌<◌, ◌∙◌, ◌≡◌, ◌≤◌, Some, ap, arith, drop, false, fields_of, is_mark, length, length-drop, refl, sym, true, union-empty_left}
 use Rattle.ls_class.proofs.Marked.{mark-at, column-at, next-right, next-wrong, next-mark, no_mark, right-end, marks-end, marked-bad, marked-good}
 use Rattle.ls_class.proofs.marks.read_marks.Goals as goal
 use Rattle.ls_class.proofs.marks.read_marks.Goals.{then-is_right, else-is_right+else-not-is_wrong}

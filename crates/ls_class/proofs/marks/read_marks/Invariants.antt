@@ -1,8 +1,4 @@
-use Rattle.std.proofs.Common.{◌≡◌, drop}
-use Rattle.std.specs.List.{list_all}
-use Rattle.csv.specs.Records.{fields_of}
-use Rattle.ls_set.specs.ItemSet.{union}
-use Rattle.ls_class.specs.Tables.{is_mark, right_of}
+use Rattle.ls_class.proofs.Vocabulary.{◌≡◌, drop, fields_of, is_mark, list_all, right_of, union}
 use Rattle.ls_class.proofs.marks.read_marks.Given as goal
 
 -- the items so far and those of the columns to come are those of all

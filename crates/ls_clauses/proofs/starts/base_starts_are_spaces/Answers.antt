@@ -1,5 +1,4 @@
-use Rattle.std.proofs.Common.{[], refl}
-use Rattle.ls_theory.specs.Starts.{Sets}
+use Rattle.ls_clauses.proofs.Vocabulary.{Sets, [], refl}
 use Rattle.ls_clauses.proofs.Covers.{cover-least, base-sets, interior-sets, start-space}
 use Rattle.ls_clauses.proofs.starts.base_starts_are_spaces.Goals as goal
 

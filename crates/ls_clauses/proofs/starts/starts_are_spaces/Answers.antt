@@ -1,4 +1,4 @@
-use Rattle.ls_laws.proofs.Families.{compat-IsFamily}
+use Rattle.ls_clauses.proofs.Vocabulary.{compat-IsFamily}
 use Rattle.ls_clauses.proofs.Covers.{start-space, start-sound}
 use Rattle.ls_clauses.proofs.starts.starts_are_spaces.Goals as goal
 

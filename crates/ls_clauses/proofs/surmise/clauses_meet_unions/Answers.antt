@@ -1,5 +1,4 @@
-use Rattle.std.proofs.Common.{[], refl}
-use Rattle.ls_theory.specs.Starts.{Clauses}
+use Rattle.ls_clauses.proofs.Vocabulary.{Clauses, [], refl}
 use Rattle.ls_clauses.proofs.Clauses.{meets-unions, compat-clauses, compat-spanned, all-small}
 use Rattle.ls_clauses.proofs.Covers.{start-space}
 use Rattle.ls_clauses.proofs.surmise.clauses_meet_unions.Goals as goal

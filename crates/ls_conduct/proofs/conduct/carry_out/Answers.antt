@@ -1,7 +1,4 @@
-use Rattle.std.proofs.Common.{ap}
-use Rattle.ls_reply.specs.Meanings.{request_of}
-use Rattle.ls_reply.specs.Replies.{command_effect, unnamed_at}
-use Rattle.ls_reply.proofs.Effects.{asked_effect-stored}
+use Rattle.ls_conduct.proofs.Vocabulary.{ap, asked_effect-stored, command_effect, request_of, unnamed_at}
 use Rattle.ls_conduct.proofs.Deciding.{decides_made, decides_as, asked_named, needed-asked}
 use Rattle.ls_conduct.proofs.conduct.carry_out.Goals as goal
 

@@ -1,8 +1,4 @@
-use Rattle.std.proofs.Common.{◌≡◌, ◌∙◌, sym, ap, subst}
-use Rattle.ls_reply.specs.Scenes.{Fetched, Bytes}
-use Rattle.ls_reply.specs.Effects.{answers}
-use Rattle.ls_reply.specs.Pupils.{class_row}
-use Rattle.ls_conduct.specs.Decides.{IsFetched}
+use Rattle.ls_conduct.proofs.Vocabulary.{◌∙◌, ◌≡◌, Bytes, Fetched, IsFetched, answers, ap, class_row, subst, sym}
 use Rattle.ls_conduct.proofs.Deciding.{makes_as, shown_only}
 use Rattle.ls_conduct.proofs.loading.class_fetched.Goals as goal
 

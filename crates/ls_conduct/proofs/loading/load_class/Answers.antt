@@ -1,11 +1,4 @@
-use Rattle.std.proofs.Common.{◌≡◌, true, refl, subst}
-use Rattle.ls_edge.specs.Files.{Fetches}
-use Rattle.ls_lines.specs.Lines.{Text}
-use Rattle.ls_reply.specs.Sessions.{Session, has_domain}
-use Rattle.ls_reply.specs.Scenes.{Fetched}
-use Rattle.ls_reply.specs.Pupils.{class_row}
-use Rattle.ls_reply.specs.declared.response.Response.{Response}
-use Rattle.ls_reply.proofs.Effects.{has_domain-some}
+use Rattle.ls_conduct.proofs.Vocabulary.{◌≡◌, Fetched, Fetches, Response, Session, Text, class_row, has_domain, has_domain-some, refl, subst, true}
 use Rattle.ls_conduct.proofs.Fetching.{decides_shown}
 use Rattle.ls_conduct.proofs.loading.load_class.Goals as goal
 

@@ -1,8 +1,4 @@
-use Rattle.std.proofs.Common.{◌≡◌, ◌∙◌, true, refl, sym, subst}
-use Rattle.ls_edge.specs.Files.{Fetches}
-use Rattle.ls_lines.specs.Lines.{Text}
-use Rattle.ls_reply.specs.Sessions.{has_domain}
-use Rattle.ls_reply.proofs.Effects.{has_domain-some}
+use Rattle.ls_conduct.proofs.Vocabulary.{◌∙◌, ◌≡◌, Fetches, Text, has_domain, has_domain-some, refl, subst, sym, true}
 use Rattle.ls_conduct.proofs.Deciding.{decides_made, no_answers}
 use Rattle.ls_conduct.proofs.Fetching.{decides_started, start_row-stands}
 use Rattle.ls_conduct.proofs.loading.load_start.Goals as goal

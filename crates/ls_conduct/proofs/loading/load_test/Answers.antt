@@ -1,9 +1,4 @@
-use Rattle.std.proofs.Common.{◌≡◌, true, refl, subst}
-use Rattle.ls_edge.specs.Files.{Fetches}
-use Rattle.ls_lines.specs.Lines.{Text}
-use Rattle.ls_reply.specs.Sessions.{has_domain}
-use Rattle.ls_reply.specs.Rows.{test_row}
-use Rattle.ls_reply.proofs.Effects.{has_domain-some}
+use Rattle.ls_conduct.proofs.Vocabulary.{◌≡◌, Fetches, Text, has_domain, has_domain-some, refl, subst, test_row, true}
 use Rattle.ls_conduct.proofs.Fetching.{decides_shown}
 use Rattle.ls_conduct.proofs.loading.load_test.Goals as goal
 

@@ -1,8 +1,4 @@
-use Rattle.std.proofs.Common.{◌≡◌, ◌∙◌, [], sym, ap, subst}
-use Rattle.ls_reply.specs.Scenes.{Fetched, Bytes}
-use Rattle.ls_reply.specs.Effects.{changes_interview}
-use Rattle.ls_reply.specs.Rows.{starts_by, start_read, file_refusals, bytes_fetched}
-use Rattle.ls_conduct.specs.Decides.{IsFetched}
+use Rattle.ls_conduct.proofs.Vocabulary.{◌∙◌, ◌≡◌, Bytes, Fetched, IsFetched, [], ap, bytes_fetched, changes_interview, file_refusals, start_read, starts_by, subst, sym}
 use Rattle.ls_conduct.proofs.Deciding.{makes_as, makes_interview}
 use Rattle.ls_conduct.proofs.loading.start_from.Goals as goal
 

@@ -1,11 +1,4 @@
-use Rattle.std.proofs.Common.{◌≡◌, ◌<◌, ◌≤◌, ◌∙◌, ℕ, List, length, true, refl, sym, ap, arith}
-use Rattle.ls_edge.specs.Files.{longest_file}
-use Rattle.ls_saved.specs.Values.{session_text}
-use Rattle.ls_reply.specs.Sessions.{has_domain}
-use Rattle.ls_reply.specs.Effects.{refuse, stores}
-use Rattle.ls_reply.specs.declared.refusal.Refusal.TheVariants.{LargeFile, FileFailed}
-use Rattle.ls_reply.specs.declared.response.Response.TheVariants.{Refused}
-use Rattle.ls_reply.proofs.Effects.{has_domain-some}
+use Rattle.ls_conduct.proofs.Vocabulary.{◌<◌, ◌∙◌, ◌≡◌, ◌≤◌, FileFailed, LargeFile, List, Refused, ℕ, ap, arith, has_domain, has_domain-some, length, longest_file, refl, refuse, session_text, stores, sym, true}
 use Rattle.ls_conduct.proofs.Deciding.{decides_made, decides_as, decides_err}
 use Rattle.ls_conduct.proofs.Storing.{save_long, save_short}
 use Rattle.ls_conduct.proofs.saving.save.Goals as goal

@@ -1,7 +1,5 @@
-use Rattle.std.proofs.Common.{◌≡◌, Err, ap, ◌∙◌, subst}
-use Rattle.ls_edge.specs.Files.{Stores}
+use Rattle.ls_conduct.proofs.Vocabulary.{◌∙◌, ◌≡◌, Err, Stores, Text, ap, subst}
 use Rattle.ls_edge.specs.declared.traits.StoreFault.TheVariants as store
-use Rattle.ls_lines.specs.Lines.{Text}
 use Rattle.ls_conduct.proofs.Storing.{decides_stored, decides_failed, decides_unstored}
 use Rattle.ls_conduct.proofs.saving.store_text.Goals as goal
 

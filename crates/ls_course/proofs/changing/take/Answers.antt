@@ -1,6 +1,4 @@
-use Rattle.std.proofs.Common.{sym, subst}
-use Rattle.ls_theory.specs.Interviews.{Interview}
-use Rattle.ls_course.specs.States.{IsTrailOf}
+use Rattle.ls_course.proofs.Vocabulary.{Interview, IsTrailOf, subst, sym}
 use Rattle.ls_course.proofs.Trailed.{trail-accepted}
 use Rattle.ls_course.proofs.changing.take.Goals as goal
 

@@ -1,8 +1,4 @@
-use Rattle.std.proofs.Common.{◌≡◌, Some, sym, ap, ◌∙◌, subst}
-use Rattle.ls_theory.specs.Interviews.{Interview, retracted, yes_queries}
-use Rattle.ls_theory.specs.Answering.{answer_with}
-use Rattle.ls_expert.specs.Held.{rules_before}
-use Rattle.ls_course.specs.States.{IsTrailOf}
+use Rattle.ls_course.proofs.Vocabulary.{◌∙◌, ◌≡◌, Interview, IsTrailOf, Some, answer_with, ap, retracted, rules_before, subst, sym, yes_queries}
 use Rattle.ls_course.proofs.Trailed.{trail-without_no, first-kept}
 use Rattle.ls_course.proofs.changing.take_back.Goals as goal
 use Rattle.ls_course.proofs.changing.take_back.Goals.{then-answer, else-answer}

@@ -1,8 +1,4 @@
-use Rattle.std.proofs.Common.{[], sym, ap, ◌∙◌, subst}
-use Rattle.ls_theory.specs.Interviews.{yes_queries}
-use Rattle.ls_theory.specs.Compatible.{compat}
-use Rattle.ls_theory.specs.Bases.{base}
-use Rattle.ls_base.specs.Trail.{IsTrail}
+use Rattle.ls_course.proofs.Vocabulary.{◌∙◌, IsTrail, [], ap, base, compat, subst, sym, yes_queries}
 use Rattle.ls_course.proofs.following.begin.Goals as goal
 
 pub returns-clause-trail : goal.returns-clause-trail

@@ -1,7 +1,4 @@
-use Rattle.std.proofs.Common.{sym, subst}
-use Rattle.ls_theory.specs.Interviews.{yes_queries}
-use Rattle.ls_base.specs.Trail.{IsTrail}
-use Rattle.ls_base.proofs.Trails.{AreAskable-good}
+use Rattle.ls_course.proofs.Vocabulary.{AreAskable-good, IsTrail, subst, sym, yes_queries}
 use Rattle.ls_course.proofs.following.follow.Goals as goal
 
 pub follow-requires-clause-askable : goal.follow-requires-clause-askable

@@ -1,13 +1,9 @@
-use Rattle.std.proofs.Common.{◌≡◌, ◌<◌, ℕ, zero, suc, rules, List, [], ◌∷◌, length, Ok, Err, refl, ap, sym, ◌∙◌, subst, arith}
+use Rattle.ls_course.proofs.Vocabulary.{◌<◌, ◌∙◌, ◌∷◌, ◌≡◌, Err, Items, List, Ok, Text, ℕ, [], ap, arith, based, length, refl, rules, start_of_base, subst, suc, sym, zero}
 use Rattle.std.specs.declared.alloc.AllocError.{AllocError}
-use Rattle.ls_set.specs.ItemSet.{Items}
-use Rattle.ls_theory.specs.Bases.{based}
 use Rattle.ls_theory.specs.declared.base_fault.BaseFault.{BaseFault}
 use Rattle.ls_theory.specs.declared.base_fault.BaseFault.TheVariants.{NotSpanning, Past, Memory}
 use Rattle.ls_base.specs.Bases.{IsFaultOf}
 use Rattle.ls_clauses.proofs.BaseCovers.{based-cover, missing-lt}
-use Rattle.ls_lines.specs.Lines.{Text}
-use Rattle.ls_reply.specs.Rows.{start_of_base}
 use Rattle.ls_reply.specs.declared.refusal.Refusal.TheVariants.{StartBase}
 use Rattle.ls_texts.specs.Names.{AreNamed}
 use Rattle.ls_writing.specs.Names.{CanRefuse}

@@ -1,10 +1,5 @@
-use Rattle.std.proofs.Common.{[], sym, ap, ◌∙◌, subst}
-use Rattle.ls_theory.specs.Interviews.{Interview, yes_queries}
-use Rattle.ls_theory.specs.Compatible.{compat}
-use Rattle.ls_theory.specs.Bases.{base}
-use Rattle.ls_base.specs.Trail.{IsTrail}
+use Rattle.ls_course.proofs.Vocabulary.{◌∙◌, Interview, IsTrail, IsTrailOf, [], ap, base, compat, subst, sym, yes_queries}
 use Rattle.ls_expert.specs.Starts.{start_of}
-use Rattle.ls_course.specs.States.{IsTrailOf}
 use Rattle.ls_course.proofs.starting.begin_with.Goals as goal
 
 pub returns-in-Ok-clause-trail : goal.returns-in-Ok-clause-trail

@@ -1,6 +1,4 @@
-use Rattle.std.proofs.Common.{length, sym, ap, ◌∙◌, subst}
-use Rattle.ls_set.specs.ItemSet.{full}
-use Rattle.ls_theory.specs.Verdict.{verdict}
+use Rattle.ls_course.proofs.Vocabulary.{◌∙◌, ap, full, length, subst, sym, verdict}
 use Rattle.ls_laws.specs.Spans.{IsOn}
 use Rattle.ls_spans.specs.Speaking.{IsVerdictOn}
 use Rattle.ls_spans.proofs.Spoken.{verdict-on}

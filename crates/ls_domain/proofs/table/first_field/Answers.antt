@@ -1,7 +1,4 @@
-use Rattle.std.proofs.Common.{◌≡◌, ◌∙◌, ℕ, List, [], ◌∷◌, Bor, Some, None, refl, ap, option_map, unwrap_or}
-use Rattle.std.specs.declared.option.Option.{Option}
-use Rattle.csv.specs.Records.{field_at}
-use Rattle.ls_domain.specs.Domains.{first_field}
+use Rattle.ls_domain.proofs.Vocabulary.{◌∙◌, ◌∷◌, ◌≡◌, Bor, List, None, Option, Some, ℕ, [], ap, field_at, first_field, option_map, refl, unwrap_or}
 use Rattle.ls_domain.proofs.table.first_field.Goals as goal
 
 at_front : (fields : List (List ℕ)) (o : Option (Bor (List ℕ))) (d : Bor (List ℕ)) → option_map (λ s. s.now) o ≡ field_at fields 0 → d.now ≡ [] → (unwrap_or o d).now ≡ first_field fields

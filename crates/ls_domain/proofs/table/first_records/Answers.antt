@@ -1,8 +1,4 @@
-use Rattle.std.proofs.Common.{Bor, List, ℕ, ◌+◌, ◌∙◌, sym, refl, inl, inr, map, Some, ◌∷◌, [], arith}
-use Rattle.std.proofs.lemmas.Grind.{common_steps}
-use Rattle.std.proofs.lemmas.List.{length-map, map-append}
-use Rattle.csv.specs.Reading.{Reached, default_config, strip_bom}
-use Rattle.csv.specs.Records.{fields_of}
+use Rattle.ls_domain.proofs.Vocabulary.{◌+◌, ◌∙◌, ◌∷◌, Bor, List, Reached, Some, ℕ, [], arith, common_steps, default_config, fields_of, inl, inr, length-map, map, map-append, refl, strip_bom, sym}
 use Rattle.csv.specs.declared.parser.State.TheVariants as st
 use Rattle.csv.proofs.ReadFacts.{rows-end, rows-more}
 use Rattle.ls_domain.proofs.Records.{all_records, front_records}

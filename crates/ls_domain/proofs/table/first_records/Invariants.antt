@@ -1,6 +1,4 @@
-use Rattle.std.proofs.Common.{◌≡◌, ◌<◌, ◌≤◌, ℕ, List, Some, map, length}
-use Rattle.csv.specs.Reading.{Reached, Ready, default_config, source_of, strip_bom}
-use Rattle.csv.specs.Records.{fields_of}
+use Rattle.ls_domain.proofs.Vocabulary.{◌<◌, ◌≡◌, ◌≤◌, List, Reached, Ready, Some, ℕ, default_config, fields_of, length, map, source_of, strip_bom}
 use Rattle.csv.specs.declared.parser.State.TheVariants as st
 use Rattle.csv.specs.declared.reader.Trim.TheVariants as trim
 use Rattle.ls_domain.proofs.table.first_records.Given as goal

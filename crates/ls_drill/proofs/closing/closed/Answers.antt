@@ -1,4 +1,4 @@
-use Rattle.std.proofs.Common.{◌∙◌}
+use Rattle.ls_drill.proofs.Vocabulary.{◌∙◌}
 use Rattle.ls_drill.proofs.Closures.{none-before}
 use Rattle.ls_drill.proofs.closing.closed.Goals as goal
 

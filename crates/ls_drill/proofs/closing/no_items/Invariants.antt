@@ -1,6 +1,4 @@
-use Rattle.std.proofs.Common.{◌≡◌}
-use Rattle.std.proofs.Math.ListN.{replicate}
-use Rattle.ls_set.specs.ItemSet.{empty}
+use Rattle.ls_drill.proofs.Vocabulary.{◌≡◌, empty, replicate}
 use Rattle.ls_drill.proofs.closing.no_items.Given as goal
 
 abbrev pub invariant-loop : goal.invariant-loop

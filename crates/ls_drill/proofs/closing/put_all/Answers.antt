@@ -1,6 +1,4 @@
-use Rattle.std.proofs.Common.{◌≡◌, ◌+◌, ◌-◌, ◌<◌, ℕ, length, drop, get_or, arith, subst, sym}
-use Rattle.ls_set.specs.ItemSet.{has, empty}
-use Rattle.ls_drill.specs.Draws.{IsPair, reached}
+use Rattle.ls_drill.proofs.Vocabulary.{◌+◌, ◌-◌, ◌<◌, ◌≡◌, IsPair, ℕ, arith, drop, empty, get_or, has, length, reached, subst, sym}
 use Rattle.ls_drill.proofs.Closures.{none-reached, put-next}
 use Rattle.ls_drill.proofs.closing.put_all.Goals as goal
 

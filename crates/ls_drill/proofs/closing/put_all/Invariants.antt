@@ -1,6 +1,4 @@
-use Rattle.std.proofs.Common.{ℕ, ◌≡◌, ◌<◌, length, get_or, drop}
-use Rattle.ls_set.specs.ItemSet.{has, empty}
-use Rattle.ls_drill.specs.Draws.{reached}
+use Rattle.ls_drill.proofs.Vocabulary.{◌<◌, ◌≡◌, ℕ, drop, empty, get_or, has, length, reached}
 use Rattle.ls_drill.proofs.closing.put_all.Given as goal
 
 abbrev pub invariant-loop-place : goal.invariant-loop-place

@@ -1,13 +1,5 @@
-use Rattle.std.proofs.Common.{◌≡◌, ◌+◌, ◌*◌, ◌≤◌, List, not, cond, ap, Some, sym, ◌∙◌, true, subst, rules}
-use Rattle.std.specs.Prelude.{Result, IfOk}
-use Rattle.std.specs.List.{list_any}
-use Rattle.ls_set.specs.Query.{is_good}
-use Rattle.ls_theory.specs.declared.answer.Answer.{Answer}
-use Rattle.ls_theory.specs.declared.known.Known.{Known}
-use Rattle.ls_theory.specs.Forced.{known}
-use Rattle.ls_theory.specs.Answering.{is_same_query}
+use Rattle.ls_drill.proofs.Vocabulary.{◌*◌, ◌+◌, ◌∙◌, ◌≡◌, ◌≤◌, Answer, IfOk, Known, List, Result, Some, ap, cond, is_good, is_no, is_same_query, is_yes, known, list_any, not, rules, subst, sym, true}
 use Rattle.ls_expert.specs.declared.bad_query.BadQuery.{BadQuery}
-use Rattle.ls_drill.specs.Summaries.{is_yes, is_no}
 use Rattle.ls_drill.specs.declared.counting.Filled.{Filled}
 use Rattle.ls_drill.proofs.CountedQueries.{IsCounted, none-counted, next-good, counted-asked, counted-filled, counted-end, counted-last, met, met-none}
 use Rattle.ls_drill.proofs.SettledDrills.{filled-any}

@@ -1,5 +1,4 @@
-use Rattle.std.proofs.Common.{◌+◌, ◌++◌, ◌<◌, ◌≤◌, List, ℕ, ap, sym, ◌∙◌, append-nil}
-use Rattle.ls_drill.specs.Draws.{drawn, after_words, row}
+use Rattle.ls_drill.proofs.Vocabulary.{◌++◌, ◌+◌, ◌<◌, ◌∙◌, ◌≤◌, List, ℕ, after_words, ap, append-nil, drawn, row, sym}
 use Rattle.ls_drill.proofs.DrawnPairs.{row_from, next-yes, next-no, next-generator, no-words, no-pairs}
 use Rattle.ls_drill.proofs.drawing.draw_row.Goals as goal
 use Rattle.ls_drill.proofs.drawing.draw_row.Goals.{then-next_word-eq0+in_ok-push, else-next_word-eq0}

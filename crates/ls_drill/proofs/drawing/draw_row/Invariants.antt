@@ -1,5 +1,4 @@
-use Rattle.std.proofs.Common.{◌≡◌, ◌++◌}
-use Rattle.ls_drill.specs.Draws.{drawn, after_words, row}
+use Rattle.ls_drill.proofs.Vocabulary.{◌++◌, ◌≡◌, after_words, drawn, row}
 use Rattle.ls_drill.proofs.DrawnPairs.{row_from}
 use Rattle.ls_drill.proofs.drawing.draw_row.Given as goal
 

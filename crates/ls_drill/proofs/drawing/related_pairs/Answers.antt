@@ -1,9 +1,4 @@
-use Rattle.std.proofs.Common.{◌≡◌, ◌++◌, ◌-◌, List, ℕ, ap₂, ◌∙◌, subst, arith}
-use Rattle.rand_pcg.specs.Lcg.{Lcg}
-use Rattle.ls_set.specs.ItemSet.{numbers_from}
-use Rattle.ls_theory.specs.Words.{pairs}
-use Rattle.ls_drill.specs.HiddenOrders.{related}
-use Rattle.ls_drill.specs.Draws.{drawn}
+use Rattle.ls_drill.proofs.Vocabulary.{◌++◌, ◌-◌, ◌∙◌, ◌≡◌, Lcg, List, ℕ, ap₂, arith, drawn, numbers_from, pairs, related, subst}
 use Rattle.ls_drill.proofs.DrawnPairs.{first-row, next-row, last-row}
 use Rattle.ls_drill.proofs.drawing.related_pairs.Goals as goal
 

@@ -1,8 +1,4 @@
-use Rattle.std.proofs.Common.{◌≡◌, ◌++◌, ◌-◌}
-use Rattle.ls_set.specs.ItemSet.{numbers_from}
-use Rattle.ls_theory.specs.Words.{pairs}
-use Rattle.ls_drill.specs.HiddenOrders.{related}
-use Rattle.ls_drill.specs.Draws.{drawn}
+use Rattle.ls_drill.proofs.Vocabulary.{◌++◌, ◌-◌, ◌≡◌, drawn, numbers_from, pairs, related}
 use Rattle.ls_drill.proofs.drawing.related_pairs.Given as goal
 
 abbrev pub invariant-loop-i : goal.invariant-loop-i

@@ -1,12 +1,4 @@
-use Rattle.std.proofs.Common.{◌≡◌, List, not, length, sym, ap, subst, refl, ◌∙◌, arith}
-use Rattle.std.specs.Prelude.{count_by}
-use Rattle.ls_set.specs.ItemSet.{Items}
-use Rattle.ls_theory.specs.declared.answer.Answer.{Answer}
-use Rattle.ls_theory.specs.Interviews.{Interview}
-use Rattle.ls_theory.specs.Verdict.{base_verdict}
-use Rattle.ls_drill.specs.HiddenOrders.{HiddenOrder}
-use Rattle.ls_drill.specs.Drills.{IsDrill, drilled}
-use Rattle.ls_drill.specs.Summaries.{is_learning, counted}
+use Rattle.ls_drill.proofs.Vocabulary.{◌∙◌, ◌≡◌, Answer, HiddenOrder, Interview, IsDrill, Items, List, ap, arith, base_verdict, count_by, counted, drilled, is_learning, length, not, refl, subst, sym}
 use Rattle.ls_drill.proofs.TurnsTaken.{drilled-is}
 use Rattle.ls_drill.proofs.Summing.{summed-as}
 use Rattle.ls_drill.proofs.drill.run_drill.Goals as goal

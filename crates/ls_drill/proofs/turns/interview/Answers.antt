@@ -1,10 +1,6 @@
-use Rattle.std.proofs.Common.{◌≡◌, ◌+◌, ◌*◌, ◌≤◌, true, sym, ap, subst, ◌∙◌, arith}
+use Rattle.ls_drill.proofs.Vocabulary.{◌*◌, ◌+◌, ◌∙◌, ◌≡◌, ◌≤◌, Interview, Query, accepted, ap, arith, drilled, is_good, reply, subst, sym, true}
 use Rattle.std.specs.Prelude.{Option, IfSome}
 use Rattle.std.proofs.lemmas.Nat.{mul-le}
-use Rattle.ls_set.specs.Query.{is_good}
-use Rattle.ls_set.specs.declared.query.Query.{Query}
-use Rattle.ls_theory.specs.Interviews.{Interview, accepted}
-use Rattle.ls_drill.specs.Drills.{reply, drilled}
 use Rattle.ls_drill.proofs.Asking.{not-refused}
 use Rattle.ls_drill.proofs.CountedQueries.{nothing_left}
 use Rattle.ls_drill.proofs.TurnsTaken.{IsAtTurn, first_turn, next_turn, settled_turn, last_turn}

@@ -1,5 +1,4 @@
-use Rattle.std.proofs.Common.{sym, ◌∙◌}
-use Rattle.ls_laws.proofs.Breaks.{good-from}
+use Rattle.ls_drill.proofs.Vocabulary.{◌∙◌, good-from, sym}
 use Rattle.ls_drill.proofs.TurnsTaken.{least-small}
 use Rattle.ls_drill.proofs.turns.reply.Goals as goal
 

@@ -1,4 +1,4 @@
-use Rattle.std.proofs.Common.{arith}
+use Rattle.ls_enum.proofs.Vocabulary.{arith}
 use Rattle.ls_enum.proofs.Successors.{none_from_end}
 use Rattle.ls_enum.proofs.Seeking.{count-few}
 use Rattle.ls_enum.proofs.forward.fill.Goals as goal

@@ -1,8 +1,5 @@
-use Rattle.std.proofs.Common.{◌≡◌, ◌+◌, ◌∙◌, arith, rules, true, false, sym, subst}
-use Rattle.ls_set.specs.ItemSet.{has}
-use Rattle.ls_lists.proofs.Finds.{find-any}
+use Rattle.ls_enum.proofs.Vocabulary.{◌+◌, ◌∙◌, ◌≡◌, AreFronts, arith, false, find-any, has, rules, subst, sym, true}
 use Rattle.ls_enum.specs.declared.fronts.Fronts.{Fronts}
-use Rattle.ls_enum.specs.Fronts.{AreFronts}
 use Rattle.ls_enum.proofs.Successors.{none_from_end}
 use Rattle.ls_enum.proofs.Seeking.{IsSought, first-sought, next-has, none-has, next-lacks, none-lacks, none-above, count-has, count-lacks}
 use Rattle.ls_enum.proofs.forward.go_forward.Goals as goal

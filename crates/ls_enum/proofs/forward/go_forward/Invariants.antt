@@ -1,6 +1,4 @@
-use Rattle.std.proofs.Common.{◌+◌, ◌≤◌}
-use Rattle.ls_enum.specs.Listings.{count_before}
-use Rattle.ls_enum.specs.Fronts.{AreFronts}
+use Rattle.ls_enum.proofs.Vocabulary.{◌+◌, ◌≤◌, AreFronts, count_before}
 use Rattle.ls_enum.proofs.Seeking.{IsSought}
 use Rattle.ls_enum.proofs.forward.go_forward.Given as goal
 

@@ -1,4 +1,4 @@
-use Rattle.std.proofs.Common.{sym, ◌∙◌}
+use Rattle.ls_enum.proofs.Vocabulary.{◌∙◌, sym}
 use Rattle.ls_enum.proofs.Joined.{page-more, page-whole, page-fits}
 use Rattle.ls_enum.proofs.listing.list_all.Goals as goal
 

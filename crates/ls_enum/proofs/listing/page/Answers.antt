@@ -1,4 +1,4 @@
-use Rattle.std.proofs.Common.{◌+◌, ◌≤◌, sym, subst, ◌∙◌}
+use Rattle.ls_enum.proofs.Vocabulary.{◌+◌, ◌∙◌, ◌≤◌, subst, sym}
 use Rattle.ls_enum.proofs.Left.{given-left, more-left, more_steps}
 use Rattle.ls_enum.proofs.listing.page.Goals as goal
 

@@ -1,7 +1,4 @@
-use Rattle.std.proofs.Common.{◌≡◌, ◌+◌, ◌*◌, ◌-◌, ◌≤◌, ◌++◌, length, nat_lt, take}
-use Rattle.ls_set.specs.ItemSet.{comes_before}
-use Rattle.ls_theory.specs.Pages.{page}
-use Rattle.ls_enum.specs.Listings.{left_after}
+use Rattle.ls_enum.proofs.Vocabulary.{◌*◌, ◌++◌, ◌+◌, ◌-◌, ◌≡◌, ◌≤◌, comes_before, left_after, length, nat_lt, page, take}
 use Rattle.ls_enum.proofs.listing.page.Given as goal
 
 -- the sets so far, with those of the page that are left, are the page; and each set was one call

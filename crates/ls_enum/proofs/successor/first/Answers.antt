@@ -1,6 +1,4 @@
-use Rattle.std.proofs.Common.{sym, ◌∙◌}
-use Rattle.ls_lists.proofs.Finds.{find-any}
-use Rattle.ls_laws.proofs.Interiors.{interior-within}
+use Rattle.ls_enum.proofs.Vocabulary.{◌∙◌, find-any, interior-within, sym}
 use Rattle.ls_enum.proofs.Successors.{first-is}
 use Rattle.ls_enum.proofs.successor.first.Goals as goal
 

@@ -1,5 +1,4 @@
-use Rattle.std.proofs.Common.{sym, ◌∙◌}
-use Rattle.ls_lists.proofs.Finds.{find-any}
+use Rattle.ls_enum.proofs.Vocabulary.{◌∙◌, find-any, sym}
 use Rattle.ls_enum.proofs.Reaches.{first-front}
 use Rattle.ls_enum.proofs.successor.first_left_by.Goals as goal
 

@@ -1,5 +1,4 @@
-use Rattle.std.proofs.Common.{◌≡◌, sym, subst, ◌∙◌, ◌-◌, arith}
-use Rattle.ls_set.specs.ItemSet.{full, IsWithin}
+use Rattle.ls_enum.proofs.Vocabulary.{◌-◌, ◌∙◌, ◌≡◌, IsWithin, arith, full, subst, sym}
 use Rattle.ls_enum.proofs.Successors.{none_after}
 use Rattle.ls_enum.proofs.Reaches.{failed-reach, found-reach, small-reach, front-reach}
 use Rattle.ls_enum.proofs.Seeking.{count-passed}

@@ -1,6 +1,4 @@
-use Rattle.std.proofs.Common.{◌≤◌, ◌+◌}
-use Rattle.ls_enum.specs.Fronts.{AreFronts}
-use Rattle.ls_enum.specs.Listings.{NoneFrom, count_before}
+use Rattle.ls_enum.proofs.Vocabulary.{◌+◌, ◌≤◌, AreFronts, NoneFrom, count_before}
 use Rattle.ls_enum.proofs.successor.next_by.Given as goal
 
 -- no member first differs at an item that is passed, and each step passed one

@@ -1,4 +1,4 @@
-use Rattle.std.proofs.Common.{◌≡◌, eqb, find, drop}
+use Rattle.ls_expert.proofs.Vocabulary.{◌≡◌, drop, eqb, find}
 use Rattle.ls_expert.proofs.answers.answer_with.Given as goal
 
 -- the first with the number is among those that are left

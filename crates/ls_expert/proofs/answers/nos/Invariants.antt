@@ -1,5 +1,4 @@
-use Rattle.std.proofs.Common.{◌≡◌, take}
-use Rattle.ls_theory.specs.Interviews.{nos}
+use Rattle.ls_expert.proofs.Vocabulary.{◌≡◌, nos, take}
 use Rattle.ls_expert.proofs.answers.nos.Given as goal
 
 -- the Nos so far

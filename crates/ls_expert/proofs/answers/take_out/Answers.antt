@@ -1,4 +1,4 @@
-use Rattle.std.proofs.Common.{rules}
+use Rattle.ls_expert.proofs.Vocabulary.{rules}
 use Rattle.std.proofs.lemmas.Fn.{filter_same}
 use Rattle.ls_expert.proofs.answers.take_out.Goals as goal
 

@@ -1,5 +1,4 @@
-use Rattle.std.proofs.Common.{◌≡◌, not, eqb, filter, take}
-use Rattle.ls_theory.specs.Interviews.{yes_queries}
+use Rattle.ls_expert.proofs.Vocabulary.{◌≡◌, eqb, filter, not, take, yes_queries}
 use Rattle.ls_expert.proofs.answers.yes_others.Given as goal
 
 -- the queries of the other Yes answers so far

@@ -1,5 +1,4 @@
-use Rattle.std.proofs.Common.{◌≡◌, take}
-use Rattle.ls_theory.specs.Interviews.{yes_queries}
+use Rattle.ls_expert.proofs.Vocabulary.{◌≡◌, take, yes_queries}
 use Rattle.ls_expert.proofs.answers.yes_queries.Given as goal
 
 -- the queries of the Yes answers so far

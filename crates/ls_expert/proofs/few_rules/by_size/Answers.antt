@@ -1,5 +1,4 @@
-use Rattle.std.proofs.Common.{ap, ◌∙◌}
-use Rattle.std.specs.List.{list_all}
+use Rattle.ls_expert.proofs.Vocabulary.{◌∙◌, ap, list_all}
 use Rattle.ls_expert.proofs.Leading.{all_moved}
 use Rattle.ls_expert.proofs.few_rules.by_size.Goals as goal
 

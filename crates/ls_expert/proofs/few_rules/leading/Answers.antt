@@ -1,13 +1,5 @@
-use Rattle.std.proofs.Common.{◌≡◌, ◌+◌, true, not, List, [], ◌∷◌, ◌++◌, filter, take, sym, ap, ◌∙◌, subst}
-use Rattle.std.specs.List.{list_all}
-use Rattle.std.proofs.lemmas.List.{take_all, take_more}
+use Rattle.ls_expert.proofs.Vocabulary.{◌++◌, ◌+◌, ◌∙◌, ◌∷◌, ◌≡◌, List, Query, RuledState, StartOn, [], ap, breaks, breaks_none, compat, filter, is_good, list_all, not, some_breaks, subst, sym, take, take_all, take_more, true}
 use Rattle.ls_lists.proofs.Overwriting.{all-at}
-use Rattle.ls_set.specs.Query.{is_good}
-use Rattle.ls_set.specs.declared.query.Query.{Query}
-use Rattle.ls_theory.specs.Queries.{breaks, breaks_none, some_breaks}
-use Rattle.ls_theory.specs.Compatible.{compat}
-use Rattle.ls_rules.specs.Ruled.{RuledState}
-use Rattle.ls_expert.specs.Starts.{StartOn}
 use Rattle.ls_expert.proofs.Leading.{compat-alike, more-kept, more-given}
 use Rattle.ls_expert.proofs.Ruling.{ruled-compat}
 use Rattle.ls_expert.proofs.few_rules.leading.Goals as goal

@@ -1,5 +1,4 @@
-use Rattle.std.proofs.Common.{◌≡◌, take}
-use Rattle.ls_theory.specs.Compatible.{compat}
+use Rattle.ls_expert.proofs.Vocabulary.{◌≡◌, compat, take}
 use Rattle.ls_expert.proofs.few_rules.leading.Given as goal
 
 -- the rules that were taken leave the sets that those so far leave

@@ -1,17 +1,4 @@
-use Rattle.std.proofs.Common.{ℕ, ◌≡◌, ap, ap₂, not, refl, sym, ◌∙◌, subst, List, [], filter, true}
-use Rattle.std.specs.List.{list_all}
-use Rattle.std.proofs.lemmas.Result.{IfOk-weaker}
-use Rattle.ls_set.specs.ItemSet.{Items}
-use Rattle.ls_set.specs.Query.{is_good}
-use Rattle.ls_set.specs.declared.query.Query.{Query}
-use Rattle.ls_theory.specs.Queries.{breaks_none}
-use Rattle.ls_theory.specs.Compatible.{compat}
-use Rattle.ls_theory.specs.Blocks.{BlockRange, made}
-use Rattle.ls_theory.specs.declared.no.No.{No}
-use Rattle.ls_infer.specs.Tables.{AreStates, table_of}
-use Rattle.ls_rules.specs.Ruled.{RuledState}
-use Rattle.ls_expert.specs.Starts.{StartOn}
-use Rattle.ls_expert.specs.Held.{single_items}
+use Rattle.ls_expert.proofs.Vocabulary.{◌∙◌, ◌≡◌, AreStates, BlockRange, IfOk-weaker, Items, List, No, Query, RuledState, StartOn, ℕ, [], ap, ap₂, breaks_none, compat, filter, is_good, list_all, made, not, refl, single_items, subst, sym, table_of, true}
 use Rattle.ls_expert.proofs.AnswerLists.{all-told}
 use Rattle.ls_expert.proofs.Holding.{made-one, one-made}
 use Rattle.ls_expert.proofs.Ruling.{ruled-compat}

@@ -1,5 +1,4 @@
-use Rattle.std.proofs.Common.{true, false, arith, sym, ap, ◌∙◌}
-use Rattle.std.proofs.lemmas.List.{drop_all}
+use Rattle.ls_expert.proofs.Vocabulary.{◌∙◌, ap, arith, drop_all, false, sym, true}
 use Rattle.ls_expert.proofs.Saving.{apart, apart-decides, repeats}
 use Rattle.ls_expert.proofs.saved.are_distinct.Goals as goal
 

@@ -1,5 +1,4 @@
-use Rattle.std.proofs.Common.{true, false, inl, inr, arith, sym, ap, ◌∙◌}
-use Rattle.std.proofs.lemmas.List.{drop_all}
+use Rattle.ls_expert.proofs.Vocabulary.{◌∙◌, ap, arith, drop_all, false, inl, inr, sym, true}
 use Rattle.ls_expert.proofs.Saving.{rises, rises-decides, falls}
 use Rattle.ls_expert.proofs.saved.are_numbered.Goals as goal
 use Rattle.ls_expert.proofs.saved.are_numbered.Goals.{then-answer-least-via-then-answer-least, then-answer-least-via-else-answer-least+then-answer-next}

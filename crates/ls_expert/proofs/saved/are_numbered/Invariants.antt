@@ -1,4 +1,4 @@
-use Rattle.std.proofs.Common.{◌≡◌, drop}
+use Rattle.ls_expert.proofs.Vocabulary.{◌≡◌, drop}
 use Rattle.ls_expert.proofs.Saving.{rises}
 use Rattle.ls_expert.proofs.saved.are_numbered.Given as goal
 

@@ -1,7 +1,4 @@
-use Rattle.std.proofs.Common.{◌≡◌, drop}
-use Rattle.std.specs.List.{list_all}
-use Rattle.ls_theory.specs.Queries.{some_breaks}
-use Rattle.ls_theory.specs.Interviews.{no_queries}
+use Rattle.ls_expert.proofs.Vocabulary.{◌≡◌, drop, list_all, no_queries, some_breaks}
 use Rattle.ls_expert.proofs.saved.each_no_broken.Given as goal
 
 -- each No is broken where each is that is left

@@ -1,8 +1,4 @@
-use Rattle.std.proofs.Common.{arith, ap, ◌∙◌}
-use Rattle.ls_set.specs.ItemSet.{Items, has, full, minus}
-use Rattle.ls_set.proofs.Sets.{minus-within}
-use Rattle.ls_theory.specs.Families.{interior}
-use Rattle.ls_laws.proofs.Breaks.{good-from}
+use Rattle.ls_expert.proofs.Vocabulary.{◌∙◌, Items, ap, arith, full, good-from, has, interior, minus, minus-within}
 use Rattle.ls_expert.proofs.Saving.{has-greatest}
 use Rattle.ls_expert.proofs.saved.is_broken.Goals as goal
 

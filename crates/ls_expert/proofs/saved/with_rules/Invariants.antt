@@ -1,4 +1,4 @@
-use Rattle.std.proofs.Common.{◌≡◌, take}
+use Rattle.ls_expert.proofs.Vocabulary.{◌≡◌, take}
 use Rattle.ls_expert.proofs.saved.with_rules.Given as goal
 
 -- the queries so far are rules

@@ -1,8 +1,4 @@
-use Rattle.std.proofs.Common.{rules, tests, ◌+◌, ◌<◌, ◌==◌, length, arith, subst, List, ℕ, Some, None}
-use Rattle.std.proofs.lemmas.Iterator.{YieldsList-from_slice}
-use Rattle.std.proofs.lemmas.Iterator.Search.{position_from_yields_List}
-use Rattle.std.proofs.lemmas.List.{take_rest, length-drop}
-use Rattle.ls_lines.specs.Lines.{lines}
+use Rattle.ls_family.proofs.Vocabulary.{◌+◌, ◌<◌, ◌==◌, List, None, Some, YieldsList-from_slice, ℕ, arith, length, length-drop, lines, position_from_yields_List, rules, subst, take_rest, tests}
 use Rattle.ls_lines.proofs.Cuts.{split_uncut, split_first}
 use Rattle.ls_family.proofs.family.first_line.Goals as goal
 

@@ -1,7 +1,4 @@
-use Rattle.std.proofs.Common.{◌∙◌, ap, arith, []}
-use Rattle.std.proofs.lemmas.Grind.{common_steps}
-use Rattle.ls_lines.specs.Lines.{lines}
-use Rattle.ls_files.specs.SetFiles.{found_from, IsFaultOf}
+use Rattle.ls_family.proofs.Vocabulary.{◌∙◌, IsFaultOf, [], ap, arith, common_steps, found_from, lines}
 use Rattle.ls_family.proofs.Rows.{read_on, left, left-less, line-good, line-bad}
 use Rattle.ls_family.proofs.family.found_in.Goals as goal
 

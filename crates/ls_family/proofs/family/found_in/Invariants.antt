@@ -1,6 +1,4 @@
-use Rattle.std.proofs.Common.{◌≡◌, ◌+◌, ◌≤◌, [], length}
-use Rattle.ls_lines.specs.Lines.{lines}
-use Rattle.ls_files.specs.SetFiles.{found_from}
+use Rattle.ls_family.proofs.Vocabulary.{◌+◌, ◌≡◌, ◌≤◌, [], found_from, length, lines}
 use Rattle.ls_family.proofs.Rows.{read_on, left}
 use Rattle.ls_family.proofs.family.found_in.Given as goal
 

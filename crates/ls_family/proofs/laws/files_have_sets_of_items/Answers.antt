@@ -1,4 +1,4 @@
-use Rattle.std.proofs.Common.{length}
+use Rattle.ls_family.proofs.Vocabulary.{length}
 use Rattle.ls_family.proofs.Fitting.{sets-fit, each-fits}
 use Rattle.ls_family.proofs.laws.files_have_sets_of_items.Goals as goal
 

@@ -1,7 +1,4 @@
-use Rattle.std.proofs.Common.{rules, tests}
-use Rattle.std.proofs.lemmas.Iterator.{YieldsList-from_slice}
-use Rattle.std.proofs.lemmas.Iterator.Search.{all_from_yields_List}
-use Rattle.ls_lines.specs.Lines.{is_blank}
+use Rattle.ls_family.proofs.Vocabulary.{YieldsList-from_slice, all_from_yields_List, is_blank, rules, tests}
 use Rattle.ls_family.proofs.set_line.are_blank.Goals as goal
 
 pub returns : goal.returns

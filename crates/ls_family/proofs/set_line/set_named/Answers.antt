@@ -1,10 +1,5 @@
-use Rattle.std.proofs.Common.{rules, tests, ◌∙◌, ap, fold, length, nat_lt}
-use Rattle.std.proofs.lemmas.Iterator.Consumers.{fold_from_yields_List, YieldsList-at, YieldsList-from_filter}
+use Rattle.ls_family.proofs.Vocabulary.{◌∙◌, Set, YieldsList-at, YieldsList-from_filter, ap, fold, fold_from_yields_List, length, nat_lt, parts_words, rules, tests, with_word, words_within}
 use Rattle.std.proofs.lemmas.Iterator.Splits.{YieldsList-from_slice_split}
-use Rattle.ls_lines.specs.Lines.{parts_words}
-use Rattle.ls_files.specs.SetFiles.{words_within}
-use Rattle.ls_files.specs.declared.set_line.SetLine.TheVariants.{Set}
-use Rattle.ls_family.specs.Words.{with_word}
 use Rattle.ls_family.proofs.Words.{words-named}
 use Rattle.ls_family.proofs.set_line.set_named.Goals as goal
 

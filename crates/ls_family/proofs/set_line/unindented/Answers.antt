@@ -1,10 +1,5 @@
-use Rattle.std.proofs.Common.{rules, tests, ◌∙◌, ap, drop}
-use Rattle.std.proofs.lemmas.Iterator.{YieldsList-from_slice}
-use Rattle.std.proofs.lemmas.Iterator.Search.{YieldsList-from_take_while}
-use Rattle.std.proofs.lemmas.Iterator.Consumers.{count_from_yields_List}
-use Rattle.std.proofs.lemmas.List.{take_rest}
+use Rattle.ls_family.proofs.Vocabulary.{◌∙◌, YieldsList-from_slice, YieldsList-from_take_while, ap, count_from_yields_List, drop, is_blank, rules, take_rest, tests}
 use Rattle.std.proofs.lemmas.List.Folds.{length-prefix_len}
-use Rattle.ls_lines.specs.Lines.{is_blank}
 use Rattle.ls_family.proofs.set_line.unindented.Goals as goal
 
 pub returns : goal.returns

@@ -1,9 +1,4 @@
-use Rattle.std.proofs.Common.{rules, tests, ◌∙◌, ◌+◌, ◌==◌, sym, ap, Some, None}
-use Rattle.std.specs.List.{list_all}
-use Rattle.std.proofs.lemmas.Iterator.{YieldsList-from_slice}
-use Rattle.std.proofs.lemmas.Iterator.Search.{position_from_yields_List}
-use Rattle.std.proofs.lemmas.List.{take_rest}
-use Rattle.ls_lines.specs.Lines.{is_blank}
+use Rattle.ls_family.proofs.Vocabulary.{◌+◌, ◌==◌, ◌∙◌, None, Some, YieldsList-from_slice, ap, is_blank, list_all, position_from_yields_List, rules, sym, take_rest, tests}
 use Rattle.ls_family.proofs.Parts.{until_brace-none, until_brace-blank, until_brace-more}
 use Rattle.ls_family.proofs.set_line.until_brace.Goals as goal
 

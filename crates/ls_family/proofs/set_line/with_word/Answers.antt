@@ -1,5 +1,4 @@
-use Rattle.std.proofs.Common.{sym}
-use Rattle.ls_domain.proofs.Numbers.{is_name-utf8}
+use Rattle.ls_family.proofs.Vocabulary.{is_name-utf8, sym}
 use Rattle.ls_family.proofs.Parts.{ok-from}
 use Rattle.ls_family.proofs.set_line.with_word.Goals as goal
 

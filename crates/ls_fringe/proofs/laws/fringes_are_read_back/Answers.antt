@@ -1,7 +1,4 @@
-use Rattle.std.proofs.Common.{length}
-use Rattle.ls_theory.specs.Fringes.{fringes}
-use Rattle.ls_laws.proofs.WellGraded.{learning-parts}
-use Rattle.ls_laws.proofs.ReadBack.{state_of-own}
+use Rattle.ls_fringe.proofs.Vocabulary.{fringes, learning-parts, length, state_of-own}
 use Rattle.ls_fringe.proofs.Chosen.{inner-within, outer-within}
 use Rattle.ls_fringe.proofs.Lines.{asks}
 use Rattle.ls_fringe.proofs.laws.fringes_are_read_back.Goals as goal

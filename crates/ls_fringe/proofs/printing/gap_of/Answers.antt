@@ -1,5 +1,4 @@
-use Rattle.std.proofs.Common.{sym, ap}
-use Rattle.ls_lists.specs.Lists.{gap}
+use Rattle.ls_fringe.proofs.Vocabulary.{ap, gap, sym}
 use Rattle.ls_set.proofs.Firsts.{items-least}
 use Rattle.ls_fringe.proofs.printing.gap_of.Goals as goal
 

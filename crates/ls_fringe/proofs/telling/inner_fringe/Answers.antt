@@ -1,6 +1,4 @@
-use Rattle.std.proofs.Common.{◌≡◌, sym, ap, ◌∙◌, arith}
-use Rattle.ls_set.specs.ItemSet.{keep_before, with}
-use Rattle.ls_theory.specs.Fringes.{inner_fringe}
+use Rattle.ls_fringe.proofs.Vocabulary.{◌∙◌, ◌≡◌, ap, arith, inner_fringe, keep_before, sym, with}
 use Rattle.ls_fringe.proofs.Chosen.{below-start, below-taken, below-left, below-all, inner-within}
 use Rattle.ls_fringe.proofs.telling.inner_fringe.Goals as goal
 use Rattle.ls_fringe.proofs.telling.inner_fringe.Goals.{then-is_inner, else-is_inner}

@@ -1,6 +1,4 @@
-use Rattle.std.proofs.Common.{◌≡◌}
-use Rattle.ls_set.specs.ItemSet.{keep_before}
-use Rattle.ls_theory.specs.Fringes.{inner_fringe}
+use Rattle.ls_fringe.proofs.Vocabulary.{◌≡◌, inner_fringe, keep_before}
 use Rattle.ls_fringe.proofs.telling.inner_fringe.Given as goal
 
 -- the items so far are those of the fringe

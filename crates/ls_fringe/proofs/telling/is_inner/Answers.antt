@@ -1,7 +1,4 @@
-use Rattle.std.proofs.Common.{◌&&◌, sym, ap, ◌∙◌}
-use Rattle.ls_set.specs.ItemSet.{without, is_among}
-use Rattle.ls_set.proofs.Sets.{without-within}
-use Rattle.ls_laws.proofs.ReadBack.{has-inner_fringe}
+use Rattle.ls_fringe.proofs.Vocabulary.{◌&&◌, ◌∙◌, ap, has-inner_fringe, is_among, sym, without, without-within}
 use Rattle.ls_fringe.proofs.telling.is_inner.Goals as goal
 
 pub is_member-requires : goal.is_member-requires

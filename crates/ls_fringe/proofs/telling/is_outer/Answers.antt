@@ -1,6 +1,4 @@
-use Rattle.std.proofs.Common.{not, ◌&&◌, sym, ap, ◌∙◌}
-use Rattle.ls_set.specs.ItemSet.{with, is_among}
-use Rattle.ls_laws.proofs.ReadBack.{has-outer_fringe}
+use Rattle.ls_fringe.proofs.Vocabulary.{◌&&◌, ◌∙◌, ap, has-outer_fringe, is_among, not, sym, with}
 use Rattle.ls_domain.proofs.Numbers.{with-within}
 use Rattle.ls_fringe.proofs.telling.is_outer.Goals as goal
 

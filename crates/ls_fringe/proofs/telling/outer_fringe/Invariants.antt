@@ -1,6 +1,4 @@
-use Rattle.std.proofs.Common.{◌≡◌}
-use Rattle.ls_set.specs.ItemSet.{keep_before}
-use Rattle.ls_theory.specs.Fringes.{outer_fringe}
+use Rattle.ls_fringe.proofs.Vocabulary.{◌≡◌, keep_before, outer_fringe}
 use Rattle.ls_fringe.proofs.telling.outer_fringe.Given as goal
 
 -- the items so far are those of the fringe

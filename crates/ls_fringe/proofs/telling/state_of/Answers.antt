@@ -1,7 +1,4 @@
-use Rattle.std.proofs.Common.{cond, ◌&&◌, eqb, Some, None, sym, ap, ap₂, ◌∙◌}
-use Rattle.ls_set.specs.ItemSet.{full, minus}
-use Rattle.ls_set.proofs.Sets.{minus-within}
-use Rattle.ls_theory.specs.Families.{interior}
+use Rattle.ls_fringe.proofs.Vocabulary.{◌&&◌, ◌∙◌, None, Some, ap, ap₂, cond, eqb, full, interior, minus, minus-within, sym}
 use Rattle.ls_laws.proofs.Interiors.{interior-within}
 use Rattle.ls_fringe.proofs.Told.{told}
 use Rattle.ls_fringe.proofs.telling.state_of.Goals as goal

@@ -1,4 +1,4 @@
-use Rattle.ls_theory.specs.Paths.{paths}
+use Rattle.ls_growths.proofs.Vocabulary.{paths}
 use Rattle.ls_growths.proofs.Growths.{paths-are}
 use Rattle.ls_growths.proofs.PathOrder.{paths-in_order, after-next, after-none}
 use Rattle.ls_growths.proofs.paths.paths_are_growths.Goals as goal

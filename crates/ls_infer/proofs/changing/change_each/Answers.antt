@@ -1,14 +1,4 @@
-use Rattle.std.proofs.Common.{◌≡◌, ◌<◌, ◌≤◌, true, true≢false, List, length, map, get_or, sym, ap, ◌∙◌, arith}
-use Rattle.std.proofs.lemmas.Grind.{common_steps}
-use Rattle.std.proofs.lemmas.List.{length-map}
-use Rattle.std.proofs.lemmas.List.Folds.{list_all_at}
-use Rattle.std.proofs.lemmas.Bool.{true_from_ne_false}
-use Rattle.ls_lists.proofs.Every.{list_all-set}
-use Rattle.ls_lists.proofs.Overwriting.{images-end}
-use Rattle.ls_set.specs.ItemSet.{Items}
-use Rattle.ls_theory.specs.declared.no.No.{No}
-use Rattle.ls_infer.specs.Changes.{is_kept}
-use Rattle.ls_infer.specs.Tables.{standing}
+use Rattle.ls_infer.proofs.Vocabulary.{◌<◌, ◌∙◌, ◌≡◌, ◌≤◌, Items, List, No, ap, arith, common_steps, get_or, images-end, is_kept, length, length-map, list_all-set, list_all_at, map, standing, sym, true, true_from_ne_false, true≢false}
 use Rattle.ls_infer.proofs.Standing.{standing-at, standing-next, unreached}
 use Rattle.ls_infer.proofs.changing.change_each.Goals as goal
 use Rattle.ls_infer.proofs.changing.change_each.Goals.{then-is_reached, else-is_reached}

@@ -1,12 +1,4 @@
-use Rattle.std.proofs.Common.{ℕ, ◌≡◌, ◌+◌, ◌*◌, ◌≤◌, true, List, map}
-use Rattle.std.specs.List.{list_all}
-use Rattle.ls_lists.specs.Lists.{images}
-use Rattle.ls_set.specs.ItemSet.{Items, full}
-use Rattle.ls_theory.specs.Families.{closure}
-use Rattle.ls_theory.specs.Queries.{blocks}
-use Rattle.ls_theory.specs.declared.no.No.{No}
-use Rattle.ls_infer.specs.Changes.{IsChange, is_kept, most_steps}
-use Rattle.ls_infer.specs.Tables.{standing, AreStates}
+use Rattle.ls_infer.proofs.Vocabulary.{◌*◌, ◌+◌, ◌≡◌, ◌≤◌, AreStates, IsChange, Items, List, No, ℕ, blocks, closure, full, images, is_kept, list_all, map, most_steps, standing, true}
 use Rattle.ls_infer.proofs.changing.change_each.Given as goal
 
 -- those so far are what is kept after the change, those that are left are as they were, the states that are kept, and the steps

@@ -1,18 +1,5 @@
-use Rattle.std.proofs.Common.{◌+◌, ◌≡◌, ◌<◌, ◌≤◌, cond, false, List, take, length, get_or, slice_get, Some, refl, sym, ap, ◌∙◌, subst, arith}
-use Rattle.std.specs.List.{count_by, list_any}
-use Rattle.std.proofs.lemmas.Grind.{drop_more_same}
-use Rattle.std.specs.Option.{is_some}
+use Rattle.ls_infer.proofs.Vocabulary.{◌+◌, ◌<◌, ◌∙◌, ◌≡◌, ◌≤◌, IsFront, Items, List, Some, ap, arith, closure, cond, count-next, count_by, drop_more_same, empty, false, full, get_or, good-from, images-at, images-end, images-next, is_some, is_some-position, is_stale, is_within, is_within-from, left-at, left-next, length, list_all-set, list_any, position-lt, refl, sets_of, slice_get, subst, sym, take}
 use Rattle.std.proofs.lemmas.List.Quantifiers.{position-Some}
-use Rattle.ls_lists.proofs.Places.{position-lt, is_some-position}
-use Rattle.ls_lists.proofs.Every.{list_all-set}
-use Rattle.ls_lists.proofs.Overwriting.{left-at, left-next, count-next, images-at, images-next, images-end}
-use Rattle.ls_set.specs.ItemSet.{Items, empty, full, is_within}
-use Rattle.ls_set.proofs.Sets.{is_within-from}
-use Rattle.ls_theory.specs.Families.{closure}
-use Rattle.ls_laws.proofs.Breaks.{good-from}
-use Rattle.ls_query.specs.Blocks.{sets_of}
-use Rattle.ls_infer.specs.Fronts.{IsFront}
-use Rattle.ls_infer.specs.Changes.{is_stale}
 use Rattle.ls_infer.proofs.Places.{next_place, came-within}
 use Rattle.ls_infer.proofs.Closing.{first-images, fresh-first, images-stay, fresh_stays, stale_has, all_fresh}
 use Rattle.ls_infer.proofs.closures.close_again.Goals as goal

@@ -1,12 +1,4 @@
-use Rattle.std.proofs.Common.{◌≡◌, ◌+◌, ◌≤◌, true, List, map, take, drop, find, slice_get}
-use Rattle.std.specs.List.{list_all, count_by}
-use Rattle.ls_lists.specs.Lists.{images}
-use Rattle.ls_set.specs.ItemSet.{Items, full, is_within}
-use Rattle.ls_theory.specs.Queries.{block_before}
-use Rattle.ls_theory.specs.Families.{closure}
-use Rattle.ls_query.specs.Blocks.{sets_of}
-use Rattle.ls_infer.specs.Changes.{IsChange}
-use Rattle.ls_infer.specs.Fronts.{IsFront}
+use Rattle.ls_infer.proofs.Vocabulary.{◌+◌, ◌≡◌, ◌≤◌, IsChange, IsFront, Items, List, block_before, closure, count_by, drop, find, full, images, is_within, list_all, map, sets_of, slice_get, take, true}
 use Rattle.ls_infer.proofs.closures.close_again.Given as goal
 
 -- the set at the place is the first after that of the walk; those so far are the closures after the change, those that are left are as they were; and the front is kept

@@ -1,12 +1,5 @@
-use Rattle.std.proofs.Common.{◌≡◌, ◌++◌, ◌∷◌, [], map, Some, slice_get, sym, ap, ap₂, ◌∙◌, arith, subst, take, length}
-use Rattle.ls_lists.proofs.Places.{take-none, mapped-next}
-use Rattle.ls_set.specs.ItemSet.{full}
-use Rattle.ls_set.proofs.Sets.{empty-within}
-use Rattle.ls_theory.specs.Families.{closure}
-use Rattle.ls_laws.proofs.Counts.{len-empty}
-use Rattle.ls_query.specs.Blocks.{sets_of}
+use Rattle.ls_infer.proofs.Vocabulary.{◌++◌, ◌∙◌, ◌∷◌, ◌≡◌, AreFirst, Some, [], ap, ap₂, arith, closure, empty-within, full, len-empty, length, map, mapped-next, sets_of, slice_get, subst, sym, take, take-none}
 use Rattle.ls_infer.proofs.Places.{first_place, next_place, came-to, came-past}
-use Rattle.ls_infer.specs.Fronts.{AreFirst}
 use Rattle.ls_infer.proofs.Closing.{first-mapped}
 use Rattle.ls_infer.proofs.closures.closures_of.Goals as goal
 

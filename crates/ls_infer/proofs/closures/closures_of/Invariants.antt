@@ -1,9 +1,4 @@
-use Rattle.std.proofs.Common.{◌≡◌, ◌+◌, ◌≤◌, map, take, find, slice_get}
-use Rattle.ls_set.specs.ItemSet.{full}
-use Rattle.ls_theory.specs.Queries.{block_before}
-use Rattle.ls_theory.specs.Families.{closure}
-use Rattle.ls_query.specs.Blocks.{sets_of}
-use Rattle.ls_infer.specs.Fronts.{IsFront}
+use Rattle.ls_infer.proofs.Vocabulary.{◌+◌, ◌≡◌, ◌≤◌, IsFront, block_before, closure, find, full, map, sets_of, slice_get, take}
 use Rattle.ls_infer.proofs.closures.closures_of.Given as goal
 
 -- the closures of the sets so far; the set at the place is the first after that of the walk; the front is kept; and each was one step at most

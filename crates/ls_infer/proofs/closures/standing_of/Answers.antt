@@ -1,8 +1,4 @@
-use Rattle.std.proofs.Common.{◌≡◌, ◌++◌, ◌∷◌, [], Some, slice_get, sym, ap, ap₂, ◌∙◌, arith}
-use Rattle.std.proofs.lemmas.Grind.{common_steps}
-use Rattle.std.proofs.lemmas.Option.{slice_get-get_or}
-use Rattle.ls_lists.proofs.Places.{mapped-next}
-use Rattle.ls_infer.specs.Tables.{standing}
+use Rattle.ls_infer.proofs.Vocabulary.{◌++◌, ◌∙◌, ◌∷◌, ◌≡◌, Some, [], ap, ap₂, arith, common_steps, mapped-next, slice_get, slice_get-get_or, standing, sym}
 use Rattle.ls_infer.proofs.closures.standing_of.Goals as goal
 
 pub loop-answer-preserved : goal.loop-answer-preserved

@@ -1,10 +1,4 @@
-use Rattle.std.proofs.Common.{ℕ, ◌≡◌, ◌+◌, ◌*◌, ◌≤◌, true, map, take, drop}
-use Rattle.std.specs.List.{list_all}
-use Rattle.ls_set.specs.ItemSet.{full}
-use Rattle.ls_set.specs.Query.{is_good}
-use Rattle.ls_theory.specs.Families.{closure}
-use Rattle.ls_theory.specs.Queries.{blocks}
-use Rattle.ls_infer.specs.Tables.{standing, AreStates}
+use Rattle.ls_infer.proofs.Vocabulary.{◌*◌, ◌+◌, ◌≡◌, ◌≤◌, AreStates, ℕ, blocks, closure, drop, full, is_good, list_all, map, standing, take, true}
 use Rattle.ls_infer.proofs.closures.standing_of.Given as goal
 
 -- what is kept of the answers so far, those that are left are good, and the steps

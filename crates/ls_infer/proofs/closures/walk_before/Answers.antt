@@ -1,8 +1,4 @@
-use Rattle.std.proofs.Common.{◌≡◌, ◌<◌, length, slice_get, ap, ◌∙◌, arith}
-use Rattle.ls_set.specs.ItemSet.{full}
-use Rattle.ls_set.proofs.Sets.{empty-within}
-use Rattle.ls_laws.proofs.Counts.{len-empty}
-use Rattle.ls_query.specs.Blocks.{sets_of}
+use Rattle.ls_infer.proofs.Vocabulary.{◌<◌, ◌∙◌, ◌≡◌, ap, arith, empty-within, full, len-empty, length, sets_of, slice_get}
 use Rattle.ls_infer.proofs.Places.{first_place, next_place, came-within}
 use Rattle.ls_infer.proofs.closures.walk_before.Goals as goal
 

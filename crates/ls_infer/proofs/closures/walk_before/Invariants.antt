@@ -1,6 +1,4 @@
-use Rattle.std.proofs.Common.{◌≡◌, find, slice_get}
-use Rattle.ls_theory.specs.Queries.{block_before}
-use Rattle.ls_query.specs.Blocks.{sets_of}
+use Rattle.ls_infer.proofs.Vocabulary.{◌≡◌, block_before, find, sets_of, slice_get}
 use Rattle.ls_infer.proofs.closures.walk_before.Given as goal
 
 -- the set at the place is the first after that of the walk

@@ -1,11 +1,6 @@
-use Rattle.std.proofs.Common.{◌<◌, ◌≤◌, ◌≡◌, true, refl, sym, subst, arith}
-use Rattle.ls_set.specs.ItemSet.{full, has, with, without, meet, empty, minus, len, is_among}
-use Rattle.ls_set.proofs.Sets.{minus-within}
-use Rattle.ls_set.proofs.Sizes.{len-within}
-use Rattle.ls_infer.specs.Tables.{enough_for}
+use Rattle.ls_infer.proofs.Vocabulary.{◌<◌, ◌≡◌, ◌≤◌, arith, empty, enough_for, family_sets, full, has, is_among, len, len-within, meet, minus, minus-within, refl, subst, sym, true, with, without}
 use Rattle.ls_infer.proofs.Kept.{with-within}
 use Rattle.ls_infer.proofs.Sharing.{IsFound, hit, miss, found-hit, found-miss, found-all, fewer-hit, fewer-miss, left-hit, left-miss, left-below}
-use Rattle.ls_laws.proofs.Families.{family_sets}
 use Rattle.ls_infer.proofs.Witnessing.{found-narrowed, inside-member}
 use Rattle.ls_infer.proofs.enough.enough_among.Goals as goal
 

@@ -1,7 +1,4 @@
-use Rattle.std.proofs.Common.{◌≡◌, ◌+◌, ◌≤◌, ◌⊎◌, ℕ, true}
-use Rattle.ls_set.specs.ItemSet.{full, has, minus, len, is_among, IsWithin}
-use Rattle.ls_infer.specs.Narrowing.{owed}
-use Rattle.ls_infer.specs.Tables.{enough_for, AreStates}
+use Rattle.ls_infer.proofs.Vocabulary.{◌+◌, ◌≡◌, ◌≤◌, ◌⊎◌, AreStates, IsWithin, ℕ, enough_for, full, has, is_among, len, minus, owed, true}
 use Rattle.ls_infer.proofs.Sharing.{IsFound}
 use Rattle.ls_infer.proofs.enough.enough_among.Given as goal
 

@@ -1,5 +1,4 @@
-use Rattle.std.proofs.Common.{◌≡◌, ◌≤◌, ◌+◌, sym, ap, ◌∙◌, arith}
-use Rattle.ls_set.specs.ItemSet.{full, with, minus, len}
+use Rattle.ls_infer.proofs.Vocabulary.{◌+◌, ◌∙◌, ◌≡◌, ◌≤◌, ap, arith, full, len, minus, sym, with}
 use Rattle.ls_infer.proofs.Kept.{with-within}
 use Rattle.ls_infer.proofs.Outside.{with-here}
 use Rattle.ls_infer.proofs.States.{enough-all, with-itself, among-others, others-within, others-few, others-fewer}

@@ -1,9 +1,4 @@
-use Rattle.std.proofs.Common.{ℕ, ◌≡◌, Bool, true, ◌&&◌, ◌||◌, eqb, ltb, refl, sym, ap, ◌∙◌, arith, eqb-true}
-use Rattle.std.proofs.lemmas.Bool.Decides.{nat_tests}
-use Rattle.ls_set.specs.ItemSet.{has, empty, full, minus, with, is_among}
-use Rattle.ls_set.proofs.Sets.{members, has-with, same_set}
-use Rattle.ls_theory.specs.Families.{closure}
-use Rattle.ls_infer.specs.Tables.{enough_for}
+use Rattle.ls_infer.proofs.Vocabulary.{◌&&◌, ◌||◌, ◌∙◌, ◌≡◌, Bool, ℕ, ap, arith, closure, empty, enough_for, eqb, eqb-true, full, has, has-with, is_among, ltb, members, minus, nat_tests, refl, same_set, sym, true, with}
 use Rattle.ls_infer.proofs.Kept.{has-enough, taken, left, left-out}
 use Rattle.ls_infer.proofs.Sharing.{told}
 use Rattle.ls_infer.proofs.States.{enough-itself}

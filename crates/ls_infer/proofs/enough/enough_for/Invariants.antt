@@ -1,6 +1,4 @@
-use Rattle.std.proofs.Common.{◌≡◌, ◌+◌, ◌<◌, ◌≤◌, ℕ, ◌&&◌, ◌||◌, nat_eq, nat_lt}
-use Rattle.ls_set.specs.ItemSet.{has, full, with}
-use Rattle.ls_theory.specs.Families.{closure}
+use Rattle.ls_infer.proofs.Vocabulary.{◌&&◌, ◌+◌, ◌<◌, ◌||◌, ◌≡◌, ◌≤◌, ℕ, closure, full, has, nat_eq, nat_lt, with}
 use Rattle.ls_infer.proofs.enough.enough_for.Given as goal
 
 -- the items so far are those that are enough, and q, and each but q was one step

@@ -1,7 +1,4 @@
-use Rattle.std.proofs.Common.{ap, ◌∙◌}
-use Rattle.ls_set.specs.ItemSet.{is_within}
-use Rattle.ls_laws.proofs.Interiors.{is_within-interior}
-use Rattle.ls_laws.proofs.Families.{family_sets}
+use Rattle.ls_infer.proofs.Vocabulary.{◌∙◌, ap, family_sets, is_within, is_within-interior}
 use Rattle.ls_infer.proofs.enough.is_state.Goals as goal
 
 pub returns-clause-value : goal.returns-clause-value

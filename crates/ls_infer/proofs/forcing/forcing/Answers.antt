@@ -1,6 +1,4 @@
-use Rattle.std.proofs.Common.{map, filter, sym, ◌∙◌}
-use Rattle.std.proofs.lemmas.List.{at_drop_all}
-use Rattle.ls_infer.specs.Tables.{forces}
+use Rattle.ls_infer.proofs.Vocabulary.{◌∙◌, at_drop_all, filter, forces, map, sym}
 use Rattle.ls_infer.proofs.Least.{least_with, least_with-first}
 use Rattle.ls_infer.proofs.forcing.forcing.Goals as goal
 

@@ -1,5 +1,4 @@
-use Rattle.std.proofs.Common.{◌≡◌, map, filter, drop, None}
-use Rattle.ls_infer.specs.Tables.{forces}
+use Rattle.ls_infer.proofs.Vocabulary.{◌≡◌, None, drop, filter, forces, map}
 use Rattle.ls_infer.proofs.Least.{least_with}
 use Rattle.ls_infer.proofs.forcing.forcing.Given as goal
 

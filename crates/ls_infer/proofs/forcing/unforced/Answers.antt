@@ -1,7 +1,4 @@
-use Rattle.std.proofs.Common.{◌&&◌, ◌+◌, not, drop, ◌∙◌}
-use Rattle.std.specs.List.{list_any}
-use Rattle.ls_set.specs.ItemSet.{has}
-use Rattle.ls_infer.specs.Tables.{forces}
+use Rattle.ls_infer.proofs.Vocabulary.{◌&&◌, ◌+◌, ◌∙◌, drop, forces, has, list_any, not}
 use Rattle.ls_infer.proofs.Kept.{unforced-first, unforced-next, unforced-none, none_left}
 use Rattle.ls_infer.proofs.forcing.unforced.Goals as goal
 

@@ -1,7 +1,4 @@
-use Rattle.std.proofs.Common.{◌≡◌, ◌&&◌, ℕ, not, drop}
-use Rattle.std.specs.List.{list_any}
-use Rattle.ls_set.specs.ItemSet.{has}
-use Rattle.ls_infer.specs.Tables.{forces}
+use Rattle.ls_infer.proofs.Vocabulary.{◌&&◌, ◌≡◌, ℕ, drop, forces, has, list_any, not}
 use Rattle.ls_infer.proofs.forcing.unforced.Given as goal
 
 -- of the items that are left, those that the answers that are left do not force

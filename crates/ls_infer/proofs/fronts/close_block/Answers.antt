@@ -1,8 +1,5 @@
-use Rattle.std.proofs.Common.{◌≡◌, sym, ap, ◌∙◌, subst, true≢false}
+use Rattle.ls_infer.proofs.Vocabulary.{◌∙◌, ◌≡◌, ap, closure, full, minus-within, subst, sym, true≢false, with}
 use Rattle.std.specs.Prelude.{is_some}
-use Rattle.ls_set.specs.ItemSet.{full, with}
-use Rattle.ls_set.proofs.Sets.{minus-within}
-use Rattle.ls_theory.specs.Families.{closure}
 use Rattle.ls_infer.proofs.Closing.{has_some}
 use Rattle.ls_infer.proofs.fronts.close_block.Goals as goal
 

@@ -1,9 +1,4 @@
-use Rattle.std.proofs.Common.{◌≡◌, true, sym, ap, ◌∙◌, subst}
-use Rattle.std.specs.Option.{unwrap_or}
-use Rattle.ls_set.specs.ItemSet.{has, empty, full, without, minus, is_among}
-use Rattle.ls_set.proofs.Sets.{minus-within}
-use Rattle.ls_laws.proofs.Families.{family_sets}
-use Rattle.ls_interior.specs.Keeping.{interior_keeping}
+use Rattle.ls_infer.proofs.Vocabulary.{◌∙◌, ◌≡◌, ap, empty, family_sets, full, has, interior_keeping, is_among, minus, minus-within, subst, sym, true, unwrap_or, without}
 use Rattle.ls_infer.proofs.Closing.{closed-already, closed-further}
 use Rattle.ls_infer.proofs.fronts.close_with.Goals as goal
 

@@ -1,10 +1,4 @@
-use Rattle.std.proofs.Common.{◌≡◌, Some, length, slice_get, sym, ap, ◌∙◌, true≢false}
-use Rattle.std.proofs.lemmas.Option.{slice_get-get_or}
-use Rattle.ls_set.specs.ItemSet.{has, full}
-use Rattle.ls_set.proofs.Sets.{has-empty}
-use Rattle.ls_theory.specs.Families.{closure}
-use Rattle.ls_query.specs.Blocks.{sets_of}
-use Rattle.ls_query.proofs.Placed.{position-get}
+use Rattle.ls_infer.proofs.Vocabulary.{◌∙◌, ◌≡◌, Some, ap, closure, full, has, has-empty, length, position-get, sets_of, slice_get, slice_get-get_or, sym, true≢false}
 use Rattle.ls_infer.proofs.Closing.{mapped-at}
 use Rattle.ls_infer.proofs.fronts.front_of.Goals as goal
 

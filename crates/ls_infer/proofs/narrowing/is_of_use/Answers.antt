@@ -1,5 +1,4 @@
-use Rattle.std.proofs.Common.{sym, ◌∙◌}
-use Rattle.ls_set.proofs.Sets.{IsWithin-from}
+use Rattle.ls_infer.proofs.Vocabulary.{◌∙◌, IsWithin-from, sym}
 use Rattle.ls_infer.proofs.narrowing.is_of_use.Goals as goal
 
 pub returns-then-has-clause-within : goal.returns-then-has-clause-within

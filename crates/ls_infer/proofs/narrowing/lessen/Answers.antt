@@ -1,6 +1,4 @@
-use Rattle.std.proofs.Common.{◌≡◌, true, refl, sym, ap, ◌∙◌, arith}
-use Rattle.ls_set.specs.ItemSet.{has, empty, with, without, is_among, IsWithin}
-use Rattle.ls_laws.proofs.Families.{family_sets}
+use Rattle.ls_infer.proofs.Vocabulary.{◌∙◌, ◌≡◌, IsWithin, ap, arith, empty, family_sets, has, is_among, refl, sym, true, with, without}
 use Rattle.ls_infer.proofs.Sharing.{meet-left}
 use Rattle.ls_infer.proofs.Witnessing.{narrowed-by_state, kept-member}
 use Rattle.ls_infer.proofs.narrowing.lessen.Goals as goal

@@ -1,6 +1,4 @@
-use Rattle.std.proofs.Common.{◌≡◌, ◌+◌, ◌≤◌, true}
-use Rattle.ls_set.specs.ItemSet.{is_among, IsWithin}
-use Rattle.ls_infer.specs.Narrowing.{owed, IsNarrowed}
+use Rattle.ls_infer.proofs.Vocabulary.{◌+◌, ◌≡◌, ◌≤◌, IsNarrowed, IsWithin, is_among, owed, true}
 use Rattle.ls_infer.proofs.narrowing.lessen.Given as goal
 
 -- what is left of the rest, where the state that was given is one, and the steps

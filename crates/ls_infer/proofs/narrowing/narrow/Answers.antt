@@ -1,7 +1,4 @@
-use Rattle.std.proofs.Common.{◌≡◌, true, sym, ap, ◌∙◌, arith}
-use Rattle.std.specs.List.{list_all}
-use Rattle.ls_lists.proofs.Overwriting.{all-at}
-use Rattle.ls_set.specs.ItemSet.{has, is_among}
+use Rattle.ls_infer.proofs.Vocabulary.{◌∙◌, ◌≡◌, all-at, ap, arith, has, is_among, list_all, sym, true}
 use Rattle.ls_infer.proofs.Sharing.{meet-left}
 use Rattle.ls_infer.proofs.Witnessing.{narrowed-by_state}
 use Rattle.ls_infer.proofs.narrowing.narrow.Goals as goal

@@ -1,8 +1,4 @@
-use Rattle.std.proofs.Common.{ℕ, ◌≤◌, List}
-use Rattle.ls_set.specs.ItemSet.{Items, IsWithin}
-use Rattle.ls_laws.specs.Families.{IsFamily}
-use Rattle.ls_infer.specs.Narrowing.{owed, IsNarrowed}
-use Rattle.ls_infer.specs.Tables.{AreStates}
+use Rattle.ls_infer.proofs.Vocabulary.{◌≤◌, AreStates, IsFamily, IsNarrowed, IsWithin, Items, List, ℕ, owed}
 use Rattle.ls_infer.proofs.narrowing.narrow.Given as goal
 
 -- what is left of the rest, and the steps that are owed

@@ -1,7 +1,4 @@
-use Rattle.std.proofs.Common.{◌≡◌, Some, slice_get, sym, ap, ◌∙◌, true≢false}
-use Rattle.std.proofs.lemmas.Option.{slice_get-get_or}
-use Rattle.ls_set.specs.ItemSet.{has}
-use Rattle.ls_set.proofs.Sets.{has-empty}
+use Rattle.ls_infer.proofs.Vocabulary.{◌∙◌, ◌≡◌, Some, ap, has, has-empty, slice_get, slice_get-get_or, sym, true≢false}
 use Rattle.ls_infer.proofs.Places.{closed-alone}
 use Rattle.ls_infer.proofs.reaching.closed_alone.Goals as goal
 

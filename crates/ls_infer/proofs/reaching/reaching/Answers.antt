@@ -1,8 +1,4 @@
-use Rattle.std.proofs.Common.{◌≡◌, inl, inr, true, sym, subst, ap, ◌∙◌, true≢false, ltb-true}
-use Rattle.ls_set.specs.ItemSet.{has, full, single}
-use Rattle.ls_set.proofs.Sets.{has-empty, has-full}
-use Rattle.ls_set.proofs.Ascending.{least-cases}
-use Rattle.ls_theory.specs.Families.{closure}
+use Rattle.ls_infer.proofs.Vocabulary.{◌∙◌, ◌≡◌, ap, closure, full, has, has-empty, has-full, inl, inr, least-cases, ltb-true, single, subst, sym, true, true≢false}
 use Rattle.ls_infer.proofs.Outside.{with-cases}
 use Rattle.ls_infer.proofs.Sharing.{fewer-hit, left-hit}
 use Rattle.ls_infer.proofs.reaching.reaching.Goals as goal

@@ -1,7 +1,4 @@
-use Rattle.std.proofs.Common.{◌≡◌, ℕ, true, List, map}
-use Rattle.ls_set.specs.ItemSet.{Items, full, has, single, len, IsWithin}
-use Rattle.ls_theory.specs.Families.{closure}
-use Rattle.ls_theory.specs.Queries.{blocks}
+use Rattle.ls_infer.proofs.Vocabulary.{◌≡◌, IsWithin, Items, List, ℕ, blocks, closure, full, has, len, map, single, true}
 use Rattle.ls_infer.proofs.reaching.reaching.Given as goal
 
 -- those that were found are of the set, and have q in their closures

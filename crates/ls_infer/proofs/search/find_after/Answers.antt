@@ -1,12 +1,4 @@
-use Rattle.std.proofs.Common.{◌≡◌, ◌≤◌, ◌+◌, length, slice_get, Some, refl, sym, ap, ◌∙◌, subst, arith}
-use Rattle.std.proofs.lemmas.Option.{slice_get_past}
-use Rattle.ls_lists.specs.Lists.{IsIn}
-use Rattle.ls_lists.proofs.Elements.{get-in}
-use Rattle.ls_theory.specs.Queries.{block_before}
-use Rattle.ls_query.specs.Blocks.{sets_of}
-use Rattle.ls_query.proofs.Passing.{ArePassing, first-passing, none-passing, passing-end}
-use Rattle.ls_query.proofs.QuerySets.{asked_of}
-use Rattle.ls_infer.specs.Search.{is_open_by}
+use Rattle.ls_infer.proofs.Vocabulary.{◌+◌, ◌∙◌, ◌≡◌, ◌≤◌, ArePassing, IsIn, Some, ap, arith, asked_of, block_before, first-passing, get-in, is_open_by, length, none-passing, passing-end, refl, sets_of, slice_get, slice_get_past, subst, sym}
 use Rattle.ls_infer.proofs.Places.{next_place, came-to, came-past}
 use Rattle.ls_infer.proofs.Searching.{some_place}
 use Rattle.ls_infer.proofs.search.find_after.Goals as goal

@@ -1,7 +1,4 @@
-use Rattle.std.proofs.Common.{ℕ, ◌+◌, ◌≡◌, ◌&&◌, find, slice_get}
-use Rattle.ls_theory.specs.Queries.{block_before}
-use Rattle.ls_query.specs.Blocks.{sets_of, queries_of}
-use Rattle.ls_infer.specs.Search.{IsSearch, is_open_by}
+use Rattle.ls_infer.proofs.Vocabulary.{◌&&◌, ◌+◌, ◌≡◌, IsSearch, ℕ, block_before, find, is_open_by, queries_of, sets_of, slice_get}
 use Rattle.ls_infer.proofs.search.find_after.Given as goal
 
 -- the set that many places after the first is the next after that of the walk; no open query was passed

@@ -1,5 +1,4 @@
-use Rattle.std.proofs.Common.{rules}
-use Rattle.std.proofs.lemmas.Fn.{filter_same}
+use Rattle.ls_infer.proofs.Vocabulary.{filter_same, rules}
 use Rattle.ls_infer.proofs.standing_no.take_out.Goals as goal
 
 pub returns : goal.returns

@@ -1,8 +1,4 @@
-use Rattle.std.proofs.Common.{sym, ap, ◌∙◌}
-use Rattle.std.specs.List.{list_all}
-use Rattle.ls_lists.proofs.Every.{list_all-set}
-use Rattle.ls_lists.proofs.Overwriting.{all-at}
-use Rattle.ls_set.specs.ItemSet.{is_among}
+use Rattle.ls_infer.proofs.Vocabulary.{◌∙◌, all-at, ap, is_among, list_all, list_all-set, sym}
 use Rattle.ls_infer.proofs.witnesses.keep_witness.Goals as goal
 
 pub returns-then-place-kept : goal.returns-then-place-kept

@@ -1,6 +1,5 @@
-use Rattle.std.proofs.Common.{sym, ap, ◌∙◌, filter, not, set}
+use Rattle.ls_infer.proofs.Vocabulary.{◌∙◌, ap, breaks, filter, not, set, sym}
 use Rattle.std.proofs.lemmas.List.Edits.{map_over_more}
-use Rattle.ls_theory.specs.Queries.{breaks}
 use Rattle.ls_infer.proofs.KeptStates.{written-end}
 use Rattle.ls_infer.proofs.witnesses.let_go_each.Goals as goal
 

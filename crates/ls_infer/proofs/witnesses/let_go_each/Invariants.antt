@@ -1,5 +1,4 @@
-use Rattle.std.proofs.Common.{◌≡◌, ◌++◌, map, filter, take, drop, not}
-use Rattle.ls_theory.specs.Queries.{breaks}
+use Rattle.ls_infer.proofs.Vocabulary.{◌++◌, ◌≡◌, breaks, drop, filter, map, not, take}
 use Rattle.ls_infer.proofs.witnesses.let_go_each.Given as goal
 
 -- the states of the items so far are those that do not break the query, and the others are as they were

@@ -1,8 +1,4 @@
-use Rattle.std.proofs.Common.{[], ◌∷◌, ◌++◌, ap, ◌∙◌}
-use Rattle.std.specs.List.{list_all}
-use Rattle.std.proofs.lemmas.List.Folds.{list_all-append}
-use Rattle.ls_set.specs.ItemSet.{is_among}
-use Rattle.ls_set.proofs.Sets.{and-true}
+use Rattle.ls_infer.proofs.Vocabulary.{◌++◌, ◌∙◌, ◌∷◌, [], and-true, ap, is_among, list_all, list_all-append}
 use Rattle.ls_infer.proofs.witnesses.no_witnesses.Goals as goal
 
 pub loop-item-preserved : goal.loop-item-preserved

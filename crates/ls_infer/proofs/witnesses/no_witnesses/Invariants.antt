@@ -1,6 +1,4 @@
-use Rattle.std.proofs.Common.{List}
-use Rattle.ls_set.specs.ItemSet.{Items}
-use Rattle.ls_infer.specs.Tables.{AreStates}
+use Rattle.ls_infer.proofs.Vocabulary.{AreStates, Items, List}
 use Rattle.ls_infer.proofs.witnesses.no_witnesses.Given as goal
 
 -- no state is kept yet

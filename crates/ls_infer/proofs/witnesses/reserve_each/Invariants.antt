@@ -1,4 +1,4 @@
-use Rattle.std.proofs.Common.{◌≡◌}
+use Rattle.ls_infer.proofs.Vocabulary.{◌≡◌}
 use Rattle.ls_infer.proofs.witnesses.reserve_each.Given as goal
 
 -- the states are those that were kept

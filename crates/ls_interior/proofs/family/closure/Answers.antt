@@ -1,5 +1,5 @@
 use Rattle.std.proofs.Common.{ap, ◌∙◌}
-use Rattle.ls_set.specs.ItemSet.{full}
+use Rattle.ls_set.specs.{full}
 use Rattle.ls_set.proofs.Sets.{minus-within}
 use Rattle.ls_interior.proofs.family.closure.Goals as goal
 

@@ -1,6 +1,6 @@
 use Rattle.ls_laws.proofs.Interiors.{closed-to, family-from}
 use Rattle.ls_laws.proofs.Spans.{spanned-IsUnionFamily, spanned-has, spanned-whole, spanned-needed, spanned-base}
-use Rattle.ls_laws.specs.Spans.{spanned}
+use Rattle.ls_laws.proofs.Vocabulary.{spanned}
 use Rattle.ls_laws.proofs.bases.spanned_by.Goals as goal
 
 pub returns : goal.returns

@@ -1,4 +1,4 @@
-use Rattle.ls_laws.specs.Forced.{is_forced_by}
+use Rattle.ls_laws.proofs.Vocabulary.{is_forced_by}
 use Rattle.ls_laws.proofs.Numbered.{nos-increasing}
 use Rattle.ls_laws.proofs.Least.{first_passes, first_is_least}
 use Rattle.ls_laws.proofs.Answering.{number_told, number_known}

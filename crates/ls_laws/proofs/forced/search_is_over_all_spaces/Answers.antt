@@ -1,5 +1,5 @@
 use Rattle.ls_laws.proofs.Answering.{forced_yes_search, forced_no_search, FitsIn-from, FitsIn-to, compatible_fit}
-use Rattle.ls_theory.specs.Compatible.{compatible_sets}
+use Rattle.ls_laws.proofs.Vocabulary.{compatible_sets}
 use Rattle.ls_laws.proofs.forced.search_is_over_all_spaces.Goals as goal
 
 pub returns : goal.returns

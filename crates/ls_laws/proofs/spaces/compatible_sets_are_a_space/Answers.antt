@@ -1,7 +1,4 @@
-use Rattle.std.proofs.Common.{refl}
-use Rattle.ls_theory.specs.Starts.{Free}
-use Rattle.ls_theory.specs.Compatible.{compat, compatible_sets}
-use Rattle.ls_set.specs.ItemSet.{full}
+use Rattle.ls_laws.proofs.Vocabulary.{Free, compat, compatible_sets, full, refl}
 use Rattle.ls_laws.proofs.Interiors.{closed-to, space-to}
 use Rattle.ls_laws.proofs.Breaks.{good-from}
 use Rattle.ls_laws.proofs.Compat.{compat-IsUnionFamily, compat-in_order, compat-space, start-space, left-space}

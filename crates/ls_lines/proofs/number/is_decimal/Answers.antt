@@ -1,8 +1,4 @@
-use Rattle.std.proofs.Common.{rules, tests, arith}
-use Rattle.std.proofs.lemmas.Bool.Decides.{nat_tests}
-use Rattle.std.proofs.lemmas.Iterator.{YieldsList-from_slice}
-use Rattle.std.proofs.lemmas.Iterator.Search.{all_from_yields_List}
-use Rattle.ls_lines.specs.Numbers.{is_digit}
+use Rattle.ls_lines.proofs.Vocabulary.{YieldsList-from_slice, all_from_yields_List, arith, is_digit, nat_tests, rules, tests}
 use Rattle.ls_lines.proofs.number.is_decimal.Goals as goal
 
 pub returns-then-not-is_empty : goal.returns-then-not-is_empty

@@ -1,5 +1,4 @@
-use Rattle.std.proofs.Common.{◌≡◌, Err, arith, rules, sym}
-use Rattle.std.proofs.lemmas.Str.{IsUtf8-from_ascii}
+use Rattle.ls_lines.proofs.Vocabulary.{◌≡◌, Err, IsUtf8-from_ascii, arith, rules, sym}
 use Rattle.ls_lines.proofs.Numbers.{is_decimal-ascii, parsed, past_most}
 use Rattle.ls_lines.proofs.number.number_up_to.Goals as goal
 

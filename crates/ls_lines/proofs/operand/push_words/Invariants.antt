@@ -1,5 +1,4 @@
-use Rattle.std.proofs.Common.{◌≡◌, ◌++◌, take}
-use Rattle.ls_lines.specs.Operands.{with_spaces}
+use Rattle.ls_lines.proofs.Vocabulary.{◌++◌, ◌≡◌, take, with_spaces}
 use Rattle.ls_lines.proofs.operand.push_words.Given as goal
 
 abbrev pub invariant-loop-word : goal.invariant-loop-word

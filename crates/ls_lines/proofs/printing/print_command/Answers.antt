@@ -1,6 +1,4 @@
-use Rattle.std.proofs.Common.{◌≡◌, ◌∙◌, refl, ap, rules, length, vec_len}
-use Rattle.ls_lines.specs.Printing.{spelled}
-use Rattle.ls_lines.specs.Operands.{with_spaces}
+use Rattle.ls_lines.proofs.Vocabulary.{◌∙◌, ◌≡◌, ap, length, refl, rules, spelled, vec_len, with_spaces}
 use Rattle.ls_lines.proofs.Printed.{trimmed, shown-filling}
 use Rattle.ls_lines.proofs.printing.print_command.Goals as goal
 

@@ -1,6 +1,4 @@
-use Rattle.std.proofs.Common.{map}
-use Rattle.std.proofs.lemmas.List.{take_rest}
-use Rattle.ls_lines.specs.Operands.{shown}
+use Rattle.ls_lines.proofs.Vocabulary.{map, shown, take_rest}
 use Rattle.ls_lines.proofs.Printed.{own_word, operand, no_operand, no_part, none_left, one_left}
 use Rattle.ls_lines.proofs.printing.spaced.Goals as goal
 use Rattle.ls_lines.proofs.printing.spaced.Goals.{in-Fixed-default+in_ok-push_word-in-Fixed-default, in_default-empty, in_default-len1-up+in_ok-push_to-in_default-len1-up}

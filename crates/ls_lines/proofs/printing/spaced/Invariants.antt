@@ -1,6 +1,4 @@
-use Rattle.std.proofs.Common.{◌≡◌, ◌++◌, drop, map, flat_map}
-use Rattle.ls_lines.specs.Printing.{laid_out}
-use Rattle.ls_lines.specs.Operands.{shown, with_spaces}
+use Rattle.ls_lines.proofs.Vocabulary.{◌++◌, ◌≡◌, drop, flat_map, laid_out, map, shown, with_spaces}
 use Rattle.ls_lines.proofs.printing.spaced.Given as goal
 
 abbrev pub invariant-loop-part : goal.invariant-loop-part

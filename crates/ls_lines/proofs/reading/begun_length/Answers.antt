@@ -1,5 +1,4 @@
-use Rattle.std.proofs.Common.{arith, rules, sym, drop}
-use Rattle.std.proofs.lemmas.List.{take_rest}
+use Rattle.ls_lines.proofs.Vocabulary.{arith, drop, rules, sym, take_rest}
 use Rattle.ls_lines.proofs.Cutting.{begun_more, begun_stuck, begun_end}
 use Rattle.ls_lines.proofs.reading.begun_length.Goals as goal
 

@@ -1,5 +1,4 @@
-use Rattle.std.proofs.Common.{◌≡◌, ◌+◌, ◌≤◌, drop, length}
-use Rattle.ls_lines.specs.Reading.{begun_length}
+use Rattle.ls_lines.proofs.Vocabulary.{◌+◌, ◌≡◌, ◌≤◌, begun_length, drop, length}
 use Rattle.ls_lines.proofs.reading.begun_length.Given as goal
 
 abbrev pub invariant-loop-part : goal.invariant-loop-part

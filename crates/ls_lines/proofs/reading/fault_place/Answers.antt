@@ -1,10 +1,4 @@
-use Rattle.std.proofs.Common.{ℕ, rules, tests, arith, ap, unwrap_or, ◌≡◌, ◌∙◌}
-use Rattle.std.proofs.lemmas.Iterator.{YieldsList-from_slice, YieldsList-from_map}
-use Rattle.std.proofs.lemmas.Iterator.Consumers.{reduce_from_yields_List}
-use Rattle.std.proofs.lemmas.List.Folds.{max_of_map}
-use Rattle.ls_lines.specs.Forms.{parts}
-use Rattle.ls_lines.specs.Reading.{begun_length}
-use Rattle.ls_lines.specs.declared.form.Form.{Form}
+use Rattle.ls_lines.proofs.Vocabulary.{◌∙◌, ◌≡◌, Form, YieldsList-from_map, YieldsList-from_slice, ℕ, ap, arith, begun_length, max_of_map, parts, reduce_from_yields_List, rules, tests, unwrap_or}
 use Rattle.ls_lines.proofs.Places.{most_begun}
 use Rattle.ls_lines.proofs.Initials.{fault_place-tried}
 use Rattle.ls_lines.proofs.reading.fault_place.Goals as goal

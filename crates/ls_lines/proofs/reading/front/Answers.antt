@@ -1,9 +1,4 @@
-use Rattle.std.proofs.Common.{rules, tests, ◌≡◌, ◌∙◌, sym, ap, Some}
-use Rattle.std.proofs.lemmas.Iterator.{YieldsList-from_slice}
-use Rattle.std.proofs.lemmas.Iterator.Search.{YieldsList-from_take_while}
-use Rattle.std.proofs.lemmas.Iterator.Consumers.{count_from_yields_List}
-use Rattle.std.proofs.lemmas.List.Folds.{length-prefix_len}
-use Rattle.ls_lines.specs.Commands.{fits, front}
+use Rattle.ls_lines.proofs.Vocabulary.{◌∙◌, ◌≡◌, Some, YieldsList-from_slice, YieldsList-from_take_while, ap, count_from_yields_List, fits, front, length-prefix_len, rules, sym, tests}
 use Rattle.ls_lines.proofs.Ascii.{front_many, front_first, front-within, front-ascii}
 use Rattle.ls_lines.proofs.reading.front.Goals as goal
 

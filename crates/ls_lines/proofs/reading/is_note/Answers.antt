@@ -1,5 +1,4 @@
-use Rattle.std.proofs.Common.{◌∙◌, ap, sym}
-use Rattle.ls_lines.specs.Lines.{is_note}
+use Rattle.ls_lines.proofs.Vocabulary.{◌∙◌, ap, is_note, sym}
 use Rattle.ls_lines.proofs.Runs.{words-note}
 use Rattle.ls_lines.proofs.reading.is_note.Goals as goal
 

@@ -1,5 +1,4 @@
-use Rattle.std.proofs.Common.{◌∙◌, ap, sym, refl, []}
-use Rattle.ls_lines.specs.Lines.{runs}
+use Rattle.ls_lines.proofs.Vocabulary.{◌∙◌, [], ap, refl, runs, sym}
 use Rattle.ls_lines.proofs.Choosing.{no_words}
 use Rattle.ls_lines.proofs.Runs.{words-runs}
 use Rattle.ls_lines.proofs.reading.read_command.Goals as goal

@@ -1,6 +1,4 @@
-use Rattle.std.proofs.Common.{◌≡◌, rules, arith, sym, length}
-use Rattle.std.proofs.lemmas.Bool.Decides.{nat_tests}
-use Rattle.ls_lines.specs.Lines.{runs}
+use Rattle.ls_lines.proofs.Vocabulary.{◌≡◌, arith, length, nat_tests, rules, runs, sym}
 use Rattle.ls_lines.proofs.Choosing.{no_words}
 use Rattle.ls_lines.proofs.reading.read_runs.Goals as goal
 

@@ -1,4 +1,4 @@
-use Rattle.std.proofs.Common.{◌∙◌, sym}
+use Rattle.ls_lines.proofs.Vocabulary.{◌∙◌, sym}
 use Rattle.ls_lines.proofs.Initials.{reading_starts, form_fails, few_parts}
 use Rattle.ls_lines.proofs.reading.read_words.Goals as goal
 

@@ -1,5 +1,4 @@
-use Rattle.std.proofs.Common.{◌≡◌}
-use Rattle.ls_lines.specs.Commands.{command_of}
+use Rattle.ls_lines.proofs.Vocabulary.{◌≡◌, command_of}
 use Rattle.ls_lines.proofs.Initials.{read_from}
 use Rattle.ls_lines.proofs.reading.read_words.Given as goal
 

@@ -1,8 +1,4 @@
-use Rattle.std.proofs.Common.{rules, tests, ◌∙◌, sym, ap, not, nat_eq, Some}
-use Rattle.std.specs.Option.{option_eq}
-use Rattle.std.proofs.lemmas.Iterator.{YieldsList-from_slice}
-use Rattle.std.proofs.lemmas.Iterator.Search.{find_from_yields_List}
-use Rattle.ls_lines.specs.Lines.{is_blank}
+use Rattle.ls_lines.proofs.Vocabulary.{◌∙◌, Some, YieldsList-from_slice, ap, find_from_yields_List, is_blank, nat_eq, not, option_eq, rules, sym, tests}
 use Rattle.ls_lines.proofs.Runs.{is_note-by_first}
 use Rattle.ls_lines.proofs.token.begins_note.Goals as goal
 

@@ -1,4 +1,4 @@
-use Rattle.std.proofs.Common.{◌+◌, arith, sym}
+use Rattle.ls_lines.proofs.Vocabulary.{◌+◌, arith, sym}
 use Rattle.ls_lines.proofs.Runs.{runs-byte_by_byte, ends_run, is_alone, goes_on, few_more}
 use Rattle.ls_lines.proofs.token.push_runs.Goals as goal
 use Rattle.ls_lines.proofs.token.push_runs.Goals.{then-parts_words+in_ok-push_run, else-parts_words+then-stands_alone+in_ok-push_run-2+in_ok-push_run-3, else-parts_words+else-stands_alone}

@@ -1,6 +1,4 @@
-use Rattle.std.proofs.Common.{◌≡◌, ◌≤◌, ◌++◌, drop, length}
-use Rattle.std.specs.List.{slice_range}
-use Rattle.ls_lines.specs.Lines.{runs}
+use Rattle.ls_lines.proofs.Vocabulary.{◌++◌, ◌≡◌, ◌≤◌, drop, length, runs, slice_range}
 use Rattle.ls_lines.proofs.Runs.{runs_from}
 use Rattle.ls_lines.proofs.token.push_runs.Given as goal
 

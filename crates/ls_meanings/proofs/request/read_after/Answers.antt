@@ -1,5 +1,5 @@
 use Rattle.std.proofs.Common.{◌≡◌, sym, ◌∙◌, subst}
-use Rattle.ls_set.specs.ItemSet.{full, IsWithin}
+use Rattle.ls_set.specs.{IsWithin, full}
 use Rattle.ls_set.proofs.Cursors.{only}
 use Rattle.ls_meanings.proofs.request.read_after.Goals as goal
 

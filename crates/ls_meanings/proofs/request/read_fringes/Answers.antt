@@ -1,5 +1,5 @@
 use Rattle.std.proofs.Common.{◌+◌, length}
-use Rattle.ls_reply.specs.Meanings.{placed}
+use Rattle.ls_reply.specs.{placed}
 use Rattle.ls_meanings.proofs.Placing.{in_front}
 use Rattle.ls_meanings.proofs.request.read_fringes.Goals as goal
 

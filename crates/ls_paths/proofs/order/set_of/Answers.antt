@@ -1,9 +1,4 @@
-use Rattle.std.proofs.Common.{get_or, sym, ap, subst, ◌∙◌, arith}
-use Rattle.std.proofs.lemmas.List.{take_all}
-use Rattle.ls_set.specs.ItemSet.{Items, full, empty, with, IsWithin}
-use Rattle.ls_set.specs.declared.item_set.TheConstants.{PLACES}
-use Rattle.ls_growths.specs.Levels.{reached}
-use Rattle.ls_growths.proofs.Levels.{reached-next, reached-all}
+use Rattle.ls_paths.proofs.Vocabulary.{◌∙◌, IsWithin, Items, PLACES, ap, arith, empty, full, get_or, reached, reached-all, reached-next, subst, sym, take_all, with}
 use Rattle.ls_paths.proofs.Written.{place-small}
 use Rattle.ls_paths.proofs.order.set_of.Goals as goal
 

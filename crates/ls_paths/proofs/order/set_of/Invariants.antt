@@ -1,6 +1,4 @@
-use Rattle.std.proofs.Common.{◌≡◌, take}
-use Rattle.ls_set.specs.ItemSet.{empty}
-use Rattle.ls_growths.specs.Levels.{reached}
+use Rattle.ls_paths.proofs.Vocabulary.{◌≡◌, empty, reached, take}
 use Rattle.ls_paths.proofs.order.set_of.Given as goal
 
 -- the set of the items so far

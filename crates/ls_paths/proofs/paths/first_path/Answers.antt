@@ -1,8 +1,4 @@
-use Rattle.ls_growths.proofs.Growths.{learning-from}
-use Rattle.ls_growths.proofs.PathOrder.{paths-begin}
-use Rattle.ls_growths.proofs.Levels.{first-whole, whole-order}
-use Rattle.ls_growths.specs.Growths.{first_growth}
-use Rattle.ls_set.specs.ItemSet.{empty}
+use Rattle.ls_paths.proofs.Vocabulary.{empty, first-whole, first_growth, learning-from, paths-begin, whole-order}
 use Rattle.ls_paths.proofs.paths.first_path.Goals as goal
 
 pub returns-clause-order : goal.returns-clause-order

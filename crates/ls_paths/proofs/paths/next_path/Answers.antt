@@ -1,9 +1,4 @@
-use Rattle.std.proofs.Common.{◌≡◌, filter, sym, ap, ◌∙◌, true, false}
-use Rattle.ls_theory.specs.Words.{is_lex_before}
-use Rattle.ls_theory.specs.Paths.{is_order, paths}
-use Rattle.ls_growths.proofs.Growths.{learning-from}
-use Rattle.ls_growths.proofs.Levels.{whole-order}
-use Rattle.ls_paths.specs.Left.{paths_left}
+use Rattle.ls_paths.proofs.Vocabulary.{◌∙◌, ◌≡◌, ap, false, filter, is_lex_before, is_order, learning-from, paths, paths_left, sym, true, whole-order}
 use Rattle.ls_paths.proofs.Padding.{find-first_left, find-none_left}
 use Rattle.ls_paths.proofs.paths.next_path.Goals as goal
 

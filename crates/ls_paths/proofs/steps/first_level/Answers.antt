@@ -1,4 +1,4 @@
-use Rattle.std.proofs.Common.{◌+◌, get_or, arith}
+use Rattle.ls_paths.proofs.Vocabulary.{◌+◌, arith, get_or}
 use Rattle.ls_paths.proofs.Written.{asked-of, place-small, part-small, level-more, level-found, level-passed, level-end}
 use Rattle.ls_paths.proofs.steps.first_level.Goals as goal
 

@@ -1,6 +1,4 @@
-use Rattle.std.proofs.Common.{◌≡◌, true, take}
-use Rattle.ls_set.specs.ItemSet.{empty}
-use Rattle.ls_growths.specs.Levels.{reached, is_grown}
+use Rattle.ls_paths.proofs.Vocabulary.{◌≡◌, empty, is_grown, reached, take, true}
 use Rattle.ls_paths.proofs.steps.first_level.Given as goal
 
 -- the items so far could be added one after another

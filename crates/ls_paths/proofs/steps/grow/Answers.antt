@@ -1,4 +1,4 @@
-use Rattle.std.proofs.Common.{◌∙◌, length, arith}
+use Rattle.ls_paths.proofs.Vocabulary.{◌∙◌, arith, length}
 use Rattle.ls_paths.proofs.Written.{outside-less, grow-more, grow-end}
 use Rattle.ls_paths.proofs.steps.grow.Goals as goal
 

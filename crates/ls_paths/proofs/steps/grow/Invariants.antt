@@ -1,6 +1,4 @@
-use Rattle.std.proofs.Common.{◌≡◌, ◌-◌, ◌++◌, true, length, take}
-use Rattle.ls_set.specs.ItemSet.{full, minus, is_among}
-use Rattle.ls_growths.specs.Growths.{first_growth}
+use Rattle.ls_paths.proofs.Vocabulary.{◌++◌, ◌-◌, ◌≡◌, first_growth, full, is_among, length, minus, take, true}
 use Rattle.ls_paths.proofs.steps.grow.Given as goal
 
 -- the items so far, and those by which what is reached grows first

@@ -1,7 +1,4 @@
-use Rattle.std.proofs.Common.{sym, ap, ◌∙◌, arith, rules}
-use Rattle.ls_set.specs.ItemSet.{least}
-use Rattle.ls_growths.proofs.Growths.{learning-from}
-use Rattle.ls_growths.proofs.Added.{outside-small, least-none, least-begin, least-passed, least-found, least-last, next-small}
+use Rattle.ls_paths.proofs.Vocabulary.{◌∙◌, ap, arith, learning-from, least, least-begin, least-found, least-last, least-none, least-passed, next-small, outside-small, rules, sym}
 use Rattle.ls_paths.proofs.Written.{outside-next, goes-up, asked-of, with-small}
 use Rattle.ls_paths.proofs.steps.least_item.Goals as goal
 

@@ -1,5 +1,4 @@
-use Rattle.std.proofs.Common.{◌<◌, ◌-◌}
-use Rattle.ls_growths.proofs.Added.{Least}
+use Rattle.ls_paths.proofs.Vocabulary.{◌-◌, ◌<◌, Least}
 use Rattle.ls_paths.proofs.steps.least_item.Given as goal
 
 -- no item below can be added

@@ -1,6 +1,4 @@
-use Rattle.std.proofs.Common.{ℕ, ◌≡◌, ◌-◌, get_or, List, Some, None, refl, sym, ap, ◌∙◌, arith}
-use Rattle.ls_set.specs.ItemSet.{full, minus}
-use Rattle.ls_growths.specs.Growths.{next_after}
+use Rattle.ls_paths.proofs.Vocabulary.{◌-◌, ◌∙◌, ◌≡◌, List, None, Some, ℕ, ap, arith, full, get_or, minus, next_after, refl, sym}
 use Rattle.ls_paths.proofs.Written.{outside-less, taken-at, leave-past, leave-write, next-member}
 use Rattle.ls_paths.proofs.steps.leave.Goals as goal
 

@@ -1,6 +1,4 @@
-use Rattle.std.proofs.Common.{◌≡◌, take}
-use Rattle.ls_set.specs.ItemSet.{empty, full, minus, IsWithin}
-use Rattle.ls_growths.specs.Levels.{reached, leaves_below}
+use Rattle.ls_paths.proofs.Vocabulary.{◌≡◌, IsWithin, empty, full, leaves_below, minus, reached, take}
 use Rattle.ls_paths.proofs.steps.leave.Given as goal
 
 -- no growth leaves the list from the place on

@@ -1,5 +1,4 @@
-use Rattle.std.proofs.Common.{sym, ◌∙◌}
-use Rattle.ls_growths.proofs.Added.{above-found, above-passed, above-none, next-small}
+use Rattle.ls_paths.proofs.Vocabulary.{◌∙◌, above-found, above-none, above-passed, next-small, sym}
 use Rattle.ls_paths.proofs.Written.{outside-next, goes-up, asked-of, with-small}
 use Rattle.ls_paths.proofs.steps.next_item.Goals as goal
 

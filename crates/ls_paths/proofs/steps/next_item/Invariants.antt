@@ -1,5 +1,4 @@
-use Rattle.std.proofs.Common.{◌≡◌, ◌<◌, ◌-◌}
-use Rattle.ls_growths.specs.Growths.{next_after}
+use Rattle.ls_paths.proofs.Vocabulary.{◌-◌, ◌<◌, ◌≡◌, next_after}
 use Rattle.ls_paths.proofs.steps.next_item.Given as goal
 
 -- no item so far can be added

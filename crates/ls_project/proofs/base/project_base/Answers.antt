@@ -1,5 +1,5 @@
 use Rattle.std.proofs.Common.{ap, ◌∙◌}
-use Rattle.ls_theory.specs.Bases.{base}
+use Rattle.ls_theory.specs.{base}
 use Rattle.ls_laws.specs.Spans.{spanned}
 use Rattle.ls_spans.specs.Traces.{meets_with}
 use Rattle.ls_project.proofs.Bases.{meets-on, traced-base}

@@ -1,6 +1,4 @@
-use Rattle.std.proofs.Common.{List, get_or, Some, ap, sym, ◌∙◌}
-use Rattle.ls_pupils.specs.Cases.{pupil_of}
-use Rattle.ls_pupils.specs.declared.cases.PupilCase.{PupilCase}
+use Rattle.ls_pupils.proofs.Vocabulary.{◌∙◌, List, PupilCase, Some, ap, get_or, pupil_of, sym}
 use Rattle.ls_pupils.proofs.Named.{named-at, not_named, index-is}
 use Rattle.ls_pupils.proofs.asking.case_of.Goals as goal
 

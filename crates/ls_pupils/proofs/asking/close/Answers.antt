@@ -1,5 +1,4 @@
-use Rattle.std.proofs.Common.{◌∙◌, sym, ap, subst}
-use Rattle.ls_pupils.specs.Cases.{pupils_of, IsCase, ArePupils}
+use Rattle.ls_pupils.proofs.Vocabulary.{◌∙◌, ArePupils, IsCase, ap, pupils_of, subst, sym}
 use Rattle.ls_pupils.proofs.Named.{named-at, not_named, at-within}
 use Rattle.ls_pupils.proofs.Keeping.{case-at, are-closed, close-found, close-none}
 use Rattle.ls_pupils.proofs.asking.close.Goals as goal

@@ -1,4 +1,4 @@
-use Rattle.std.proofs.Common.{◌<◌, length, ap, ◌∙◌, subst}
+use Rattle.ls_pupils.proofs.Vocabulary.{◌<◌, ◌∙◌, ap, length, subst}
 use Rattle.ls_pupils.proofs.Rows.{told-asked}
 use Rattle.ls_pupils.proofs.asking.question.Goals as goal
 

@@ -1,7 +1,4 @@
-use Rattle.std.proofs.Common.{◌≡◌, ◌<◌, ◌+◌, ◌∷◌, [], List, Err, length, length-set, length-append, get_or, get_or-set_same, sym, ap, ◌∙◌, subst}
-use Rattle.ls_reply.specs.declared.response.Response.TheVariants.{Done}
-use Rattle.ls_pupils.specs.Cases.{pupils_of, ArePupils}
-use Rattle.ls_pupils.specs.declared.cases.PupilCase.{PupilCase}
+use Rattle.ls_pupils.proofs.Vocabulary.{◌+◌, ◌<◌, ◌∙◌, ◌∷◌, ◌≡◌, ArePupils, Done, Err, List, PupilCase, [], ap, get_or, get_or-set_same, length, length-append, length-set, pupils_of, subst, sym}
 use Rattle.ls_pupils.proofs.Named.{named-at, not_named, at-within}
 use Rattle.ls_pupils.proofs.Keeping.{case-at, replied_case, are-replied, reply-taken, reply-refused, reply-none}
 use Rattle.ls_pupils.proofs.Rows.{told-fault}

@@ -1,9 +1,4 @@
-use Rattle.std.proofs.Common.{ap₂, sym, ◌∙◌, subst, ℕ, List}
-use Rattle.ls_set.specs.ItemSet.{Items}
-use Rattle.ls_theory.specs.Fringes.{fringes}
-use Rattle.ls_expert.specs.Starts.{start_of}
-use Rattle.ls_laws.specs.Families.{IsFamily}
-use Rattle.ls_laws.proofs.Families.{compat-IsFamily}
+use Rattle.ls_pupils.proofs.Vocabulary.{◌∙◌, IsFamily, Items, List, ℕ, ap₂, compat-IsFamily, fringes, start_of, subst, sym}
 use Rattle.ls_pupils.proofs.Rows.{told-report}
 use Rattle.ls_pupils.proofs.asking.report_of.Goals as goal
 

@@ -1,11 +1,4 @@
-use Rattle.std.proofs.Common.{◌≡◌, ◌==◌, ap, ap₂, eqb-true, eq-eqb, ℕ}
-use Rattle.std.specs.Prelude.{Decides}
-use Rattle.std.proofs.lemmas.Bool.{and_parts, and_from}
-use Rattle.std.proofs.lemmas.Slice.Eq.{slice_eq-Decides}
-use Rattle.ls_set.specs.ItemSet.{Items, is_same}
-use Rattle.ls_set.specs.declared.query.Query.{Query}
-use Rattle.ls_set.proofs.Sets.{Decides-is_same}
-use Rattle.ls_theory.specs.Answering.{is_same_query}
+use Rattle.ls_pupils.proofs.Vocabulary.{◌==◌, ◌≡◌, Decides, Decides-is_same, Items, Query, ℕ, and_from, and_parts, ap, ap₂, eq-eqb, eqb-true, is_same, is_same_query, slice_eq-Decides}
 use Rattle.ls_pupils.proofs.beginning.are_same_queries.Goals as goal
 
 -- queries are the same where their sets and their items are

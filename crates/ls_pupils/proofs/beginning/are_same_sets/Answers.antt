@@ -1,6 +1,4 @@
-use Rattle.std.proofs.lemmas.Slice.Eq.{slice_eq-Decides}
-use Rattle.ls_set.specs.ItemSet.{is_same}
-use Rattle.ls_set.proofs.Sets.{Decides-is_same}
+use Rattle.ls_pupils.proofs.Vocabulary.{Decides-is_same, is_same, slice_eq-Decides}
 use Rattle.ls_pupils.proofs.beginning.are_same_sets.Goals as goal
 
 pub returns : goal.returns

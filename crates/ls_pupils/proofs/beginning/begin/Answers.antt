@@ -1,9 +1,4 @@
-use Rattle.std.proofs.Common.{◌<◌, ◌≤◌, length, is_some, sym, ap, ◌∙◌, subst}
-use Rattle.std.proofs.lemmas.List.{length-map}
-use Rattle.std.proofs.lemmas.Result.{IfOk-weaker, on_ok_weaker}
-use Rattle.ls_reply.specs.Pupils.{most_pupils}
-use Rattle.ls_pupils.specs.Cases.{pupil_of, pupils_of}
-use Rattle.ls_pupils.specs.Beginning.{IsNewPupil}
+use Rattle.ls_pupils.proofs.Vocabulary.{◌<◌, ◌∙◌, ◌≤◌, IfOk-weaker, IsNewPupil, ap, is_some, length, length-map, most_pupils, on_ok_weaker, pupil_of, pupils_of, subst, sym}
 use Rattle.ls_pupils.proofs.Named.{stands, not_standing}
 use Rattle.ls_pupils.proofs.Rows.{begin-stands, begin-many, begin-refused, begin-begins}
 use Rattle.ls_pupils.proofs.beginning.begin.Goals as goal

@@ -1,4 +1,4 @@
-use Rattle.std.proofs.Common.{sym, ◌∙◌}
+use Rattle.ls_pupils.proofs.Vocabulary.{◌∙◌, sym}
 use Rattle.ls_pupils.proofs.beginning.is_like.Goals as goal
 
 pub returns-then-is_same_start : goal.returns-then-is_same_start

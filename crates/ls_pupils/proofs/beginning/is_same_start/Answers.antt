@@ -1,6 +1,5 @@
-use Rattle.std.proofs.Common.{ap, sym, ◌∙◌}
+use Rattle.ls_pupils.proofs.Vocabulary.{◌∙◌, ap, start_of, sym}
 use Rattle.ls_theory.specs.Starts as theory
-use Rattle.ls_expert.specs.Starts.{start_of}
 use Rattle.ls_pupils.proofs.beginning.is_same_start.Goals as goal
 
 pub returns-in-Sets-Sets : goal.returns-in-Sets-Sets

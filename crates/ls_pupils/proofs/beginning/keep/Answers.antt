@@ -1,14 +1,4 @@
-use Rattle.std.proofs.Common.{length, List, sym, ap, ap₂, ◌∙◌, subst}
-use Rattle.std.specs.List.{list_all}
-use Rattle.ls_set.specs.Query.{is_good}
-use Rattle.ls_set.specs.declared.query.Query.{Query}
-use Rattle.ls_theory.specs.Starts.{Start}
-use Rattle.ls_theory.specs.Settings.{Settings}
-use Rattle.ls_theory.specs.Compatible.{compat}
-use Rattle.ls_expert.specs.Starts.{start_of, IsStartOn}
-use Rattle.ls_weight.specs.Weighings.{Weighing}
-use Rattle.ls_pupils.specs.Cases.{IsCase, ArePupils}
-use Rattle.ls_pupils.specs.declared.cases.PupilCase.{PupilCase}
+use Rattle.ls_pupils.proofs.Vocabulary.{◌∙◌, ArePupils, IsCase, IsStartOn, List, PupilCase, Query, Settings, Start, Weighing, ap, ap₂, compat, is_good, length, list_all, start_of, subst, sym}
 use Rattle.ls_pupils.proofs.Keeping.{are-more}
 use Rattle.ls_pupils.proofs.beginning.keep.Goals as goal
 

@@ -1,14 +1,4 @@
-use Rattle.std.proofs.Common.{◌≡◌, ◌≤◌, [], List, Some, None, OnOk, length, ap, sym, ◌∙◌, subst, filter}
-use Rattle.std.proofs.lemmas.Result.{IfOk-weaker}
-use Rattle.ls_set.specs.ItemSet.{Items}
-use Rattle.ls_theory.specs.Compatible.{compat, compatible_sets}
-use Rattle.ls_theory.specs.Queries.{breaks_none}
-use Rattle.ls_theory.specs.Settings.{most_states, heavy_after}
-use Rattle.ls_laws.specs.Families.{IsFamily}
-use Rattle.ls_laws.proofs.Families.{compat-IsFamily}
-use Rattle.ls_theory.specs.Interviews.{yes_queries}
-use Rattle.ls_weight.specs.Weighings.{Weighing}
-use Rattle.ls_weight.proofs.Weighable.{family-weighable}
+use Rattle.ls_pupils.proofs.Vocabulary.{◌∙◌, ◌≡◌, ◌≤◌, IfOk-weaker, IsFamily, Items, List, None, OnOk, Some, Weighing, [], ap, breaks_none, compat, compat-IsFamily, compatible_sets, family-weighable, filter, heavy_after, length, most_states, subst, sym, yes_queries}
 use Rattle.ls_pupils.proofs.Rows.{weighed-new}
 use Rattle.ls_pupils.proofs.beginning.listed.Given as given
 use Rattle.ls_pupils.proofs.beginning.listed.Goals as goal

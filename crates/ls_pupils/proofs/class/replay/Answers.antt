@@ -1,12 +1,4 @@
-use Rattle.std.proofs.Common.{◌≡◌, ◌≤◌, [], List, length, ap, sym, ◌∙◌, subst, filter}
-use Rattle.ls_set.specs.ItemSet.{Items}
-use Rattle.ls_theory.specs.Compatible.{compat, compatible_sets}
-use Rattle.ls_theory.specs.Queries.{breaks_none}
-use Rattle.ls_theory.specs.Settings.{most_states}
-use Rattle.ls_theory.specs.Interviews.{yes_queries}
-use Rattle.ls_laws.specs.Families.{IsFamily}
-use Rattle.ls_laws.proofs.Families.{compat-IsFamily}
-use Rattle.ls_weight.proofs.Weighable.{family-weighable}
+use Rattle.ls_pupils.proofs.Vocabulary.{◌∙◌, ◌≡◌, ◌≤◌, IsFamily, Items, List, [], ap, breaks_none, compat, compat-IsFamily, compatible_sets, family-weighable, filter, length, most_states, subst, sym, yes_queries}
 use Rattle.ls_pupils.proofs.class.replay.Given as given
 use Rattle.ls_pupils.proofs.class.replay.Goals as goal
 

@@ -1,7 +1,4 @@
-use Rattle.std.proofs.Common.{List, sym, subst}
-use Rattle.std.specs.List.{All}
-use Rattle.ls_set.specs.ItemSet.{full, IsWithin}
-use Rattle.ls_theory.specs.Classes.{PupilResult}
+use Rattle.ls_pupils.proofs.Vocabulary.{All, IsWithin, List, PupilResult, full, subst, sym}
 use Rattle.ls_pupils.proofs.Classes.{results-within}
 use Rattle.ls_pupils.proofs.class.replay_over.Goals as goal
 

@@ -1,5 +1,4 @@
-use Rattle.std.proofs.Common.{sym, ◌∙◌, arith}
-use Rattle.ls_laws.proofs.Breaks.{good-from}
+use Rattle.ls_query.proofs.Vocabulary.{◌∙◌, arith, good-from, sym}
 use Rattle.ls_query.proofs.QuerySets.{find-larger}
 use Rattle.ls_query.proofs.Passing.{find-with_same, find-no_more}
 use Rattle.ls_query.proofs.asking.query_after.Goals as goal

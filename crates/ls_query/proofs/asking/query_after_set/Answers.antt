@@ -1,4 +1,4 @@
-use Rattle.std.proofs.Common.{sym, ◌∙◌, rules}
+use Rattle.ls_query.proofs.Vocabulary.{◌∙◌, rules, sym}
 use Rattle.ls_query.proofs.Passing.{find-after_set, find-full, find-none_after}
 use Rattle.ls_query.proofs.asking.query_after_set.Goals as goal
 

@@ -1,10 +1,4 @@
-use Rattle.std.proofs.Common.{ℕ, ◌+◌, ◌<◌, ◌≤◌, ◌≡◌, inl, inr, false, length, find, Some, sym, arith}
-use Rattle.std.proofs.lemmas.Bool.{cases_eq}
-use Rattle.ls_set.specs.ItemSet.{numbers_from}
-use Rattle.ls_set.proofs.Ascending.{find_first, find_none}
-use Rattle.ls_theory.specs.Queries.{blocks}
-use Rattle.ls_theory.specs.Blocks.{is_too_wide, most_sets}
-use Rattle.ls_query.specs.Blocks.{choose}
+use Rattle.ls_query.proofs.Vocabulary.{◌+◌, ◌<◌, ◌≡◌, ◌≤◌, Some, ℕ, arith, blocks, cases_eq, choose, false, find, find_first, find_none, inl, inr, is_too_wide, length, most_sets, numbers_from, sym}
 use Rattle.ls_query.proofs.Binomials.{choose-none}
 use Rattle.ls_query.proofs.BySize.{length-blocks_none}
 use Rattle.ls_query.proofs.Counted.{length-blocks_next, choose-few, too_wide, not_too_wide}

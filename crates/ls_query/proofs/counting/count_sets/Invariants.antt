@@ -1,7 +1,4 @@
-use Rattle.std.proofs.Common.{◌≡◌, ◌<◌, ◌≤◌, ◌+◌, ℕ, false, length}
-use Rattle.ls_theory.specs.Queries.{blocks}
-use Rattle.ls_theory.specs.Blocks.{is_too_wide, most_sets}
-use Rattle.ls_query.specs.Blocks.{choose}
+use Rattle.ls_query.proofs.Vocabulary.{◌+◌, ◌<◌, ◌≡◌, ◌≤◌, ℕ, blocks, choose, false, is_too_wide, length, most_sets}
 use Rattle.ls_query.proofs.counting.count_sets.Given as goal
 
 -- the sets up to the size so far are counted, and are not too many

@@ -1,4 +1,4 @@
-use Rattle.std.proofs.Common.{ℕ, ◌+◌, ◌*◌, ◌-◌, ◌/◌, ◌≤◌, arith}
+use Rattle.ls_query.proofs.Vocabulary.{◌*◌, ◌+◌, ◌-◌, ◌/◌, ◌≤◌, ℕ, arith}
 use Rattle.std.proofs.Math.Nat.{div-le_self, mul-le-mul_left}
 use Rattle.ls_query.proofs.Binomials.{choose-next}
 use Rattle.ls_query.proofs.counting.of_next_size.Goals as goal

@@ -1,4 +1,4 @@
-use Rattle.std.proofs.Common.{sym, ◌∙◌, arith}
+use Rattle.ls_query.proofs.Vocabulary.{◌∙◌, arith, sym}
 use Rattle.ls_query.proofs.BySize.{len-without_least}
 use Rattle.ls_query.proofs.LastMove.{Looked-moves, Looked-stays, Looked-done}
 use Rattle.ls_query.proofs.moving.last_move.Goals as goal

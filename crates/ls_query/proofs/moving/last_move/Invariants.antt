@@ -1,4 +1,4 @@
-use Rattle.ls_set.specs.ItemSet.{len}
+use Rattle.ls_query.proofs.Vocabulary.{len}
 use Rattle.ls_query.proofs.LastMove.{Looked}
 use Rattle.ls_query.proofs.moving.last_move.Given as goal
 

@@ -1,5 +1,4 @@
-use Rattle.std.proofs.Common.{◌+◌, ◌-◌, ◌<◌, ◌≤◌, arith}
-use Rattle.ls_set.specs.ItemSet.{len, keep_before}
+use Rattle.ls_query.proofs.Vocabulary.{◌+◌, ◌-◌, ◌<◌, ◌≤◌, arith, keep_before, len}
 use Rattle.ls_query.proofs.Steps.{kept_fewer, end_within}
 use Rattle.ls_query.proofs.moving.moved.Goals as goal
 

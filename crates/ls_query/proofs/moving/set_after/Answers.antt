@@ -1,4 +1,4 @@
-use Rattle.std.proofs.Common.{sym, arith}
+use Rattle.ls_query.proofs.Vocabulary.{arith, sym}
 use Rattle.ls_query.proofs.Steps.{find-moved, find-next_size, find-past, find-too_large}
 use Rattle.ls_query.proofs.moving.set_after.Goals as goal
 

@@ -1,7 +1,4 @@
-use Rattle.std.proofs.Common.{sym, ◌∙◌, arith}
-use Rattle.ls_set.specs.ItemSet.{len}
-use Rattle.ls_set.proofs.Sizes.{len-within}
-use Rattle.ls_set.proofs.Sets.{without-within}
+use Rattle.ls_query.proofs.Vocabulary.{◌∙◌, arith, len, len-within, sym, without-within}
 use Rattle.ls_query.proofs.BySize.{len-without_least}
 use Rattle.ls_query.proofs.After.{after-least, after-none, len-few, least-few, counted-few}
 use Rattle.ls_query.proofs.placing.count_after.Goals as goal

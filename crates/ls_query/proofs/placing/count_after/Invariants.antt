@@ -1,6 +1,4 @@
-use Rattle.std.proofs.Common.{◌≡◌, ◌+◌}
-use Rattle.ls_set.specs.ItemSet.{items, len, IsWithin}
-use Rattle.ls_query.specs.Places.{after_of}
+use Rattle.ls_query.proofs.Vocabulary.{◌+◌, ◌≡◌, IsWithin, after_of, items, len}
 use Rattle.ls_query.proofs.placing.count_after.Given as goal
 
 -- what is counted, and what is left to count

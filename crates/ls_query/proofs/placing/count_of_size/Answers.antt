@@ -1,4 +1,4 @@
-use Rattle.std.proofs.Common.{sym}
+use Rattle.ls_query.proofs.Vocabulary.{sym}
 use Rattle.ls_query.proofs.Binomials.{choose-none}
 use Rattle.ls_query.proofs.placing.count_of_size.Goals as goal
 

@@ -1,5 +1,4 @@
-use Rattle.std.proofs.Common.{◌≡◌}
-use Rattle.ls_query.specs.Blocks.{choose}
+use Rattle.ls_query.proofs.Vocabulary.{◌≡◌, choose}
 use Rattle.ls_query.proofs.placing.count_of_size.Given as goal
 
 -- the sets of the size so far

@@ -1,7 +1,4 @@
-use Rattle.std.proofs.Common.{◌≤◌, ◌≡◌, true, false, length, sym, ◌∙◌, arith, rules, true≢false}
-use Rattle.ls_set.specs.ItemSet.{full, is_within}
-use Rattle.ls_set.proofs.Sets.{IsWithin-from, is_within-from}
-use Rattle.ls_theory.specs.Queries.{blocks}
+use Rattle.ls_query.proofs.Vocabulary.{◌∙◌, ◌≡◌, ◌≤◌, IsWithin-from, arith, blocks, false, full, is_within, is_within-from, length, rules, sym, true, true≢false}
 use Rattle.ls_query.proofs.BySize.{length-blocks_shorter}
 use Rattle.ls_query.proofs.Counted.{counted}
 use Rattle.ls_query.proofs.Placed.{position-none, choose-bounded}

@@ -1,7 +1,4 @@
-use Rattle.std.proofs.Common.{add-one}
-use Rattle.ls_lists.proofs.Finds.{find-any}
-use Rattle.ls_lists.proofs.Sorted.{find-next}
-use Rattle.ls_theory.specs.Queries.{blocks, block_before, queries, query_before}
+use Rattle.ls_query.proofs.Vocabulary.{add-one, block_before, blocks, find-any, find-next, queries, query_before}
 use Rattle.ls_query.proofs.BlockOrder.{before-asymmetric}
 use Rattle.ls_query.proofs.BlockSets.{sorted-blocks}
 use Rattle.ls_query.proofs.QuerySets.{sorted-queries, query_before-asymmetric}

@@ -1,4 +1,4 @@
-use Rattle.std.proofs.Common.{sym, ◌∙◌}
+use Rattle.ls_query.proofs.Vocabulary.{◌∙◌, sym}
 use Rattle.ls_query.proofs.BySize.{len-without_least}
 use Rattle.ls_query.proofs.Walks.{Passed-next, Passed-done}
 use Rattle.ls_query.proofs.walk.greatest.Goals as goal

@@ -1,4 +1,4 @@
-use Rattle.ls_set.specs.ItemSet.{len}
+use Rattle.ls_query.proofs.Vocabulary.{len}
 use Rattle.ls_query.proofs.Walks.{Passed}
 use Rattle.ls_query.proofs.walk.greatest.Given as goal
 

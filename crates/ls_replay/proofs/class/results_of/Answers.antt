@@ -1,4 +1,4 @@
-use Rattle.std.proofs.Common.{◌++◌, ◌∷◌, [], ap₂, ◌∙◌, sym, arith}
+use Rattle.ls_replay.proofs.Vocabulary.{◌++◌, ◌∙◌, ◌∷◌, [], ap₂, arith, sym}
 use Rattle.ls_replay.proofs.Lines.{lines_next}
 use Rattle.ls_replay.proofs.class.results_of.Goals as goal
 

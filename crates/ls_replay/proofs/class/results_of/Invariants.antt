@@ -1,5 +1,4 @@
-use Rattle.std.proofs.Common.{◌≡◌, take}
-use Rattle.ls_replay.specs.Replays.{lines_of}
+use Rattle.ls_replay.proofs.Vocabulary.{◌≡◌, lines_of, take}
 use Rattle.ls_replay.proofs.class.results_of.Given as goal
 
 abbrev pub invariant-loop-place : goal.invariant-loop-place

@@ -1,6 +1,4 @@
-use Rattle.std.proofs.Common.{◌+◌, ◌++◌, ◌∷◌, [], List, length, ap, ◌∙◌}
-use Rattle.std.proofs.lemmas.List.{length-append}
-use Rattle.ls_set.specs.ItemSet.{Items}
+use Rattle.ls_replay.proofs.Vocabulary.{◌++◌, ◌+◌, ◌∙◌, ◌∷◌, Items, List, [], ap, length, length-append}
 use Rattle.ls_replay.proofs.Lines.{rights_next}
 use Rattle.ls_replay.proofs.class.rights_of.Goals as goal
 

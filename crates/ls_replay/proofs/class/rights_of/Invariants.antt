@@ -1,4 +1,4 @@
-use Rattle.std.proofs.Common.{◌≡◌, map, take, length}
+use Rattle.ls_replay.proofs.Vocabulary.{◌≡◌, length, map, take}
 use Rattle.ls_replay.proofs.class.rights_of.Given as goal
 
 abbrev pub invariant-loop-place : goal.invariant-loop-place

@@ -1,4 +1,4 @@
-use Rattle.std.proofs.Common.{length}
+use Rattle.ls_replay.proofs.Vocabulary.{length}
 use Rattle.ls_replay.proofs.halves.+fn-replay_halves-join+arg2+fn-replay_halves-join+arg3+replay_halves.Given as goal
 
 abbrev pub decreases-join+arg2 : goal.decreases-join+arg2

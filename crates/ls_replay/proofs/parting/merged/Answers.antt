@@ -1,6 +1,4 @@
-use Rattle.std.proofs.Common.{◌+◌, not, ap, ◌∙◌, sym}
-use Rattle.std.proofs.lemmas.List.Sums.{count_by_more_yes, count_by_more_no}
-use Rattle.ls_set.specs.ItemSet.{has}
+use Rattle.ls_replay.proofs.Vocabulary.{◌+◌, ◌∙◌, ap, count_by_more_no, count_by_more_yes, has, not, sym}
 use Rattle.ls_replay.proofs.Parts.{next_known}
 use Rattle.ls_replay.proofs.parting.merged.Goals as goal
 use Rattle.ls_replay.proofs.parting.merged.Goals.{then-has+in_ok-push, else-has+in_ok-push-2}

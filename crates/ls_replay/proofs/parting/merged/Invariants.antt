@@ -1,6 +1,4 @@
-use Rattle.std.proofs.Common.{◌≡◌, not, map, filter, take, count_by}
-use Rattle.ls_set.specs.ItemSet.{Items, has}
-use Rattle.ls_theory.specs.declared.replay.Replay.{Replay}
+use Rattle.ls_replay.proofs.Vocabulary.{◌≡◌, Items, Replay, count_by, filter, has, map, not, take}
 use Rattle.ls_replay.proofs.parting.merged.Given as goal
 
 -- so many were taken of each, and what is known of the pupils so far is put together

@@ -1,10 +1,5 @@
-use Rattle.std.proofs.Common.{◌≡◌, ◌++◌, ◌∷◌, [], true, false, not, length, map, filter, IfOk, subst, ap, ◌∙◌, sym}
-use Rattle.std.proofs.lemmas.List.{length-map}
-use Rattle.std.proofs.lemmas.List.Sums.{length-filter}
-use Rattle.ls_set.specs.ItemSet.{Items, has}
-use Rattle.ls_theory.specs.declared.replay.Replay.{Replay}
+use Rattle.ls_replay.proofs.Vocabulary.{◌++◌, ◌∙◌, ◌∷◌, ◌≡◌, IfOk, Items, Replay, [], ap, false, filter, has, length, length-filter, length-map, map, not, replay_from, subst, sym, true}
 use Rattle.ls_weight.specs.Weighings.{Weighing}
-use Rattle.ls_replay.specs.Replays.{replay_from}
 use Rattle.ls_replay.proofs.Parts.{none_left}
 use Rattle.ls_replay.proofs.Turns.{all_right, all_wrong, only_right, only_wrong, over_all}
 use Rattle.ls_replay.proofs.tree.+tree.Goals as goal

@@ -1,4 +1,4 @@
-use Rattle.std.proofs.Common.{◌+◌, ◌-◌, ◌*◌, length}
+use Rattle.ls_replay.proofs.Vocabulary.{◌*◌, ◌+◌, ◌-◌, length}
 use Rattle.ls_replay.proofs.tree.+tree.Given as goal
 
 -- four times the replies that are left, and then by which function calls which

@@ -1,5 +1,4 @@
-use Rattle.std.proofs.Common.{arith}
-use Rattle.serde_json.specs.View.{view}
+use Rattle.ls_restore.proofs.Vocabulary.{arith, view}
 use Rattle.ls_restore.proofs.BlockSizes.{block-none}
 use Rattle.ls_restore.proofs.blocks.read_block.Goals as goal
 

@@ -1,12 +1,5 @@
-use Rattle.std.proofs.Common.{◌≡◌, List, Some, rules, codes, sym, ap, ◌∙◌, subst}
-use Rattle.serde_json.specs.View.{view}
-use Rattle.ls_theory.specs.declared.answer.Answer.{Answer}
-use Rattle.ls_files.specs.SurmiseFiles.{read_list}
+use Rattle.ls_restore.proofs.Vocabulary.{◌∙◌, ◌≡◌, Answer, IsStandingFault, List, Some, ap, at_key, codes, interview_on, read_answer, read_list, rules, subst, sym, view}
 use Rattle.ls_expert.specs.Starts.{start_of}
-use Rattle.ls_expert.specs.Held.{interview_on}
-use Rattle.ls_expert.specs.Saved.{IsStandingFault}
-use Rattle.ls_saved.specs.Readers.{at_key}
-use Rattle.ls_saved.specs.Parts.{read_answer}
 use Rattle.ls_restore.proofs.Standings.{standing, refused}
 use Rattle.ls_restore.proofs.inquiries.read_inquiry.Goals as goal
 

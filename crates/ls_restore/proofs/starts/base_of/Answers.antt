@@ -1,6 +1,4 @@
-use Rattle.std.proofs.Common.{◌≡◌, true, sym, ap, ◌∙◌}
-use Rattle.std.specs.Cmp.Lexicographic.{pointwise}
-use Rattle.ls_set.specs.ItemSet.{is_same}
+use Rattle.ls_restore.proofs.Vocabulary.{◌∙◌, ◌≡◌, ap, is_same, pointwise, sym, true}
 use Rattle.ls_clauses.proofs.BaseCovers.{based-cover}
 use Rattle.ls_restore.proofs.BaseStarts.{same-start}
 use Rattle.ls_restore.proofs.starts.base_of.Goals as goal

@@ -1,7 +1,4 @@
-use Rattle.std.proofs.Common.{sym, ◌∙◌, subst}
-use Rattle.serde_json.specs.View.{view}
-use Rattle.ls_laws.specs.Spans.{IsOn}
-use Rattle.ls_saved.proofs.Read.{on-from}
+use Rattle.ls_restore.proofs.Vocabulary.{◌∙◌, IsOn, on-from, subst, sym, view}
 use Rattle.ls_restore.proofs.starts.base_start.Goals as goal
 
 pub base_of-requires-clause-within : goal.base_of-requires-clause-within

@@ -1,10 +1,4 @@
-use Rattle.std.proofs.Common.{◌≡◌, List, Some, sym, subst}
-use Rattle.serde_json.specs.View.{view}
-use Rattle.ls_set.specs.ItemSet.{Items}
-use Rattle.ls_theory.specs.Clauses.{all_clauses}
-use Rattle.ls_laws.specs.Spans.{IsOn}
-use Rattle.ls_files.specs.SurmiseFiles.{read_list}
-use Rattle.ls_saved.specs.Parts.{read_set}
+use Rattle.ls_restore.proofs.Vocabulary.{◌≡◌, IsOn, Items, List, Some, all_clauses, read_list, read_set, subst, sym, view}
 use Rattle.ls_restore.proofs.ClauseStarts.{lists-on}
 use Rattle.ls_restore.proofs.starts.surmise_start.Goals as goal
 

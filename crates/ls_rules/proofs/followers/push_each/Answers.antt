@@ -1,5 +1,4 @@
-use Rattle.std.proofs.Common.{sym, refl, ◌∙◌, arith, length-set}
-use Rattle.ls_set.proofs.Ascending.{least-cases}
+use Rattle.ls_rules.proofs.Vocabulary.{◌∙◌, arith, least-cases, length-set, refl, sym}
 use Rattle.ls_rules.proofs.Following.{Pushed-first, Pushed-more, Pushed-done}
 use Rattle.ls_rules.proofs.Rounds.{no_least, len-without_least}
 use Rattle.ls_rules.proofs.followers.push_each.Goals as goal

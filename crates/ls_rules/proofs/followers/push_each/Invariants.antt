@@ -1,5 +1,4 @@
-use Rattle.std.proofs.Common.{◌≡◌, length}
-use Rattle.ls_set.specs.ItemSet.{len}
+use Rattle.ls_rules.proofs.Vocabulary.{◌≡◌, len, length}
 use Rattle.ls_rules.proofs.Following.{Pushed}
 use Rattle.ls_rules.proofs.followers.push_each.Given as goal
 

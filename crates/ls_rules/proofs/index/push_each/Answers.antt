@@ -1,7 +1,4 @@
-use Rattle.std.proofs.Common.{◌++◌, ◌∷◌, [], sym, ap, ◌∙◌, length-set}
-use Rattle.std.proofs.lemmas.List.{get_or_default}
-use Rattle.ls_set.proofs.Ascending.{least-cases}
-use Rattle.ls_rules.specs.Places.{PlaceList, no_places}
+use Rattle.ls_rules.proofs.Vocabulary.{◌++◌, ◌∙◌, ◌∷◌, PlaceList, [], ap, get_or_default, least-cases, length-set, no_places, sym}
 use Rattle.ls_rules.proofs.Indexing.{room_within, Pushing-more, Pushing-done}
 use Rattle.ls_rules.proofs.Rounds.{no_least, len-without_least}
 use Rattle.ls_rules.proofs.index.push_each.Goals as goal

@@ -1,5 +1,4 @@
-use Rattle.std.proofs.Common.{◌≡◌, length}
-use Rattle.ls_set.specs.ItemSet.{len}
+use Rattle.ls_rules.proofs.Vocabulary.{◌≡◌, len, length}
 use Rattle.ls_rules.proofs.Indexing.{Pushing}
 use Rattle.ls_rules.proofs.index.push_each.Given as goal
 

@@ -1,5 +1,4 @@
-use Rattle.std.proofs.Common.{◌≡◌, ℕ, ltb, cond}
-use Rattle.ls_rules.specs.Places.{places_at, lowered}
+use Rattle.ls_rules.proofs.Vocabulary.{◌≡◌, ℕ, cond, lowered, ltb, places_at}
 use Rattle.ls_rules.proofs.index.remove_each.Given as goal
 
 -- the lists before the index have lost the place

@@ -1,5 +1,4 @@
-use Rattle.std.proofs.Common.{◌≡◌, ℕ, ◌<◌}
-use Rattle.ls_rules.specs.Places.{places_at, spare_at}
+use Rattle.ls_rules.proofs.Vocabulary.{◌<◌, ◌≡◌, ℕ, places_at, spare_at}
 use Rattle.ls_rules.proofs.index.reserve_each.Given as goal
 
 abbrev pub invariant-loop-list : goal.invariant-loop-list

@@ -1,5 +1,4 @@
-use Rattle.std.proofs.Common.{◌≡◌, ℕ, ◌≤◌, ◌-◌, length}
-use Rattle.ls_rules.specs.Places.{places_at}
+use Rattle.ls_rules.proofs.Vocabulary.{◌-◌, ◌≡◌, ◌≤◌, ℕ, length, places_at}
 use Rattle.ls_rules.proofs.index.widen.Given as goal
 
 abbrev pub invariant-loop-alloc : goal.invariant-loop-alloc

@@ -1,5 +1,4 @@
-use Rattle.std.proofs.Common.{◌≡◌, ℕ, get_or, ltb, cond}
-use Rattle.ls_rules.specs.Places.{lower}
+use Rattle.ls_rules.proofs.Vocabulary.{◌≡◌, ℕ, cond, get_or, lower, ltb}
 use Rattle.ls_rules.proofs.places.lower_each.Given as goal
 
 -- the places before the index are lowered

@@ -1,4 +1,4 @@
-use Rattle.std.proofs.Common.{rules, not, eqb}
+use Rattle.ls_rules.proofs.Vocabulary.{eqb, not, rules}
 use Rattle.std.proofs.lemmas.Fn.{filter_same}
 use Rattle.ls_rules.proofs.places.take_out.Goals as goal
 

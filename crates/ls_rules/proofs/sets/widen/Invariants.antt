@@ -1,6 +1,4 @@
-use Rattle.std.proofs.Common.{◌≡◌, ℕ, ◌≤◌, ◌-◌, length}
-use Rattle.ls_set.specs.ItemSet.{most_items}
-use Rattle.ls_rules.specs.Sets.{set_at}
+use Rattle.ls_rules.proofs.Vocabulary.{◌-◌, ◌≡◌, ◌≤◌, ℕ, length, most_items, set_at}
 use Rattle.ls_rules.proofs.sets.widen.Given as goal
 
 abbrev pub invariant-loop-list : goal.invariant-loop-list

@@ -1,8 +1,4 @@
-use Rattle.std.proofs.Common.{◌≡◌, sym, ap, ◌∙◌}
-use Rattle.std.proofs.lemmas.List.{drop_all}
-use Rattle.ls_set.specs.ItemSet.{is_same, single, union, with}
-use Rattle.ls_set.proofs.Sets.{union-empty_left, union-empty_right}
-use Rattle.ls_rules.specs.Singles.{asked_alone}
+use Rattle.ls_rules.proofs.Vocabulary.{◌∙◌, ◌≡◌, ap, asked_alone, drop_all, is_same, single, sym, union, union-empty_left, union-empty_right, with}
 use Rattle.ls_rules.proofs.Alone.{with-empty, asked-step}
 use Rattle.ls_rules.proofs.singles.asked_alone.Goals as goal
 use Rattle.ls_rules.proofs.singles.asked_alone.Goals.{then-eq, else-eq}

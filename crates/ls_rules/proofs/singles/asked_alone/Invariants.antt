@@ -1,6 +1,4 @@
-use Rattle.std.proofs.Common.{◌≡◌, drop}
-use Rattle.ls_set.specs.ItemSet.{union}
-use Rattle.ls_rules.specs.Singles.{asked_alone}
+use Rattle.ls_rules.proofs.Vocabulary.{◌≡◌, asked_alone, drop, union}
 use Rattle.ls_rules.proofs.singles.asked_alone.Given as goal
 
 -- with what is left to look at it gives the whole

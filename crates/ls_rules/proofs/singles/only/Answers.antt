@@ -1,5 +1,4 @@
-use Rattle.std.proofs.Common.{◌≡◌, true, false, sym, ◌∙◌}
-use Rattle.ls_set.specs.ItemSet.{is_same}
+use Rattle.ls_rules.proofs.Vocabulary.{◌∙◌, ◌≡◌, false, is_same, sym, true}
 use Rattle.ls_rules.proofs.Alone.{only-one, only-none, only-not}
 use Rattle.ls_rules.proofs.singles.only.Goals as goal
 

@@ -1,6 +1,4 @@
-use Rattle.std.proofs.Common.{sym, refl, ◌∙◌}
-use Rattle.ls_rules.specs.Places.{places_at}
-use Rattle.ls_rules.specs.Parts.{first_of, several}
+use Rattle.ls_rules.proofs.Vocabulary.{◌∙◌, first_of, places_at, refl, several, sym}
 use Rattle.ls_rules.proofs.Indexing.{covered, small_items}
 use Rattle.ls_rules.proofs.Rounds.{turned, len-without_least}
 use Rattle.ls_rules.proofs.Begun.{Started-first, Started-none, Started-more, Started-done, whole}

@@ -1,4 +1,4 @@
-use Rattle.ls_set.specs.ItemSet.{len}
+use Rattle.ls_rules.proofs.Vocabulary.{len}
 use Rattle.ls_rules.proofs.Begun.{Started}
 use Rattle.ls_rules.proofs.waking.begin.Given as goal
 

@@ -1,4 +1,4 @@
-use Rattle.std.proofs.Common.{get_or, refl}
+use Rattle.ls_rules.proofs.Vocabulary.{get_or, refl}
 use Rattle.ls_rules.proofs.Rounds.{look_at-step}
 use Rattle.ls_rules.proofs.waking.look_at.Goals as goal
 

@@ -1,5 +1,4 @@
-use Rattle.std.proofs.Common.{◌≡◌, drop, fold}
-use Rattle.ls_rules.specs.Waking.{look, rules_at}
+use Rattle.ls_rules.proofs.Vocabulary.{◌≡◌, drop, fold, look, rules_at}
 use Rattle.ls_rules.proofs.waking.look_at.Given as goal
 
 -- what is left to look at gives the whole

@@ -1,6 +1,4 @@
-use Rattle.std.proofs.Common.{sym, ◌∙◌}
-use Rattle.std.proofs.lemmas.Bool.{not-false}
-use Rattle.ls_rules.specs.Parts.{first_of, several}
+use Rattle.ls_rules.proofs.Vocabulary.{◌∙◌, first_of, not-false, several, sym}
 use Rattle.ls_rules.proofs.Indexing.{indexed_small}
 use Rattle.ls_rules.proofs.Begun.{passed}
 use Rattle.ls_rules.proofs.waking.look_from.Goals as goal

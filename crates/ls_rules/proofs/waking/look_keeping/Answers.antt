@@ -1,5 +1,4 @@
-use Rattle.std.proofs.Common.{◌+◌, get_or, drop, refl, sym, ◌∙◌}
-use Rattle.ls_rules.specs.Waking.{rules_at}
+use Rattle.ls_rules.proofs.Vocabulary.{◌+◌, ◌∙◌, drop, get_or, refl, rules_at, sym}
 use Rattle.ls_rules.proofs.Rounds.{look_at-step, look-broken, look-unbroken, gone, keeps-without}
 use Rattle.ls_rules.proofs.waking.look_keeping.Goals as goal
 use Rattle.ls_rules.proofs.waking.look_keeping.Goals.{then-breaks+else-has, else-breaks}

@@ -1,6 +1,4 @@
-use Rattle.std.proofs.Common.{◌≡◌, drop, fold}
-use Rattle.ls_set.specs.ItemSet.{IsWithin}
-use Rattle.ls_rules.specs.Waking.{look, rules_at}
+use Rattle.ls_rules.proofs.Vocabulary.{◌≡◌, IsWithin, drop, fold, look, rules_at}
 use Rattle.ls_rules.proofs.waking.look_keeping.Given as goal
 
 -- what is left to look at gives the whole, and nothing was lost of what is to be kept

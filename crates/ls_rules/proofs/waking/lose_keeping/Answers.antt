@@ -1,6 +1,4 @@
-use Rattle.std.proofs.Common.{sym, ◌∙◌}
-use Rattle.std.proofs.lemmas.Bool.{not-true, not-false}
-use Rattle.ls_set.specs.ItemSet.{is_same}
+use Rattle.ls_rules.proofs.Vocabulary.{◌∙◌, is_same, not-false, not-true, sym}
 use Rattle.ls_rules.proofs.Rounds.{lost_keep, keeps-all}
 use Rattle.ls_rules.proofs.waking.lose_keeping.Goals as goal
 

@@ -1,5 +1,4 @@
-use Rattle.std.proofs.Common.{sym, ◌∙◌}
-use Rattle.ls_set.proofs.Ascending.{least-cases}
+use Rattle.ls_rules.proofs.Vocabulary.{◌∙◌, least-cases, sym}
 use Rattle.ls_rules.proofs.Alone.{Losing-first, Losing-more, Losing-done}
 use Rattle.ls_rules.proofs.Rounds.{no_least, len-without_least}
 use Rattle.ls_rules.proofs.waking.lost_outside.Goals as goal

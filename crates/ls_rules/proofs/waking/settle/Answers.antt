@@ -1,11 +1,4 @@
-use Rattle.std.proofs.Common.{◌≡◌, ℕ, List, map, refl, sym, ap, ◌∙◌}
-use Rattle.ls_set.specs.ItemSet.{Items, without}
-use Rattle.ls_set.proofs.Ascending.{least-cases}
-use Rattle.ls_set.specs.declared.query.Query.{Query}
-use Rattle.ls_rules.specs.Parts.{several}
-use Rattle.ls_rules.specs.Places.{PlaceList, places_at, IsIndexOf}
-use Rattle.ls_rules.specs.Waking.{wake, lose_all, lost_with}
-use Rattle.ls_rules.specs.declared.round.Round.{Round}
+use Rattle.ls_rules.proofs.Vocabulary.{◌∙◌, ◌≡◌, IsIndexOf, Items, List, PlaceList, Query, Round, ℕ, ap, least-cases, lose_all, lost_with, map, places_at, refl, several, sym, wake, without}
 use Rattle.ls_rules.proofs.Indexing.{small_items}
 use Rattle.ls_rules.proofs.Rounds.{turned, turn, woken, lighter, After-turn, NoneKeeps-lost, Settling-more, Settling-done}
 use Rattle.ls_rules.proofs.waking.settle.Goals as goal

@@ -1,6 +1,4 @@
-use Rattle.std.proofs.Common.{◌+◌, ◌*◌}
-use Rattle.ls_set.specs.ItemSet.{Items, len, IsWithin}
-use Rattle.ls_rules.specs.Waking.{Settling}
+use Rattle.ls_rules.proofs.Vocabulary.{◌*◌, ◌+◌, IsWithin, Items, Settling, len}
 use Rattle.ls_rules.proofs.waking.settle.Given as goal
 
 abbrev pub invariant-loop-i : goal.invariant-loop-i

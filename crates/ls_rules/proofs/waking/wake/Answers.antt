@@ -1,6 +1,4 @@
-use Rattle.ls_rules.specs.Parts.{several}
-use Rattle.ls_rules.specs.Places.{places_at}
-use Rattle.ls_rules.specs.Waking.{lose_all, rules_at}
+use Rattle.ls_rules.proofs.Vocabulary.{lose_all, places_at, rules_at, several}
 use Rattle.ls_rules.proofs.Indexing.{indexed_small}
 use Rattle.ls_rules.proofs.Rounds.{still_gone}
 use Rattle.ls_rules.proofs.waking.wake.Goals as goal

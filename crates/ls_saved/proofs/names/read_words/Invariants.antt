@@ -1,7 +1,4 @@
-use Rattle.std.proofs.Common.{drop}
-use Rattle.serde_json.specs.Find.{as_str}
-use Rattle.serde_json.specs.View.{view}
-use Rattle.ls_files.specs.SurmiseFiles.{read_list}
+use Rattle.ls_saved.proofs.Vocabulary.{as_str, drop, read_list, view}
 use Rattle.ls_saved.proofs.Walks.{IsRead}
 use Rattle.ls_saved.proofs.names.read_words.Given as goal
 

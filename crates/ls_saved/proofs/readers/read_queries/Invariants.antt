@@ -1,7 +1,4 @@
-use Rattle.std.proofs.Common.{drop}
-use Rattle.serde_json.specs.View.{view}
-use Rattle.ls_files.specs.SurmiseFiles.{read_list}
-use Rattle.ls_saved.specs.Parts.{read_query}
+use Rattle.ls_saved.proofs.Vocabulary.{drop, read_list, read_query, view}
 use Rattle.ls_saved.proofs.Walks.{IsRead}
 use Rattle.ls_saved.proofs.readers.read_queries.Given as goal
 

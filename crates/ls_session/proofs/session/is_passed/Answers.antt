@@ -1,9 +1,6 @@
-use Rattle.std.proofs.Common.{List, length, sym, ap}
-use Rattle.ls_lines.specs.Lines.{Text}
+use Rattle.ls_session.proofs.Vocabulary.{List, Text, ap, command_effect, length, line_effect-command, sym}
 use Rattle.ls_lines.specs.declared.command.Command.TheVariants as command
 use Rattle.ls_lines.proofs.Choosing.{no_words}
-use Rattle.ls_reply.specs.Replies.{command_effect}
-use Rattle.ls_reply.proofs.Effects.{line_effect-command}
 use Rattle.ls_session.proofs.session.is_passed.Goals as goal
 
 pub returns-then-line-le-LONGEST_LINE : goal.returns-then-line-le-LONGEST_LINE

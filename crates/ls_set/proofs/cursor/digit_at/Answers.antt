@@ -1,5 +1,4 @@
-use Rattle.std.proofs.Common.{◌≡◌, ◌<◌, ◌+◌, ◌*◌, ◌/◌, ◌%◌, ap, ◌∙◌, eqb, arith, rules}
-use Rattle.ls_set.specs.ItemSet.{has}
+use Rattle.ls_set.proofs.Vocabulary.{◌%◌, ◌*◌, ◌+◌, ◌/◌, ◌<◌, ◌∙◌, ◌≡◌, ap, arith, eqb, has, rules}
 use Rattle.ls_set.proofs.Turned.{turned-digit, low_half, high_half}
 use Rattle.ls_set.proofs.cursor.digit_at.Goals as goal
 use Rattle.ls_set.proofs.cursor.digit_at.Goals.{then-place-eq0, else-place-eq0}

@@ -1,6 +1,4 @@
-use Rattle.std.proofs.Common.{ap, ◌∙◌, ◌^◌}
-use Rattle.ls_set.specs.ItemSet.{single}
-use Rattle.ls_set.specs.Words.{as_set, cat}
+use Rattle.ls_set.proofs.Vocabulary.{◌^◌, ◌∙◌, ap, as_set, cat, single}
 use Rattle.ls_set.proofs.Words.{alone}
 use Rattle.ls_set.proofs.item_set.first_single.Goals as goal
 

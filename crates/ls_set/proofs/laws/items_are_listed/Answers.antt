@@ -1,5 +1,4 @@
-use Rattle.std.proofs.Common.{refl}
-use Rattle.ls_set.specs.ItemSet.{len}
+use Rattle.ls_set.proofs.Vocabulary.{len, refl}
 use Rattle.ls_set.proofs.Listed.{items-ascend, Contains-items, least-is, next_item-is}
 use Rattle.ls_set.proofs.laws.items_are_listed.Goals as goal
 

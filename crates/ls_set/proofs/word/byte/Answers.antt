@@ -1,6 +1,4 @@
-use Rattle.std.proofs.Common.{◌/◌, ◌^◌, ap, ◌∙◌}
-use Rattle.std.specs.Int.{bit_at}
-use Rattle.std.proofs.lemmas.Nat.{and_mask}
+use Rattle.ls_set.proofs.Vocabulary.{◌/◌, ◌^◌, ◌∙◌, and_mask, ap, bit_at}
 use Rattle.ls_set.proofs.Words.{digit_of_byte}
 use Rattle.ls_set.proofs.word.byte.Goals as goal
 

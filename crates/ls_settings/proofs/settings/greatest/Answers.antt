@@ -1,8 +1,7 @@
-use Rattle.std.proofs.Common.{ℕ, max, rules, tests, ap, unwrap_or, ◌∙◌, arith}
+use Rattle.ls_settings.proofs.Vocabulary.{◌∙◌, Ratios, ℕ, ap, arith, max, rules, tests, unwrap_or}
 use Rattle.std.proofs.lemmas.Iterator.{YieldsList-from_slice, YieldsList-from_map}
 use Rattle.std.proofs.lemmas.Iterator.Consumers.{reduce_from_yields_List}
 use Rattle.std.proofs.lemmas.List.Folds.{max_of_map}
-use Rattle.ls_theory.specs.declared.ratio.Ratios.{Ratios}
 use Rattle.ls_settings.proofs.Heavy.{greatest-fold}
 use Rattle.ls_settings.proofs.settings.greatest.Goals as goal
 

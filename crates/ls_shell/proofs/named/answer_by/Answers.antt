@@ -1,10 +1,5 @@
-use Rattle.std.proofs.Common.{[], Err, IsErrOf, refl, sym, subst, append-nil, List, ℕ}
+use Rattle.ls_shell.proofs.Vocabulary.{Answers, Err, Folder, IfOk-weaker, IsErrOf, List, StopsAt, Write, ℕ, [], append-nil, lines, on_err_weaker, refl, subst, sym}
 use Rattle.std.specs.declared.option.Option.{Option}
-use Rattle.std.proofs.lemmas.Result.{IfOk-weaker, on_err_weaker}
-use Rattle.ls_edge.specs.Files.{Folder}
-use Rattle.ls_lines.specs.Lines.{lines}
-use Rattle.ls_session.specs.declared.step_fault.StepFault.TheVariants.{Write}
-use Rattle.ls_shell.specs.Progress.{Answers, StopsAt}
 use Rattle.ls_shell.proofs.Followed.{OnErr_from}
 use Rattle.ls_shell.proofs.Moves.{moves_more, moves_same}
 use Rattle.ls_shell.proofs.Answered.{stops_if}

@@ -1,15 +1,6 @@
-use Rattle.std.proofs.Common.{◌∙◌, List, ℕ, Err, IsErrOf, ap, sym, subst}
-use Rattle.std.proofs.lemmas.Result.{IfOk-weaker, on_err_weaker}
+use Rattle.ls_shell.proofs.Vocabulary.{◌∙◌, AnswersFile, AnswersGiven, AnswersWhole, Err, FetchedFrom, Fetches, Folder, IfOk-weaker, IsErrOf, Keeps-refl, List, Status, StopsAt, Text, Write, ℕ, ap, given, lines, on_err_weaker, subst, sym}
 use Rattle.std.specs.declared.option.Option.{Option}
 use Rattle.std.specs.FinMap as map
-use Rattle.std.proofs.KnownBytes.{Keeps-refl}
-use Rattle.ls_edge.specs.Files.{Folder, given, Fetches, FetchedFrom}
-use Rattle.ls_lines.specs.Lines.{Text, lines}
-use Rattle.ls_session.specs.declared.step_fault.StepFault.TheVariants.{Write}
-use Rattle.ls_shell.specs.Progress.{StopsAt}
-use Rattle.ls_shell.specs.Runs.{AnswersWhole}
-use Rattle.ls_shell.specs.Named.{AnswersFile, AnswersGiven}
-use Rattle.ls_shell.specs.declared.status.Status.{Status}
 use Rattle.ls_shell.proofs.Pieces.{stops_first}
 use Rattle.ls_shell.proofs.Fetched.{found-read, whole-earlier, stops-earlier, stays-told, fetched-told}
 use Rattle.ls_shell.proofs.Whole.{whole_answered, whole_write, whole_read, whole_usage, whole_only, unread_answered, unread_failed, unread_write, unread_usage}

@@ -1,9 +1,5 @@
-use Rattle.std.proofs.Common.{IsErrOf, sym, subst}
+use Rattle.ls_shell.proofs.Vocabulary.{Folder, IsErrOf, StopsAt, Write, lines, subst, sym}
 use Rattle.std.specs.declared.option.Option.{Option}
-use Rattle.ls_edge.specs.Files.{Folder}
-use Rattle.ls_lines.specs.Lines.{lines}
-use Rattle.ls_session.specs.declared.step_fault.StepFault.TheVariants.{Write}
-use Rattle.ls_shell.specs.Progress.{StopsAt}
 use Rattle.ls_shell.proofs.Followed.{OnErr_from}
 use Rattle.ls_shell.proofs.Pieces.{stops_first}
 use Rattle.ls_shell.proofs.Fetched.{never_write}

@@ -1,9 +1,4 @@
-use Rattle.std.proofs.Common.{◌≡◌, [], ◌+◌, ◌<◌, ◌≤◌, ◌++◌, ◌∙◌, length, take, drop, refl, ap, sym, subst, arith, Err}
-use Rattle.std.proofs.lemmas.List.{take-append-le}
-use Rattle.std.proofs.lemmas.Grind.{common_steps}
-use Rattle.std.specs.Io.KnownBytes.{Consumes}
-use Rattle.ls_edge.proofs.Known.{appends_none}
-use Rattle.ls_shell.specs.Runs.{longest_script}
+use Rattle.ls_shell.proofs.Vocabulary.{◌++◌, ◌+◌, ◌<◌, ◌∙◌, ◌≡◌, ◌≤◌, Consumes, Err, [], ap, appends_none, arith, common_steps, drop, length, longest_script, refl, subst, sym, take, take-append-le}
 use Rattle.ls_shell.proofs.Pieces.{read_none, read_fails, read_end, stops_end, read_long, read_more, stops_more}
 use Rattle.ls_shell.proofs.Taking.{takes_done, takes_read, takes_long, takes_stopped}
 use Rattle.ls_shell.proofs.Moves.{rose_since, extended}

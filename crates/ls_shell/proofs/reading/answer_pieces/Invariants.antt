@@ -1,5 +1,4 @@
-use Rattle.std.proofs.Common.{◌≤◌, ◌+◌, ◌-◌}
-use Rattle.ls_shell.specs.Runs.{longest_script, IsExtended}
+use Rattle.ls_shell.proofs.Vocabulary.{◌+◌, ◌-◌, ◌≤◌, IsExtended, longest_script}
 use Rattle.ls_shell.proofs.Pieces.{HasRead}
 use Rattle.ls_shell.proofs.reading.answer_pieces.Given as goal
 

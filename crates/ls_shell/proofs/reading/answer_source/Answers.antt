@@ -1,5 +1,4 @@
-use Rattle.std.proofs.Common.{[]}
-use Rattle.ls_edge.proofs.Known.{appends_none}
+use Rattle.ls_shell.proofs.Vocabulary.{[], appends_none}
 use Rattle.ls_session.specs.declared.step_fault.StepFault.TheVariants as fault
 use Rattle.ls_shell.proofs.Pieces.{stops_none}
 use Rattle.ls_shell.proofs.Taking.{takes_stopped}

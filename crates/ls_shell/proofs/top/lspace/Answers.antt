@@ -1,18 +1,7 @@
-use Rattle.std.proofs.Common.{◌≡◌, [], Some, ap, sym, ◌∙◌, arith, subst}
+use Rattle.ls_shell.proofs.Vocabulary.{◌∙◌, ◌≡◌, AnswersNamed, AnswersScript, Consumes-nil, Drill, File, Folder, Keeps-refl, MarksScript, Mode, Some, Status, StopsAt, TakesAndStops, Text, WriteFault, WritesDrill, [], ap, arith, lines, longest_script, subst, sym}
 use Rattle.std.specs.declared.option.Option.{Option}
 use Rattle.std.specs.FinMap as map
-use Rattle.std.proofs.KnownBytes.{Consumes-nil, Keeps-refl}
-use Rattle.ls_edge.specs.Files.{Folder}
-use Rattle.ls_lines.specs.Lines.{Text, lines}
-use Rattle.ls_words.specs.declared.mode.Mode.{Mode}
-use Rattle.ls_words.specs.declared.mode.Mode.TheVariants.{File, Drill}
 use Rattle.ls_drill.specs.Summaries.{drill_text}
-use Rattle.ls_shell.specs.declared.status.Status.{Status}
-use Rattle.ls_shell.specs.declared.status.Status.TheVariants.{WriteFault}
-use Rattle.ls_shell.specs.Progress.{StopsAt}
-use Rattle.ls_shell.specs.Runs.{longest_script, TakesAndStops}
-use Rattle.ls_shell.specs.Scripts.{AnswersScript, MarksScript}
-use Rattle.ls_shell.specs.Named.{AnswersNamed, WritesDrill}
 use Rattle.ls_shell.proofs.Pieces.{stops_first}
 use Rattle.ls_shell.proofs.Asked.{input-none, none-mapped}
 use Rattle.ls_shell.proofs.Fetched.{script-answered, named-script, found-none}

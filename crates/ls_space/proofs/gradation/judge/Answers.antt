@@ -1,5 +1,4 @@
-use Rattle.std.proofs.Common.{◌<◌, ◌≤◌, arith, refl}
-use Rattle.ls_set.specs.ItemSet.{len}
+use Rattle.ls_space.proofs.Vocabulary.{◌<◌, ◌≤◌, arith, len, refl}
 use Rattle.ls_space.proofs.Judging.{judged-less, judged-double, judged-passed}
 use Rattle.ls_space.proofs.gradation.judge.Goals as goal
 

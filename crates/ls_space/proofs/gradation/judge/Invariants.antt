@@ -1,5 +1,4 @@
-use Rattle.std.proofs.Common.{◌≡◌, drop}
-use Rattle.ls_spans.specs.Verdicts.{first_double}
+use Rattle.ls_space.proofs.Vocabulary.{◌≡◌, drop, first_double}
 use Rattle.ls_space.proofs.gradation.judge.Given as goal
 
 abbrev pub invariant-loop-place : goal.invariant-loop-place

@@ -1,6 +1,4 @@
-use Rattle.std.proofs.Common.{refl, sym, ap, ap₂, ◌∙◌, unwrap_or}
-use Rattle.ls_set.specs.ItemSet.{least}
-use Rattle.ls_theory.specs.declared.verdict.BaseVerdict.TheVariants.{NotGraded}
+use Rattle.ls_space.proofs.Vocabulary.{◌∙◌, NotGraded, ap, ap₂, least, refl, sym, unwrap_or}
 use Rattle.ls_space.proofs.Judging.{two-least, none-least}
 use Rattle.ls_space.proofs.gradation.not_graded.Goals as goal
 

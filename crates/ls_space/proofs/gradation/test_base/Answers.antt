@@ -1,11 +1,5 @@
-use Rattle.std.proofs.Common.{◌≡◌, List, sym, ap, subst, ◌∙◌}
-use Rattle.ls_set.specs.ItemSet.{Items, IsInOrder}
-use Rattle.ls_theory.specs.Families.{unions}
-use Rattle.ls_laws.specs.Spans.{needed}
-use Rattle.ls_laws.proofs.Spans.{base-in_order, spanned-in_order}
+use Rattle.ls_space.proofs.Vocabulary.{◌∙◌, ◌≡◌, IsInOrder, Items, List, ap, base-in_order, graded-of_base, graded_by, needed, spanned-in_order, subst, sym, unions}
 use Rattle.ls_base.specs.Bases.{family}
-use Rattle.ls_spans.specs.Verdicts.{graded_by}
-use Rattle.ls_spans.proofs.Verdicts.{graded-of_base}
 use Rattle.ls_space.proofs.Judging.{needed-base, spanned-space}
 use Rattle.ls_space.proofs.gradation.test_base.Goals as goal
 

@@ -1,12 +1,5 @@
-use Rattle.std.proofs.Common.{◌≡◌, List, find, unwrap_or, sym, ap, ap₂, subst, ◌∙◌}
+use Rattle.ls_space.proofs.Vocabulary.{◌∙◌, ◌≡◌, IsInOrder, Items, List, NotClosed, ap, ap₂, find, full, graded_by, is_among, is_missing, list_any, needed, subst, sym, unwrap_or, with_base}
 use Rattle.std.proofs.lemmas.Result.{IfOk-weaker}
-use Rattle.std.specs.List.{list_any}
-use Rattle.ls_set.specs.ItemSet.{Items, full, is_among, IsInOrder}
-use Rattle.ls_theory.specs.declared.verdict.Verdict.TheVariants.{NotClosed}
-use Rattle.ls_theory.specs.Verdict.{with_base}
-use Rattle.ls_laws.specs.Spans.{needed}
-use Rattle.ls_spans.specs.Unions.{is_missing}
-use Rattle.ls_spans.specs.Verdicts.{graded_by}
 use Rattle.ls_space.proofs.Testing.{no_empty, no_full, not_closed, closed, needed-order, needed-again}
 use Rattle.ls_space.proofs.space.test.Goals as goal
 

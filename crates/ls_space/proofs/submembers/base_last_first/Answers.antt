@@ -1,10 +1,4 @@
-use Rattle.std.proofs.Common.{◌≡◌, ◌<◌, ◌+◌, ◌-◌, ℕ, length, reverse, drop, arith, sym, ap, subst, ◌∙◌}
-use Rattle.std.proofs.lemmas.List.FromFn.{length-map-range_with_len}
-use Rattle.ls_set.specs.ItemSet.{is_same}
-use Rattle.ls_theory.specs.Families.{interior}
-use Rattle.ls_laws.specs.Spans.{needed}
-use Rattle.ls_base.proofs.Reduced.{walk-none, walk-passed, walk-taken}
-use Rattle.ls_space.specs.NextSets.{is_union_of_next}
+use Rattle.ls_space.proofs.Vocabulary.{◌+◌, ◌-◌, ◌<◌, ◌∙◌, ◌≡◌, ℕ, ap, arith, drop, interior, is_same, is_union_of_next, length, length-map-range_with_len, needed, reverse, subst, sym, walk-none, walk-passed, walk-taken}
 use Rattle.ls_space.proofs.Passing.{told-at, walk-told}
 use Rattle.ls_space.proofs.submembers.base_last_first.Goals.{else-not-unions-place-via-then-not-unions-place+else-not-is_union_of, else-not-unions-place-via-else-not-unions-place}
 use Rattle.ls_space.proofs.submembers.base_last_first.Goals as goal

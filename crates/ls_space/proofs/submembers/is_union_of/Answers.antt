@@ -1,9 +1,4 @@
-use Rattle.std.proofs.Common.{sym, ap, ◌∙◌}
-use Rattle.ls_set.specs.ItemSet.{is_same}
-use Rattle.ls_set.proofs.Sets.{Decides-is_same}
-use Rattle.ls_theory.specs.Families.{interior}
-use Rattle.ls_base.proofs.Turns.{united-none, united-taken, united-passed, united-whole, united-all}
-use Rattle.ls_base.proofs.Below.{within-unites}
+use Rattle.ls_space.proofs.Vocabulary.{◌∙◌, Decides-is_same, ap, interior, is_same, sym, united-all, united-none, united-passed, united-taken, united-whole, within-unites}
 use Rattle.ls_space.proofs.submembers.is_union_of.Goals as goal
 use Rattle.ls_space.proofs.submembers.is_union_of.Goals.{then-is_within+else-eq, else-is_within}
 

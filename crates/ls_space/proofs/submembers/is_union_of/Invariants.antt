@@ -1,5 +1,4 @@
-use Rattle.ls_theory.specs.Families.{interior}
-use Rattle.ls_base.proofs.Turns.{IsUnited}
+use Rattle.ls_space.proofs.Vocabulary.{IsUnited, interior}
 use Rattle.ls_space.proofs.submembers.is_union_of.Given as goal
 
 abbrev pub invariant-loop-other : goal.invariant-loop-other

@@ -1,4 +1,4 @@
-use Rattle.std.proofs.Common.{refl}
+use Rattle.ls_space.proofs.Vocabulary.{refl}
 use Rattle.ls_space.proofs.Passing.{next-told}
 use Rattle.ls_space.proofs.submembers.is_union_of_next.Goals as goal
 

@@ -1,12 +1,10 @@
-use Rattle.std.proofs.Common.{◌≡◌, ◌<◌, ◌-◌, ◌∙◌, length, map, ap, arith}
-use Rattle.std.specs.List.{range_with_len}
+use Rattle.ls_space.proofs.Vocabulary.{◌-◌, ◌<◌, ◌∙◌, ◌≡◌, ap, arith, is_union_of_next, length, map, range_with_len}
 use Rattle.std.proofs.lemmas.Slice.Zip.{AllZip-map}
 use Rattle.std.proofs.Crossing.{crosses, frees}
 use denote.Param.Send.{sendable}
 use Rattle.rayon.specs.Numbers.{nat_range}
 use Rattle.rayon.proofs.ListFacts.{IfOk-then}
 use Rattle.rayon.proofs.ToStd.{nat_range-All}
-use Rattle.ls_space.specs.NextSets.{is_union_of_next}
 use Rattle.ls_space.proofs.submembers.unions_of_next.Goals as goal
 
 -- one line for each `Send` and `Sync`, the allocator, and then the closure's `requires` at each place

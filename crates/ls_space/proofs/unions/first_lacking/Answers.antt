@@ -1,5 +1,4 @@
-use Rattle.std.proofs.Common.{List, get_or, length, ◌<◌, ◌≤◌, sym, ap, ◌∙◌, arith}
-use Rattle.ls_set.specs.ItemSet.{Items}
+use Rattle.ls_space.proofs.Vocabulary.{◌<◌, ◌∙◌, ◌≤◌, Items, List, ap, arith, get_or, length, sym}
 use Rattle.ls_space.proofs.Adding.{clean-found, clean-passed, clean-all}
 use Rattle.ls_space.proofs.unions.first_lacking.Goals as goal
 

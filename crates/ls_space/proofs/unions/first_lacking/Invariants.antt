@@ -1,4 +1,4 @@
-use Rattle.std.proofs.Common.{take}
+use Rattle.ls_space.proofs.Vocabulary.{take}
 use Rattle.ls_space.proofs.Adding.{IsClean}
 use Rattle.ls_space.proofs.unions.first_lacking.Given as goal
 

@@ -1,6 +1,4 @@
-use Rattle.std.proofs.Common.{List, sym, ap, ◌∙◌, subst}
-use Rattle.ls_set.specs.ItemSet.{Items, with, is_among}
-use Rattle.ls_spans.specs.Unions.{IsGrown}
+use Rattle.ls_space.proofs.Vocabulary.{◌∙◌, IsGrown, Items, List, ap, is_among, subst, sym, with}
 use Rattle.ls_space.proofs.Adding.{grown-none, grown-more}
 use Rattle.ls_space.proofs.unions.grown.Goals.{then-not-has+then-is_found, else-not-has}
 use Rattle.ls_space.proofs.unions.grown.Goals as goal

@@ -1,4 +1,4 @@
-use Rattle.ls_spans.specs.Unions.{IsGrown}
+use Rattle.ls_space.proofs.Vocabulary.{IsGrown}
 use Rattle.ls_space.proofs.unions.grown.Given as goal
 
 abbrev pub invariant-loop-item : goal.invariant-loop-item

@@ -1,5 +1,4 @@
-use Rattle.std.proofs.Common.{sym, ◌∙◌}
-use Rattle.ls_set.specs.ItemSet.{is_same}
+use Rattle.ls_space.proofs.Vocabulary.{◌∙◌, is_same, sym}
 use Rattle.ls_space.proofs.Adding.{at-place}
 use Rattle.ls_space.proofs.unions.is_found.Goals as goal
 

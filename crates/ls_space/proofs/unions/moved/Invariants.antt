@@ -1,4 +1,4 @@
-use Rattle.std.proofs.Common.{◌-◌, length}
+use Rattle.ls_space.proofs.Vocabulary.{◌-◌, length}
 use Rattle.ls_space.proofs.unions.moved.Given as goal
 
 abbrev pub decreases-loop-place : goal.decreases-loop-place

@@ -1,5 +1,4 @@
-use Rattle.ls_theory.specs.Bases.{base}
-use Rattle.ls_laws.proofs.Atoms.{base-member, base-spans}
+use Rattle.ls_spans.proofs.Vocabulary.{base, base-member, base-spans}
 use Rattle.ls_spans.proofs.Unclosed.{closed-spanning, pair-spanning}
 use Rattle.ls_spans.proofs.unions.unions_by_spanning.Goals as goal
 

@@ -1,7 +1,4 @@
-use Rattle.std.proofs.Common.{◌≡◌, true, false, cond, is_eq, sym, ap, ◌∙◌}
-use Rattle.std.proofs.lemmas.Bool.{not-true, not-false}
-use Rattle.std.specs.BTreeSet.{contains}
-use Rattle.ls_store.specs.QueryOrders.{query_order}
+use Rattle.ls_store.proofs.Vocabulary.{◌∙◌, ◌≡◌, ap, cond, contains, false, is_eq, not-false, not-true, query_order, sym, true}
 use Rattle.ls_store.proofs.ApartQueries.{apart-next, again-next, seen-next}
 use Rattle.ls_store.proofs.apart.are_apart.Goals as goal
 

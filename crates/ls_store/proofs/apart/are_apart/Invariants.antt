@@ -1,10 +1,4 @@
-use Rattle.std.proofs.Common.{◌≡◌, true, take}
-use Rattle.std.specs.List.{list_any}
-use Rattle.std.specs.BTreeSet.{contains}
-use Rattle.ls_set.specs.declared.query.Query.{Query}
-use Rattle.ls_theory.specs.Answering.{is_same_query}
-use Rattle.ls_saved.specs.Standing.{are_apart}
-use Rattle.ls_store.specs.QueryOrders.{query_order}
+use Rattle.ls_store.proofs.Vocabulary.{◌≡◌, Query, are_apart, contains, is_same_query, list_any, query_order, take, true}
 use Rattle.ls_store.proofs.apart.are_apart.Given as goal
 
 -- the queries so far are seen and no others, and no two of them are the same

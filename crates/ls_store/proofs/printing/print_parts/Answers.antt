@@ -1,7 +1,4 @@
-use Rattle.std.proofs.lemmas.Result.{IfOk-weaker}
-use Rattle.ls_saved.specs.Sessions.{Session}
-use Rattle.ls_saved.specs.Values.{session_text}
-use Rattle.ls_pupils.specs.Cases.{pupils_of}
+use Rattle.ls_store.proofs.Vocabulary.{IfOk-weaker, Session, pupils_of, session_text}
 use Rattle.ls_store.proofs.Printed.{session-no_float}
 use Rattle.ls_store.proofs.printing.print_parts.Goals as goal
 

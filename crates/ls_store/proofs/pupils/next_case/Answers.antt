@@ -1,6 +1,4 @@
-use Rattle.std.proofs.Common.{is_some, sym, ap, ◌∙◌}
-use Rattle.std.proofs.lemmas.Result.{IfOk-weaker}
-use Rattle.serde_json.specs.View.{view}
+use Rattle.ls_store.proofs.Vocabulary.{◌∙◌, IfOk-weaker, ap, is_some, sym, view}
 use Rattle.ls_store.proofs.PupilNames.{name-there, name-free}
 use Rattle.ls_store.proofs.pupils.next_case.Goals as goal
 

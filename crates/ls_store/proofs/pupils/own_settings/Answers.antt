@@ -1,4 +1,4 @@
-use Rattle.serde_json.specs.View.{view}
+use Rattle.ls_store.proofs.Vocabulary.{view}
 use Rattle.ls_store.proofs.OwnSettings.{each_read}
 use Rattle.ls_store.proofs.pupils.own_settings.Goals as goal
 

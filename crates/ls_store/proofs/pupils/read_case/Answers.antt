@@ -1,15 +1,4 @@
-use Rattle.std.proofs.Common.{◌&&◌, List, sym, ap, ◌∙◌}
-use Rattle.std.specs.List.{list_all}
-use Rattle.serde_json.specs.View.{view}
-use Rattle.ls_set.specs.Query.{is_good}
-use Rattle.ls_set.specs.declared.query.Query.{Query}
-use Rattle.ls_theory.specs.Answering.{is_same_query}
-use Rattle.ls_domain.specs.Domains.{is_name}
-use Rattle.ls_expert.specs.Starts.{start_of}
-use Rattle.ls_weight.specs.Weighings.{Weighing}
-use Rattle.ls_saved.specs.Standing.{are_apart}
-use Rattle.ls_saved.specs.Parts.{read_pupil}
-use Rattle.ls_pupils.specs.declared.cases.PupilCase.{PupilCase}
+use Rattle.ls_store.proofs.Vocabulary.{◌&&◌, ◌∙◌, List, PupilCase, Query, Weighing, ap, are_apart, is_good, is_name, is_same_query, list_all, read_pupil, start_of, sym, view}
 use Rattle.ls_store.proofs.CaseParts.{followed, lost, is-after, with_replies, second, is-case}
 use Rattle.ls_store.proofs.OwnSettings.{settings-count}
 use Rattle.ls_store.proofs.PupilParts.{own_pupil, bad_spelling, not_followed, all_parts}

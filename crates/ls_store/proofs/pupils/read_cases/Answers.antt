@@ -1,10 +1,4 @@
-use Rattle.std.proofs.Common.{rules, ◌+◌, ◌≤◌, ◌<◌, length, Ok, sym, ap, ◌∙◌, arith, subst}
-use Rattle.std.proofs.lemmas.List.{length_push}
-use Rattle.serde_json.specs.View.{view}
-use Rattle.ls_files.specs.SurmiseFiles.{read_list}
-use Rattle.ls_saved.specs.Sessions.{most_pupils}
-use Rattle.ls_saved.specs.Parts.{read_pupil}
-use Rattle.ls_pupils.specs.Cases.{ArePupils}
+use Rattle.ls_store.proofs.Vocabulary.{◌+◌, ◌<◌, ◌∙◌, ◌≤◌, ArePupils, Ok, ap, arith, length, length_push, most_pupils, read_list, read_pupil, rules, subst, sym, view}
 use Rattle.ls_pupils.proofs.Keeping.{are-more}
 use Rattle.ls_store.proofs.PupilLists.{too-many, none-next, next-read, all-read}
 use Rattle.ls_store.proofs.pupils.read_cases.Goals as goal

@@ -1,9 +1,4 @@
-use Rattle.std.proofs.Common.{◌≡◌, drop, length}
-use Rattle.serde_json.specs.View.{view}
-use Rattle.ls_files.specs.SurmiseFiles.{read_list}
-use Rattle.ls_saved.specs.Parts.{read_pupil}
-use Rattle.ls_saved.proofs.Walks.{IsRead}
-use Rattle.ls_pupils.specs.Cases.{pupils_of, ArePupils}
+use Rattle.ls_store.proofs.Vocabulary.{◌≡◌, ArePupils, IsRead, drop, length, pupils_of, read_list, read_pupil, view}
 use Rattle.ls_store.proofs.pupils.read_cases.Given as goal
 
 abbrev pub invariant-loop-entry : goal.invariant-loop-entry

@@ -1,7 +1,4 @@
-use Rattle.std.proofs.Common.{sym, ◌∙◌, subst}
-use Rattle.serde_json.specs.View.{view}
-use Rattle.ls_pupils.specs.Cases.{pupils_of}
-use Rattle.ls_store.specs.Chains.{IsSessionFault}
+use Rattle.ls_store.proofs.Vocabulary.{◌∙◌, IsSessionFault, pupils_of, subst, sym, view}
 use Rattle.ls_store.proofs.Going.{no_version, no_items, items_next, after_settings, after_interview, no_pupils, all_pupils, passed_on}
 use Rattle.ls_store.proofs.reading.parts_of.Goals as goal
 

@@ -1,7 +1,4 @@
-use Rattle.std.proofs.Common.{IfErr, sym, ◌∙◌, subst}
-use Rattle.std.proofs.lemmas.Result.{IfOk-weaker}
-use Rattle.serde_json.specs.View.{view}
-use Rattle.ls_store.specs.Chains.{IsSessionFault}
+use Rattle.ls_store.proofs.Vocabulary.{◌∙◌, IfErr, IfOk-weaker, IsSessionFault, subst, sym, view}
 use Rattle.ls_store.proofs.Going.{no_object, an_object}
 use Rattle.ls_store.proofs.reading.read_parts.Goals as goal
 

@@ -1,5 +1,4 @@
-use Rattle.std.proofs.Common.{◌≡◌, take}
-use Rattle.ls_expert.specs.Starts.{StartOn, start_of}
+use Rattle.ls_store.proofs.Vocabulary.{◌≡◌, StartOn, start_of, take}
 use Rattle.ls_store.proofs.replaying.family_of.Given as goal
 
 -- the queries so far are rules

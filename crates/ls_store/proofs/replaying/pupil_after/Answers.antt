@@ -1,5 +1,4 @@
-use Rattle.ls_theory.specs.Compatible.{compat}
-use Rattle.ls_expert.specs.Starts.{start_of}
+use Rattle.ls_store.proofs.Vocabulary.{compat, start_of}
 use Rattle.ls_store.proofs.PupilStates.{kept-from, weighable}
 use Rattle.ls_store.proofs.replaying.pupil_after.Goals as goal
 

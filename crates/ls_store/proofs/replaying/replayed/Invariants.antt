@@ -1,6 +1,4 @@
-use Rattle.std.proofs.Common.{◌≡◌, [], take, drop}
-use Rattle.ls_weight.specs.Weighings.{Weighing}
-use Rattle.ls_saved.specs.Standing.{follow}
+use Rattle.ls_store.proofs.Vocabulary.{◌≡◌, Weighing, [], drop, follow, take}
 use Rattle.ls_store.proofs.replaying.replayed.Given as goal
 
 -- the pupil has given the replies so far, and whether the others follow is whether all do

@@ -1,9 +1,4 @@
-use Rattle.std.proofs.Common.{◌<◌, ◌≤◌, [], List, length, filter, ap, ◌∙◌}
-use Rattle.ls_set.specs.ItemSet.{Items}
-use Rattle.ls_theory.specs.Queries.{breaks_none}
-use Rattle.ls_theory.specs.Compatible.{compat}
-use Rattle.ls_theory.specs.Settings.{most_states}
-use Rattle.ls_expert.specs.Starts.{start_of}
+use Rattle.ls_store.proofs.Vocabulary.{◌<◌, ◌∙◌, ◌≤◌, Items, List, [], ap, breaks_none, compat, filter, length, most_states, start_of}
 use Rattle.ls_store.proofs.PupilStates.{are-states, states-kept, states-many}
 use Rattle.ls_store.proofs.replaying.states_of.Goals as goal
 

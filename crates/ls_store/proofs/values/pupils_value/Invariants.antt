@@ -1,7 +1,4 @@
-use Rattle.std.proofs.Common.{◌≡◌, take, map}
-use Rattle.serde_json.specs.View.{view}
-use Rattle.ls_saved.specs.Values.{pupil_value}
-use Rattle.ls_pupils.specs.Cases.{pupils_of}
+use Rattle.ls_store.proofs.Vocabulary.{◌≡◌, map, pupil_value, pupils_of, take, view}
 use Rattle.ls_store.proofs.values.pupils_value.Given as goal
 
 abbrev pub invariant-loop-case : goal.invariant-loop-case

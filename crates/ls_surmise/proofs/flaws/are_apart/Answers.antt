@@ -1,7 +1,4 @@
-use Rattle.std.proofs.Common.{◌≡◌, ◌+◌, List, false, sym, ap₂, ◌∙◌, subst, rules}
-use Rattle.std.specs.List.{list_any}
-use Rattle.std.proofs.lemmas.List.{get_or_read}
-use Rattle.ls_set.specs.ItemSet.{Items, empty, is_within, IsInOrder}
+use Rattle.ls_surmise.proofs.Vocabulary.{◌+◌, ◌∙◌, ◌≡◌, IsInOrder, Items, List, ap₂, empty, false, get_or_read, is_within, list_any, rules, subst, sym}
 use Rattle.ls_surmise.proofs.Jumps.{rest, drop-in_order}
 use Rattle.ls_surmise.proofs.Apart.{apart-next}
 use Rattle.ls_surmise.proofs.flaws.are_apart.Goals as goal

@@ -1,6 +1,4 @@
-use Rattle.std.proofs.Common.{◌≡◌, ℕ, ◌<◌, false, length, get_or}
-use Rattle.ls_set.specs.ItemSet.{empty}
-use Rattle.ls_theory.specs.Clauses.{are_comparable}
+use Rattle.ls_surmise.proofs.Vocabulary.{◌<◌, ◌≡◌, ℕ, are_comparable, empty, false, get_or, length}
 use Rattle.ls_surmise.proofs.flaws.are_apart.Given as goal
 
 abbrev pub invariant-loop-i : goal.invariant-loop-i

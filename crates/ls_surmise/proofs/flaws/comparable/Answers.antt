@@ -1,6 +1,4 @@
-use Rattle.std.proofs.Common.{◌≡◌, false, is_some, sym, ◌∙◌, rules}
-use Rattle.ls_lists.proofs.Options.{nothing}
-use Rattle.ls_theory.specs.Clauses.{comparable_in}
+use Rattle.ls_surmise.proofs.Vocabulary.{◌∙◌, ◌≡◌, comparable_in, false, is_some, nothing, rules, sym}
 use Rattle.ls_surmise.proofs.Firsts.{first-next}
 use Rattle.ls_surmise.proofs.flaws.comparable.Goals as goal
 

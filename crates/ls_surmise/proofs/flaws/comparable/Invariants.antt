@@ -1,5 +1,4 @@
-use Rattle.ls_set.specs.ItemSet.{numbers_from}
-use Rattle.ls_theory.specs.Clauses.{first_some, comparable_in}
+use Rattle.ls_surmise.proofs.Vocabulary.{comparable_in, first_some, numbers_from}
 use Rattle.ls_surmise.proofs.Firsts.{FirstFrom}
 use Rattle.ls_surmise.proofs.flaws.comparable.Given as goal
 

@@ -1,7 +1,4 @@
-use Rattle.std.proofs.Common.{◌≡◌, ◌<◌, List, length, get_or, false, sym, ap, ap₂, ◌∙◌, subst, rules}
-use Rattle.std.proofs.lemmas.List.{get_or_read}
-use Rattle.ls_set.specs.ItemSet.{Items, empty}
-use Rattle.ls_theory.specs.Clauses.{clauses_of, clause_at, are_comparable}
+use Rattle.ls_surmise.proofs.Vocabulary.{◌<◌, ◌∙◌, ◌≡◌, Items, List, ap, ap₂, are_comparable, clause_at, clauses_of, empty, false, get_or, get_or_read, length, rules, subst, sym}
 use Rattle.ls_surmise.proofs.Firsts.{found-next}
 use Rattle.ls_surmise.proofs.flaws.comparable_at.Goals as goal
 

@@ -1,5 +1,4 @@
-use Rattle.std.proofs.Common.{find, length}
-use Rattle.ls_theory.specs.Clauses.{clauses_of, clause_at, places_after, are_comparable}
+use Rattle.ls_surmise.proofs.Vocabulary.{are_comparable, clause_at, clauses_of, find, length, places_after}
 use Rattle.ls_surmise.proofs.Firsts.{FoundFrom}
 use Rattle.ls_surmise.proofs.flaws.comparable_at.Given as goal
 

@@ -1,5 +1,4 @@
-use Rattle.std.proofs.Common.{length, sym, ap, ◌∙◌, subst}
-use Rattle.ls_surmise.specs.Surmises.{AreApart}
+use Rattle.ls_surmise.proofs.Vocabulary.{◌∙◌, AreApart, ap, length, subst, sym}
 use Rattle.ls_surmise.proofs.Apart.{apart-clauses}
 use Rattle.ls_surmise.proofs.flaws.comparable_in.Goals as goal
 

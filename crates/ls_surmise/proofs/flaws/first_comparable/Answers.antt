@@ -1,7 +1,4 @@
-use Rattle.std.proofs.Common.{◌≡◌, ◌<◌, List, length, false, is_some, sym, ◌∙◌, subst, rules}
-use Rattle.ls_lists.proofs.Options.{nothing}
-use Rattle.ls_set.specs.ItemSet.{Items}
-use Rattle.ls_theory.specs.Clauses.{clauses_of, comparable_at}
+use Rattle.ls_surmise.proofs.Vocabulary.{◌<◌, ◌∙◌, ◌≡◌, Items, List, clauses_of, comparable_at, false, is_some, length, nothing, rules, subst, sym}
 use Rattle.ls_surmise.proofs.Firsts.{first-next}
 use Rattle.ls_surmise.proofs.flaws.first_comparable.Goals as goal
 

@@ -1,5 +1,4 @@
-use Rattle.std.proofs.Common.{length}
-use Rattle.ls_theory.specs.Clauses.{clauses_of, comparable_in, comparable_at}
+use Rattle.ls_surmise.proofs.Vocabulary.{clauses_of, comparable_at, comparable_in, length}
 use Rattle.ls_surmise.proofs.Firsts.{FirstFrom}
 use Rattle.ls_surmise.proofs.flaws.first_comparable.Given as goal
 

@@ -1,6 +1,4 @@
-use Rattle.std.proofs.Common.{sym, ap, ◌∙◌, subst}
-use Rattle.std.specs.List.{list_any}
-use Rattle.ls_set.specs.ItemSet.{is_within, IsInOrder}
+use Rattle.ls_surmise.proofs.Vocabulary.{◌∙◌, IsInOrder, ap, is_within, list_any, subst, sym}
 use Rattle.ls_surmise.proofs.Orderings.{put-within}
 use Rattle.ls_surmise.proofs.flaws.has_clause_within.Goals as goal
 

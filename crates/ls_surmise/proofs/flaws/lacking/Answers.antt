@@ -1,6 +1,4 @@
-use Rattle.std.proofs.Common.{◌≡◌, false, is_some, sym, ◌∙◌, rules}
-use Rattle.ls_lists.proofs.Options.{nothing}
-use Rattle.ls_theory.specs.Clauses.{lacking_in}
+use Rattle.ls_surmise.proofs.Vocabulary.{◌∙◌, ◌≡◌, false, is_some, lacking_in, nothing, rules, sym}
 use Rattle.ls_surmise.proofs.Firsts.{first-next}
 use Rattle.ls_surmise.proofs.flaws.lacking.Goals as goal
 

@@ -1,7 +1,4 @@
-use Rattle.std.proofs.Common.{◌≡◌, ◌<◌, List, length, get_or, true, not, sym, ap, ◌∙◌, subst, rules}
-use Rattle.std.proofs.lemmas.List.{get_or_read}
-use Rattle.ls_set.specs.ItemSet.{Items, has, empty}
-use Rattle.ls_theory.specs.Clauses.{clauses_of, clause_at}
+use Rattle.ls_surmise.proofs.Vocabulary.{◌<◌, ◌∙◌, ◌≡◌, Items, List, ap, clause_at, clauses_of, empty, get_or, get_or_read, has, length, not, rules, subst, sym, true}
 use Rattle.ls_surmise.proofs.Firsts.{found-next}
 use Rattle.ls_surmise.proofs.flaws.lacking_in.Goals as goal
 

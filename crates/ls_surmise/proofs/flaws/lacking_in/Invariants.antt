@@ -1,6 +1,4 @@
-use Rattle.std.proofs.Common.{find, length, not}
-use Rattle.ls_set.specs.ItemSet.{has}
-use Rattle.ls_theory.specs.Clauses.{clauses_of, clause_at, places_of}
+use Rattle.ls_surmise.proofs.Vocabulary.{clause_at, clauses_of, find, has, length, not, places_of}
 use Rattle.ls_surmise.proofs.Firsts.{FoundFrom}
 use Rattle.ls_surmise.proofs.flaws.lacking_in.Given as goal
 

@@ -1,6 +1,4 @@
-use Rattle.std.proofs.Common.{◌≡◌, ◌==◌, List, length, false, sym, ap, ◌∙◌, rules}
-use Rattle.ls_set.specs.ItemSet.{Items}
-use Rattle.ls_theory.specs.Clauses.{clauses_of}
+use Rattle.ls_surmise.proofs.Vocabulary.{◌==◌, ◌∙◌, ◌≡◌, Items, List, ap, clauses_of, false, length, rules, sym}
 use Rattle.ls_surmise.proofs.Firsts.{found-next}
 use Rattle.ls_surmise.proofs.flaws.no_clause.Goals as goal
 

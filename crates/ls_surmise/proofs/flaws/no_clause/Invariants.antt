@@ -1,6 +1,4 @@
-use Rattle.std.proofs.Common.{◌==◌, find, length}
-use Rattle.ls_set.specs.ItemSet.{numbers_from}
-use Rattle.ls_theory.specs.Clauses.{clauses_of}
+use Rattle.ls_surmise.proofs.Vocabulary.{◌==◌, clauses_of, find, length, numbers_from}
 use Rattle.ls_surmise.proofs.Firsts.{FoundFrom}
 use Rattle.ls_surmise.proofs.flaws.no_clause.Given as goal
 

@@ -1,6 +1,4 @@
-use Rattle.std.proofs.Common.{◌≡◌, find, not}
-use Rattle.ls_set.specs.ItemSet.{items}
-use Rattle.ls_theory.specs.Clauses.{has_clause_within}
+use Rattle.ls_surmise.proofs.Vocabulary.{◌≡◌, find, has_clause_within, items, not}
 use Rattle.ls_surmise.proofs.flaws.unclosed_at.Given as goal
 
 abbrev pub invariant-loop-r : goal.invariant-loop-r

@@ -1,7 +1,4 @@
-use Rattle.std.proofs.Common.{◌≡◌, ◌<◌, List, length, false, is_some, sym, ◌∙◌, subst, rules}
-use Rattle.ls_lists.proofs.Options.{nothing}
-use Rattle.ls_set.specs.ItemSet.{Items}
-use Rattle.ls_theory.specs.Clauses.{clauses_of, unclosed_at}
+use Rattle.ls_surmise.proofs.Vocabulary.{◌<◌, ◌∙◌, ◌≡◌, Items, List, clauses_of, false, is_some, length, nothing, rules, subst, sym, unclosed_at}
 use Rattle.ls_surmise.proofs.Firsts.{first-next}
 use Rattle.ls_surmise.proofs.flaws.unclosed_in.Goals as goal
 

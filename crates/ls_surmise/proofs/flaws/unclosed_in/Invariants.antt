@@ -1,5 +1,4 @@
-use Rattle.std.proofs.Common.{length}
-use Rattle.ls_theory.specs.Clauses.{clauses_of, unclosed_in, unclosed_at}
+use Rattle.ls_surmise.proofs.Vocabulary.{clauses_of, length, unclosed_at, unclosed_in}
 use Rattle.ls_surmise.proofs.Firsts.{FirstFrom}
 use Rattle.ls_surmise.proofs.flaws.unclosed_in.Given as goal
 

@@ -1,5 +1,4 @@
-use Rattle.std.proofs.Common.{◌≡◌, take}
-use Rattle.ls_theory.specs.Clauses.{all_clauses}
+use Rattle.ls_surmise.proofs.Vocabulary.{◌≡◌, all_clauses, take}
 use Rattle.ls_surmise.proofs.ordering.all_clauses.Given as goal
 
 abbrev pub invariant-loop-own : goal.invariant-loop-own

@@ -1,8 +1,4 @@
-use Rattle.std.proofs.Common.{◌≡◌, ◌<◌, ◌≤◌, Some, length, ap, ◌∙◌, rules, arith}
-use Rattle.ls_set.specs.ItemSet.{Items, is_among}
-use Rattle.ls_theory.specs.Bases.{most_base_sets}
-use Rattle.ls_theory.specs.Clauses.{all_clauses}
-use Rattle.ls_theory.specs.declared.surmise_fault.SurmiseFault.TheVariants.{Wide}
+use Rattle.ls_surmise.proofs.Vocabulary.{◌<◌, ◌∙◌, ◌≡◌, ◌≤◌, Items, Some, Wide, all_clauses, ap, arith, is_among, length, most_base_sets, rules}
 use Rattle.ls_surmise.proofs.Orderings.{put-is, wide-many, wide-few, based-members}
 use Rattle.ls_surmise.proofs.ordering.base_of.Goals as goal
 

@@ -1,7 +1,4 @@
-use Rattle.std.proofs.Common.{◌++◌, ◌∷◌, List, [], sym, ap, ap₂, ◌∙◌, subst}
-use Rattle.ls_set.specs.ItemSet.{Items}
-use Rattle.ls_laws.specs.Spans.{IsOn}
-use Rattle.ls_files.specs.SurmiseFiles.{in_order}
+use Rattle.ls_surmise.proofs.Vocabulary.{◌++◌, ◌∙◌, ◌∷◌, IsOn, Items, List, [], ap, ap₂, in_order, subst, sym}
 use Rattle.ls_surmise.proofs.Orderings.{on-at, put-next}
 use Rattle.ls_surmise.proofs.ordering.put_clauses.Goals as goal
 

@@ -1,7 +1,4 @@
-use Rattle.std.proofs.Common.{◌≡◌, ℕ, map, take}
-use Rattle.ls_theory.specs.Clauses.{all_clauses}
-use Rattle.ls_laws.specs.Spans.{IsOn}
-use Rattle.ls_files.specs.SurmiseFiles.{in_order}
+use Rattle.ls_surmise.proofs.Vocabulary.{◌≡◌, IsOn, ℕ, all_clauses, in_order, map, take}
 use Rattle.ls_surmise.proofs.ordering.put_clauses.Given as goal
 
 abbrev pub invariant-loop-own : goal.invariant-loop-own

@@ -1,6 +1,4 @@
-use Rattle.std.proofs.Common.{ap, ◌∙◌}
-use Rattle.std.proofs.lemmas.List.{take_all}
-use Rattle.ls_set.specs.ItemSet.{is_among}
+use Rattle.ls_surmise.proofs.Vocabulary.{◌∙◌, ap, is_among, take_all}
 use Rattle.ls_surmise.proofs.Orderings.{put-is}
 use Rattle.ls_surmise.proofs.ordering.put_sets.Goals as goal
 

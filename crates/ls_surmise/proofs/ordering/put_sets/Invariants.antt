@@ -1,4 +1,4 @@
-use Rattle.std.proofs.Common.{◌≡◌, take}
+use Rattle.ls_surmise.proofs.Vocabulary.{◌≡◌, take}
 use Rattle.ls_surmise.proofs.ordering.put_sets.Given as goal
 
 abbrev pub invariant-loop-set : goal.invariant-loop-set

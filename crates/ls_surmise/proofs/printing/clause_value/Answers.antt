@@ -1,10 +1,4 @@
-use Rattle.std.proofs.Common.{◌≡◌, ◌∙◌, List, [], ◌∷◌, ◌++◌, map, ap, sym, append_assoc, append-nil}
-use Rattle.serde_json.specs.Data.{Data, string, array}
-use Rattle.serde_json.specs.View.{items_of}
-use Rattle.serde_json.proofs.Views.{view-Array}
-use Rattle.ls_set.specs.ItemSet.{items}
-use Rattle.ls_domain.specs.Texts.{name_of, names_of_set}
-use Rattle.ls_domain.proofs.Numbers.{listed-below}
+use Rattle.ls_surmise.proofs.Vocabulary.{◌++◌, ◌∙◌, ◌∷◌, ◌≡◌, Data, List, [], ap, append-nil, append_assoc, array, items, items_of, listed-below, map, name_of, names_of_set, string, sym, view-Array}
 use Rattle.ls_surmise.proofs.Printed.{name-next}
 use Rattle.ls_surmise.proofs.printing.clause_value.Goals as goal
 

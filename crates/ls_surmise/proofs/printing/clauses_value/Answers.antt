@@ -1,7 +1,4 @@
-use Rattle.std.proofs.Common.{ap, ◌∙◌, arith}
-use Rattle.std.proofs.lemmas.List.{get_or_default}
-use Rattle.ls_set.specs.ItemSet.{empty, is_among}
-use Rattle.ls_clauses.proofs.Places.{among-at}
+use Rattle.ls_surmise.proofs.Vocabulary.{◌∙◌, among-at, ap, arith, empty, get_or_default, is_among}
 use Rattle.ls_surmise.proofs.printing.clauses_value.Goals as goal
 
 pub clause_value-requires : goal.clause_value-requires

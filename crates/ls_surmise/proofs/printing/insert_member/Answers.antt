@@ -1,6 +1,4 @@
-use Rattle.std.proofs.Common.{ap, ◌∙◌}
-use Rattle.serde_json.specs.View.{members_view}
-use Rattle.serde_json.proofs.Views.{members_view-insert_entry}
+use Rattle.ls_surmise.proofs.Vocabulary.{◌∙◌, ap, members_view, members_view-insert_entry}
 use Rattle.ls_surmise.proofs.printing.insert_member.Goals as goal
 
 pub returns : goal.returns

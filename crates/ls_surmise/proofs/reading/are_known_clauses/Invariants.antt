@@ -1,7 +1,4 @@
-use Rattle.std.proofs.Common.{drop, is_some}
-use Rattle.serde_json.specs.View.{view}
-use Rattle.ls_files.specs.SurmiseFiles.{read_list}
-use Rattle.ls_surmise.specs.Reading.{read_clause}
+use Rattle.ls_surmise.proofs.Vocabulary.{drop, is_some, read_clause, read_list, view}
 use Rattle.ls_surmise.proofs.Walks.{IsReadable}
 use Rattle.ls_surmise.proofs.reading.are_known_clauses.Given as goal
 

@@ -1,6 +1,4 @@
-use Rattle.std.proofs.Common.{◌≡◌}
-use Rattle.serde_json.specs.View.{view, members_view}
-use Rattle.ls_surmise.specs.Reading.{are_known, is_known}
+use Rattle.ls_surmise.proofs.Vocabulary.{◌≡◌, are_known, is_known, members_view, view}
 use Rattle.ls_surmise.proofs.reading.is_known.Given as goal
 
 abbrev pub invariant-loop-key : goal.invariant-loop-key

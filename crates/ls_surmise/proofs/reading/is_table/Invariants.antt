@@ -1,6 +1,4 @@
-use Rattle.std.proofs.Common.{◌≡◌, is_some}
-use Rattle.serde_json.specs.View.{view, members_view}
-use Rattle.ls_files.specs.SurmiseFiles.{read_members, read_clauses, read_table}
+use Rattle.ls_surmise.proofs.Vocabulary.{◌≡◌, is_some, members_view, read_clauses, read_members, read_table, view}
 use Rattle.ls_surmise.proofs.reading.is_table.Given as goal
 
 abbrev pub invariant-loop-key : goal.invariant-loop-key

@@ -1,7 +1,4 @@
-use Rattle.std.proofs.Common.{drop, is_some}
-use Rattle.serde_json.specs.View.{view}
-use Rattle.serde_json.specs.Find.{as_str}
-use Rattle.ls_files.specs.SurmiseFiles.{read_list}
+use Rattle.ls_surmise.proofs.Vocabulary.{as_str, drop, is_some, read_list, view}
 use Rattle.ls_surmise.proofs.Walks.{IsReadable}
 use Rattle.ls_surmise.proofs.reading.is_text_list.Given as goal
 

@@ -1,9 +1,4 @@
-use Rattle.std.proofs.Common.{◌≡◌, ◌+◌, ◌++◌, ◌∷◌, [], map, sym, ap, ap₂, ◌∙◌, arith}
-use Rattle.std.proofs.lemmas.List.{map-append}
-use Rattle.serde_json.specs.View.{view}
-use Rattle.ls_set.specs.ItemSet.{numbers_from}
-use Rattle.ls_theory.proofs.Numbers.{numbers_last}
-use Rattle.ls_surmise.specs.Reading.{read_own}
+use Rattle.ls_surmise.proofs.Vocabulary.{◌++◌, ◌+◌, ◌∙◌, ◌∷◌, ◌≡◌, [], ap, ap₂, arith, map, map-append, numbers_from, numbers_last, read_own, sym, view}
 use Rattle.ls_surmise.proofs.reading.read_all.Goals as goal
 
 pub loop-q-preserved : goal.loop-q-preserved

@@ -1,7 +1,4 @@
-use Rattle.std.proofs.Common.{◌≡◌, map}
-use Rattle.serde_json.specs.View.{view}
-use Rattle.ls_set.specs.ItemSet.{numbers_from}
-use Rattle.ls_surmise.specs.Reading.{read_own}
+use Rattle.ls_surmise.proofs.Vocabulary.{◌≡◌, map, numbers_from, read_own, view}
 use Rattle.ls_surmise.proofs.reading.read_all.Given as goal
 
 abbrev pub invariant-loop-q : goal.invariant-loop-q

@@ -1,6 +1,4 @@
-use Rattle.std.proofs.Common.{◌≡◌, Some, rules}
-use Rattle.serde_json.specs.Find.{as_array}
-use Rattle.serde_json.specs.View.{view, items_view}
+use Rattle.ls_surmise.proofs.Vocabulary.{◌≡◌, Some, as_array, items_view, rules, view}
 use Rattle.ls_surmise.proofs.Names.{named-first, named-next, named-none, named-last}
 use Rattle.ls_surmise.proofs.reading.read_clause.Goals as goal
 

@@ -1,6 +1,4 @@
-use Rattle.std.proofs.Common.{drop}
-use Rattle.serde_json.specs.View.{view}
-use Rattle.ls_surmise.specs.Reading.{read_clause}
+use Rattle.ls_surmise.proofs.Vocabulary.{drop, read_clause, view}
 use Rattle.ls_surmise.proofs.Names.{IsNamed}
 use Rattle.ls_surmise.proofs.reading.read_clause.Given as goal
 

@@ -1,7 +1,4 @@
-use Rattle.std.proofs.Common.{◌≡◌, Some, None, Ok, is_some, true, sym, ap, ◌∙◌, rules}
-use Rattle.serde_json.specs.View.{view}
-use Rattle.ls_files.specs.SurmiseFiles.{read_table, value_of}
-use Rattle.ls_surmise.specs.Reading.{is_known, read_all}
+use Rattle.ls_surmise.proofs.Vocabulary.{◌∙◌, ◌≡◌, None, Ok, Some, ap, is_known, is_some, read_all, read_table, rules, sym, true, value_of, view}
 use Rattle.ls_surmise.proofs.Tables.{no_value, no_table, not_known, all_known}
 use Rattle.ls_surmise.proofs.reading.read_file.Goals as goal
 

@@ -1,6 +1,4 @@
-use Rattle.std.proofs.Common.{drop}
-use Rattle.serde_json.specs.View.{view}
-use Rattle.ls_surmise.specs.Reading.{read_clause, read_sets}
+use Rattle.ls_surmise.proofs.Vocabulary.{drop, read_clause, read_sets, view}
 use Rattle.ls_surmise.proofs.Walks.{IsRead}
 use Rattle.ls_surmise.proofs.reading.read_sets.Given as goal
 

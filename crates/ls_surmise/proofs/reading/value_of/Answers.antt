@@ -1,10 +1,5 @@
-use Rattle.std.proofs.Common.{◌≡◌, ℕ, List, Bool, true, false, Some, None, refl, sym, ◌∙◌}
+use Rattle.ls_surmise.proofs.Vocabulary.{◌∙◌, ◌≡◌, Bool, Data, IsUtf8-from_is_utf8, List, None, Some, ℕ, false, is_utf8-from_IsUtf8, read, refl, sym, true, value_of, view}
 use Rattle.std.specs.Str.{IsUtf8, is_utf8}
-use Rattle.std.proofs.lemmas.Str.{IsUtf8-from_is_utf8, is_utf8-from_IsUtf8}
-use Rattle.serde_json.specs.Data.{Data}
-use Rattle.serde_json.specs.Read.{read}
-use Rattle.serde_json.specs.View.{view}
-use Rattle.ls_files.specs.SurmiseFiles.{value_of}
 use Rattle.ls_surmise.proofs.reading.value_of.Goals as goal
 
 no_value : (bs : List ℕ) (b : Bool) → is_utf8 bs ≡ b → (IsUtf8 bs → read bs ≡ None) → None ≡ value_of bs

@@ -1,6 +1,5 @@
-use Rattle.std.proofs.Common.{arith, rules}
+use Rattle.ls_surmise.proofs.Vocabulary.{arith, comes_before, empty, rules}
 use Rattle.std.proofs.lemmas.List.Sorted.{IsPartitionPoint-from_clause}
-use Rattle.ls_set.specs.ItemSet.{empty, comes_before}
 use Rattle.ls_surmise.proofs.Jumps.{parted}
 use Rattle.ls_surmise.proofs.search.count_before.Goals as goal
 

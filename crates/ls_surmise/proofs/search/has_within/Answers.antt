@@ -1,5 +1,4 @@
-use Rattle.std.proofs.Common.{◌≡◌, ◌+◌, List, get_or, Some, sym, ap, ap₂, ◌∙◌, subst}
-use Rattle.ls_set.specs.ItemSet.{Items, empty, minus, least, union, comes_before, IsInOrder}
+use Rattle.ls_surmise.proofs.Vocabulary.{◌+◌, ◌∙◌, ◌≡◌, IsInOrder, Items, List, Some, ap, ap₂, comes_before, empty, get_or, least, minus, subst, sym, union}
 use Rattle.ls_surmise.proofs.Jumps.{rest, drop-in_order, none-lacking, found, jumped}
 use Rattle.ls_surmise.proofs.search.has_within.Goals as goal
 

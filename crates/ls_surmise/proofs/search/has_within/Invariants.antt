@@ -1,6 +1,4 @@
-use Rattle.std.proofs.Common.{◌≡◌, ◌-◌, drop, length}
-use Rattle.std.specs.List.{list_any}
-use Rattle.ls_set.specs.ItemSet.{is_within}
+use Rattle.ls_surmise.proofs.Vocabulary.{◌-◌, ◌≡◌, drop, is_within, length, list_any}
 use Rattle.ls_surmise.proofs.search.has_within.Given as goal
 
 abbrev pub invariant-loop-place : goal.invariant-loop-place

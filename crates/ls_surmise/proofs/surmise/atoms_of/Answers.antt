@@ -1,9 +1,4 @@
-use Rattle.std.proofs.Common.{◌≡◌, ◌+◌, ◌++◌, ◌∷◌, [], map, sym, ap, ap₂, ◌∙◌, arith}
-use Rattle.std.proofs.lemmas.List.{map-append}
-use Rattle.ls_set.specs.ItemSet.{numbers_from}
-use Rattle.ls_theory.specs.Bases.{atoms_at}
-use Rattle.ls_theory.proofs.Numbers.{numbers_last}
-use Rattle.ls_base.specs.Bases.{family}
+use Rattle.ls_surmise.proofs.Vocabulary.{◌++◌, ◌+◌, ◌∙◌, ◌∷◌, ◌≡◌, [], ap, ap₂, arith, atoms_at, family, map, map-append, numbers_from, numbers_last, sym}
 use Rattle.ls_surmise.proofs.surmise.atoms_of.Goals as goal
 
 pub loop-q-preserved : goal.loop-q-preserved

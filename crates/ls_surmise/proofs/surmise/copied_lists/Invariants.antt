@@ -1,4 +1,4 @@
-use Rattle.std.proofs.Common.{◌≡◌, take}
+use Rattle.ls_surmise.proofs.Vocabulary.{◌≡◌, take}
 use Rattle.ls_surmise.proofs.surmise.copied_lists.Given as goal
 
 abbrev pub invariant-loop-list : goal.invariant-loop-list

@@ -1,9 +1,4 @@
-use Rattle.std.proofs.Common.{◌<◌, ◌++◌, ◌∷◌, [], ℕ, codes, length, option_copied, ap₂, ◌∙◌}
-use Rattle.std.proofs.lemmas.List.Elements.{All-head, All-tail}
-use Rattle.ls_set.specs.ItemSet.{items}
-use Rattle.ls_domain.specs.Texts.{joined_names}
-use Rattle.ls_lines.specs.Lines.{Text}
-use Rattle.ls_texts.specs.Names.{names_in}
+use Rattle.ls_texts.proofs.Vocabulary.{◌++◌, ◌<◌, ◌∙◌, ◌∷◌, All-head, All-tail, Text, ℕ, [], ap₂, codes, items, joined_names, length, names_in, option_copied}
 use Rattle.ls_texts.proofs.Saying.{says_then, says_as}
 use Rattle.ls_texts.proofs.Joins.{double-end}
 use Rattle.ls_texts.proofs.item_names.put_double.Goals as goal

@@ -1,9 +1,4 @@
-use Rattle.std.proofs.Common.{◌≡◌, ◌++◌, ◌∷◌, [], map, option_copied, refl, ap, ap₂, sym, ◌∙◌, append_assoc, append-nil}
-use Rattle.std.specs.List.{join_with_byte}
-use Rattle.ls_lists.proofs.Joins.{gap-snoc, join_more}
-use Rattle.ls_set.specs.ItemSet.{items}
-use Rattle.ls_domain.specs.Texts.{name_of, names_of_set}
-use Rattle.ls_texts.specs.Names.{names_in}
+use Rattle.ls_texts.proofs.Vocabulary.{◌++◌, ◌∙◌, ◌∷◌, ◌≡◌, [], ap, append-nil, append_assoc, ap₂, gap-snoc, items, join_more, join_with_byte, map, name_of, names_in, names_of_set, option_copied, refl, sym}
 use Rattle.ls_texts.proofs.Names.{listed-named}
 use Rattle.ls_texts.proofs.Saying.{says_then, says_as, says_nothing}
 use Rattle.ls_texts.proofs.item_names.put_joined_names.Goals as goal

@@ -1,10 +1,4 @@
-use Rattle.std.proofs.Common.{◌≡◌, ◌++◌, [], ◌∷◌, cond, map, option_copied}
-use Rattle.std.specs.List.{join_with_byte}
-use Rattle.ls_lists.specs.Lists.{gap}
-use Rattle.ls_set.specs.ItemSet.{items}
-use Rattle.ls_domain.specs.Texts.{name_of}
-use Rattle.ls_texts.specs.Rooms.{Says}
-use Rattle.ls_texts.specs.Names.{names_in}
+use Rattle.ls_texts.proofs.Vocabulary.{◌++◌, ◌∷◌, ◌≡◌, Says, [], cond, gap, items, join_with_byte, map, name_of, names_in, option_copied}
 use Rattle.ls_texts.proofs.item_names.put_joined_names.Given as goal
 
 -- the names so far were said

@@ -1,6 +1,4 @@
-use Rattle.std.proofs.Common.{◌∷◌, [], ◌++◌, map, decimal, ap}
-use Rattle.std.proofs.lemmas.List.{length-map}
-use Rattle.ls_reply.specs.Texts.{line_of}
+use Rattle.ls_texts.proofs.Vocabulary.{◌++◌, ◌∷◌, [], ap, decimal, length-map, line_of, map}
 use Rattle.ls_texts.proofs.Saying.{says_then, says_as}
 use Rattle.ls_texts.proofs.Joins.{join-around}
 use Rattle.ls_texts.proofs.lines.put_between.Goals as goal

@@ -1,8 +1,5 @@
-use Rattle.std.proofs.Common.{◌<◌, ◌≤◌, length, map, ap, arith}
-use Rattle.std.specs.List.{join_with_byte}
-use Rattle.std.proofs.lemmas.List.{take_all}
+use Rattle.ls_texts.proofs.Vocabulary.{◌<◌, ◌≤◌, ap, arith, join_next, join_with_byte, length, map, take_all}
 use Rattle.ls_texts.proofs.Saying.{says_then, says_as, says_nothing}
-use Rattle.ls_lists.proofs.Joins.{join_next}
 use Rattle.ls_texts.proofs.lines.put_joined.Goals as goal
 
 pub loop-i-init : goal.loop-i-init

@@ -1,6 +1,4 @@
-use Rattle.std.proofs.Common.{take, map}
-use Rattle.std.specs.List.{join_with_byte}
-use Rattle.ls_texts.specs.Rooms.{Says}
+use Rattle.ls_texts.proofs.Vocabulary.{Says, join_with_byte, map, take}
 use Rattle.ls_texts.proofs.lines.put_joined.Given as goal
 
 abbrev pub invariant-loop-i : goal.invariant-loop-i

@@ -1,4 +1,4 @@
-use Rattle.ls_reply.specs.Texts.{line_of}
+use Rattle.ls_texts.proofs.Vocabulary.{line_of}
 use Rattle.ls_texts.proofs.Saying.{says_then}
 use Rattle.ls_texts.proofs.lines.put_line.Goals as goal
 

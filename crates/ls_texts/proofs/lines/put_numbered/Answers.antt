@@ -1,8 +1,5 @@
-use Rattle.std.proofs.Common.{◌∷◌, [], ◌++◌, map, decimal, ap}
-use Rattle.std.proofs.lemmas.List.{length-map}
-use Rattle.ls_reply.specs.Texts.{line_of}
+use Rattle.ls_texts.proofs.Vocabulary.{◌++◌, ◌∷◌, [], ap, decimal, join-spaced, length-map, line_of, map}
 use Rattle.ls_texts.proofs.Saying.{says_then, says_as}
-use Rattle.ls_lists.proofs.Joins.{join-spaced}
 use Rattle.ls_texts.proofs.lines.put_numbered.Goals as goal
 
 pub returns : goal.returns

@@ -1,8 +1,5 @@
-use Rattle.std.proofs.Common.{◌∷◌, ◌<◌, ◌≤◌, length, decimal, ap, arith}
-use Rattle.std.specs.List.{flat_map}
-use Rattle.std.proofs.lemmas.List.{take_all}
+use Rattle.ls_texts.proofs.Vocabulary.{◌<◌, ◌∷◌, ◌≤◌, ap, arith, decimal, flat_map, length, spaced-next, take_all}
 use Rattle.ls_texts.proofs.Saying.{says_then, says_as, says_nothing}
-use Rattle.ls_lists.proofs.Joins.{spaced-next}
 use Rattle.ls_texts.proofs.lines.put_numbers.Goals as goal
 
 pub loop-number-init : goal.loop-number-init

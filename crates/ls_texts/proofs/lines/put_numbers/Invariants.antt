@@ -1,6 +1,4 @@
-use Rattle.std.proofs.Common.{◌∷◌, take, decimal}
-use Rattle.std.specs.List.{flat_map}
-use Rattle.ls_texts.specs.Rooms.{Says}
+use Rattle.ls_texts.proofs.Vocabulary.{◌∷◌, Says, decimal, flat_map, take}
 use Rattle.ls_texts.proofs.lines.put_numbers.Given as goal
 
 abbrev pub invariant-loop-number : goal.invariant-loop-number

@@ -1,5 +1,4 @@
-use Rattle.std.proofs.Common.{[], ◌∷◌, if◌then◌else◌}
-use Rattle.ls_texts.specs.Rooms.{Says}
+use Rattle.ls_texts.proofs.Vocabulary.{◌∷◌, Says, [], if◌then◌else◌}
 use Rattle.ls_texts.proofs.Saying.{says_then, says_nothing}
 use Rattle.ls_texts.proofs.lines.put_word.Goals as goal
 use Rattle.ls_texts.proofs.lines.put_word.Goals.{then-not-is_first, else-not-is_first}

@@ -1,7 +1,4 @@
-use Rattle.std.proofs.Common.{◌<◌, ◌≤◌, ◌++◌, ◌∷◌, [], length, codes, ap, sym, ◌∙◌, arith, append-nil}
-use Rattle.std.proofs.lemmas.List.{take_all}
-use Rattle.ls_lists.specs.Lists.{spaced}
-use Rattle.ls_domain.specs.Texts.{name_of}
+use Rattle.ls_texts.proofs.Vocabulary.{◌++◌, ◌<◌, ◌∙◌, ◌∷◌, ◌≤◌, [], ap, append-nil, arith, codes, length, name_of, spaced, sym, take_all}
 use Rattle.ls_texts.proofs.Saying.{says_then, says_as}
 use Rattle.ls_texts.proofs.Joins.{images-next}
 use Rattle.ls_texts.proofs.PathTexts.{All-behind, path-line}

@@ -1,7 +1,4 @@
-use Rattle.std.proofs.Common.{◌++◌, take, codes}
-use Rattle.ls_lists.specs.Lists.{spaced}
-use Rattle.ls_domain.specs.Texts.{name_of}
-use Rattle.ls_texts.specs.Rooms.{Says}
+use Rattle.ls_texts.proofs.Vocabulary.{◌++◌, Says, codes, name_of, spaced, take}
 use Rattle.ls_texts.proofs.path_text.put_path.Given as goal
 
 abbrev pub invariant-loop-item : goal.invariant-loop-item

@@ -1,5 +1,4 @@
-use Rattle.std.proofs.Common.{◌≡◌, None, arith}
-use Rattle.std.proofs.lemmas.Grind.{common_steps}
+use Rattle.ls_texts.proofs.Vocabulary.{◌≡◌, None, arith, common_steps}
 use Rattle.ls_texts.proofs.Saying.{sends_whole, sends_front}
 use Rattle.ls_texts.proofs.room.send.Goals as goal
 

@@ -1,7 +1,4 @@
-use Rattle.std.proofs.Common.{◌≡◌, ◌<◌, ◌-◌, suc, length, ap, sym, subst, ◌∙◌, arith}
-use Rattle.std.specs.List.{All, insert}
-use Rattle.ls_set.specs.ItemSet.{numbers_from}
-use Rattle.ls_texts.specs.SurmiseTexts.{insert_by_name, by_name}
+use Rattle.ls_texts.proofs.Vocabulary.{◌-◌, ◌<◌, ◌∙◌, ◌≡◌, All, ap, arith, by_name, insert, insert_by_name, length, numbers_from, subst, suc, sym}
 use Rattle.ls_texts.proofs.Names.{by_name-below, by_name-next, by_name-none}
 use Rattle.ls_texts.proofs.set_texts.items_by_name.Goals as goal
 

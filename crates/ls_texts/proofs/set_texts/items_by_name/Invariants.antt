@@ -1,6 +1,4 @@
-use Rattle.std.proofs.Common.{◌≡◌, ◌≤◌, ◌-◌, length}
-use Rattle.ls_set.specs.ItemSet.{numbers_from}
-use Rattle.ls_texts.specs.SurmiseTexts.{by_name}
+use Rattle.ls_texts.proofs.Vocabulary.{◌-◌, ◌≡◌, ◌≤◌, by_name, length, numbers_from}
 use Rattle.ls_texts.proofs.set_texts.items_by_name.Given as goal
 
 -- those from an item on are in order

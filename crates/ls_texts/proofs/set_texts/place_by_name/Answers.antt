@@ -1,5 +1,4 @@
-use Rattle.std.proofs.Common.{◌≡◌, ◌<◌, ◌≤◌, true, false, length, get_or, is_lt, nat_cmp, ap₂, sym, ◌∙◌, arith, below_more}
-use Rattle.std.specs.Cmp.Lexicographic.{slice_cmp}
+use Rattle.ls_texts.proofs.Vocabulary.{◌<◌, ◌∙◌, ◌≡◌, ◌≤◌, ap₂, arith, below_more, false, get_or, is_lt, length, nat_cmp, slice_cmp, sym, true}
 use Rattle.ls_texts.proofs.Names.{comes_first, insert-place}
 use Rattle.ls_texts.proofs.set_texts.place_by_name.Goals as goal
 

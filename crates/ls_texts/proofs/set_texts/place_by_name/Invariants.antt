@@ -1,4 +1,4 @@
-use Rattle.std.proofs.Common.{◌≡◌, ℕ, ◌<◌, false, get_or}
+use Rattle.ls_texts.proofs.Vocabulary.{◌<◌, ◌≡◌, ℕ, false, get_or}
 use Rattle.ls_texts.proofs.Names.{comes_first}
 use Rattle.ls_texts.proofs.set_texts.place_by_name.Given as goal
 

@@ -1,9 +1,5 @@
-use Rattle.std.proofs.Common.{◌≡◌, ℕ, Vec, Global, ◌/◌, ◌^◌, ◌*◌, ◌-◌, ◌%◌, ◌++◌, ◌∷◌, true, false, eqb, eq-eqb, ne_eqb, ap, ap₂, sym, ◌∙◌, append_assoc}
-use Rattle.std.specs.Int.{bit_at}
+use Rattle.ls_texts.proofs.Vocabulary.{◌%◌, ◌*◌, ◌++◌, ◌-◌, ◌/◌, ◌^◌, ◌∙◌, ◌∷◌, ◌≡◌, Global, Vec, ℕ, ap, append_assoc, ap₂, bit_at, eq-eqb, eqb, false, name_of, ne_eqb, numbers_from, spaced_names, sym, true}
 use Rattle.std.proofs.lemmas.Nat.{and_mask}
-use Rattle.ls_set.specs.ItemSet.{numbers_from}
-use Rattle.ls_domain.specs.Texts.{name_of}
-use Rattle.ls_texts.specs.SetTexts.{spaced_names}
 use Rattle.ls_texts.proofs.Groups.{spaced-taken, spaced-passed}
 use Rattle.ls_texts.proofs.set_texts.push_group.Goals as goal
 use Rattle.ls_texts.proofs.set_texts.push_group.Goals.{then-pattern-item-eq1+in_ok-push_spaced, else-pattern-item-eq1}

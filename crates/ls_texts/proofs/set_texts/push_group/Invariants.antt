@@ -1,7 +1,4 @@
-use Rattle.std.proofs.Common.{◌≡◌, ◌-◌, ◌*◌, ◌%◌, ◌++◌, eqb}
-use Rattle.std.specs.Int.{bit_at}
-use Rattle.ls_set.specs.ItemSet.{numbers_from}
-use Rattle.ls_texts.specs.SetTexts.{spaced_names}
+use Rattle.ls_texts.proofs.Vocabulary.{◌%◌, ◌*◌, ◌++◌, ◌-◌, ◌≡◌, bit_at, eqb, numbers_from, spaced_names}
 use Rattle.ls_texts.proofs.set_texts.push_group.Given as goal
 
 abbrev pub invariant-loop-item : goal.invariant-loop-item

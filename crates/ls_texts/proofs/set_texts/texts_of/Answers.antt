@@ -1,7 +1,4 @@
-use Rattle.std.proofs.Common.{◌≡◌, ◌/◌, ◌%◌, ◌++◌, ◌*◌, [], length, map, ap, ◌∙◌, arith}
-use Rattle.std.proofs.lemmas.Grind.{common_steps}
-use Rattle.ls_set.specs.ItemSet.{numbers_from}
-use Rattle.ls_texts.specs.SetTexts.{group_count, group_text, group_texts}
+use Rattle.ls_texts.proofs.Vocabulary.{◌%◌, ◌*◌, ◌++◌, ◌/◌, ◌∙◌, ◌≡◌, [], ap, arith, common_steps, group_count, group_text, group_texts, length, map, numbers_from}
 use Rattle.ls_texts.proofs.Groups.{texts-next}
 use Rattle.ls_texts.proofs.set_texts.texts_of.Goals as goal
 

@@ -1,6 +1,4 @@
-use Rattle.std.proofs.Common.{◌≡◌, ◌/◌, ◌%◌, map}
-use Rattle.ls_set.specs.ItemSet.{numbers_from}
-use Rattle.ls_texts.specs.SetTexts.{group_text}
+use Rattle.ls_texts.proofs.Vocabulary.{◌%◌, ◌/◌, ◌≡◌, group_text, map, numbers_from}
 use Rattle.ls_texts.proofs.set_texts.texts_of.Given as goal
 
 abbrev pub invariant-loop-index : goal.invariant-loop-index

@@ -1,7 +1,4 @@
-use Rattle.std.proofs.Common.{◌≡◌, ◌<◌, ◌≤◌, ◌++◌, [], false, length, drop, filter, refl, sym, ◌∙◌, arith}
-use Rattle.serde_json.specs.Written.{comma_if}
-use Rattle.ls_theory.specs.Bases.{is_atom_at, atoms_at}
-use Rattle.ls_texts.specs.SurmiseTexts.{listed, clause_text}
+use Rattle.ls_texts.proofs.Vocabulary.{◌++◌, ◌<◌, ◌∙◌, ◌≡◌, ◌≤◌, [], arith, atoms_at, clause_text, comma_if, drop, false, filter, is_atom_at, length, listed, refl, sym}
 use Rattle.ls_texts.proofs.Saying.{says_then, says_as, says_nothing, says_void}
 use Rattle.ls_texts.proofs.Listed.{taken, passed, filter-end}
 use Rattle.ls_texts.proofs.Atoms.{atom-told}

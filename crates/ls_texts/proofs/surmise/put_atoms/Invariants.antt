@@ -1,7 +1,4 @@
-use Rattle.std.proofs.Common.{ℕ, List, false, drop, filter}
-use Rattle.ls_theory.specs.Bases.{is_atom_at, atoms_at}
-use Rattle.ls_texts.specs.Rooms.{Says}
-use Rattle.ls_texts.specs.SurmiseTexts.{listed, clause_text}
+use Rattle.ls_texts.proofs.Vocabulary.{List, Says, ℕ, atoms_at, clause_text, drop, false, filter, is_atom_at, listed}
 use Rattle.ls_texts.proofs.Listed.{Completes}
 use Rattle.ls_texts.proofs.surmise.put_atoms.Given as goal
 

@@ -1,8 +1,5 @@
-use Rattle.std.proofs.Common.{◌≡◌, ◌++◌, ◌∷◌, [], false, ap, sym, ◌∙◌, append_assoc}
-use Rattle.serde_json.specs.Written.{comma_if}
-use Rattle.ls_set.specs.ItemSet.{items}
+use Rattle.ls_texts.proofs.Vocabulary.{◌++◌, ◌∙◌, ◌∷◌, ◌≡◌, [], ap, append_assoc, comma_if, false, items, listed, quoted_name, sym}
 use Rattle.ls_domain.proofs.Numbers.{listed-below}
-use Rattle.ls_texts.specs.SurmiseTexts.{listed, quoted_name}
 use Rattle.ls_texts.proofs.Saying.{says_then, says_as, says_nothing}
 use Rattle.ls_texts.proofs.Listed.{listed-next, listed-end}
 use Rattle.ls_texts.proofs.surmise.put_quoted_names.Goals as goal

@@ -1,7 +1,4 @@
-use Rattle.std.proofs.Common.{◌≡◌, ℕ, ◌++◌, List, false}
-use Rattle.ls_set.specs.ItemSet.{items}
-use Rattle.ls_texts.specs.Rooms.{Says}
-use Rattle.ls_texts.specs.SurmiseTexts.{listed, quoted_name}
+use Rattle.ls_texts.proofs.Vocabulary.{◌++◌, ◌≡◌, List, Says, ℕ, false, items, listed, quoted_name}
 use Rattle.ls_texts.proofs.Listed.{Completes}
 use Rattle.ls_texts.proofs.surmise.put_quoted_names.Given as goal
 

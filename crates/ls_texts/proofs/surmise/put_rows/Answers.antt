@@ -1,6 +1,4 @@
-use Rattle.std.proofs.Common.{◌<◌, ◌≤◌, ◌++◌, [], false, length, drop, get_or, refl, sym, ◌∙◌, arith}
-use Rattle.serde_json.specs.Written.{comma_if}
-use Rattle.ls_texts.specs.SurmiseTexts.{listed, row_text}
+use Rattle.ls_texts.proofs.Vocabulary.{◌++◌, ◌<◌, ◌∙◌, ◌≤◌, [], arith, comma_if, drop, false, get_or, length, listed, refl, row_text, sym}
 use Rattle.ls_texts.proofs.Saying.{says_then, says_as, says_nothing, says_void}
 use Rattle.ls_texts.proofs.Listed.{place-next, place-end}
 use Rattle.ls_texts.proofs.surmise.put_rows.Goals as goal

@@ -1,6 +1,4 @@
-use Rattle.std.proofs.Common.{ℕ, List, false, drop}
-use Rattle.ls_texts.specs.Rooms.{Says}
-use Rattle.ls_texts.specs.SurmiseTexts.{listed, row_text}
+use Rattle.ls_texts.proofs.Vocabulary.{List, Says, ℕ, drop, false, listed, row_text}
 use Rattle.ls_texts.proofs.Listed.{Completes}
 use Rattle.ls_texts.proofs.surmise.put_rows.Given as goal
 

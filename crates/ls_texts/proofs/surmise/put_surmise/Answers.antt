@@ -1,6 +1,4 @@
-use Rattle.std.proofs.Common.{◌<◌, ◌++◌, codes, length, false, ap, sym, subst, ◌∙◌}
-use Rattle.std.specs.List.{All}
-use Rattle.ls_texts.specs.SurmiseTexts.{listed, row_text}
+use Rattle.ls_texts.proofs.Vocabulary.{◌++◌, ◌<◌, ◌∙◌, All, ap, codes, false, length, listed, row_text, subst, sym}
 use Rattle.ls_texts.proofs.Saying.{says_then, says_as}
 use Rattle.ls_texts.proofs.Names.{items-below}
 use Rattle.ls_texts.proofs.ClauseTexts.{surmise-line}

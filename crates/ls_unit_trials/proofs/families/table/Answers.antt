@@ -1,5 +1,5 @@
 use Rattle.std.proofs.Common.{ap, sym, ◌∙◌}
-use Rattle.ls_theory.specs.Blocks.{BlockRange}
+use Rattle.ls_theory.specs.{BlockRange}
 use Rattle.ls_query.proofs.Made.{made_of}
 use Rattle.ls_infer.specs.Tables.{TableState}
 use Rattle.ls_unit_trials.proofs.families.table.Goals as goal

@@ -1,7 +1,4 @@
-use Rattle.std.proofs.Common.{◌∙◌, subst}
-use Rattle.std.proofs.lemmas.Result.{IfOk-weaker}
-use Rattle.ls_theory.specs.Interviews.{yes_queries}
-use Rattle.ls_base.specs.Followed.{IsFollowed}
+use Rattle.ls_views.proofs.Vocabulary.{◌∙◌, IfOk-weaker, IsFollowed, subst, yes_queries}
 use Rattle.ls_views.proofs.OnBases.{followed-space, followed-row}
 use Rattle.ls_views.proofs.based.decide_based.Goals as goal
 

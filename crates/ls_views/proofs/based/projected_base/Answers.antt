@@ -1,7 +1,4 @@
-use Rattle.std.proofs.Common.{List, ap, ap₂, ◌∙◌}
-use Rattle.ls_set.specs.ItemSet.{Items}
-use Rattle.ls_theory.specs.Verdict.{base_verdict}
-use Rattle.ls_theory.specs.declared.verdict.BaseVerdict.{BaseVerdict}
+use Rattle.ls_views.proofs.Vocabulary.{◌∙◌, BaseVerdict, Items, List, ap, ap₂, base_verdict}
 use Rattle.ls_reply.specs.declared.response.Response.TheVariants as response
 use Rattle.ls_reply.specs.declared.response.Shown.TheVariants as shown
 use Rattle.ls_views.proofs.OnBases.{projected-family}

@@ -1,13 +1,5 @@
-use Rattle.std.proofs.Common.{◌≡◌, List, [], ◌∷◌, Some, codes, decimal, ap, sym, ◌∙◌, subst}
-use Rattle.ls_lines.specs.Lines.{Text}
-use Rattle.ls_reply.specs.Texts.{line_of}
-use Rattle.ls_reply.specs.Refusals.{refusal_words}
+use Rattle.ls_views.proofs.Vocabulary.{◌∙◌, ◌∷◌, ◌≡◌, CanRefuse, CanSay, List, Some, Text, [], ap, bytes_of-none, bytes_of-one, codes, decimal, line_of, names_in, refusal_words, says_as, says_nothing, session_with, subst, sym}
 use Rattle.ls_reply.specs.declared.response.Response.TheVariants as response
-use Rattle.ls_texts.specs.Names.{names_in}
-use Rattle.ls_writing.specs.Names.{CanRefuse}
-use Rattle.ls_texts.proofs.Saying.{says_as, says_nothing}
-use Rattle.ls_writing.proofs.Joins.{bytes_of-none, bytes_of-one}
-use Rattle.ls_views.specs.Views.{CanSay, session_with}
 use Rattle.ls_views.proofs.Replying.{said_bytes}
 use Rattle.ls_views.proofs.reading.put_response.Goals as goal
 

@@ -1,11 +1,5 @@
-use Rattle.std.proofs.Common.{◌≡◌, ◌<◌, Some, length, ap, sym, ◌∙◌, subst, arith}
-use Rattle.std.proofs.lemmas.Result.{IfOk-weaker}
-use Rattle.ls_reply.specs.Effects.{answers}
-use Rattle.ls_reply.specs.Meanings.{request_of}
+use Rattle.ls_views.proofs.Vocabulary.{◌<◌, ◌∙◌, ◌≡◌, CanSay, IfOk-weaker, IsAskedOn, Some, answers, ap, arith, followed_sets, length, request_of, session_with, subst, sym}
 use Rattle.ls_reply.specs.declared.request.Request.TheVariants as request
-use Rattle.ls_meanings.specs.Asked.{IsAskedOn}
-use Rattle.ls_views.specs.Views.{CanSay, session_with}
-use Rattle.ls_base.specs.Followed.{followed_sets}
 use Rattle.ls_views.proofs.Replying.{reading-effect}
 use Rattle.ls_views.proofs.Saying.{can-view, followed-base}
 use Rattle.ls_views.proofs.reading.respond.Goals as goal

@@ -1,13 +1,7 @@
-use Rattle.std.proofs.Common.{rules, ◌≡◌, List, [], sym, ap, ◌∙◌, subst}
+use Rattle.ls_views.proofs.Vocabulary.{◌∙◌, ◌≡◌, List, Text, [], ap, bytes_of, is_refusal, lines_of, rules, session_with, started, subst, sym}
 use Rattle.std.specs.Io.KnownBytes.{Appends}
 use Rattle.ls_edge.specs.Causes.{AppendsFront}
-use Rattle.ls_lines.specs.Lines.{Text}
-use Rattle.ls_reply.specs.Texts.{bytes_of}
-use Rattle.ls_reply.specs.Lines.{lines_of}
-use Rattle.ls_reply.specs.Sessions.{started}
-use Rattle.ls_reply.specs.Replies.{is_refusal}
 use Rattle.ls_reply.proofs.Refusing.{is_refusal-lines_of}
-use Rattle.ls_views.specs.Views.{session_with}
 use Rattle.ls_views.proofs.Replying.{reply_is}
 use Rattle.ls_views.proofs.reading.view.Goals as goal
 

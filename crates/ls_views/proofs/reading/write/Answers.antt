@@ -1,4 +1,4 @@
-use Rattle.ls_texts.proofs.Saying.{wrote}
+use Rattle.ls_views.proofs.Vocabulary.{wrote}
 use Rattle.ls_views.proofs.reading.write.Goals as goal
 
 pub returns-clause-wrote : goal.returns-clause-wrote

@@ -1,7 +1,5 @@
-use Rattle.std.proofs.Common.{ℕ, List, [], ◌∷◌, ◌++◌, codes, length, ◌∙◌, ap}
-use Rattle.ls_domain.specs.Texts.{name_of, joined_names}
+use Rattle.ls_views.proofs.Vocabulary.{◌++◌, ◌∙◌, ◌∷◌, List, ℕ, [], ap, codes, joined_names, length, name_of, says_as, says_then}
 use Rattle.ls_laws.proofs.Breaks.{good-from}
-use Rattle.ls_texts.proofs.Saying.{says_then, says_as}
 use Rattle.ls_views.proofs.Shown.{question_line}
 use Rattle.ls_views.proofs.showing.put_query.Goals as goal
 

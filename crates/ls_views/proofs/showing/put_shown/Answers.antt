@@ -1,22 +1,7 @@
-use Rattle.std.proofs.Common.{◌≡◌, List, [], ◌∷◌, ◌++◌, codes, filter, ap, ap₂, sym, ◌∙◌, subst, length}
-use Rattle.std.specs.List.{All}
-use Rattle.ls_set.specs.ItemSet.{Items, full, comes_before, IsWithin}
-use Rattle.ls_theory.specs.Queries.{breaks_none}
-use Rattle.ls_theory.specs.Compatible.{compat, compatible_sets}
-use Rattle.ls_theory.specs.Bases.{base}
-use Rattle.ls_theory.specs.Pages.{page}
-use Rattle.ls_theory.specs.Words.{is_lex_before}
-use Rattle.ls_theory.specs.Paths.{paths}
-use Rattle.ls_theory.specs.Projections.{projection}
+use Rattle.ls_views.proofs.Vocabulary.{◌++◌, ◌∙◌, ◌∷◌, ◌≡◌, All, CanShow, IsWithin, Items, List, [], ap, ap₂, base, breaks_none, bytes_of, bytes_of-append, bytes_of-one, clauses_at, codes, comes_before, compat, compatible_sets, filter, fringe_words, full, is_lex_before, length, line_of, page, paths, projection, says_as, says_then, set_text, subst, sym}
 use Rattle.ls_expert.specs.Starts.{StartOn}
-use Rattle.ls_theory.specs.Clauses.{clauses_at}
-use Rattle.ls_domain.specs.Texts.{set_text, fringe_words}
-use Rattle.ls_reply.specs.Texts.{line_of, bytes_of}
 use Rattle.ls_reply.specs.Lines.{known_words, question_words, surmise_words, base_lines, page_lines, path_lines, learning_words, verdict_words, asked_words}
 use Rattle.ls_reply.specs.declared.response.Shown.TheVariants as shown
-use Rattle.ls_texts.proofs.Saying.{says_then, says_as}
-use Rattle.ls_writing.proofs.Joins.{bytes_of-one, bytes_of-append}
-use Rattle.ls_views.specs.Views.{CanShow}
 use Rattle.ls_views.proofs.Shown.{shown_bytes, base-within, base-clauses, base-atoms, all-within}
 use Rattle.ls_views.proofs.showing.put_shown.Goals as goal
 

@@ -1,12 +1,4 @@
-use Rattle.std.proofs.Common.{◌≡◌, ◌∷◌, ◌+◌, ◌-◌, ◌++◌, [], ℕ, List, filter, drop, sym, ap, ap₂, ◌∙◌, subst, arith, rules, append_assoc, MatchOption}
-use Rattle.ls_theory.specs.Words.{is_lex_before}
-use Rattle.ls_theory.specs.Paths.{paths}
-use Rattle.ls_paths.specs.Left.{paths_left}
-use Rattle.ls_reply.specs.Texts.{line_of}
-use Rattle.ls_reply.specs.Lines.{path_words}
-use Rattle.ls_texts.specs.PathTexts.{IsTextOf}
-use Rattle.ls_texts.proofs.Saying.{says_then, says_as, says_nothing, says_void}
-use Rattle.ls_views.specs.PathPages.{paths_after, left_bytes}
+use Rattle.ls_views.proofs.Vocabulary.{◌++◌, ◌+◌, ◌-◌, ◌∙◌, ◌∷◌, ◌≡◌, IsTextOf, List, MatchOption, ℕ, [], ap, append_assoc, ap₂, arith, drop, filter, is_lex_before, left_bytes, line_of, path_words, paths, paths_after, paths_left, rules, says_as, says_nothing, says_then, says_void, subst, sym}
 use Rattle.ls_views.proofs.Listing.{path-left, path-ended, path-full, more-left}
 use Rattle.ls_views.proofs.walking.put_paths.Goals as goal
 

@@ -1,8 +1,5 @@
-use Rattle.std.proofs.Common.{◌≡◌, ◌-◌, ◌++◌, ℕ, List}
+use Rattle.ls_views.proofs.Vocabulary.{◌++◌, ◌-◌, ◌≡◌, IsTextOf, List, ℕ, left_bytes, paths_after, paths_left}
 use Rattle.ls_texts.specs.Rooms.{Says}
-use Rattle.ls_texts.specs.PathTexts.{IsTextOf}
-use Rattle.ls_paths.specs.Left.{paths_left}
-use Rattle.ls_views.specs.PathPages.{paths_after, left_bytes}
 use Rattle.ls_views.proofs.walking.put_paths.Given as goal
 
 -- what was said, with the page of those paths that are left, is the whole page

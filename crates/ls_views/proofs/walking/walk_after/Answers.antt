@@ -1,5 +1,4 @@
-use Rattle.std.proofs.Common.{sym, ap, ◌∙◌}
-use Rattle.ls_views.specs.PathPages.{paths_after}
+use Rattle.ls_views.proofs.Vocabulary.{◌∙◌, ap, paths_after, sym}
 use Rattle.ls_views.proofs.Listing.{all_after}
 use Rattle.ls_views.proofs.walking.walk_after.Goals as goal
 

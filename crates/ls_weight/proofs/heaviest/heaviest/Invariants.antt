@@ -1,4 +1,4 @@
-use Rattle.std.proofs.Common.{ℕ, ◌≡◌, ◌<◌, ◌≤◌, length, slice_index}
+use Rattle.ls_weight.proofs.Vocabulary.{◌<◌, ◌≡◌, ◌≤◌, ℕ, length, slice_index}
 use Rattle.ls_weight.proofs.heaviest.heaviest.Given as goal
 
 -- the greatest so far, and its place

@@ -1,6 +1,4 @@
-use Rattle.std.proofs.Common.{cond, eqb, get_or, arith}
-use Rattle.std.specs.Int.{bit_at}
-use Rattle.std.proofs.lemmas.Bool.Decides.{nat_tests}
+use Rattle.ls_weight.proofs.Vocabulary.{arith, bit_at, cond, eqb, get_or, nat_tests}
 use Rattle.ls_weight.proofs.SumsBelow.{sum_below-none, sum_below-next}
 use Rattle.ls_weight.proofs.Passing.{some-fit}
 use Rattle.ls_weight.proofs.masses.cells_with.Goals as goal

@@ -1,6 +1,4 @@
-use Rattle.std.proofs.Common.{◌≡◌, cond, eqb, slice_index}
-use Rattle.std.specs.Int.{bit_at}
-use Rattle.ls_weight.specs.Sums.{sum_below}
+use Rattle.ls_weight.proofs.Vocabulary.{◌≡◌, bit_at, cond, eqb, slice_index, sum_below}
 use Rattle.ls_weight.proofs.masses.cells_with.Given as goal
 
 abbrev pub invariant-loop-v : goal.invariant-loop-v

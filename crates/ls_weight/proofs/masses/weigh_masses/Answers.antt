@@ -1,6 +1,4 @@
-use Rattle.std.proofs.Common.{◌+◌, ◌-◌, ◌*◌, ◌/◌, ◌%◌, get_or, arith}
-use Rattle.ls_weight.specs.Sums.{table_cells, cells_with}
-use Rattle.ls_weight.specs.Rows.{row_at}
+use Rattle.ls_weight.proofs.Vocabulary.{◌%◌, ◌*◌, ◌+◌, ◌-◌, ◌/◌, arith, cells_with, get_or, row_at, table_cells}
 use Rattle.ls_weight.proofs.Passing.{row-is, written-done, written-left}
 use Rattle.ls_weight.proofs.masses.weigh_masses.Goals as goal
 

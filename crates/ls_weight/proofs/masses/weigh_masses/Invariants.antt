@@ -1,6 +1,4 @@
-use Rattle.std.proofs.Common.{ℕ, ◌≡◌, ◌+◌, ◌-◌, ◌*◌, ◌/◌, ◌%◌, ◌<◌, ◌≤◌, slice_index}
-use Rattle.ls_weight.specs.Sums.{table_cells, cells_with}
-use Rattle.ls_weight.specs.Rows.{row_at}
+use Rattle.ls_weight.proofs.Vocabulary.{◌%◌, ◌*◌, ◌+◌, ◌-◌, ◌/◌, ◌<◌, ◌≡◌, ◌≤◌, ℕ, cells_with, row_at, slice_index, table_cells}
 use Rattle.ls_weight.proofs.masses.weigh_masses.Given as goal
 
 abbrev pub invariant-loop-q : goal.invariant-loop-q

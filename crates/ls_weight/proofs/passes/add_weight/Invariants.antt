@@ -1,5 +1,4 @@
-use Rattle.std.proofs.Common.{ℕ, ◌≡◌, ◌+◌, ◌*◌, ◌<◌, ◌≤◌, cond, eqb, slice_index}
-use Rattle.ls_weight.specs.Sums.{table_cells}
+use Rattle.ls_weight.proofs.Vocabulary.{◌*◌, ◌+◌, ◌<◌, ◌≡◌, ◌≤◌, ℕ, cond, eqb, slice_index, table_cells}
 use Rattle.ls_weight.proofs.passes.add_weight.Given as goal
 
 -- the groups before this one have the weight

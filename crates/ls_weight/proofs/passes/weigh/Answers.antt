@@ -1,7 +1,4 @@
-use Rattle.std.proofs.Common.{ℕ, ◌+◌, ◌*◌, ◌&&◌, cond, eqb, length, get_or, refl, sym, ap, ◌∙◌, arith}
-use Rattle.std.proofs.lemmas.List.{get_or-replicate}
-use Rattle.ls_weight.specs.Sums.{table_cells}
-use Rattle.ls_weight.specs.Rows.{agrees_in, row_at}
+use Rattle.ls_weight.proofs.Vocabulary.{◌&&◌, ◌*◌, ◌+◌, ◌∙◌, ℕ, agrees_in, ap, arith, cond, eqb, get_or, get_or-replicate, length, refl, row_at, sym, table_cells}
 use Rattle.ls_weight.proofs.SumsBelow.{sum_below-none}
 use Rattle.ls_weight.proofs.Passing.{cell-fits, cell-next, row-full, row-is, row-index, row-long, written-done, written-left}
 use Rattle.ls_weight.proofs.passes.weigh.Goals as goal

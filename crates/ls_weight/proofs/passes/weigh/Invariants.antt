@@ -1,6 +1,4 @@
-use Rattle.std.proofs.Common.{ℕ, ◌≡◌, ◌+◌, ◌*◌, ◌<◌, ◌≤◌, cond, slice_index}
-use Rattle.ls_weight.specs.Sums.{table_cells}
-use Rattle.ls_weight.specs.Rows.{agrees_in, row_at, cell_of}
+use Rattle.ls_weight.proofs.Vocabulary.{◌*◌, ◌+◌, ◌<◌, ◌≡◌, ◌≤◌, ℕ, agrees_in, cell_of, cond, row_at, slice_index, table_cells}
 use Rattle.ls_weight.proofs.passes.weigh.Given as goal
 
 -- the states before this one are weighed

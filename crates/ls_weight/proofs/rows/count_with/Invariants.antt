@@ -1,5 +1,4 @@
-use Rattle.std.proofs.Common.{◌≡◌, ◌≤◌, count_by, take}
-use Rattle.ls_set.specs.ItemSet.{has}
+use Rattle.ls_weight.proofs.Vocabulary.{◌≡◌, ◌≤◌, count_by, has, take}
 use Rattle.ls_weight.proofs.rows.count_with.Given as goal
 
 abbrev pub invariant-loop-state : goal.invariant-loop-state

@@ -1,6 +1,4 @@
-use Rattle.std.proofs.Common.{ℕ, ◌≡◌, ◌+◌, ◌*◌, ◌<◌, take, drop, length}
-use Rattle.ls_set.specs.ItemSet.{has}
-use Rattle.ls_weight.specs.Rows.{has_in}
+use Rattle.ls_weight.proofs.Vocabulary.{◌*◌, ◌+◌, ◌<◌, ◌≡◌, ℕ, drop, has, has_in, length, take}
 use Rattle.ls_weight.proofs.rows.push_row.Given as goal
 
 abbrev pub invariant-loop-g : goal.invariant-loop-g

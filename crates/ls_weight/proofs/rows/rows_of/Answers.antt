@@ -1,6 +1,4 @@
-use Rattle.std.proofs.Common.{◌∙◌}
-use Rattle.std.proofs.lemmas.List.{get_or_default}
-use Rattle.ls_set.specs.ItemSet.{empty}
+use Rattle.ls_weight.proofs.Vocabulary.{◌∙◌, empty, get_or_default}
 use Rattle.ls_weight.proofs.Rowing.{rows-next}
 use Rattle.ls_weight.proofs.rows.rows_of.Goals as goal
 

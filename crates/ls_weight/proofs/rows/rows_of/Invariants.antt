@@ -1,5 +1,4 @@
-use Rattle.std.proofs.Common.{take}
-use Rattle.ls_weight.specs.Rows.{AreRows}
+use Rattle.ls_weight.proofs.Vocabulary.{AreRows, take}
 use Rattle.ls_weight.proofs.rows.rows_of.Given as goal
 
 abbrev pub invariant-loop-state : goal.invariant-loop-state

@@ -1,5 +1,5 @@
 use Rattle.std.proofs.Common.{◌≡◌, ◌∙◌, true, arith, rules}
-use Rattle.ls_lines.specs.Kinds.{is_of, greatest_number}
+use Rattle.ls_lines.specs.{greatest_number, is_of}
 use Rattle.ls_lines.specs.declared.kind.Kind.TheVariants as kind
 use Rattle.ls_words.proofs.Parsed.{number_parsed}
 use Rattle.ls_words.proofs.reading.number_of.Goals as goal

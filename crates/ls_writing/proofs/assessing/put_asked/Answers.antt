@@ -1,9 +1,5 @@
-use Rattle.std.proofs.Common.{codes, ap, sym, ◌∙◌}
-use Rattle.ls_domain.specs.Texts.{name_of}
+use Rattle.ls_writing.proofs.Vocabulary.{◌∙◌, ap, asked_words, codes, line_of, name_of, says_as, says_then, sym}
 use Rattle.ls_theory.specs.declared.asked.Asked.{Asked}
-use Rattle.ls_reply.specs.Texts.{line_of}
-use Rattle.ls_reply.specs.Lines.{asked_words}
-use Rattle.ls_texts.proofs.Saying.{says_then, says_as}
 use Rattle.ls_writing.proofs.Joins.{line-one}
 use Rattle.ls_writing.proofs.assessing.put_asked.Goals as goal
 

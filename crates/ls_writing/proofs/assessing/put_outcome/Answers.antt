@@ -1,6 +1,4 @@
-use Rattle.std.proofs.Common.{◌∷◌, [], codes}
-use Rattle.ls_domain.specs.Texts.{set_text}
-use Rattle.ls_texts.proofs.Saying.{says_then, says_as, says_nothing}
+use Rattle.ls_writing.proofs.Vocabulary.{◌∷◌, [], codes, says_as, says_nothing, says_then, set_text}
 use Rattle.ls_writing.proofs.Joins.{line-numbers}
 use Rattle.ls_writing.proofs.assessing.put_outcome.Goals as goal
 

@@ -1,5 +1,4 @@
-use Rattle.ls_reply.specs.Lines.{outcome_words, fringes_words}
-use Rattle.ls_texts.proofs.Saying.{says_then, says_as}
+use Rattle.ls_writing.proofs.Vocabulary.{fringes_words, outcome_words, says_as, says_then}
 use Rattle.ls_writing.proofs.Joins.{bytes_of-two}
 use Rattle.ls_writing.proofs.assessing.put_report.Goals as goal
 

@@ -1,15 +1,6 @@
-use Rattle.std.proofs.Common.{◌≡◌, [], ◌∷◌, ◌++◌, List, map, codes, decimal, length, ap, sym, ◌∙◌}
+use Rattle.ls_writing.proofs.Vocabulary.{◌++◌, ◌∙◌, ◌∷◌, ◌≡◌, ClassResult, IsWithin, List, PupilResult, Text, [], ap, bytes_of, codes, decimal, full, length, length-map, line_of, map, result_of, result_words, says_as, says_then, sym}
 use Rattle.std.proofs.lemmas.Simd.{map-map}
-use Rattle.std.proofs.lemmas.List.{length-map}
-use Rattle.ls_class.specs.Results.{result_of}
-use Rattle.ls_class.specs.declared.results.ClassResult.{ClassResult}
-use Rattle.ls_set.specs.ItemSet.{full, IsWithin}
 use Rattle.ls_lists.proofs.Every.{All-unmap}
-use Rattle.ls_lines.specs.Lines.{Text}
-use Rattle.ls_theory.specs.Classes.{PupilResult}
-use Rattle.ls_reply.specs.Texts.{line_of, bytes_of}
-use Rattle.ls_reply.specs.Lines.{result_words}
-use Rattle.ls_texts.proofs.Saying.{says_then, says_as}
 use Rattle.ls_writing.proofs.Joins.{bytes_of-last}
 use Rattle.ls_writing.proofs.classes.put_class.Goals as goal
 

@@ -1,8 +1,4 @@
-use Rattle.std.proofs.Common.{◌≡◌, [], ◌∷◌, ◌++◌, codes, decimal, ap₂, ◌∙◌}
-use Rattle.ls_lines.specs.Lines.{Text}
-use Rattle.ls_domain.specs.Texts.{set_text}
-use Rattle.ls_reply.specs.Refusals.{reason_word}
-use Rattle.ls_texts.proofs.Saying.{says_then, says_as}
+use Rattle.ls_writing.proofs.Vocabulary.{◌++◌, ◌∙◌, ◌∷◌, ◌≡◌, Text, [], ap₂, codes, decimal, reason_word, says_as, says_then, set_text}
 use Rattle.ls_writing.proofs.Joins.{line-result}
 use Rattle.ls_writing.proofs.classes.put_result.Goals as goal
 

@@ -1,11 +1,4 @@
-use Rattle.std.proofs.Common.{◌<◌, ◌≤◌, ◌++◌, length, map, take, List, ap, ◌∙◌, arith}
-use Rattle.std.proofs.lemmas.List.{take_all}
-use Rattle.ls_lines.specs.Lines.{Text}
-use Rattle.ls_class.specs.Results.{result_of}
-use Rattle.ls_class.specs.declared.results.ClassResult.{ClassResult}
-use Rattle.ls_reply.specs.Texts.{line_of, bytes_of}
-use Rattle.ls_reply.specs.Lines.{result_words}
-use Rattle.ls_texts.proofs.Saying.{says_then, says_as, says_nothing}
+use Rattle.ls_writing.proofs.Vocabulary.{◌++◌, ◌<◌, ◌∙◌, ◌≤◌, ClassResult, List, Text, ap, arith, bytes_of, length, line_of, map, result_of, result_words, says_as, says_nothing, says_then, take, take_all}
 use Rattle.ls_writing.proofs.Joins.{bytes_of-none, bytes_of-next}
 use Rattle.ls_writing.proofs.classes.put_results.Goals as goal
 

@@ -1,9 +1,4 @@
-use Rattle.std.proofs.Common.{take, map}
-use Rattle.ls_class.specs.Results.{result_of}
-use Rattle.ls_class.specs.declared.results.ClassResult.{ClassResult}
-use Rattle.ls_reply.specs.Texts.{bytes_of}
-use Rattle.ls_reply.specs.Lines.{result_words}
-use Rattle.ls_texts.specs.Rooms.{Says}
+use Rattle.ls_writing.proofs.Vocabulary.{ClassResult, Says, bytes_of, map, result_of, result_words, take}
 use Rattle.ls_writing.proofs.classes.put_results.Given as goal
 
 abbrev pub invariant-loop-known : goal.invariant-loop-known

@@ -1,7 +1,4 @@
-use Rattle.std.proofs.Common.{codes}
-use Rattle.ls_set.specs.ItemSet.{items}
-use Rattle.ls_domain.specs.Texts.{name_of, names_of_set}
-use Rattle.ls_texts.proofs.Saying.{says_then, says_as}
+use Rattle.ls_writing.proofs.Vocabulary.{codes, items, name_of, names_of_set, says_as, says_then}
 use Rattle.ls_writing.proofs.Joins.{line-barred}
 use Rattle.ls_writing.proofs.judging.put_fringes.Goals as goal
 

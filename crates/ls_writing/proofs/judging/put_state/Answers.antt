@@ -1,6 +1,4 @@
-use Rattle.std.proofs.Common.{codes}
-use Rattle.ls_domain.specs.Texts.{set_text}
-use Rattle.ls_texts.proofs.Saying.{says_then, says_as}
+use Rattle.ls_writing.proofs.Vocabulary.{codes, says_as, says_then, set_text}
 use Rattle.ls_writing.proofs.Joins.{line-one}
 use Rattle.ls_writing.proofs.judging.put_state.Goals as goal
 

@@ -1,16 +1,6 @@
-use Rattle.std.proofs.Common.{◌∷◌, [], ◌++◌, List, length, codes, ap, sym, subst, ◌∙◌, arith}
-use Rattle.ls_lists.specs.Lists.{spaced}
-use Rattle.ls_set.specs.ItemSet.{items}
-use Rattle.ls_lines.specs.Lines.{Text}
-use Rattle.ls_domain.specs.Texts.{set_text}
+use Rattle.ls_writing.proofs.Vocabulary.{◌++◌, ◌∙◌, ◌∷◌, AreNamed, IsVerdictOn, List, Text, [], ap, arith, codes, double_words, items, length, line_of, says_as, says_then, set_text, spaced, subst, sym, verdict_words}
 use Rattle.ls_theory.specs.declared.verdict.Verdict.{Verdict}
-use Rattle.ls_reply.specs.Texts.{line_of}
-use Rattle.ls_reply.specs.Refusals.{double_words}
-use Rattle.ls_reply.specs.Lines.{verdict_words}
-use Rattle.ls_spans.specs.Speaking.{IsVerdictOn}
-use Rattle.ls_texts.specs.Names.{AreNamed}
 use Rattle.ls_writing.proofs.Names.{double-named}
-use Rattle.ls_texts.proofs.Saying.{says_then, says_as}
 use Rattle.ls_writing.proofs.Joins.{line-spaced, line-pair}
 use Rattle.ls_writing.proofs.judging.put_verdict.Goals as goal
 

@@ -1,6 +1,4 @@
-use Rattle.std.proofs.Common.{[], ◌∷◌, map, codes, decimal, length}
-use Rattle.ls_reply.specs.Lines.{set_words}
-use Rattle.ls_texts.proofs.Saying.{says_then, says_as}
+use Rattle.ls_writing.proofs.Vocabulary.{◌∷◌, [], codes, decimal, length, map, says_as, says_then, set_words}
 use Rattle.ls_writing.proofs.Joins.{bytes_of-last}
 use Rattle.ls_writing.proofs.listing.put_base.Goals as goal
 

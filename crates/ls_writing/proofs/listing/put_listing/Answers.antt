@@ -1,9 +1,4 @@
-use Rattle.std.proofs.Common.{◌≡◌, ◌≤◌, Bool, [], ◌+◌, ◌-◌, ◌++◌, refl, sym, ap, ◌∙◌, subst, arith, append_assoc}
-use Rattle.ls_enum.proofs.Left.{more_steps}
-use Rattle.ls_enum.specs.Listings.{left_after}
-use Rattle.ls_reply.specs.Texts.{line_of}
-use Rattle.ls_reply.specs.Lines.{set_words, more_words}
-use Rattle.ls_texts.proofs.Saying.{says_then, says_as, says_nothing, says_void}
+use Rattle.ls_writing.proofs.Vocabulary.{◌++◌, ◌+◌, ◌-◌, ◌∙◌, ◌≡◌, ◌≤◌, Bool, [], ap, append_assoc, arith, left_after, line_of, more_steps, more_words, refl, says_as, says_nothing, says_then, says_void, set_words, subst, sym}
 use Rattle.ls_writing.proofs.Pages.{page_bytes, page-left, page-ended, page-full}
 use Rattle.ls_writing.proofs.listing.put_listing.Goals as goal
 

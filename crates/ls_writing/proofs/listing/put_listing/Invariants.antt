@@ -1,5 +1,4 @@
-use Rattle.std.proofs.Common.{◌≡◌, ◌≤◌, ◌+◌, ◌*◌, ◌-◌, ◌++◌, ℕ, List}
-use Rattle.ls_texts.specs.Rooms.{Says}
+use Rattle.ls_writing.proofs.Vocabulary.{◌*◌, ◌++◌, ◌+◌, ◌-◌, ◌≡◌, ◌≤◌, List, Says, ℕ}
 use Rattle.ls_writing.proofs.Pages.{page_bytes}
 use Rattle.ls_writing.proofs.listing.put_listing.Given as goal
 

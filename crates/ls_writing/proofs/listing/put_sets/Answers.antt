@@ -1,8 +1,4 @@
-use Rattle.std.proofs.Common.{◌<◌, ◌≤◌, ◌++◌, length, map, take, ap, ◌∙◌, arith}
-use Rattle.std.proofs.lemmas.List.{take_all}
-use Rattle.ls_reply.specs.Texts.{line_of, bytes_of}
-use Rattle.ls_reply.specs.Lines.{set_words}
-use Rattle.ls_texts.proofs.Saying.{says_then, says_as, says_nothing}
+use Rattle.ls_writing.proofs.Vocabulary.{◌++◌, ◌<◌, ◌∙◌, ◌≤◌, ap, arith, bytes_of, length, line_of, map, says_as, says_nothing, says_then, set_words, take, take_all}
 use Rattle.ls_writing.proofs.Joins.{bytes_of-none, bytes_of-next}
 use Rattle.ls_writing.proofs.listing.put_sets.Goals as goal
 

@@ -1,7 +1,4 @@
-use Rattle.std.proofs.Common.{take, map}
-use Rattle.ls_reply.specs.Texts.{bytes_of}
-use Rattle.ls_reply.specs.Lines.{set_words}
-use Rattle.ls_texts.specs.Rooms.{Says}
+use Rattle.ls_writing.proofs.Vocabulary.{Says, bytes_of, map, set_words, take}
 use Rattle.ls_writing.proofs.listing.put_sets.Given as goal
 
 abbrev pub invariant-loop-set : goal.invariant-loop-set

@@ -1,10 +1,6 @@
-use Rattle.std.proofs.Common.{◌∷◌, [], codes, option_copied, ap, sym, subst, ◌∙◌, arith}
-use Rattle.ls_reply.specs.Texts.{line_of}
-use Rattle.ls_reply.specs.Refusals.{double_words, refusal_words}
+use Rattle.ls_writing.proofs.Vocabulary.{◌∙◌, ◌∷◌, [], ap, arith, codes, double_words, line_of, names_in, option_copied, refusal_words, says_as, says_then, subst, sym}
 use Rattle.ls_reply.specs.declared.refusal.Refusal.{Refusal}
-use Rattle.ls_texts.specs.Names.{names_in}
 use Rattle.ls_writing.specs.Names.{CanRefuse}
-use Rattle.ls_texts.proofs.Saying.{says_then, says_as}
 use Rattle.ls_writing.proofs.Joins.{line-spaced}
 use Rattle.ls_writing.proofs.refusals.put_refusal.Goals as goal
 

@@ -1,10 +1,6 @@
-use Rattle.std.proofs.Common.{◌∷◌, [], codes, decimal, option_copied, ap, sym, ◌∙◌}
-use Rattle.ls_reply.specs.Texts.{line_of}
+use Rattle.ls_writing.proofs.Vocabulary.{◌∙◌, ◌∷◌, Text, [], ap, codes, decimal, line_of, names_in, option_copied, says_as, sym}
 use Rattle.ls_reply.specs.Refusals.{surmise_words}
 use Rattle.ls_theory.specs.declared.surmise_fault.SurmiseFault.{SurmiseFault}
-use Rattle.ls_lines.specs.Lines.{Text}
-use Rattle.ls_texts.specs.Names.{names_in}
-use Rattle.ls_texts.proofs.Saying.{says_as}
 use Rattle.ls_writing.proofs.start_refusals.put_surmise_fault.Goals as goal
 
 pub returns-in-NoClause : goal.returns-in-NoClause

@@ -1,7 +1,7 @@
 use Rattle.std.proofs.Common.{ℕ, ◌≡◌, true, List, get_or, slice_get, Some, refl, ap, ◌∙◌, sym}
 use Rattle.std.proofs.lemmas.Map.Keys.{any_passes_from_place}
 use Rattle.std.proofs.lemmas.Option.{slice_get_within, slice_get-get_or}
-use Rattle.ls_set.specs.ItemSet.{Items, is_among, is_same}
+use Rattle.ls_set.specs.{Items, is_among, is_same}
 use Rattle.ls_set.proofs.Sets.{Decides-is_same}
 use Rattle.ls_assess.proofs.pupil.Pupil.result.Goals as goal
 

@@ -1,7 +1,4 @@
-use Rattle.std.proofs.Common.{◌≡◌, List, sym, subst}
-use Rattle.ls_set.specs.ItemSet.{Items}
-use Rattle.ls_theory.specs.Bases.{base}
-use Rattle.ls_laws.specs.Spans.{spanned}
+use Rattle.ls_base.proofs.Vocabulary.{◌≡◌, Items, List, base, spanned, subst, sym}
 use Rattle.ls_base.proofs.Gains.{base-left_again}
 use Rattle.ls_base.proofs.base.Base.after_yes.Goals as goal
 

@@ -1,5 +1,4 @@
-use Rattle.std.proofs.Common.{◌≡◌, map, take}
-use Rattle.ls_base.specs.Bases.{family, own_items}
+use Rattle.ls_base.proofs.Vocabulary.{◌≡◌, family, map, own_items, take}
 use Rattle.ls_base.proofs.base.Base.atom_sets.Given as goal
 
 abbrev pub invariant-loop-place : goal.invariant-loop-place

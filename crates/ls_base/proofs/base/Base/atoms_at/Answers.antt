@@ -1,8 +1,4 @@
-use Rattle.std.proofs.Common.{filter, sym, ap, ◌∙◌}
-use Rattle.std.proofs.lemmas.List.{take_all}
-use Rattle.ls_theory.specs.Bases.{is_atom_at, atoms_at}
-use Rattle.ls_laws.specs.Spans.{spanned}
-use Rattle.ls_laws.proofs.Spans.{spanned-in_order}
+use Rattle.ls_base.proofs.Vocabulary.{◌∙◌, ap, atoms_at, filter, is_atom_at, spanned, spanned-in_order, sym, take_all}
 use Rattle.ls_base.proofs.Spanned.{atoms_at-base}
 use Rattle.ls_base.proofs.base.Base.atoms_at.Goals as goal
 

@@ -1,5 +1,4 @@
-use Rattle.std.proofs.Common.{◌≡◌, filter, take}
-use Rattle.ls_theory.specs.Bases.{is_atom_at}
+use Rattle.ls_base.proofs.Vocabulary.{◌≡◌, filter, is_atom_at, take}
 use Rattle.ls_base.proofs.base.Base.atoms_at.Given as goal
 
 abbrev pub invariant-loop-set : goal.invariant-loop-set

@@ -1,9 +1,4 @@
-use Rattle.std.proofs.Common.{◌≤◌, List, length, Ok, refl, sym, ap, ◌∙◌, subst}
-use Rattle.std.proofs.lemmas.Result.{err_from_is_err_and}
-use Rattle.ls_set.specs.ItemSet.{Items}
-use Rattle.ls_theory.specs.Bases.{base, most_base_sets}
-use Rattle.ls_laws.specs.Spans.{spanned}
-use Rattle.ls_base.specs.Bases.{IsPastOf}
+use Rattle.ls_base.proofs.Vocabulary.{◌∙◌, ◌≤◌, IsPastOf, Items, List, Ok, ap, base, err_from_is_err_and, length, most_base_sets, refl, spanned, subst, sym}
 use Rattle.ls_base.proofs.Given.{first_missing-is, based-missing, based-base, IsFaultOf-past}
 use Rattle.ls_base.proofs.base.Base.from_sets.Goals as goal
 

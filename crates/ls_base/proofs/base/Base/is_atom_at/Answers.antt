@@ -1,9 +1,4 @@
-use Rattle.std.proofs.Common.{◌<◌, length, sym, ap, ◌∙◌, subst}
-use Rattle.std.proofs.lemmas.List.{get_or_read}
-use Rattle.ls_set.specs.ItemSet.{empty}
-use Rattle.ls_theory.specs.Bases.{is_atom_at}
-use Rattle.ls_laws.specs.Spans.{spanned}
-use Rattle.ls_base.specs.Bases.{BaseState}
+use Rattle.ls_base.proofs.Vocabulary.{◌<◌, ◌∙◌, BaseState, ap, empty, get_or_read, is_atom_at, length, spanned, subst, sym}
 use Rattle.ls_base.proofs.Spanned.{is_atom_at-base}
 use Rattle.ls_base.proofs.base.Base.is_atom_at.Goals as goal
 

@@ -1,8 +1,4 @@
-use Rattle.std.proofs.Common.{◌≡◌, List, sym, ◌∙◌, subst}
-use Rattle.std.proofs.lemmas.Bool.{not-true}
-use Rattle.ls_set.specs.ItemSet.{Items}
-use Rattle.ls_theory.specs.Bases.{base}
-use Rattle.ls_laws.specs.Spans.{spanned, left_by}
+use Rattle.ls_base.proofs.Vocabulary.{◌∙◌, ◌≡◌, Items, List, base, left_by, not-true, spanned, subst, sym}
 use Rattle.ls_base.proofs.Gains.{base-unbroken}
 use Rattle.ls_base.proofs.base.Base.is_unchanged.Goals as goal
 

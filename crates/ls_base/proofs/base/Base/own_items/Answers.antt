@@ -1,9 +1,4 @@
-use Rattle.std.proofs.Common.{ℕ, ◌≡◌, ◌<◌, List, length, get_or, sym, ap, ◌∙◌, subst, refl}
-use Rattle.std.proofs.lemmas.List.{get_or_read}
-use Rattle.ls_set.specs.ItemSet.{Items, minus, empty}
-use Rattle.ls_laws.specs.Spans.{spanned}
-use Rattle.ls_laws.proofs.Spans.{spanned-in_order}
-use Rattle.ls_base.specs.Bases.{BaseState, own_items}
+use Rattle.ls_base.proofs.Vocabulary.{◌<◌, ◌∙◌, ◌≡◌, BaseState, Items, List, ℕ, ap, empty, get_or, get_or_read, length, minus, own_items, refl, spanned, spanned-in_order, subst, sym}
 use Rattle.ls_base.proofs.OwnItems.{own-place, own-less, own-atoms}
 use Rattle.ls_base.proofs.base.Base.own_items.Goals as goal
 

@@ -1,9 +1,4 @@
-use Rattle.std.proofs.Common.{◌≡◌, ◌≤◌, List, length, sym, ap, subst, ◌∙◌}
-use Rattle.ls_set.specs.ItemSet.{Items, subsets}
-use Rattle.ls_set.proofs.Order.{subsets_from-in_order}
-use Rattle.ls_theory.specs.Bases.{base}
-use Rattle.ls_laws.proofs.Interiors.{subsets-IsUnionFamily}
-use Rattle.ls_base.specs.Bases.{BaseState, single_sets}
+use Rattle.ls_base.proofs.Vocabulary.{◌∙◌, ◌≡◌, ◌≤◌, BaseState, Items, List, ap, base, length, single_sets, subsets, subsets-IsUnionFamily, subsets_from-in_order, subst, sym}
 use Rattle.ls_base.proofs.Given.{base-given}
 use Rattle.ls_base.proofs.Spanned.{base-again, singles-on, spanned-singles, few-singles}
 use Rattle.ls_base.proofs.base.Base.singletons.Goals as goal

@@ -1,5 +1,4 @@
-use Rattle.ls_laws.specs.Spans.{spanned}
-use Rattle.ls_laws.proofs.Spans.{spanned-in_order, spanned-IsUnionFamily}
+use Rattle.ls_base.proofs.Vocabulary.{spanned, spanned-IsUnionFamily, spanned-in_order}
 use Rattle.ls_base.proofs.Spanned.{base-again}
 use Rattle.ls_base.proofs.base.Base.spanned_by.Goals as goal
 

@@ -1,5 +1,4 @@
-use Rattle.std.proofs.Common.{ap, ◌∙◌}
-use Rattle.ls_theory.specs.Families.{interior}
+use Rattle.ls_base.proofs.Vocabulary.{◌∙◌, ap, interior}
 use Rattle.ls_base.proofs.Spanned.{base-on, interior-spanned}
 use Rattle.ls_base.proofs.base.BaseInside.inside.Goals as goal
 

@@ -1,8 +1,4 @@
-use Rattle.std.proofs.Common.{subst}
-use Rattle.ls_theory.specs.Bases.{base, most_base_sets}
-use Rattle.ls_laws.specs.Spans.{left_by}
-use Rattle.ls_base.specs.Bases.{family, IsPastOf}
-use Rattle.ls_base.specs.Followed.{IsFollowed}
+use Rattle.ls_base.proofs.Vocabulary.{IsFollowed, IsPastOf, base, family, left_by, most_base_sets, subst}
 use Rattle.ls_base.proofs.Peaks.{peak-stays}
 use Rattle.ls_base.proofs.Followings.{followed-within, followed-past}
 use Rattle.ls_base.proofs.followed.Followed.after_yes.Goals as goal

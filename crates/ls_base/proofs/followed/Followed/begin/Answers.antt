@@ -1,4 +1,4 @@
-use Rattle.std.proofs.Common.{refl}
+use Rattle.ls_base.proofs.Vocabulary.{refl}
 use Rattle.ls_base.proofs.Followings.{begun}
 use Rattle.ls_base.proofs.followed.Followed.begin.Goals as goal
 

@@ -1,6 +1,4 @@
-use Rattle.std.proofs.Common.{◌++◌, ◌∷◌, [], sym, subst}
-use Rattle.ls_theory.specs.Bases.{most_base_sets}
-use Rattle.ls_base.specs.Followed.{IsFollowed}
+use Rattle.ls_base.proofs.Vocabulary.{◌++◌, ◌∷◌, IsFollowed, [], most_base_sets, subst, sym}
 use Rattle.ls_base.proofs.Peaks.{peak-stays}
 use Rattle.ls_base.proofs.Followings.{followed-same}
 use Rattle.ls_base.proofs.followed.Followed.is_unchanged.Goals as goal

@@ -1,6 +1,4 @@
-use Rattle.std.proofs.Common.{◌≡◌, ◌+◌, [], ◌∷◌, ◌++◌, length, take, sym, ap, ◌∙◌, subst, arith}
-use Rattle.std.proofs.lemmas.List.{take_more, length-take-le}
-use Rattle.ls_base.specs.Followed.{IsFollowed}
+use Rattle.ls_base.proofs.Vocabulary.{◌++◌, ◌+◌, ◌∙◌, ◌∷◌, ◌≡◌, IsFollowed, [], ap, arith, length, length-take-le, subst, sym, take, take_more}
 use Rattle.ls_base.proofs.Followings.{good_at}
 use Rattle.ls_base.proofs.followed.Followed.over.Goals as goal
 

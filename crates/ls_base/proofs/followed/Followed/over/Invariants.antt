@@ -1,10 +1,4 @@
-use Rattle.std.proofs.Common.{◌≡◌, [], true, take}
-use Rattle.ls_set.specs.Query.{is_good}
-use Rattle.ls_set.specs.declared.query.Query.{Query}
-use Rattle.ls_theory.specs.Starts.{Start}
-use Rattle.ls_theory.specs.Compatible.{compat}
-use Rattle.ls_theory.specs.Bases.{base}
-use Rattle.ls_base.specs.Followed.{IsAskable, IsFollowed}
+use Rattle.ls_base.proofs.Vocabulary.{◌≡◌, IsAskable, IsFollowed, Query, Start, [], base, compat, is_good, take, true}
 use Rattle.ls_base.proofs.followed.Followed.over.Given as goal
 
 abbrev pub invariant-loop-place : goal.invariant-loop-place

@@ -1,5 +1,4 @@
-use Rattle.std.proofs.Common.{sym, subst}
-use Rattle.ls_base.specs.Trail.{IsTrail}
+use Rattle.ls_base.proofs.Vocabulary.{IsTrail, subst, sym}
 use Rattle.ls_base.proofs.trail.Trail.follow.Goals as goal
 
 pub returns-clause-trail : goal.returns-clause-trail

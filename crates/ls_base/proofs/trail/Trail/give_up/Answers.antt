@@ -1,5 +1,4 @@
-use Rattle.std.proofs.Common.{sym, ◌∙◌, ap, subst}
-use Rattle.ls_base.specs.Trail.{IsTrail, given_up}
+use Rattle.ls_base.proofs.Vocabulary.{◌∙◌, IsTrail, ap, given_up, subst, sym}
 use Rattle.ls_base.proofs.Trails.{trail-given_up}
 use Rattle.ls_base.proofs.trail.Trail.give_up.Goals as goal
 

@@ -1,9 +1,4 @@
-use Rattle.std.proofs.Common.{◌≡◌, ◌<◌, ◌+◌, ◌∙◌, ap, sym, arith, length, drop}
-use Rattle.std.proofs.lemmas.Grind.{common_steps}
-use Rattle.std.proofs.lemmas.Option.{slice_get_within}
-use Rattle.csv.specs.Records.{fields_of}
-use Rattle.ls_domain.proofs.Numbers.{is_name-utf8}
-use Rattle.ls_class.specs.Tables.{most_class_pupils, marked}
+use Rattle.ls_class.proofs.Vocabulary.{◌+◌, ◌<◌, ◌∙◌, ◌≡◌, ap, arith, common_steps, drop, fields_of, is_name-utf8, length, marked, most_class_pupils, slice_get_within, sym}
 use Rattle.ls_class.proofs.Headers.{field_at-get}
 use Rattle.ls_class.proofs.Kept.{named-rows}
 use Rattle.ls_class.proofs.Rows.{next_row-no_field, next_row-no_name, next_row-no_marks, next_row-some, next_name-none, next_name-full, next_name-again, next_name-new}

@@ -1,8 +1,4 @@
-use Rattle.std.proofs.Common.{◌≡◌, ◌+◌, ◌++◌, ◌∷◌, [], ◌∙◌, ap, sym, arith, length, map, take, drop, Some, None, option_map}
-use Rattle.std.proofs.lemmas.Grind.{common_steps}
-use Rattle.csv.specs.Records.{fields_of}
-use Rattle.ls_domain.specs.Domains.{table_records}
-use Rattle.ls_class.specs.Tables.{most_class_pupils, columns_of, class_of, rows_from, next_row}
+use Rattle.ls_class.proofs.Vocabulary.{◌++◌, ◌+◌, ◌∙◌, ◌∷◌, ◌≡◌, None, Some, [], ap, arith, class_of, columns_of, common_steps, drop, fields_of, length, map, most_class_pupils, next_row, option_map, rows_from, sym, table_records, take}
 use Rattle.ls_class.proofs.Rows.{class_of-none, class_of-begun, class_in-bad, class_of-rows, loop-next, loop-fault, loop-end, passed_on}
 use Rattle.ls_class.proofs.class_table.ClassTable.from_csv.Goals as goal
 

@@ -1,6 +1,4 @@
-use Rattle.std.proofs.Common.{◌≡◌, [], map, drop}
-use Rattle.csv.specs.Records.{fields_of}
-use Rattle.ls_class.specs.Tables.{rows_from}
+use Rattle.ls_class.proofs.Vocabulary.{◌≡◌, [], drop, fields_of, map, rows_from}
 use Rattle.ls_class.proofs.class_table.ClassTable.from_csv.Given as goal
 
 -- the rows so far and those of the records to come are those of all

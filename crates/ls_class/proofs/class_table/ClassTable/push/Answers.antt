@@ -1,5 +1,4 @@
-use Rattle.std.proofs.Common.{◌∙◌, map, length, ap, sym, arith, length-append}
-use Rattle.std.proofs.lemmas.List.{length-map}
+use Rattle.ls_class.proofs.Vocabulary.{◌∙◌, ap, arith, length, length-append, length-map, map, sym}
 use Rattle.ls_class.proofs.Kept.{row_kept, put_last}
 use Rattle.ls_class.proofs.class_table.ClassTable.push.Goals as goal
 

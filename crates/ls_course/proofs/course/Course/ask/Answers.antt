@@ -1,12 +1,5 @@
-use Rattle.std.proofs.Common.{◌≡◌, ◌<◌, [], List, Some, length, sym, ap, ◌∙◌, subst}
-use Rattle.std.proofs.lemmas.Result.{IfOk-weaker}
-use Rattle.ls_lines.specs.Lines.{Text}
-use Rattle.ls_reply.specs.Effects.{Effect, answers}
-use Rattle.ls_reply.specs.Meanings.{request_of, unnamed_places}
-use Rattle.ls_reply.specs.Rows.{view_row}
-use Rattle.ls_reply.specs.Replies.{asked_effect, unnamed_at}
+use Rattle.ls_course.proofs.Vocabulary.{◌<◌, ◌∙◌, ◌≡◌, CourseState, Effect, IfOk-weaker, List, Some, Text, [], answers, ap, asked_effect, length, request_of, subst, sym, unnamed_at, unnamed_places, view_row}
 use Rattle.ls_reply.specs.declared.request.Request.TheVariants as request
-use Rattle.ls_course.specs.States.{CourseState}
 use Rattle.ls_views.proofs.Replying.{asked-view}
 use Rattle.ls_course.proofs.Told.{on_ok}
 use Rattle.ls_course.proofs.course.Course.ask.Given as given

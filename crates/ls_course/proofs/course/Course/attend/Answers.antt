@@ -1,6 +1,4 @@
-use Rattle.std.proofs.Common.{sym}
-use Rattle.std.proofs.lemmas.Result.{IfOk-weaker}
-use Rattle.ls_base.specs.Trail.{trail_sets}
+use Rattle.ls_course.proofs.Vocabulary.{IfOk-weaker, sym, trail_sets}
 use Rattle.ls_course.proofs.Told.{told-pupil}
 use Rattle.ls_course.proofs.course.Course.attend.Goals as goal
 

@@ -1,10 +1,5 @@
-use Rattle.std.proofs.Common.{length, ap, sym, ◌∙◌, subst, option_copied}
-use Rattle.std.proofs.lemmas.Result.{IfOk-weaker}
-use Rattle.ls_base.specs.Trail.{trail_sets}
+use Rattle.ls_course.proofs.Vocabulary.{◌∙◌, CanSay, CourseState, IfOk-weaker, ap, can-view, length, option_copied, subst, sym, trail_sets}
 use Rattle.ls_meanings.specs.Asked.{IsOn}
-use Rattle.ls_views.specs.Views.{CanSay}
-use Rattle.ls_views.proofs.Saying.{can-view}
-use Rattle.ls_course.specs.States.{CourseState}
 use Rattle.ls_course.proofs.Trailed.{last-sets}
 use Rattle.ls_course.proofs.course.Course.based.Goals as goal
 

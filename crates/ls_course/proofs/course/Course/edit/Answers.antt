@@ -1,7 +1,4 @@
-use Rattle.std.proofs.Common.{sym, subst}
-use Rattle.std.proofs.lemmas.Result.{IfOk-weaker}
-use Rattle.ls_base.specs.Trail.{trail_sets}
-use Rattle.ls_views.specs.Views.{CanSay}
+use Rattle.ls_course.proofs.Vocabulary.{CanSay, IfOk-weaker, subst, sym, trail_sets}
 use Rattle.ls_course.proofs.Told.{told-answer}
 use Rattle.ls_course.proofs.course.Course.edit.Goals as goal
 

@@ -1,5 +1,4 @@
-use Rattle.std.proofs.Common.{sym}
-use Rattle.ls_base.specs.Trail.{trail_sets}
+use Rattle.ls_course.proofs.Vocabulary.{sym, trail_sets}
 use Rattle.ls_course.proofs.Told.{told-pupil}
 use Rattle.ls_course.proofs.course.Course.set.Goals as goal
 

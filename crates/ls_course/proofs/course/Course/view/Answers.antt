@@ -1,8 +1,4 @@
-use Rattle.std.proofs.Common.{◌≡◌, length, sym, ap, ◌∙◌, subst, true≢false}
-use Rattle.ls_expert.specs.Held.{IsStanding}
-use Rattle.ls_reply.specs.Rows.{view_row}
-use Rattle.ls_course.specs.States.{CourseState, CanTell}
-use Rattle.ls_views.proofs.Saying.{can-view}
+use Rattle.ls_course.proofs.Vocabulary.{◌∙◌, ◌≡◌, CanTell, CourseState, IsStanding, ap, can-view, length, subst, sym, true≢false, view_row}
 use Rattle.ls_course.proofs.course.Course.view.Goals as goal
 use Rattle.ls_course.proofs.course.Course.view.Goals.{in-Paths+in-Some-1, in-Paths+in-None-1, in-Known-1}
 

@@ -1,9 +1,4 @@
-use Rattle.std.proofs.Common.{◌≡◌, ◌∙◌, [], ◌∷◌, ◌++◌, length, map, take, ap, sym, append_assoc, append-nil}
-use Rattle.std.proofs.Math.Seq.{take-append_seam}
-use Rattle.std.specs.List.{join_with_byte}
-use Rattle.ls_set.specs.ItemSet.{items}
-use Rattle.ls_lists.proofs.Joins.{gap-snoc}
-use Rattle.ls_domain.specs.Texts.{name_of, names_of_set}
+use Rattle.ls_domain.proofs.Vocabulary.{◌++◌, ◌∙◌, ◌∷◌, ◌≡◌, [], ap, append-nil, append_assoc, gap-snoc, items, join_with_byte, length, map, name_of, names_of_set, sym, take, take-append_seam}
 use Rattle.ls_domain.proofs.Joins.{word_joined}
 use Rattle.ls_domain.proofs.Numbers.{listed-below}
 use Rattle.ls_domain.proofs.domain.Domain.append_names.Goals as goal

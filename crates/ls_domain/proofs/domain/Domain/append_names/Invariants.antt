@@ -1,8 +1,4 @@
-use Rattle.std.proofs.Common.{◌≡◌, ◌++◌, map}
-use Rattle.std.specs.List.{join_with_byte}
-use Rattle.ls_set.specs.ItemSet.{items}
-use Rattle.ls_lists.specs.Lists.{gap}
-use Rattle.ls_domain.specs.Texts.{name_of}
+use Rattle.ls_domain.proofs.Vocabulary.{◌++◌, ◌≡◌, gap, items, join_with_byte, map, name_of}
 use Rattle.ls_domain.proofs.domain.Domain.append_names.Given as goal
 
 abbrev pub invariant-loop-item : goal.invariant-loop-item

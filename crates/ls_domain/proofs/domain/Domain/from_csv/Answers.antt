@@ -1,10 +1,4 @@
-use Rattle.std.proofs.Common.{◌≡◌, ◌∙◌, ◌+◌, length, map, take, drop, slice_get, ap, sym, arith, Some, Err}
-use Rattle.std.proofs.lemmas.Grind.{common_steps}
-use Rattle.csv.specs.Records.{fields_of}
-use Rattle.ls_set.specs.declared.item_set.TheConstants.{PLACES}
-use Rattle.ls_lists.proofs.Places.{begun-some}
-use Rattle.ls_domain.specs.Domains.{IsFaultOf, names_from, names_of_table, table_records}
-use Rattle.ls_domain.specs.declared.domain_fault.DomainFault.TheVariants.{BadCsv}
+use Rattle.ls_domain.proofs.Vocabulary.{◌+◌, ◌∙◌, ◌≡◌, BadCsv, Err, IsFaultOf, PLACES, Some, ap, arith, begun-some, common_steps, drop, fields_of, length, map, names_from, names_of_table, slice_get, sym, table_records, take}
 use Rattle.ls_domain.proofs.Rows.{record_field, loop-next, loop-bad, loop-fault, loop-end, some_rows, table-begun, even_field-good, even_field-bad}
 use Rattle.ls_domain.proofs.domain.Domain.from_csv.Goals as goal
 

@@ -1,6 +1,4 @@
-use Rattle.std.proofs.Common.{◌≡◌, [], map, drop, length}
-use Rattle.csv.specs.Records.{fields_of}
-use Rattle.ls_domain.specs.Domains.{names_from}
+use Rattle.ls_domain.proofs.Vocabulary.{◌≡◌, [], drop, fields_of, length, map, names_from}
 use Rattle.ls_domain.proofs.Rows.{record_field}
 use Rattle.ls_domain.proofs.domain.Domain.from_csv.Given as goal
 

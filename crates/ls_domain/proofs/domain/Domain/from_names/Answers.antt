@@ -1,6 +1,4 @@
-use Rattle.std.proofs.Common.{◌≡◌, ◌∙◌, ◌≤◌, ◌<◌, ◌+◌, length, map, drop, get_or, ap, sym, refl, arith, Some, subst}
-use Rattle.std.proofs.lemmas.Grind.{common_steps}
-use Rattle.ls_domain.specs.Domains.{IsFaultOf, IsNameFault, name_fault, names_from, names_of_words}
+use Rattle.ls_domain.proofs.Vocabulary.{◌+◌, ◌<◌, ◌∙◌, ◌≡◌, ◌≤◌, IsFaultOf, IsNameFault, Some, ap, arith, common_steps, drop, get_or, length, map, name_fault, names_from, names_of_words, refl, subst, sym}
 use Rattle.ls_domain.proofs.Rows.{loop-next, loop-fault, loop-end, some_rows, words_read, not_none}
 use Rattle.ls_domain.proofs.domain.Domain.from_names.Goals as goal
 

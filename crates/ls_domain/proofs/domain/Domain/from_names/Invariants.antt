@@ -1,5 +1,4 @@
-use Rattle.std.proofs.Common.{◌≡◌, [], map, drop, Some}
-use Rattle.ls_domain.specs.Domains.{names_from}
+use Rattle.ls_domain.proofs.Vocabulary.{◌≡◌, Some, [], drop, map, names_from}
 use Rattle.ls_domain.proofs.domain.Domain.from_names.Given as goal
 
 abbrev pub invariant-loop-word : goal.invariant-loop-word

@@ -1,7 +1,4 @@
-use Rattle.std.proofs.Common.{◌≡◌, ◌∙◌, ◌<◌, ◌≤◌, length, get_or, ap, sym, not, false}
-use Rattle.ls_set.proofs.Sets.{empty-within}
-use Rattle.ls_lists.proofs.Places.{moved-zero, moved-here, moved-next, moved-none}
-use Rattle.ls_domain.specs.Meanings.{is_named, number_of}
+use Rattle.ls_domain.proofs.Vocabulary.{◌<◌, ◌∙◌, ◌≡◌, ◌≤◌, ap, empty-within, false, get_or, is_named, length, moved-here, moved-next, moved-none, moved-zero, not, number_of, sym}
 use Rattle.ls_domain.proofs.Numbers.{is_named-some, is_named-none, with-within, items_of-next}
 use Rattle.ls_domain.proofs.domain.Domain.read_set.Goals as goal
 

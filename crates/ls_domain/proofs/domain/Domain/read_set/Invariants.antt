@@ -1,7 +1,4 @@
-use Rattle.std.proofs.Common.{◌≡◌, length, take, drop}
-use Rattle.ls_set.specs.ItemSet.{full, IsWithin}
-use Rattle.ls_lists.specs.Lists.{moved}
-use Rattle.ls_domain.specs.Meanings.{items_of, first_unnamed}
+use Rattle.ls_domain.proofs.Vocabulary.{◌≡◌, IsWithin, drop, first_unnamed, full, items_of, length, moved, take}
 use Rattle.ls_domain.proofs.domain.Domain.read_set.Given as goal
 
 abbrev pub invariant-loop-index : goal.invariant-loop-index

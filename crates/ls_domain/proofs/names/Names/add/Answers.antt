@@ -1,7 +1,4 @@
-use Rattle.std.proofs.Common.{◌∙◌, ◌≤◌, ◌<◌, length, ap, sym, arith}
-use Rattle.std.proofs.lemmas.Grind.{common_steps}
-use Rattle.ls_set.specs.declared.item_set.TheConstants.{PLACES}
-use Rattle.ls_domain.specs.Meanings.{number_of}
+use Rattle.ls_domain.proofs.Vocabulary.{◌<◌, ◌∙◌, ◌≤◌, PLACES, ap, arith, common_steps, length, number_of, sym}
 use Rattle.ls_domain.proofs.Numbers.{is_name-utf8, is_named-none}
 use Rattle.ls_domain.proofs.Rows.{fault-again, fault-many, fault-none}
 use Rattle.ls_domain.proofs.names.Names.add.Goals as goal

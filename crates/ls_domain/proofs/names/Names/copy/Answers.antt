@@ -1,5 +1,4 @@
-use Rattle.std.proofs.Common.{◌∙◌, sym, subst}
-use Rattle.ls_domain.specs.Domains.{AreNames}
+use Rattle.ls_domain.proofs.Vocabulary.{◌∙◌, AreNames, subst, sym}
 use Rattle.ls_domain.proofs.Numbers.{texts_of_clones}
 use Rattle.ls_domain.proofs.names.Names.copy.Goals as goal
 

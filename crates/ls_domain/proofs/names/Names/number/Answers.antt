@@ -1,8 +1,4 @@
-use Rattle.std.proofs.Common.{◌∙◌, ap, arith, string_bytes}
-use Rattle.std.proofs.lemmas.Grind.{common_steps}
-use Rattle.std.specs.List.{position}
-use Rattle.std.specs.Str.{bytes_eq}
-use Rattle.ls_lists.proofs.Places.{position-map}
+use Rattle.ls_domain.proofs.Vocabulary.{◌∙◌, ap, arith, bytes_eq, common_steps, position, position-map, string_bytes}
 use Rattle.ls_domain.proofs.names.Names.number.Goals as goal
 
 pub returns-clause-value : goal.returns-clause-value

@@ -1,13 +1,6 @@
-use Rattle.std.proofs.Common.{◌≡◌, ◌∙◌, ap, sym, subst, List, [], ◌∷◌, ◌++◌, string_bytes, String, Global, map, false, refl}
-use Rattle.std.specs.List.{list_any}
-use Rattle.std.specs.Str.{bytes_eq}
+use Rattle.ls_domain.proofs.Vocabulary.{◌++◌, ◌∙◌, ◌∷◌, ◌≡◌, AreNames, Global, List, String, Text, [], ap, bytes_eq, false, is_named, list_any, list_any-map, map, map-append, refl, string_bytes, subst, sym}
 use Rattle.std.specs.String.{string_eq}
-use Rattle.std.proofs.lemmas.List.{map-append}
-use Rattle.ls_lists.proofs.Every.{list_any-map}
 use Rattle.indexmap.specs.IndexSet.{insert_key}
-use Rattle.ls_lines.specs.Lines.{Text}
-use Rattle.ls_domain.specs.Meanings.{is_named}
-use Rattle.ls_domain.specs.Domains.{AreNames}
 use Rattle.ls_domain.proofs.Numbers.{AreNames-push}
 use Rattle.ls_domain.proofs.names.Names.push.Goals as goal
 

@@ -1,7 +1,4 @@
-use Rattle.std.proofs.Common.{◌∙◌, sym, subst, List, ℕ}
-use Rattle.std.specs.List.{All}
-use Rattle.ls_drill.specs.HiddenOrders.{related}
-use Rattle.ls_drill.specs.Draws.{IsPair}
+use Rattle.ls_drill.proofs.Vocabulary.{◌∙◌, All, IsPair, List, ℕ, related, subst, sym}
 use Rattle.ls_drill.proofs.Chains.{at-place, are_pairs, related-ordered}
 use Rattle.ls_drill.proofs.Closures.{kept}
 use Rattle.ls_drill.proofs.hidden.Hidden.from_number.Goals as goal

@@ -1,9 +1,6 @@
-use Rattle.std.proofs.Common.{◌≡◌, ◌-◌, List, length, Some, sym, subst}
-use Rattle.std.specs.List.{slice_get}
+use Rattle.ls_enum.proofs.Vocabulary.{◌-◌, ◌≡◌, AreFronts, IsFront, Items, List, Some, length, slice_get, subst, sym}
 use Rattle.std.proofs.lemmas.Option.{slice_get_within, get_or_from_slice_get}
-use Rattle.ls_set.specs.ItemSet.{Items}
 use Rattle.ls_enum.specs.declared.fronts.Front.{Front}
-use Rattle.ls_enum.specs.Fronts.{IsFront, AreFronts}
 use Rattle.ls_enum.proofs.Reaches.{later-front}
 use Rattle.ls_enum.proofs.fronts.Fronts.at.Goals as goal
 

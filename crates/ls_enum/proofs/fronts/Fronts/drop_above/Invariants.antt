@@ -1,4 +1,4 @@
-use Rattle.std.proofs.Common.{◌≤◌, length}
+use Rattle.ls_enum.proofs.Vocabulary.{◌≤◌, length}
 use Rattle.ls_enum.proofs.fronts.Fronts.drop_above.Given as goal
 
 -- so many fronts are looked at still

@@ -1,4 +1,4 @@
-use Rattle.std.proofs.Common.{sym, ◌∙◌}
+use Rattle.ls_enum.proofs.Vocabulary.{◌∙◌, sym}
 use Rattle.ls_enum.proofs.Left.{left-first, left-none, left-shorter}
 use Rattle.ls_enum.proofs.states.StatesIterator.next.Goals as goal
 

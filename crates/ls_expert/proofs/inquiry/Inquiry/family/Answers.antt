@@ -1,5 +1,4 @@
-use Rattle.std.proofs.Common.{ap, ◌∙◌}
-use Rattle.ls_theory.specs.Compatible.{compat, compatible_sets}
+use Rattle.ls_expert.proofs.Vocabulary.{◌∙◌, ap, compat, compatible_sets}
 use Rattle.ls_expert.proofs.Ruling.{ruled-compat}
 use Rattle.ls_expert.proofs.inquiry.Inquiry.family.Goals as goal
 

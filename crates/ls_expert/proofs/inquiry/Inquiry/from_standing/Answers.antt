@@ -1,14 +1,4 @@
-use Rattle.std.proofs.Common.{◌≡◌, ◌∙◌, Ok, true, refl, sym, ap, true≢false}
-use Rattle.std.specs.Bool.{Decides}
-use Rattle.std.specs.List.{list_all}
-use Rattle.ls_set.specs.Query.{is_good}
-use Rattle.ls_theory.specs.declared.answer.Answer.{Answer}
-use Rattle.ls_theory.specs.Interviews.{Interview, yes_queries}
-use Rattle.ls_theory.specs.Blocks.{made}
-use Rattle.ls_laws.specs.Forced.{IsSound}
-use Rattle.ls_expert.specs.Starts.{StartOn, start_of}
-use Rattle.ls_expert.specs.Held.{blocks_of, interview_on, IsHeld}
-use Rattle.ls_expert.specs.Saved.{are_broken}
+use Rattle.ls_expert.proofs.Vocabulary.{◌∙◌, ◌≡◌, Answer, Decides, Interview, IsHeld, IsSound, Ok, StartOn, ap, are_broken, blocks_of, interview_on, is_good, list_all, made, refl, start_of, sym, true, true≢false, yes_queries}
 use Rattle.ls_expert.proofs.Asking.{asking}
 use Rattle.ls_expert.proofs.Holding.{range-of, some-made, tabled-by, states-by}
 use Rattle.ls_expert.proofs.Saving.{made-as, ran_out, no_table, fit-decides}

@@ -1,8 +1,4 @@
-use Rattle.std.proofs.Common.{sym, ap, ◌∙◌}
-use Rattle.ls_theory.specs.Compatible.{compat}
-use Rattle.ls_theory.specs.Interviews.{Interview}
-use Rattle.ls_theory.specs.Forced.{known}
-use Rattle.ls_expert.specs.Held.{interview_of}
+use Rattle.ls_expert.proofs.Vocabulary.{◌∙◌, Interview, ap, compat, interview_of, known, sym}
 use Rattle.ls_expert.proofs.Ruling.{own_blocks, ruled-compat}
 use Rattle.ls_expert.proofs.inquiry.Inquiry.known.Goals as goal
 

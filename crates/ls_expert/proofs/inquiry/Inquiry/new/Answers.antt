@@ -1,7 +1,4 @@
-use Rattle.std.proofs.Common.{◌≡◌, refl, sym, ap, ◌∙◌, arith}
-use Rattle.ls_theory.specs.Interviews.{yes_queries}
-use Rattle.ls_expert.specs.Starts.{StartOn, start_of}
-use Rattle.ls_expert.specs.Held.{single_items, interview_of}
+use Rattle.ls_expert.proofs.Vocabulary.{◌∙◌, ◌≡◌, StartOn, ap, arith, interview_of, refl, single_items, start_of, sym, yes_queries}
 use Rattle.ls_expert.proofs.Holding.{made-one, one-made, tabled-by, states-by, begun-as, held-begun}
 use Rattle.ls_expert.proofs.Asking.{asking}
 use Rattle.ls_expert.proofs.inquiry.Inquiry.new.Given as given

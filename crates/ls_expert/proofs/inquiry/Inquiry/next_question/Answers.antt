@@ -1,15 +1,4 @@
-use Rattle.std.proofs.Common.{sym, ap, ◌∙◌, IfSome, subst, Option, Some, None, ◌≡◌, true}
-use Rattle.std.specs.Option.{option_map}
-use Rattle.ls_lists.specs.Lists.{IsIn}
-use Rattle.ls_lists.proofs.Options.{nothing}
-use Rattle.ls_set.specs.Query.{is_good}
-use Rattle.ls_set.specs.declared.query.Query.{Query}
-use Rattle.ls_theory.specs.Interviews.{Interview}
-use Rattle.ls_theory.specs.Compatible.{compat}
-use Rattle.ls_theory.specs.Blocks.{BlockRange}
-use Rattle.ls_theory.specs.Forced.{next_question}
-use Rattle.ls_query.specs.Blocks.{queries_of}
-use Rattle.ls_expert.specs.Held.{interview_of, PlaceFor}
+use Rattle.ls_expert.proofs.Vocabulary.{◌∙◌, ◌≡◌, BlockRange, IfSome, Interview, IsIn, None, Option, PlaceFor, Query, Some, ap, compat, interview_of, is_good, next_question, nothing, option_map, queries_of, subst, sym, true}
 use Rattle.ls_expert.proofs.Asking.{place-in, place-none, place-some}
 use Rattle.ls_expert.proofs.Ruling.{own_blocks, ruled-compat, question-good}
 use Rattle.ls_expert.proofs.inquiry.Inquiry.next_question.Goals as goal

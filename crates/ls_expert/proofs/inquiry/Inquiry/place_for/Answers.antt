@@ -1,9 +1,4 @@
-use Rattle.std.proofs.Common.{◌∙◌, ◌≡◌, subst, find, refl, Some, None}
-use Rattle.ls_theory.specs.Interviews.{Interview}
-use Rattle.ls_theory.specs.Queries.{query_before}
-use Rattle.ls_theory.specs.Blocks.{BlockRange}
-use Rattle.ls_query.specs.Blocks.{queries_of}
-use Rattle.ls_expert.specs.Held.{PlaceFor}
+use Rattle.ls_expert.proofs.Vocabulary.{◌∙◌, ◌≡◌, BlockRange, Interview, None, PlaceFor, Some, find, queries_of, query_before, refl, subst}
 use Rattle.ls_expert.proofs.inquiry.Inquiry.place_for.Goals as goal
 
 pub returns-in-Some : goal.returns-in-Some

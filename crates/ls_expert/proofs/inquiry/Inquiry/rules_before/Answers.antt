@@ -1,7 +1,4 @@
-use Rattle.std.proofs.Common.{◌≤◌, List, length, sym, ap, ◌∙◌, subst}
-use Rattle.ls_theory.specs.declared.answer.Answer.{Answer}
-use Rattle.ls_theory.specs.Interviews.{Interview, yes_queries}
-use Rattle.ls_expert.specs.Held.{rules_before}
+use Rattle.ls_expert.proofs.Vocabulary.{◌∙◌, ◌≤◌, Answer, Interview, List, ap, length, rules_before, subst, sym, yes_queries}
 use Rattle.ls_expert.proofs.AnswerLists.{rules_before-few}
 use Rattle.ls_expert.proofs.inquiry.Inquiry.rules_before.Goals as goal
 

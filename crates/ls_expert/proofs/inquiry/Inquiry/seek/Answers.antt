@@ -1,7 +1,4 @@
-use Rattle.std.proofs.Common.{sym, ap, ◌∙◌, None}
-use Rattle.ls_theory.specs.Interviews.{Interview}
-use Rattle.ls_theory.specs.Forced.{next_question}
-use Rattle.ls_expert.specs.Held.{interview_of}
+use Rattle.ls_expert.proofs.Vocabulary.{◌∙◌, Interview, None, ap, interview_of, next_question, sym}
 use Rattle.ls_expert.proofs.Asking.{none-before_question}
 use Rattle.ls_expert.proofs.inquiry.Inquiry.seek.Goals as goal
 

@@ -1,7 +1,4 @@
-use Rattle.std.proofs.Common.{Ok, sym, ap, ◌∙◌}
-use Rattle.ls_theory.specs.Interviews.{Interview}
-use Rattle.ls_theory.specs.Blocks.{made}
-use Rattle.ls_expert.specs.Held.{interview_of}
+use Rattle.ls_expert.proofs.Vocabulary.{◌∙◌, Interview, Ok, ap, interview_of, made, sym}
 use Rattle.ls_expert.proofs.Holding.{range-of, some-made, held-blocks}
 use Rattle.ls_expert.proofs.Asking.{asking}
 use Rattle.ls_expert.proofs.inquiry.Inquiry.set_blocks.Goals as goal

@@ -1,9 +1,4 @@
-use Rattle.std.proofs.Common.{length, sym, ap, ap₂, ◌∙◌, subst, eqb-true}
-use Rattle.std.proofs.lemmas.List.{nil_from_length}
-use Rattle.ls_theory.specs.Interviews.{Interview, yes_queries}
-use Rattle.ls_clauses.specs.Starts.{IsStart}
-use Rattle.ls_expert.specs.Starts.{StartOn, start_of}
-use Rattle.ls_expert.specs.Held.{interview_of}
+use Rattle.ls_expert.proofs.Vocabulary.{◌∙◌, Interview, IsStart, StartOn, ap, ap₂, eqb-true, interview_of, length, nil_from_length, start_of, subst, sym, yes_queries}
 use Rattle.ls_expert.proofs.Holding.{tabled-by, states-by, held-start}
 use Rattle.ls_expert.proofs.Asking.{asking}
 use Rattle.ls_expert.proofs.inquiry.Inquiry.set_start.Goals as goal

@@ -1,5 +1,4 @@
-use Rattle.std.proofs.Common.{sym, ◌∙◌}
-use Rattle.ls_laws.proofs.Answering.{settles}
+use Rattle.ls_expert.proofs.Vocabulary.{◌∙◌, settles, sym}
 use Rattle.ls_expert.proofs.Ruling.{settled-is}
 use Rattle.ls_expert.proofs.inquiry.Inquiry.settled.Goals as goal
 

@@ -1,10 +1,5 @@
-use Rattle.std.proofs.Common.{ap, ◌∙◌}
-use Rattle.ls_theory.specs.Interviews.{Interview, retracted}
-use Rattle.ls_theory.specs.Compatible.{compatible_sets}
-use Rattle.ls_laws.proofs.Accepting.{compatible-fewer}
+use Rattle.ls_expert.proofs.Vocabulary.{◌∙◌, Interview, answer_with, ap, compatible-fewer, compatible_sets, interview_of, retracted}
 use Rattle.ls_infer.proofs.KeptStates.{states-part}
-use Rattle.ls_theory.specs.Answering.{answer_with}
-use Rattle.ls_expert.specs.Held.{interview_of}
 use Rattle.ls_expert.proofs.Asking.{asking}
 use Rattle.ls_expert.proofs.Retracting.{held-without_no}
 use Rattle.ls_expert.proofs.inquiry.Inquiry.take_back_no.Goals as goal

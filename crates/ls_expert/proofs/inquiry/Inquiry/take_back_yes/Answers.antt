@@ -1,12 +1,4 @@
-use Rattle.std.proofs.Common.{remove, List, arith, ap, ◌∙◌}
-use Rattle.ls_set.specs.Query.{is_good}
-use Rattle.ls_theory.specs.Interviews.{Interview, retracted}
-use Rattle.ls_theory.specs.declared.answer.Answer.{Answer}
-use Rattle.ls_theory.specs.Compatible.{compat}
-use Rattle.ls_theory.specs.Answering.{answer_with}
-use Rattle.ls_infer.specs.Tables.{TableState}
-use Rattle.ls_expert.specs.Starts.{StartOn}
-use Rattle.ls_expert.specs.Held.{interview_of, rules_before}
+use Rattle.ls_expert.proofs.Vocabulary.{◌∙◌, Answer, Interview, List, StartOn, TableState, answer_with, ap, arith, compat, interview_of, is_good, remove, retracted, rules_before}
 use Rattle.ls_expert.proofs.Ruling.{ruled-compat}
 use Rattle.ls_expert.proofs.Asking.{asking}
 use Rattle.ls_expert.proofs.Retracting.{held-without_yes, states-without_yes, rule-within, good-of, steps-over}

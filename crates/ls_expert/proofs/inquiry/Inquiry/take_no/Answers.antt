@@ -1,9 +1,4 @@
-use Rattle.std.proofs.Common.{false, refl, ap, ◌∙◌}
-use Rattle.ls_theory.specs.Interviews.{Interview}
-use Rattle.ls_theory.specs.Compatible.{compat, compatible_sets}
-use Rattle.ls_theory.specs.Answering.{refusal}
-use Rattle.ls_infer.specs.Tables.{AreStates}
-use Rattle.ls_expert.specs.Held.{interview_of}
+use Rattle.ls_expert.proofs.Vocabulary.{◌∙◌, AreStates, Interview, ap, compat, compatible_sets, false, interview_of, refl, refusal}
 use Rattle.ls_expert.proofs.Ruling.{ruled-compat}
 use Rattle.ls_expert.proofs.Asking.{still-asking}
 use Rattle.ls_expert.proofs.Taking.{held-no, tabled-no, states-no}

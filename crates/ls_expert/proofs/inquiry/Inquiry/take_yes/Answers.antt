@@ -1,13 +1,4 @@
-use Rattle.std.proofs.Common.{◌≡◌, ◌∷◌, ◌++◌, [], List, true, arith, sym, ap, ap₂, ◌∙◌}
-use Rattle.ls_set.specs.ItemSet.{Items}
-use Rattle.ls_set.specs.declared.query.Query.{Query}
-use Rattle.ls_theory.specs.Interviews.{Interview, accepted}
-use Rattle.ls_theory.specs.Compatible.{compat, compatible_sets}
-use Rattle.ls_theory.specs.Forced.{known}
-use Rattle.ls_theory.specs.Answering.{refusal}
-use Rattle.ls_infer.specs.Tables.{TableState, AreStates}
-use Rattle.ls_expert.specs.Starts.{StartOn}
-use Rattle.ls_expert.specs.Held.{interview_of, closures_of}
+use Rattle.ls_expert.proofs.Vocabulary.{◌++◌, ◌∙◌, ◌∷◌, ◌≡◌, AreStates, Interview, Items, List, Query, StartOn, TableState, [], accepted, ap, ap₂, arith, closures_of, compat, compatible_sets, interview_of, known, refusal, sym, true}
 use Rattle.ls_expert.proofs.Ruling.{ruled-compat}
 use Rattle.ls_expert.proofs.Asking.{still-asking}
 use Rattle.ls_expert.proofs.Retracting.{steps-over}

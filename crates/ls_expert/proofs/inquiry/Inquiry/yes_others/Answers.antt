@@ -1,10 +1,4 @@
-use Rattle.std.proofs.Common.{true, ◌≡◌, not, eqb, filter, List, IfOk, ap, ◌∙◌, subst}
-use Rattle.std.specs.List.{list_all}
-use Rattle.std.proofs.lemmas.Result.{IfOk-weaker}
-use Rattle.ls_set.specs.Query.{is_good}
-use Rattle.ls_set.specs.declared.query.Query.{Query}
-use Rattle.ls_theory.specs.declared.answer.Answer.{Answer}
-use Rattle.ls_theory.specs.Interviews.{Interview, yes_queries}
+use Rattle.ls_expert.proofs.Vocabulary.{◌∙◌, ◌≡◌, Answer, IfOk, IfOk-weaker, Interview, List, Query, ap, eqb, filter, is_good, list_all, not, subst, true, yes_queries}
 use Rattle.ls_expert.proofs.AnswerLists.{good-others}
 use Rattle.ls_expert.proofs.inquiry.Inquiry.yes_others.Goals as goal
 

@@ -1,8 +1,4 @@
-use Rattle.std.proofs.Common.{true, ◌≡◌, List, ap, ◌∙◌, subst}
-use Rattle.std.specs.List.{list_all}
-use Rattle.ls_set.specs.Query.{is_good}
-use Rattle.ls_set.specs.declared.query.Query.{Query}
-use Rattle.ls_theory.specs.Interviews.{Interview}
+use Rattle.ls_expert.proofs.Vocabulary.{◌∙◌, ◌≡◌, Interview, List, Query, ap, is_good, list_all, subst, true}
 use Rattle.ls_expert.proofs.AnswerLists.{all-told}
 use Rattle.ls_expert.proofs.inquiry.Inquiry.yes_queries.Goals as goal
 

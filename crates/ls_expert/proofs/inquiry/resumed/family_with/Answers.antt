@@ -1,10 +1,5 @@
-use Rattle.std.proofs.Common.{ℕ, List, ap₂, ◌∙◌}
-use Rattle.std.specs.List.{list_all}
-use Rattle.std.proofs.lemmas.Result.{IfOk-weaker}
-use Rattle.ls_set.specs.Query.{is_good}
-use Rattle.ls_set.specs.declared.query.Query.{Query}
+use Rattle.ls_expert.proofs.Vocabulary.{◌∙◌, IfOk-weaker, List, Query, StartOn, ℕ, ap₂, is_good, list_all}
 use Rattle.ls_theory.specs.Starts as theory
-use Rattle.ls_expert.specs.Starts.{StartOn}
 use Rattle.ls_expert.proofs.AnswerLists.{all-told}
 use Rattle.ls_expert.proofs.inquiry.resumed.family_with.Goals as goal
 

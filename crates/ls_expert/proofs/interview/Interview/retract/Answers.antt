@@ -1,8 +1,4 @@
-use Rattle.std.proofs.Common.{◌≡◌, List, Some, sym, ap, ◌∙◌, subst}
-use Rattle.ls_set.specs.declared.query.Query.{Query}
-use Rattle.ls_theory.specs.Interviews.{Interview, yes_queries}
-use Rattle.ls_theory.specs.Answering.{answer_with}
-use Rattle.ls_base.specs.Followed.{IsFollowed}
+use Rattle.ls_expert.proofs.Vocabulary.{◌∙◌, ◌≡◌, Interview, IsFollowed, List, Query, Some, answer_with, ap, subst, sym, yes_queries}
 use Rattle.ls_expert.proofs.AnswerLists.{yes_queries-without_no}
 use Rattle.ls_expert.proofs.interview.Interview.retract.Goals as goal
 

@@ -1,7 +1,4 @@
-use Rattle.std.proofs.Common.{◌+◌, List, length, sym, ap, subst}
-use Rattle.ls_set.specs.declared.query.Query.{Query}
-use Rattle.ls_theory.specs.Interviews.{Interview, yes_queries}
-use Rattle.ls_base.specs.Followed.{IsFollowed}
+use Rattle.ls_expert.proofs.Vocabulary.{◌+◌, Interview, IsFollowed, List, Query, ap, length, subst, sym, yes_queries}
 use Rattle.ls_expert.proofs.AnswerLists.{yes_queries-yes}
 use Rattle.ls_expert.proofs.interview.Interview.take_yes.Goals as goal
 

@@ -1,7 +1,4 @@
-use Rattle.std.proofs.Common.{sym, ap, ◌∙◌}
-use Rattle.std.proofs.lemmas.Result.{IfOk-weaker}
-use Rattle.ls_theory.specs.Bases.{base}
-use Rattle.ls_base.specs.Bases.{BaseState}
+use Rattle.ls_expert.proofs.Vocabulary.{◌∙◌, BaseState, IfOk-weaker, ap, base, sym}
 use Rattle.ls_expert.proofs.Ruling.{free-base, sets-family}
 use Rattle.ls_expert.proofs.start.Start.base.Goals as goal
 

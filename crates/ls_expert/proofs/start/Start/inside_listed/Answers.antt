@@ -1,6 +1,4 @@
-use Rattle.std.proofs.Common.{List, ap, ◌∙◌}
-use Rattle.ls_set.specs.ItemSet.{Items}
-use Rattle.ls_theory.specs.Families.{interior}
+use Rattle.ls_expert.proofs.Vocabulary.{◌∙◌, Items, List, ap, interior}
 use Rattle.ls_expert.proofs.Ruling.{free-inside, sets-family}
 use Rattle.ls_expert.proofs.start.Start.inside_listed.Goals as goal
 

@@ -1,7 +1,5 @@
-use Rattle.std.proofs.Common.{rules, ◌∙◌, ap, sym, subst}
+use Rattle.ls_family.proofs.Vocabulary.{◌∙◌, IsInOrder, ap, is_among, order_of, rules, subst, sym}
 use Rattle.std.proofs.lemmas.Fn.{always_returns_same}
-use Rattle.ls_set.specs.ItemSet.{is_among, IsInOrder}
-use Rattle.ls_clauses.specs.Orderings.{order_of}
 use Rattle.ls_clauses.proofs.Lookups.{found-by-halves}
 use Rattle.ls_family.proofs.family.Family.contains.Goals as goal
 

@@ -1,7 +1,4 @@
-use Rattle.std.proofs.Common.{rules, ◌≡◌, ◌∙◌, ap, sym, arith, Ok}
-use Rattle.std.proofs.lemmas.Grind.{common_steps}
-use Rattle.std.specs.Map.{keys_of}
-use Rattle.ls_files.specs.SetFiles.{sets_of, IsFaultOf}
+use Rattle.ls_family.proofs.Vocabulary.{◌∙◌, ◌≡◌, IsFaultOf, Ok, ap, arith, common_steps, keys_of, rules, sets_of, sym}
 use Rattle.ls_family.proofs.Rows.{sets_of-ok, sets_of-fault}
 use Rattle.ls_family.proofs.family.Family.from_text.Goals as goal
 

@@ -1,10 +1,5 @@
-use Rattle.std.proofs.Common.{rules, tests, ◌∙◌, ap, sym, subst}
-use Rattle.std.proofs.lemmas.Iterator.{items_from_collect, YieldsList-from_map}
-use Rattle.std.proofs.lemmas.Iterator.Consumers.{YieldsList-from_rest}
-use Rattle.std.proofs.lemmas.List.{map-id}
-use Rattle.std.specs.Map.{keys_of}
+use Rattle.ls_family.proofs.Vocabulary.{◌∙◌, IsInOrder, Items, YieldsList-from_map, YieldsList-from_rest, ap, items_from_collect, keys_of, map-id, rules, subst, sym, tests}
 use Rattle.std.proofs.lemmas.Result.{IfOk-weaker}
-use Rattle.ls_set.specs.ItemSet.{Items, IsInOrder}
 use Rattle.ls_family.proofs.FoundSets.{in_order-keys}
 use Rattle.ls_family.proofs.found.Found.sets.Goals as goal
 

@@ -1,7 +1,4 @@
-use Rattle.std.proofs.Common.{◌≡◌, ◌∙◌, ◌≤◌, ◌<◌, length, ap, sym, arith, Some, None, Ok}
-use Rattle.std.specs.BTreeMap.{insert_entry}
-use Rattle.ls_clauses.specs.Orderings.{order_of}
-use Rattle.ls_files.specs.SetFiles.{row_found, most_members}
+use Rattle.ls_family.proofs.Vocabulary.{◌<◌, ◌∙◌, ◌≡◌, ◌≤◌, None, Ok, Some, ap, arith, insert_entry, length, most_members, order_of, row_found, sym}
 use Rattle.ls_family.proofs.FoundSets.{row-get, placed-inserted, with_set-repeat, with_set-many, with_set-placed}
 use Rattle.ls_family.proofs.found.Found.take_set.Goals as goal
 use Rattle.ls_family.proofs.found.Found.take_set.Goals.{in-Ok, in-Err}

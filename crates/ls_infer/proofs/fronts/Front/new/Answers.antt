@@ -1,6 +1,4 @@
-use Rattle.ls_set.specs.ItemSet.{has}
-use Rattle.std.proofs.Common.{true≢false, sym, ap, ◌∙◌}
-use Rattle.ls_set.proofs.Sets.{has-empty}
+use Rattle.ls_infer.proofs.Vocabulary.{◌∙◌, ap, has, has-empty, sym, true≢false}
 use Rattle.ls_infer.proofs.fronts.Front.new.Goals as goal
 
 pub returns-clause-front : goal.returns-clause-front

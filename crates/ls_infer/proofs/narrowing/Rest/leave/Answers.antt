@@ -1,6 +1,4 @@
-use Rattle.std.proofs.Common.{ap, arith}
-use Rattle.ls_set.specs.ItemSet.{len, meet}
-use Rattle.ls_set.proofs.Sizes.{len-within}
+use Rattle.ls_infer.proofs.Vocabulary.{ap, arith, len, len-within, meet}
 use Rattle.ls_infer.proofs.Sharing.{meet-left}
 use Rattle.ls_infer.proofs.narrowing.Rest.leave.Goals as goal
 

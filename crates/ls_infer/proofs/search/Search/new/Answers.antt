@@ -1,5 +1,4 @@
-use Rattle.ls_set.specs.ItemSet.{full}
-use Rattle.ls_set.proofs.Sets.{minus-within}
+use Rattle.ls_infer.proofs.Vocabulary.{full, minus-within}
 use Rattle.ls_infer.proofs.search.Search.new.Goals as goal
 
 pub inside-requires : goal.inside-requires

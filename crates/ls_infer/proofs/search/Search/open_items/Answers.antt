@@ -1,13 +1,4 @@
-use Rattle.std.proofs.Common.{◌&&◌, not, sym, ap, ◌∙◌, subst}
-use Rattle.std.specs.List.{list_any}
-use Rattle.std.proofs.Math.Bool.{and_assoc}
-use Rattle.ls_set.specs.ItemSet.{has, full}
-use Rattle.ls_set.specs.Query.{is_good}
-use Rattle.ls_lists.specs.Lists.{IsIn}
-use Rattle.ls_theory.specs.Queries.{blocks}
-use Rattle.ls_theory.specs.Families.{closure}
-use Rattle.ls_query.proofs.QuerySets.{asked_of}
-use Rattle.ls_infer.specs.Tables.{forces}
+use Rattle.ls_infer.proofs.Vocabulary.{◌&&◌, ◌∙◌, IsIn, and_assoc, ap, asked_of, blocks, closure, forces, full, has, is_good, list_any, not, subst, sym}
 use Rattle.ls_infer.proofs.Searching.{outside-good}
 use Rattle.ls_infer.proofs.search.Search.open_items.Goals as goal
 

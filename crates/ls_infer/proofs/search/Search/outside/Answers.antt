@@ -1,9 +1,4 @@
-use Rattle.std.proofs.Common.{◌≡◌, sym, ap, ◌∙◌, arith}
-use Rattle.std.specs.Option.{unwrap_or}
-use Rattle.ls_set.specs.ItemSet.{has, full}
-use Rattle.ls_set.proofs.Sets.{minus-within}
-use Rattle.ls_laws.proofs.Families.{family_sets}
-use Rattle.ls_infer.specs.Search.{outside_of}
+use Rattle.ls_infer.proofs.Vocabulary.{◌∙◌, ◌≡◌, ap, arith, family_sets, full, has, minus-within, outside_of, sym, unwrap_or}
 use Rattle.ls_infer.proofs.Outside.{outside-within, outside-same, outside-left}
 use Rattle.ls_infer.proofs.search.Search.outside.Goals as goal
 

@@ -1,12 +1,5 @@
-use Rattle.std.proofs.Common.{◌≡◌, true, List, sym, ap, ◌∙◌, arith}
-use Rattle.ls_set.specs.ItemSet.{Items, full, has, IsWithin}
-use Rattle.ls_set.proofs.Sets.{minus-within, union-within, IsWithin-from}
-use Rattle.ls_theory.specs.Families.{closure}
-use Rattle.ls_laws.proofs.Breaks.{good-from}
-use Rattle.ls_laws.proofs.ClosureChanges.{closure_holds}
-use Rattle.ls_infer.specs.Changes.{IsChange}
+use Rattle.ls_infer.proofs.Vocabulary.{◌∙◌, ◌≡◌, IsChange, IsWithin, IsWithin-from, Items, List, ap, arith, closure, closure_holds, enough_for, full, good-from, has, minus-within, standing, sym, true, union-within}
 use Rattle.ls_infer.specs.declared.yes_change.YesChange.TheVariants as YesChange
-use Rattle.ls_infer.specs.Tables.{enough_for, standing}
 use Rattle.ls_infer.proofs.States.{good-item, reached}
 use Rattle.ls_infer.proofs.Standing.{kept-parts, kept-again, after-again, after-lack, after-known, after-state, after-no_state}
 use Rattle.ls_infer.proofs.standing_no.StandingNo.after_yes.Given as given

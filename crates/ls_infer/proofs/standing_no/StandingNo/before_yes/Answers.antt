@@ -1,12 +1,5 @@
-use Rattle.std.proofs.Common.{◌≡◌, true, List, sym, refl, ◌∙◌, arith}
-use Rattle.ls_set.specs.ItemSet.{Items, full, has, is_among, IsWithin}
-use Rattle.ls_set.proofs.Sets.{minus-within, IsWithin-from}
-use Rattle.ls_theory.specs.Families.{closure}
-use Rattle.ls_laws.proofs.ClosureChanges.{closure_holds}
-use Rattle.ls_laws.proofs.Families.{family_sets}
-use Rattle.ls_infer.specs.Changes.{IsChange}
+use Rattle.ls_infer.proofs.Vocabulary.{◌∙◌, ◌≡◌, IsChange, IsWithin, IsWithin-from, Items, List, arith, closure, closure_holds, family_sets, full, has, is_among, minus-within, refl, standing, sym, true}
 use Rattle.ls_infer.specs.declared.yes_change.YesChange.TheVariants as YesChange
-use Rattle.ls_infer.specs.Tables.{standing}
 use Rattle.ls_infer.proofs.Outside.{outside-member}
 use Rattle.ls_infer.proofs.States.{good-item, good-several, reached}
 use Rattle.ls_infer.proofs.Standing.{kept-parts, kept-again, before-lack, before-among, before-state, standing-from}

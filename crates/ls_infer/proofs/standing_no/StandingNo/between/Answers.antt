@@ -1,9 +1,4 @@
-use Rattle.std.proofs.Common.{◌≡◌, true, ◌∙◌, ap, refl, sym, arith}
-use Rattle.ls_set.specs.ItemSet.{full, with, has, is_among, is_within}
-use Rattle.ls_theory.specs.Families.{interior}
-use Rattle.ls_laws.proofs.Breaks.{good-from}
-use Rattle.ls_laws.proofs.Families.{family_sets}
-use Rattle.ls_laws.proofs.Interiors.{is_within-interior}
+use Rattle.ls_infer.proofs.Vocabulary.{◌∙◌, ◌≡◌, ap, arith, family_sets, full, good-from, has, interior, is_among, is_within, is_within-interior, refl, sym, true, with}
 use Rattle.ls_infer.proofs.Kept.{with-within}
 use Rattle.ls_infer.proofs.Outside.{outside-member}
 use Rattle.ls_infer.proofs.States.{enough-within, with-itself, good-several}

@@ -1,6 +1,4 @@
-use Rattle.std.proofs.Common.{◌∙◌, refl}
-use Rattle.ls_laws.proofs.Breaks.{good-from}
-use Rattle.ls_laws.proofs.Families.{family_sets}
+use Rattle.ls_infer.proofs.Vocabulary.{◌∙◌, family_sets, good-from, refl}
 use Rattle.ls_infer.proofs.Outside.{outside-member}
 use Rattle.ls_infer.proofs.States.{enough-within}
 use Rattle.ls_infer.proofs.Standing.{standing-from}

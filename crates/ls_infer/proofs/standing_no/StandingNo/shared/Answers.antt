@@ -1,8 +1,4 @@
-use Rattle.std.proofs.Common.{◌≡◌, ◌∙◌, ap, arith}
-use Rattle.ls_set.specs.ItemSet.{full, IsWithin}
-use Rattle.ls_set.proofs.Sets.{minus-within}
-use Rattle.ls_laws.proofs.Breaks.{good-from}
-use Rattle.ls_laws.proofs.ClosureChanges.{closure_holds}
+use Rattle.ls_infer.proofs.Vocabulary.{◌∙◌, ◌≡◌, IsWithin, ap, arith, closure_holds, full, good-from, minus-within}
 use Rattle.ls_infer.proofs.States.{good-item, reached}
 use Rattle.ls_infer.proofs.standing_no.StandingNo.shared.Goals as goal
 

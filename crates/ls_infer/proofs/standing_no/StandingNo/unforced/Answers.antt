@@ -1,6 +1,4 @@
-use Rattle.std.proofs.Common.{not, ◌&&◌, sym, ap, ◌∙◌}
-use Rattle.ls_set.specs.ItemSet.{has}
-use Rattle.ls_set.proofs.Sets.{has-minus}
+use Rattle.ls_infer.proofs.Vocabulary.{◌&&◌, ◌∙◌, ap, has, has-minus, not, sym}
 use Rattle.ls_infer.proofs.standing_no.StandingNo.unforced.Goals as goal
 
 pub returns-then-is_within : goal.returns-then-is_within

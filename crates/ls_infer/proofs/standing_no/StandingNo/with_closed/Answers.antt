@@ -1,8 +1,4 @@
-use Rattle.std.proofs.Common.{◌≡◌, false, ◌∙◌, ap, refl, sym, arith}
-use Rattle.ls_set.specs.ItemSet.{full, is_among}
-use Rattle.ls_set.proofs.Sets.{IsWithin-from, same_within}
-use Rattle.ls_laws.proofs.Families.{family_sets}
-use Rattle.ls_infer.specs.Tables.{enough_for}
+use Rattle.ls_infer.proofs.Vocabulary.{◌∙◌, ◌≡◌, IsWithin-from, ap, arith, enough_for, false, family_sets, full, is_among, refl, same_within, sym}
 use Rattle.ls_infer.proofs.Outside.{outside-member}
 use Rattle.ls_infer.proofs.States.{enough-within, good-several}
 use Rattle.ls_infer.proofs.Standing.{kept-parts, kept-again, standing-from}

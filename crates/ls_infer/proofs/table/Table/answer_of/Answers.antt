@@ -1,5 +1,4 @@
-use Rattle.std.proofs.Common.{Some, None, sym, ap, ◌∙◌}
-use Rattle.ls_laws.proofs.Breaks.{good-from}
+use Rattle.ls_infer.proofs.Vocabulary.{◌∙◌, None, Some, ap, good-from, sym}
 use Rattle.ls_infer.proofs.Told.{told_yes, told_number, known_from}
 use Rattle.ls_infer.proofs.table.Table.answer_of.Goals as goal
 

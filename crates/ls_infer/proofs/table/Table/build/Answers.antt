@@ -1,10 +1,4 @@
-use Rattle.std.proofs.Common.{◌≡◌, map, length, take_at, sym, ap, ◌∙◌, refl, arith}
-use Rattle.ls_set.specs.ItemSet.{full}
-use Rattle.ls_theory.specs.Families.{closure}
-use Rattle.ls_theory.specs.Queries.{blocks}
-use Rattle.std.proofs.lemmas.Grind.{common_steps}
-use Rattle.ls_query.specs.Blocks.{sets_of}
-use Rattle.ls_infer.specs.Tables.{AreStates}
+use Rattle.ls_infer.proofs.Vocabulary.{◌∙◌, ◌≡◌, AreStates, ap, arith, blocks, closure, common_steps, full, length, map, refl, sets_of, sym, take_at}
 use Rattle.ls_infer.proofs.Changes.{closures-within, standing-kept}
 use Rattle.ls_infer.proofs.table.Table.build.Given as given
 use Rattle.ls_infer.proofs.table.Table.build.Goals as goal

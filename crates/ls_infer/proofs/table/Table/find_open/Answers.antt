@@ -1,14 +1,4 @@
-use Rattle.std.proofs.Common.{◌≡◌, ◌&&◌, find, map, Some, None, sym, ap, ◌∙◌, subst, arith}
-use Rattle.ls_set.specs.ItemSet.{full, minus, least}
-use Rattle.ls_theory.specs.Queries.{block_before}
-use Rattle.ls_theory.specs.Interviews.{nos}
-use Rattle.ls_theory.specs.Compatible.{compatible_sets}
-use Rattle.ls_query.specs.Blocks.{queries_of}
-use Rattle.ls_query.proofs.BlockSets.{blocks-in}
-use Rattle.ls_query.proofs.Passing.{ArePassing}
-use Rattle.ls_query.proofs.QuerySets.{queries-in}
-use Rattle.ls_infer.specs.Tables.{standing}
-use Rattle.ls_infer.specs.Search.{is_open_by}
+use Rattle.ls_infer.proofs.Vocabulary.{◌&&◌, ◌∙◌, ◌≡◌, ArePassing, None, Some, ap, arith, block_before, blocks-in, compatible_sets, find, full, is_open_by, least, map, minus, nos, queries-in, queries_of, standing, subst, sym}
 use Rattle.ls_infer.proofs.Searching.{first-from, later-from, found_open}
 use Rattle.ls_infer.proofs.table.Table.find_open.Goals as goal
 

@@ -1,15 +1,4 @@
-use Rattle.std.proofs.Common.{◌≡◌, ◌&&◌, find, slice_get, Some, None, sym, ap, ◌∙◌, subst, arith}
-use Rattle.std.specs.List.{position}
-use Rattle.ls_lists.proofs.Elements.{get-in}
-use Rattle.ls_set.specs.ItemSet.{full, is_same}
-use Rattle.ls_set.proofs.Sets.{empty-within}
-use Rattle.ls_theory.specs.Queries.{block_before}
-use Rattle.ls_laws.proofs.Breaks.{good-from}
-use Rattle.ls_laws.proofs.Counts.{len-empty}
-use Rattle.ls_query.specs.Blocks.{sets_of, queries_of}
-use Rattle.ls_query.proofs.Placed.{position-get}
-use Rattle.ls_query.proofs.Passing.{ArePassing, passing-all, next-passing, passing-later, passing-outside}
-use Rattle.ls_infer.specs.Tables.{is_open_in}
+use Rattle.ls_infer.proofs.Vocabulary.{◌&&◌, ◌∙◌, ◌≡◌, ArePassing, None, Some, ap, arith, block_before, empty-within, find, full, get-in, good-from, is_open_in, is_same, len-empty, next-passing, passing-all, passing-later, passing-outside, position, position-get, queries_of, sets_of, slice_get, subst, sym}
 use Rattle.ls_infer.proofs.Places.{first_place, next_place, place-within, place-few}
 use Rattle.ls_infer.proofs.table.Table.first_open.Goals as goal
 

@@ -1,4 +1,4 @@
-use Rattle.std.proofs.Common.{◌∙◌}
+use Rattle.ls_infer.proofs.Vocabulary.{◌∙◌}
 use Rattle.ls_infer.proofs.Questions.{next-told}
 use Rattle.ls_infer.proofs.table.Table.next_unsettled.Goals as goal
 

@@ -1,4 +1,4 @@
-use Rattle.std.proofs.Common.{sym, ◌∙◌}
+use Rattle.ls_infer.proofs.Vocabulary.{◌∙◌, sym}
 use Rattle.ls_infer.proofs.Changes.{kept-added}
 use Rattle.ls_infer.proofs.table.Table.no_added.Goals as goal
 

@@ -1,5 +1,4 @@
-use Rattle.std.proofs.Common.{not, eqb, filter, ap, ◌∙◌}
-use Rattle.ls_infer.specs.Tables.{TableState}
+use Rattle.ls_infer.proofs.Vocabulary.{◌∙◌, TableState, ap, eqb, filter, not}
 use Rattle.ls_infer.proofs.Changes.{kept-removed, standing-removed, table_is}
 use Rattle.ls_infer.proofs.table.Table.no_removed.Goals as goal
 

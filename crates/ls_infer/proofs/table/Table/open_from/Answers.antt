@@ -1,10 +1,4 @@
-use Rattle.std.proofs.Common.{◌≡◌, ◌<◌, ◌≤◌, length, find, slice_get, Some, sym, ap, ◌∙◌, arith}
-use Rattle.std.proofs.lemmas.Option.{slice_get_past}
-use Rattle.ls_theory.specs.Queries.{block_before}
-use Rattle.ls_query.specs.Blocks.{sets_of}
-use Rattle.ls_query.proofs.Passing.{first-passing, none-passing, passing-end}
-use Rattle.ls_query.proofs.QuerySets.{asked_of}
-use Rattle.ls_infer.specs.Tables.{is_open_in}
+use Rattle.ls_infer.proofs.Vocabulary.{◌<◌, ◌∙◌, ◌≡◌, ◌≤◌, Some, ap, arith, asked_of, block_before, find, first-passing, is_open_in, length, none-passing, passing-end, sets_of, slice_get, slice_get_past, sym}
 use Rattle.ls_infer.proofs.Places.{next_place, came-within}
 use Rattle.ls_infer.proofs.table.Table.open_from.Goals as goal
 

@@ -1,7 +1,4 @@
-use Rattle.std.proofs.Common.{◌≡◌, ◌&&◌, find, slice_get}
-use Rattle.ls_theory.specs.Queries.{block_before}
-use Rattle.ls_query.specs.Blocks.{sets_of, queries_of}
-use Rattle.ls_infer.specs.Tables.{is_open_in}
+use Rattle.ls_infer.proofs.Vocabulary.{◌&&◌, ◌≡◌, block_before, find, is_open_in, queries_of, sets_of, slice_get}
 use Rattle.ls_infer.proofs.table.Table.open_from.Given as goal
 
 -- the set at the place is the first after that of the walk, and no open query was passed

@@ -1,16 +1,4 @@
-use Rattle.std.proofs.Common.{ℕ, ◌≡◌, Bool, true, false, not, ◌&&◌, Some, slice_get, refl, sym, ap, ◌∙◌}
-use Rattle.std.specs.List.{list_any}
-use Rattle.std.proofs.Math.Bool.{and_assoc}
-use Rattle.ls_lists.proofs.Elements.{get-in}
-use Rattle.ls_set.specs.ItemSet.{Items, has, full, minus}
-use Rattle.ls_set.specs.Query.{is_good}
-use Rattle.ls_set.proofs.Sets.{has-minus}
-use Rattle.ls_theory.specs.Queries.{blocks}
-use Rattle.ls_query.proofs.BlockSets.{blocks-in}
-use Rattle.ls_query.proofs.Placed.{position-at}
-use Rattle.ls_query.proofs.QuerySets.{asked_of}
-use Rattle.ls_query.proofs.Passing.{good_items}
-use Rattle.ls_infer.specs.Tables.{TableState, forces, closed_of, is_open_in}
+use Rattle.ls_infer.proofs.Vocabulary.{◌&&◌, ◌∙◌, ◌≡◌, Bool, Items, Some, TableState, ℕ, and_assoc, ap, asked_of, blocks, blocks-in, closed_of, false, forces, full, get-in, good_items, has, has-minus, is_good, is_open_in, list_any, minus, not, position-at, refl, slice_get, sym, true}
 use Rattle.ls_infer.proofs.Kept.{none_left}
 use Rattle.ls_infer.proofs.table.Table.open_items.Goals as goal
 

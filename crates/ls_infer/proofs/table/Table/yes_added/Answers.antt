@@ -1,8 +1,4 @@
-use Rattle.std.proofs.Common.{◌≡◌, List, subst}
-use Rattle.ls_set.specs.ItemSet.{Items}
-use Rattle.ls_laws.specs.Families.{IsFamily}
-use Rattle.ls_laws.specs.Spans.{left_by}
-use Rattle.ls_infer.specs.Tables.{TableState, AreStates, table_of}
+use Rattle.ls_infer.proofs.Vocabulary.{◌≡◌, AreStates, IsFamily, Items, List, TableState, left_by, subst, table_of}
 use Rattle.ls_infer.proofs.KeptStates.{states-left}
 use Rattle.ls_infer.proofs.table.Table.yes_added.Given as given
 use Rattle.ls_infer.proofs.table.Table.yes_added.Goals as goal

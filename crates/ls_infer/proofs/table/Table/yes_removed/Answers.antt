@@ -1,8 +1,4 @@
-use Rattle.std.proofs.Common.{refl, sym, ap, ◌∙◌}
-use Rattle.ls_laws.proofs.Breaks.{IsGood, good-from}
-use Rattle.ls_set.specs.ItemSet.{has}
-use Rattle.ls_infer.specs.Tables.{table_of}
-use Rattle.ls_laws.proofs.ClosureChanges.{left-IsPart}
+use Rattle.ls_infer.proofs.Vocabulary.{◌∙◌, IsGood, ap, good-from, has, left-IsPart, refl, sym, table_of}
 use Rattle.ls_infer.proofs.Changes.{yes-given}
 use Rattle.ls_infer.proofs.KeptStates.{states-part}
 use Rattle.ls_infer.proofs.table.Table.yes_removed.Goals as goal

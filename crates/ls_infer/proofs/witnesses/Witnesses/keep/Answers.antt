@@ -1,7 +1,4 @@
-use Rattle.std.proofs.Common.{ap, ◌∙◌}
-use Rattle.std.specs.List.{list_all}
-use Rattle.ls_lists.proofs.Every.{list_all-set}
-use Rattle.ls_set.specs.ItemSet.{is_among}
+use Rattle.ls_infer.proofs.Vocabulary.{◌∙◌, ap, is_among, list_all, list_all-set}
 use Rattle.ls_infer.proofs.witnesses.Witnesses.keep.Goals as goal
 
 pub returns-in-Some : goal.returns-in-Some

@@ -1,6 +1,4 @@
-use Rattle.std.proofs.Common.{rules, not, filter, ap, ◌∙◌}
-use Rattle.std.proofs.lemmas.Fn.{filter_same}
-use Rattle.ls_theory.specs.Queries.{breaks}
+use Rattle.ls_infer.proofs.Vocabulary.{◌∙◌, ap, breaks, filter, filter_same, not, rules}
 use Rattle.ls_infer.proofs.witnesses.Witnesses.let_go.Goals as goal
 
 pub returns : goal.returns

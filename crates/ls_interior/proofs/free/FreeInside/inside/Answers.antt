@@ -1,5 +1,5 @@
 use Rattle.std.proofs.Common.{sym, ◌∙◌}
-use Rattle.ls_set.specs.ItemSet.{full, subsets}
+use Rattle.ls_set.specs.{full, subsets}
 use Rattle.ls_set.proofs.Sets.{is_within-from}
 use Rattle.ls_set.proofs.Order.{among-subsets}
 use Rattle.ls_laws.proofs.Interiors.{interior-member}

@@ -1,7 +1,7 @@
 use Rattle.std.proofs.Common.{arith, rules, ap, ◌∙◌}
 use Rattle.std.specs.Option.{unwrap_or}
 use Rattle.std.proofs.lemmas.List.Sorted.{IsPartitionPoint-from_clause}
-use Rattle.ls_set.specs.ItemSet.{empty, comes_before}
+use Rattle.ls_set.specs.{comes_before, empty}
 use Rattle.ls_interior.proofs.Firsts.{parted, interior-from}
 use Rattle.ls_interior.proofs.listed.ListedInside.inside.Goals as goal
 

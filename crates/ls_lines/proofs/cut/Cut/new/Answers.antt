@@ -1,5 +1,4 @@
-use Rattle.std.proofs.Common.{◌≡◌, ◌+◌, ◌-◌, ◌∙◌, arith, rules, sym, map, drop, take}
-use Rattle.std.proofs.lemmas.List.{take_rest, map-append}
+use Rattle.ls_lines.proofs.Vocabulary.{◌+◌, ◌-◌, ◌∙◌, ◌≡◌, arith, drop, map, map-append, rules, sym, take, take_rest}
 use Rattle.ls_lines.proofs.Ascii.{all-ascii}
 use Rattle.ls_lines.proofs.Cutting.{cut_more, cut_stuck, cut_left, cut_done}
 use Rattle.ls_lines.proofs.cut.Cut.new.Goals as goal

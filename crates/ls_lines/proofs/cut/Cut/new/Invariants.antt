@@ -1,6 +1,4 @@
-use Rattle.std.proofs.Common.{◌≡◌, ◌≤◌, ◌++◌, drop, length, option_map, map, All}
-use Rattle.std.specs.Str.{IsAscii}
-use Rattle.ls_lines.specs.Commands.{cut}
+use Rattle.ls_lines.proofs.Vocabulary.{◌++◌, ◌≡◌, ◌≤◌, All, IsAscii, cut, drop, length, map, option_map}
 use Rattle.ls_lines.proofs.cut.Cut.new.Given as goal
 
 abbrev pub invariant-loop-part : goal.invariant-loop-part

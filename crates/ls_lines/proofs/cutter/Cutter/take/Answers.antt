@@ -1,5 +1,4 @@
-use Rattle.std.proofs.Common.{◌≡◌, ◌+◌, ◌-◌, ◌<◌, ◌==◌, length, sym, ◌∙◌, subst, refl, arith, IfSome, length-take}
-use Rattle.ls_lines.specs.Lines.{lines}
+use Rattle.ls_lines.proofs.Vocabulary.{◌+◌, ◌-◌, ◌<◌, ◌==◌, ◌∙◌, ◌≡◌, IfSome, arith, length, length-take, lines, refl, subst, sym}
 use Rattle.ls_lines.proofs.Cuts.{split_uncut, split_first}
 use Rattle.ls_lines.proofs.cutter.Cutter.take.Goals as goal
 

@@ -1,4 +1,4 @@
-use Rattle.std.proofs.Common.{◌≡◌, take}
+use Rattle.ls_lines.proofs.Vocabulary.{◌≡◌, take}
 use Rattle.ls_lines.proofs.word_list.WordList.copy.Given as goal
 
 abbrev pub invariant-loop-word : goal.invariant-loop-word

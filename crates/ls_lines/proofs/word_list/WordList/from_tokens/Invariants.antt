@@ -1,4 +1,4 @@
-use Rattle.std.proofs.Common.{◌≡◌, take}
+use Rattle.ls_lines.proofs.Vocabulary.{◌≡◌, take}
 use Rattle.ls_lines.proofs.word_list.WordList.from_tokens.Given as goal
 
 abbrev pub invariant-loop-token : goal.invariant-loop-token

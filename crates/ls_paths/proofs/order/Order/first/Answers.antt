@@ -1,6 +1,4 @@
-use Rattle.ls_set.specs.declared.item_set.TheConstants.{PLACES}
-use Rattle.std.proofs.Common.{sym, ap, ◌∙◌}
-use Rattle.ls_set.specs.ItemSet.{full, minus}
+use Rattle.ls_paths.proofs.Vocabulary.{◌∙◌, PLACES, ap, full, minus, sym}
 use Rattle.ls_paths.proofs.Written.{outside-all}
 use Rattle.ls_paths.proofs.Padding.{zeros-behind, as-long, grown-length}
 use Rattle.ls_paths.proofs.order.Order.first.Goals as goal

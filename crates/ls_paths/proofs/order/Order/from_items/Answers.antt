@@ -1,5 +1,4 @@
-use Rattle.std.proofs.Common.{length, refl, arith}
-use Rattle.ls_set.specs.declared.item_set.TheConstants.{PLACES}
+use Rattle.ls_paths.proofs.Vocabulary.{PLACES, arith, length, refl}
 use Rattle.ls_paths.proofs.Padding.{no-order, order-small, other-set, an-order}
 use Rattle.ls_paths.proofs.order.Order.from_items.Goals as goal
 

@@ -1,5 +1,4 @@
-use Rattle.std.proofs.Common.{length, ap}
-use Rattle.ls_set.specs.declared.item_set.TheConstants.{PLACES}
+use Rattle.ls_paths.proofs.Vocabulary.{PLACES, ap, length}
 use Rattle.ls_paths.proofs.Padding.{zeros-behind, as-long}
 use Rattle.ls_paths.proofs.order.Order.listing.Goals as goal
 

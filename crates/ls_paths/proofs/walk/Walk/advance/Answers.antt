@@ -1,9 +1,4 @@
-use Rattle.std.proofs.Common.{◌≡◌, sym, ap, ◌∙◌, true, arith}
-use Rattle.std.proofs.lemmas.List.{take_all}
-use Rattle.ls_set.specs.ItemSet.{empty, full}
-use Rattle.ls_growths.specs.Levels.{reached, is_whole}
-use Rattle.ls_growths.proofs.Growths.{learning-from}
-use Rattle.ls_growths.proofs.Levels.{grown-fresh, whole-parts, whole-reaches}
+use Rattle.ls_paths.proofs.Vocabulary.{◌∙◌, ◌≡◌, ap, arith, empty, full, grown-fresh, is_whole, learning-from, reached, sym, take_all, true, whole-parts, whole-reaches}
 use Rattle.ls_paths.proofs.Walks.{follows-path}
 use Rattle.ls_paths.proofs.walk.Walk.advance.Goals as goal
 

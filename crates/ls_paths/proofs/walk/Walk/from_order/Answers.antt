@@ -1,9 +1,4 @@
-use Rattle.std.proofs.Common.{sym, ap, ◌∙◌}
-use Rattle.ls_set.specs.ItemSet.{empty}
-use Rattle.ls_growths.specs.Growths.{next_growth}
-use Rattle.ls_growths.specs.Levels.{leaves_below}
-use Rattle.ls_growths.proofs.Growths.{learning-from}
-use Rattle.ls_growths.proofs.Levels.{order-fresh, order-parts}
+use Rattle.ls_paths.proofs.Vocabulary.{◌∙◌, ap, empty, learning-from, leaves_below, next_growth, order-fresh, order-parts, sym}
 use Rattle.ls_paths.proofs.Padding.{order-within}
 use Rattle.ls_paths.proofs.Walks.{follows}
 use Rattle.ls_paths.proofs.walk.Walk.from_order.Goals as goal

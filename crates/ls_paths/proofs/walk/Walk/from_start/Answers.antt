@@ -1,7 +1,4 @@
-use Rattle.std.proofs.Common.{sym}
-use Rattle.ls_growths.proofs.Growths.{learning-from}
-use Rattle.ls_growths.proofs.PathOrder.{paths-begin}
-use Rattle.ls_growths.proofs.Levels.{first-whole}
+use Rattle.ls_paths.proofs.Vocabulary.{first-whole, learning-from, paths-begin, sym}
 use Rattle.ls_paths.proofs.walk.Walk.from_start.Goals as goal
 
 pub invariant_of-result : goal.invariant_of-result

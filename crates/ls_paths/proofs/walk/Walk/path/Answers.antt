@@ -1,5 +1,4 @@
-use Rattle.ls_growths.proofs.Growths.{learning-from}
-use Rattle.ls_growths.proofs.Levels.{whole-order}
+use Rattle.ls_paths.proofs.Vocabulary.{learning-from, whole-order}
 use Rattle.ls_paths.proofs.Padding.{order-items}
 use Rattle.ls_paths.proofs.walk.Walk.path.Goals as goal
 

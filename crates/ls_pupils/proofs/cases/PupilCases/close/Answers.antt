@@ -1,7 +1,4 @@
-use Rattle.std.proofs.Common.{◌≡◌, List, get_or, Some, sym, ap, ◌∙◌, subst}
-use Rattle.std.proofs.lemmas.Option.{slice_get-get_or}
-use Rattle.ls_pupils.specs.Cases.{IsOwnCase}
-use Rattle.ls_pupils.specs.declared.cases.PupilCase.{PupilCase}
+use Rattle.ls_pupils.proofs.Vocabulary.{◌∙◌, ◌≡◌, IsOwnCase, List, PupilCase, Some, ap, get_or, slice_get-get_or, subst, sym}
 use Rattle.ls_pupils.proofs.cases.PupilCases.close.Goals as goal
 
 pub invariant_of-self : goal.invariant_of-self

@@ -1,4 +1,4 @@
-use Rattle.std.proofs.Common.{inl, inr, sym, arith}
+use Rattle.ls_query.proofs.Vocabulary.{arith, inl, inr, sym}
 use Rattle.ls_query.proofs.Counted.{made-bad, made-ok, made-wide}
 use Rattle.ls_query.proofs.blocks.Blocks.new.Goals as goal
 use Rattle.ls_query.proofs.blocks.Blocks.new.Goals.{then-k-eq0-via-then-k-eq0, then-k-eq0-via-else-k-eq0+then-k-max}

@@ -1,5 +1,4 @@
-use Rattle.ls_set.proofs.Sets.{empty-within}
-use Rattle.ls_set.specs.ItemSet.{full}
+use Rattle.ls_query.proofs.Vocabulary.{empty-within, full}
 use Rattle.ls_query.proofs.BlockSets.{first-blocks}
 use Rattle.ls_query.proofs.blocks.Blocks.next_set.Goals as goal
 

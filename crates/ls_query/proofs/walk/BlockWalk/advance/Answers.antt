@@ -1,5 +1,4 @@
-use Rattle.std.proofs.Common.{sym, ◌∙◌, arith}
-use Rattle.ls_theory.specs.Queries.{block_before}
+use Rattle.ls_query.proofs.Vocabulary.{◌∙◌, arith, block_before, sym}
 use Rattle.ls_query.proofs.Walks.{topped-next, found-of_blocks}
 use Rattle.ls_query.proofs.walk.BlockWalk.advance.Goals as goal
 

@@ -1,5 +1,4 @@
-use Rattle.std.proofs.Common.{arith}
-use Rattle.std.proofs.lemmas.List.{with_items_is}
+use Rattle.ls_rules.proofs.Vocabulary.{arith, with_items_is}
 use Rattle.ls_rules.proofs.Indexing.{Covers-push}
 use Rattle.ls_rules.proofs.index.Index.push.Goals as goal
 

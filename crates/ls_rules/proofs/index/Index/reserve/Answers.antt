@@ -1,5 +1,4 @@
-use Rattle.std.proofs.Common.{ap, ◌∙◌, arith, length}
-use Rattle.std.proofs.lemmas.List.{with_items_is}
+use Rattle.ls_rules.proofs.Vocabulary.{◌∙◌, ap, arith, length, with_items_is}
 use Rattle.std.proofs.lemmas.Result.{on_ok_weaker}
 use Rattle.ls_rules.proofs.Indexing.{spare_within-from}
 use Rattle.ls_rules.proofs.index.Index.reserve.Goals as goal

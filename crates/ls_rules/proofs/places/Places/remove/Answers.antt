@@ -1,6 +1,4 @@
-use Rattle.std.proofs.Common.{ap, ◌∙◌, map, arith}
-use Rattle.std.proofs.lemmas.List.{with_items_is}
-use Rattle.ls_rules.specs.Places.{PlaceList, lower, lowered}
+use Rattle.ls_rules.proofs.Vocabulary.{◌∙◌, PlaceList, ap, arith, lower, lowered, map, with_items_is}
 use Rattle.ls_rules.proofs.places.Places.remove.Goals as goal
 
 pub returns : goal.returns

@@ -1,7 +1,4 @@
-use Rattle.std.proofs.Common.{sym, ◌∙◌}
-use Rattle.ls_set.specs.ItemSet.{is_same}
-use Rattle.ls_set.proofs.Sets.{empty-within, Decides-is_same}
-use Rattle.ls_laws.proofs.Interiors.{interior-within, interior-is}
+use Rattle.ls_rules.proofs.Vocabulary.{◌∙◌, Decides-is_same, empty-within, interior-is, interior-within, is_same, sym}
 use Rattle.ls_rules.proofs.Reaching.{inside_settled, inside_whole}
 use Rattle.ls_rules.proofs.ruled.Ruled.inside_ruled.Goals as goal
 

@@ -1,9 +1,4 @@
-use Rattle.std.proofs.Common.{Some, ap, sym, ◌∙◌}
-use Rattle.ls_set.specs.ItemSet.{is_among, is_same, meet, minus, without}
-use Rattle.ls_set.proofs.Sets.{Decides-is_same}
-use Rattle.ls_set.proofs.Members.{among-filter}
-use Rattle.std.proofs.lemmas.Bool.{and_parts}
-use Rattle.ls_theory.specs.Queries.{breaks_none}
+use Rattle.ls_rules.proofs.Vocabulary.{◌∙◌, Decides-is_same, Some, among-filter, and_parts, ap, breaks_none, is_among, is_same, meet, minus, sym, without}
 use Rattle.ls_rules.proofs.Reaching.{none_under, nothing_woken, without_settled}
 use Rattle.ls_rules.proofs.ruled.Ruled.inside_ruled_without.Goals as goal
 

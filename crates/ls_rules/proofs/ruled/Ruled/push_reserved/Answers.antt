@@ -1,9 +1,7 @@
-use Rattle.std.proofs.Common.{arith}
-use Rattle.ls_laws.proofs.Breaks.{good-from}
+use Rattle.ls_rules.proofs.Vocabulary.{arith, good-from, several}
 use Rattle.ls_rules.proofs.Alone.{several-within, has-alone}
 use Rattle.ls_rules.proofs.Indexing.{room_for, room_within, IsIndexed-push}
 use Rattle.ls_rules.proofs.Rounds.{below, first-within}
-use Rattle.ls_rules.specs.Parts.{several}
 use Rattle.ls_rules.proofs.ruled.Ruled.push_reserved.Goals as goal
 
 pub push-requires-clause-room : goal.push-requires-clause-room

@@ -1,9 +1,4 @@
-use Rattle.std.proofs.Common.{◌≡◌, length, eqb-true, sym, ap, ◌∙◌, arith}
-use Rattle.std.specs.List.{remove}
-use Rattle.std.proofs.lemmas.List.{nil_from_length}
-use Rattle.ls_set.specs.declared.query.Query.{Query}
-use Rattle.ls_lists.proofs.Every.{list_all-remove}
-use Rattle.ls_set.specs.Query.{is_good}
+use Rattle.ls_rules.proofs.Vocabulary.{◌∙◌, ◌≡◌, Query, ap, arith, eqb-true, is_good, length, list_all-remove, nil_from_length, remove, sym}
 use Rattle.ls_rules.proofs.Alone.{AreSingles-room}
 use Rattle.ls_rules.proofs.Indexing.{IsIndexed-remove, IsIndexed-clear}
 use Rattle.ls_rules.proofs.ruled.Ruled.remove.Goals as goal

@@ -1,4 +1,4 @@
-use Rattle.std.proofs.Common.{refl, arith}
+use Rattle.ls_rules.proofs.Vocabulary.{arith, refl}
 use Rattle.ls_rules.proofs.Indexing.{IsIndexed-reserve}
 use Rattle.ls_rules.proofs.ruled.Ruled.reserve.Goals as goal
 

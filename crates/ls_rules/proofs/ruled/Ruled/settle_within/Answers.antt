@@ -1,9 +1,4 @@
-use Rattle.std.proofs.Common.{◌≡◌, true, false, sym, ◌∙◌, arith}
-use Rattle.ls_set.specs.ItemSet.{is_within}
-use Rattle.ls_set.proofs.Sets.{IsWithin-from}
-use Rattle.ls_set.proofs.Sizes.{len-within}
-use Rattle.ls_theory.specs.Families.{interior}
-use Rattle.ls_laws.proofs.Interiors.{interior-within}
+use Rattle.ls_rules.proofs.Vocabulary.{◌∙◌, ◌≡◌, IsWithin-from, arith, false, interior, interior-within, is_within, len-within, sym, true}
 use Rattle.ls_rules.proofs.Reaching.{none_settled, none_inside, nothing_fell, nothing_lost, fewer_kept, Going-settled, Going-more}
 use Rattle.ls_rules.proofs.ruled.Ruled.settle_within.Goals as goal
 

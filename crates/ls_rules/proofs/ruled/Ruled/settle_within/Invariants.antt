@@ -1,6 +1,4 @@
-use Rattle.std.proofs.Common.{◌≡◌, true}
-use Rattle.ls_set.specs.ItemSet.{len, is_among, IsWithin}
-use Rattle.ls_rules.specs.Waking.{Settling}
+use Rattle.ls_rules.proofs.Vocabulary.{◌≡◌, IsWithin, Settling, is_among, len, true}
 use Rattle.ls_rules.proofs.Reaching.{Going}
 use Rattle.ls_rules.proofs.ruled.Ruled.settle_within.Given as goal
 

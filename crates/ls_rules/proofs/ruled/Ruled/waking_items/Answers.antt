@@ -1,4 +1,4 @@
-use Rattle.ls_rules.specs.Parts.{several}
+use Rattle.ls_rules.proofs.Vocabulary.{several}
 use Rattle.ls_rules.proofs.Alone.{covered_all}
 use Rattle.ls_rules.proofs.Indexing.{covered}
 use Rattle.ls_rules.proofs.ruled.Ruled.waking_items.Goals as goal

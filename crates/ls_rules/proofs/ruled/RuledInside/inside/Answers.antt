@@ -1,6 +1,4 @@
-use Rattle.std.proofs.Common.{◌≡◌, sym, ap, ◌∙◌, eqb-true, length, arith}
-use Rattle.std.proofs.lemmas.List.{nil_from_length}
-use Rattle.ls_theory.specs.Families.{interior}
+use Rattle.ls_rules.proofs.Vocabulary.{◌∙◌, ◌≡◌, ap, arith, eqb-true, interior, length, nil_from_length, sym}
 use Rattle.ls_rules.proofs.Reaching.{without_rules}
 use Rattle.ls_rules.proofs.ruled.RuledInside.inside.Goals as goal
 

@@ -1,5 +1,4 @@
-use Rattle.std.proofs.Common.{◌≡◌, sym, ◌∙◌, eqb-true, length, arith}
-use Rattle.std.proofs.lemmas.List.{nil_from_length}
+use Rattle.ls_rules.proofs.Vocabulary.{◌∙◌, ◌≡◌, arith, eqb-true, length, nil_from_length, sym}
 use Rattle.ls_rules.proofs.Reaching.{without_rules}
 use Rattle.ls_rules.proofs.ruled.RuledInside.inside_without.Goals as goal
 

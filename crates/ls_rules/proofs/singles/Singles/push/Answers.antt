@@ -1,6 +1,4 @@
-use Rattle.std.proofs.Common.{ap, ◌∙◌}
-use Rattle.ls_set.specs.ItemSet.{with}
-use Rattle.ls_rules.specs.Sets.{set_at}
+use Rattle.ls_rules.proofs.Vocabulary.{◌∙◌, ap, set_at, with}
 use Rattle.ls_rules.proofs.Alone.{put-single, CoversSets-put}
 use Rattle.ls_rules.proofs.singles.Singles.push.Goals as goal
 

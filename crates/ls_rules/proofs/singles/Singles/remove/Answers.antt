@@ -1,4 +1,4 @@
-use Rattle.ls_rules.specs.Singles.{asked_alone}
+use Rattle.ls_rules.proofs.Vocabulary.{asked_alone}
 use Rattle.ls_rules.proofs.Alone.{put-single, CoversSets-put}
 use Rattle.ls_rules.proofs.Indexing.{small_items}
 use Rattle.ls_rules.proofs.singles.Singles.remove.Goals as goal

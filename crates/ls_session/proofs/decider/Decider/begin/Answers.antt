@@ -1,10 +1,4 @@
-use Rattle.std.proofs.Common.{◌≡◌, ◌∙◌, false, sym, ap}
-use Rattle.ls_domain.specs.Domains.{names_of_words}
-use Rattle.ls_reply.specs.Sessions.{has_domain}
-use Rattle.ls_reply.specs.Effects.{changes}
-use Rattle.ls_reply.proofs.Effects.{items_row-begins}
-use Rattle.ls_session.specs.Courses.{standing_session}
-use Rattle.ls_conduct.proofs.Deciding.{makes_as}
+use Rattle.ls_session.proofs.Vocabulary.{◌∙◌, ◌≡◌, ap, changes, false, has_domain, items_row-begins, makes_as, names_of_words, standing_session, sym}
 use Rattle.ls_session.proofs.Beginning.{has_domain-is}
 use Rattle.ls_session.proofs.decider.Decider.begin.Goals as goal
 

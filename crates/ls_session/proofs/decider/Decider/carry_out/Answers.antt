@@ -1,11 +1,4 @@
-use Rattle.std.proofs.Common.{◌≡◌, ◌<◌, length, Option, Ok, refl, sym, subst}
-use Rattle.ls_reply.specs.Replies.{command_effect}
-use Rattle.ls_reply.specs.declared.refusal.Refusal.TheVariants.{Unnamed}
-use Rattle.ls_reply.specs.declared.response.Response.TheVariants.{Refused}
-use Rattle.ls_course.specs.States.{CourseState}
-use Rattle.ls_conduct.specs.Decides.{Decides}
-use Rattle.ls_conduct.proofs.Deciding.{decides_made, needed-without}
-use Rattle.ls_session.specs.Courses.{standing_session}
+use Rattle.ls_session.proofs.Vocabulary.{◌<◌, ◌≡◌, CourseState, Decides, Ok, Option, Refused, Unnamed, command_effect, decides_made, length, needed-without, refl, standing_session, subst, sym}
 use Rattle.ls_session.proofs.decider.Decider.carry_out.Goals as goal
 
 pub carry_out-requires-clause-named : goal.carry_out-requires-clause-named

@@ -1,7 +1,4 @@
-use Rattle.std.proofs.Common.{refl, ap}
-use Rattle.ls_reply.specs.Replies.{command_effect}
-use Rattle.ls_session.specs.Courses.{standing_session}
-use Rattle.ls_conduct.proofs.Deciding.{decides_made, decides_as, needs_domain}
+use Rattle.ls_session.proofs.Vocabulary.{ap, command_effect, decides_as, decides_made, needs_domain, refl, standing_session}
 use Rattle.ls_session.proofs.decider.Decider.decide.Goals as goal
 
 pub returns-in-Nothing-clause-decides : goal.returns-in-Nothing-clause-decides

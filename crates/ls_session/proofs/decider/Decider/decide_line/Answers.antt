@@ -1,9 +1,5 @@
-use Rattle.std.proofs.Common.{Err, Some, refl, ap, ◌∙◌}
-use Rattle.ls_reply.proofs.Effects.{line_effect-long, line_effect-command, line_effect-fault}
+use Rattle.ls_session.proofs.Vocabulary.{◌∙◌, Err, Some, ap, command_effect, decides_as, decides_made, decides_nothing, line_effect-command, line_effect-fault, line_effect-long, refl, standing_session}
 use Rattle.ls_lines.specs.declared.command.Command.TheVariants as command
-use Rattle.ls_reply.specs.Replies.{command_effect}
-use Rattle.ls_session.specs.Courses.{standing_session}
-use Rattle.ls_conduct.proofs.Deciding.{decides_made, decides_as, decides_nothing}
 use Rattle.ls_session.proofs.decider.Decider.decide_line.Goals as goal
 
 pub returns-then-line-gt-LONGEST_LINE-clause-decides : goal.returns-then-line-gt-LONGEST_LINE-clause-decides

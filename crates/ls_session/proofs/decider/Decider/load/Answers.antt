@@ -1,11 +1,4 @@
-use Rattle.std.proofs.Common.{◌≡◌, ◌∙◌, true, false, refl, sym, ap, subst}
-use Rattle.ls_edge.specs.Files.{Fetches}
-use Rattle.ls_lines.specs.Lines.{Text}
-use Rattle.ls_reply.specs.Sessions.{has_domain}
-use Rattle.ls_reply.specs.Effects.{changes}
-use Rattle.ls_reply.proofs.Effects.{load_items_row-stands}
-use Rattle.ls_session.specs.Courses.{standing_session}
-use Rattle.ls_conduct.proofs.Deciding.{decides_made}
+use Rattle.ls_session.proofs.Vocabulary.{◌∙◌, ◌≡◌, Fetches, Text, ap, changes, decides_made, false, has_domain, load_items_row-stands, refl, standing_session, subst, sym, true}
 use Rattle.ls_session.proofs.Beginning.{has_domain-is}
 use Rattle.ls_session.proofs.Beginning.{decides_loaded}
 use Rattle.ls_session.proofs.decider.Decider.load.Goals as goal

@@ -1,10 +1,4 @@
-use Rattle.std.proofs.Common.{refl, subst}
-use Rattle.ls_edge.specs.Files.{Fetches}
-use Rattle.ls_lines.specs.Lines.{Text}
-use Rattle.ls_reply.specs.Effects.{changes}
-use Rattle.ls_reply.specs.Saving.{open_row}
-use Rattle.ls_session.specs.Courses.{standing_session}
-use Rattle.ls_conduct.proofs.Fetching.{decides_fetched}
+use Rattle.ls_session.proofs.Vocabulary.{Fetches, Text, changes, decides_fetched, open_row, refl, standing_session, subst}
 use Rattle.ls_session.proofs.decider.Decider.open.Goals as goal
 
 pub returns-clause-decides : goal.returns-clause-decides

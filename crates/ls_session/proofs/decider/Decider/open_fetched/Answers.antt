@@ -1,12 +1,5 @@
-use Rattle.std.proofs.Common.{◌≡◌, ◌∙◌, sym, ap, subst}
-use Rattle.ls_saved.specs.Reading.{session_of}
-use Rattle.ls_reply.specs.Scenes.{Fetched, Bytes}
-use Rattle.ls_reply.specs.Effects.{changes}
-use Rattle.ls_reply.specs.Rows.{file_refusals, bytes_fetched}
-use Rattle.ls_reply.specs.Saving.{opened_by}
-use Rattle.ls_session.specs.Courses.{standing_session}
-use Rattle.ls_conduct.specs.Decides.{IsFetched}
-use Rattle.ls_conduct.proofs.Deciding.{makes_as}
+use Rattle.ls_session.proofs.Vocabulary.{◌∙◌, ◌≡◌, Bytes, Fetched, IsFetched, ap, bytes_fetched, changes, file_refusals, makes_as, opened_by, standing_session, subst, sym}
+use Rattle.ls_saved.specs.{session_of}
 use Rattle.ls_session.proofs.decider.Decider.open_fetched.Goals as goal
 
 pub returns-in-Ok-clause-makes : goal.returns-in-Ok-clause-makes

@@ -1,10 +1,4 @@
-use Rattle.std.proofs.Common.{sym, ap, ◌∙◌}
-use Rattle.ls_reply.specs.Texts.{bytes_of}
-use Rattle.ls_reply.specs.Lines.{lines_of}
-use Rattle.ls_reply.specs.declared.response.Response.{Response}
-use Rattle.ls_texts.proofs.Saying.{says_nothing, says_as}
-use Rattle.ls_writing.proofs.Joins.{bytes_of-none}
-use Rattle.ls_session.specs.Courses.{standing_session}
+use Rattle.ls_session.proofs.Vocabulary.{◌∙◌, Response, ap, bytes_of, bytes_of-none, lines_of, says_as, says_nothing, standing_session, sym}
 use Rattle.ls_session.proofs.decider.Decider.put.Goals as goal
 
 pub returns-in-Silence : goal.returns-in-Silence

@@ -1,13 +1,4 @@
-use Rattle.std.proofs.Common.{List, ◌∷◌, [], ◌∙◌, sym, ap, subst, codes, decimal}
-use Rattle.ls_lines.specs.Lines.{Text}
-use Rattle.ls_reply.specs.Texts.{line_of, bytes_of}
-use Rattle.ls_reply.specs.Refusals.{refusal_words}
-use Rattle.ls_reply.specs.Lines.{lines_of}
-use Rattle.ls_reply.specs.declared.response.Response.{Response}
-use Rattle.ls_writing.specs.Names.{CanRefuse}
-use Rattle.ls_texts.proofs.Saying.{says_nothing, says_as}
-use Rattle.ls_writing.proofs.Joins.{bytes_of-none, bytes_of-one}
-use Rattle.ls_session.specs.Courses.{standing_session, IsSayable}
+use Rattle.ls_session.proofs.Vocabulary.{◌∙◌, ◌∷◌, CanRefuse, IsSayable, List, Response, Text, [], ap, bytes_of, bytes_of-none, bytes_of-one, codes, decimal, line_of, lines_of, refusal_words, says_as, says_nothing, standing_session, subst, sym}
 use Rattle.ls_session.proofs.Beginning.{refuses-named}
 use Rattle.ls_session.proofs.decider.Decider.put_lines.Goals as goal
 

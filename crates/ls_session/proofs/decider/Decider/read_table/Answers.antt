@@ -1,11 +1,4 @@
-use Rattle.std.proofs.Common.{◌≡◌, ◌∙◌, sym, ap, subst}
-use Rattle.ls_domain.specs.Domains.{names_of_table}
-use Rattle.ls_reply.specs.Scenes.{Fetched, Bytes}
-use Rattle.ls_reply.specs.Effects.{changes}
-use Rattle.ls_reply.specs.Rows.{started_by, file_refusals, bytes_fetched}
-use Rattle.ls_session.specs.Courses.{standing_session}
-use Rattle.ls_conduct.specs.Decides.{IsFetched}
-use Rattle.ls_conduct.proofs.Deciding.{makes_as}
+use Rattle.ls_session.proofs.Vocabulary.{◌∙◌, ◌≡◌, Bytes, Fetched, IsFetched, ap, bytes_fetched, changes, file_refusals, makes_as, names_of_table, standing_session, started_by, subst, sym}
 use Rattle.ls_session.proofs.decider.Decider.read_table.Goals as goal
 
 pub returns-in-Ok-clause-makes : goal.returns-in-Ok-clause-makes

@@ -1,6 +1,4 @@
-use Rattle.std.proofs.Common.{◌∙◌, refl}
-use Rattle.ls_texts.proofs.Saying.{wrote}
-use Rattle.ls_conduct.proofs.Deciding.{decides_nothing}
+use Rattle.ls_session.proofs.Vocabulary.{◌∙◌, decides_nothing, refl, wrote}
 use Rattle.ls_session.proofs.Following.{follows_undone, follows_whole, follows_front, follows_of}
 use Rattle.ls_session.proofs.session.Session.answer.Goals as goal
 

@@ -1,17 +1,5 @@
-use Rattle.std.proofs.Common.{◌≡◌, ◌∙◌, ◌∷◌, ℕ, List, [], Ok, true, length, codes, refl, sym, ap, ltb-true}
+use Rattle.ls_session.proofs.Vocabulary.{◌∙◌, ◌∷◌, ◌≡◌, Decides, Folder, List, LongLine, Ok, Refused, Session, ℕ, [], ap, bytes_of-one, codes, decides_made, decides_nothing, is_long, length, line_effect, line_effect-long, longest_line, ltb-true, refl, refusal_words, says_as, sym, true, wrote}
 use Rattle.std.specs.declared.option.Option.{Option}
-use Rattle.ls_edge.specs.Files.{Folder}
-use Rattle.ls_lines.specs.Lines.{is_long, longest_line}
-use Rattle.ls_reply.specs.Refusals.{refusal_words}
-use Rattle.ls_reply.specs.Sessions.{Session}
-use Rattle.ls_reply.specs.Replies.{line_effect}
-use Rattle.ls_reply.specs.declared.refusal.Refusal.TheVariants.{LongLine}
-use Rattle.ls_reply.specs.declared.response.Response.TheVariants.{Refused}
-use Rattle.ls_reply.proofs.Effects.{line_effect-long}
-use Rattle.ls_texts.proofs.Saying.{says_as, wrote}
-use Rattle.ls_writing.proofs.Joins.{bytes_of-one}
-use Rattle.ls_conduct.specs.Decides.{Decides}
-use Rattle.ls_conduct.proofs.Deciding.{decides_made, decides_nothing}
 use Rattle.ls_session.proofs.Following.{follows_undone, follows_whole, follows_front, follows_of, moves_wrote, told_failed}
 use Rattle.ls_session.proofs.session.Session.refuse_long.Goals as goal
 

@@ -1,5 +1,4 @@
-use Rattle.std.proofs.Common.{ap, arith, eqb, sym, ◌∙◌, ◌-◌, ◌+◌, ◌*◌}
-use Rattle.ls_set.specs.ItemSet.{has}
+use Rattle.ls_set.proofs.Vocabulary.{◌*◌, ◌+◌, ◌-◌, ◌∙◌, ap, arith, eqb, has, sym}
 use Rattle.ls_set.proofs.Words.{digit_in, digit_second, digit_third, digit_fourth}
 use Rattle.ls_set.proofs.item_set.ItemSet.group.Goals as goal
 

@@ -1,6 +1,4 @@
-use Rattle.std.proofs.Common.{suc, ◌≤◌, ◌+◌, ◌*◌, ◌^◌, ap, sym, ◌∙◌, arith}
-use Rattle.std.proofs.Math.Nat.{pow-zero}
-use Rattle.std.proofs.lemmas.Nat.{mul-le}
+use Rattle.ls_settings.proofs.Vocabulary.{◌*◌, ◌+◌, ◌^◌, ◌∙◌, ◌≤◌, ap, arith, mul-le, pow-zero, suc, sym}
 use Rattle.ls_theory.specs.Settings.{Settings, greatest}
 use Rattle.ls_settings.proofs.Heavy.{heavy-start, heavy-next, heavy-here, heavy-none, total-next, greatest-most}
 use Rattle.ls_settings.proofs.settings.Settings.heavy_after.Goals as goal

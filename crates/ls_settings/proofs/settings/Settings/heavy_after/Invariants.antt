@@ -1,5 +1,4 @@
-use Rattle.std.proofs.Common.{◌≡◌, ◌*◌, ◌^◌}
-use Rattle.ls_theory.specs.Settings.{greatest}
+use Rattle.ls_settings.proofs.Vocabulary.{◌*◌, ◌^◌, ◌≡◌, greatest}
 use Rattle.ls_settings.proofs.Heavy.{heavy_from}
 use Rattle.ls_settings.proofs.settings.Settings.heavy_after.Given as goal
 

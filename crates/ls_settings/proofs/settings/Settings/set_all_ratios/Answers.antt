@@ -1,6 +1,4 @@
-use Rattle.std.proofs.Common.{arith, ap, ◌∙◌}
-use Rattle.std.specs.List.{list_all}
-use Rattle.ls_theory.specs.Settings.{are_ratios}
+use Rattle.ls_settings.proofs.Vocabulary.{◌∙◌, ap, are_ratios, arith, list_all}
 use Rattle.ls_settings.proofs.Kept.{list_all-replicate}
 use Rattle.ls_settings.proofs.settings.Settings.set_all_ratios.Goals as goal
 

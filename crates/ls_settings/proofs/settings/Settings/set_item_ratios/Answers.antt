@@ -1,8 +1,6 @@
-use Rattle.std.proofs.Common.{arith}
+use Rattle.ls_settings.proofs.Vocabulary.{Ratios, are_ratios, arith}
 use Rattle.std.proofs.Math.ListN.{length-set}
 use Rattle.ls_lists.proofs.Every.{list_all-set}
-use Rattle.ls_theory.specs.declared.ratio.Ratios.{Ratios}
-use Rattle.ls_theory.specs.Settings.{are_ratios}
 use Rattle.ls_settings.proofs.settings.Settings.set_item_ratios.Goals as goal
 
 pub invariant_of-self : goal.invariant_of-self

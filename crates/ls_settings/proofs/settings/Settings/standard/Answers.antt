@@ -1,8 +1,5 @@
-use Rattle.std.proofs.Common.{◌≡◌, true, replicate, refl, ap₂, arith}
+use Rattle.ls_settings.proofs.Vocabulary.{◌≡◌, Ratio, Ratios, ap₂, are_ratios, arith, refl, replicate, true}
 use Rattle.std.proofs.lemmas.List.{length-replicate}
-use Rattle.ls_theory.specs.declared.ratio.Ratio.{Ratio}
-use Rattle.ls_theory.specs.declared.ratio.Ratios.{Ratios}
-use Rattle.ls_theory.specs.Settings.{are_ratios}
 use Rattle.ls_settings.proofs.Kept.{list_all-replicate}
 use Rattle.ls_settings.proofs.settings.Settings.standard.Goals as goal
 

@@ -1,5 +1,4 @@
-use Rattle.std.proofs.Common.{◌||◌, ap, refl, arith}
-use Rattle.std.proofs.lemmas.Grind.{common_steps}
+use Rattle.ls_shell.proofs.Vocabulary.{◌||◌, ap, arith, common_steps, refl}
 use Rattle.ls_session.specs.declared.step_fault.StepFault.TheVariants as fault
 use Rattle.ls_shell.proofs.Followed.{line_answered, line_begun}
 use Rattle.ls_shell.proofs.run.Run.answer.Goals as goal

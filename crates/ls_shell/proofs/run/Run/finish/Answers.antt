@@ -1,6 +1,4 @@
-use Rattle.std.proofs.Common.{refl, sym, arith, IsErrOf, ◌∙◌}
-use Rattle.std.proofs.lemmas.Grind.{common_steps}
-use Rattle.ls_session.specs.declared.step_fault.StepFault.{StepFault}
+use Rattle.ls_shell.proofs.Vocabulary.{◌∙◌, IsErrOf, StepFault, arith, common_steps, refl, sym}
 use Rattle.ls_session.specs.declared.step_fault.StepFault.TheVariants as fault
 use Rattle.ls_shell.proofs.Answered.{stops_if}
 use Rattle.ls_shell.proofs.Followed.{OnErr_from}

@@ -1,4 +1,4 @@
-use Rattle.std.proofs.Common.{refl}
+use Rattle.ls_shell.proofs.Vocabulary.{refl}
 use Rattle.ls_shell.proofs.Answered.{answers_none}
 use Rattle.ls_shell.proofs.run.Run.new.Goals as goal
 

@@ -1,6 +1,4 @@
-use Rattle.std.proofs.Common.{◌∙◌, List, ℕ, subst}
-use Rattle.ls_reply.specs.Replies.{line_effect}
-use Rattle.ls_session.specs.Follows.{Follows}
+use Rattle.ls_shell.proofs.Vocabulary.{◌∙◌, Follows, List, ℕ, line_effect, subst}
 use Rattle.ls_session.specs.declared.step_fault.StepFault.TheVariants as fault
 use Rattle.ls_shell.proofs.Followed.{whole_line, long_line, follows_moves}
 use Rattle.ls_shell.proofs.run.Run.step.Goals as goal

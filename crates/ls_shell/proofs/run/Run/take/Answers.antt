@@ -1,12 +1,5 @@
-use Rattle.std.proofs.Common.{[], ◌++◌, drop, sym, subst, refl, arith, IsErrOf, ◌∙◌}
-use Rattle.std.proofs.lemmas.Grind.{common_steps}
-use Rattle.ls_edge.proofs.Known.{appends_none}
-use Rattle.ls_lines.specs.Lines.{lines}
-use Rattle.ls_lines.specs.Cutting.{IsTaken}
-use Rattle.ls_reply.specs.Transcripts.{bare_lines}
-use Rattle.ls_session.specs.declared.step_fault.StepFault.{StepFault}
+use Rattle.ls_shell.proofs.Vocabulary.{◌++◌, ◌∙◌, Answers, IsErrOf, IsTaken, StepFault, [], appends_none, arith, bare_lines, common_steps, drop, lines, refl, subst, sym}
 use Rattle.ls_session.specs.declared.step_fault.StepFault.TheVariants as fault
-use Rattle.ls_shell.specs.Progress.{Answers}
 use Rattle.ls_shell.proofs.Joined.{few_pending}
 use Rattle.ls_shell.proofs.Followed.{OnErr_from}
 use Rattle.ls_shell.proofs.Answered.{answers_on, answers_kept, stops_if}

@@ -1,9 +1,5 @@
-use Rattle.std.proofs.Common.{ℕ, ◌≤◌, ◌<◌, ◌^◌, ◌++◌, List, [], length}
+use Rattle.ls_shell.proofs.Vocabulary.{◌++◌, ◌<◌, ◌^◌, ◌≤◌, Answers, Folder, IsExtended, List, ℕ, [], length, lines}
 use Rattle.std.specs.declared.option.Option.{Option}
-use Rattle.ls_edge.specs.Files.{Folder}
-use Rattle.ls_lines.specs.Lines.{lines}
-use Rattle.ls_shell.specs.Progress.{Answers}
-use Rattle.ls_shell.specs.Runs.{IsExtended}
 use Rattle.ls_shell.proofs.run.Run.take.Given as goal
 
 -- the lines that ended so far are answered

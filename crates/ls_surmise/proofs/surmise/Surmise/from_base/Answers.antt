@@ -1,8 +1,4 @@
-use Rattle.std.proofs.Common.{◌≡◌, List, None, Ok, sym, ap, ◌∙◌, subst}
-use Rattle.ls_set.specs.ItemSet.{Items}
-use Rattle.ls_theory.specs.Bases.{first_missing}
-use Rattle.ls_base.specs.Bases.{BaseState, family}
-use Rattle.ls_surmise.specs.Surmises.{IsSurmiseOf}
+use Rattle.ls_surmise.proofs.Vocabulary.{◌∙◌, ◌≡◌, BaseState, IsSurmiseOf, Items, List, None, Ok, ap, family, first_missing, subst, sym}
 use Rattle.ls_surmise.proofs.OfBases.{missing-is, atoms-surmise, surmised-missing, surmised-none}
 use Rattle.ls_surmise.proofs.surmise.Surmise.from_base.Goals as goal
 use Rattle.ls_surmise.proofs.surmise.Surmise.from_base.Goals.{In_ok-base}

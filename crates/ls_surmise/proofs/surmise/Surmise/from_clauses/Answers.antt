@@ -1,6 +1,4 @@
-use Rattle.std.proofs.Common.{Ok, sym, ap, ◌∙◌, arith}
-use Rattle.std.proofs.lemmas.Grind.{common_steps}
-use Rattle.ls_files.specs.SurmiseFiles.{surmise_from, IsSurmiseFaultOf}
+use Rattle.ls_surmise.proofs.Vocabulary.{◌∙◌, IsSurmiseFaultOf, Ok, ap, arith, common_steps, surmise_from, sym}
 use Rattle.ls_surmise.proofs.Files.{fault-from, of_flaw, of_none, made, wide-fault}
 use Rattle.ls_surmise.proofs.Orderings.{searched}
 use Rattle.ls_surmise.proofs.FaultItems.{flaw-items}

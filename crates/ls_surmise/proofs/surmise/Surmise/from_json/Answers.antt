@@ -1,6 +1,4 @@
-use Rattle.std.proofs.Common.{◌≡◌, sym, ap₂, ◌∙◌, arith}
-use Rattle.std.proofs.lemmas.Grind.{common_steps}
-use Rattle.ls_files.specs.SurmiseFiles.{surmise_from, surmise_of, IsSurmiseFaultOf}
+use Rattle.ls_surmise.proofs.Vocabulary.{◌∙◌, ◌≡◌, IsSurmiseFaultOf, ap₂, arith, common_steps, surmise_from, surmise_of, sym}
 use Rattle.ls_surmise.proofs.Files.{form-fault, of_clauses, read-each, read-on}
 use Rattle.ls_surmise.proofs.surmise.Surmise.from_json.Goals as goal
 

@@ -1,5 +1,4 @@
-use Rattle.std.proofs.Common.{◌-◌, ap, ◌∙◌, arith}
-use Rattle.serde_json.specs.View.{members_view}
+use Rattle.ls_surmise.proofs.Vocabulary.{◌-◌, ◌∙◌, ap, arith, members_view}
 use Rattle.ls_surmise.proofs.Printed.{members-end, members-next}
 use Rattle.ls_surmise.proofs.surmise.Surmise.members.Goals as goal
 

@@ -1,6 +1,4 @@
-use Rattle.std.proofs.Common.{◌≡◌, drop}
-use Rattle.serde_json.specs.View.{members_view}
-use Rattle.ls_files.specs.SurmiseFiles.{members_from}
+use Rattle.ls_surmise.proofs.Vocabulary.{◌≡◌, drop, members_from, members_view}
 use Rattle.ls_surmise.proofs.surmise.Surmise.members.Given as goal
 
 abbrev pub invariant-loop-q : goal.invariant-loop-q

@@ -1,10 +1,6 @@
-use Rattle.std.proofs.Common.{◌≡◌, ap, ◌∙◌}
+use Rattle.ls_surmise.proofs.Vocabulary.{◌∙◌, ◌≡◌, ap, object, surmise_text, surmise_value, view, view-Object}
 use Rattle.std.proofs.lemmas.Result.{IfOk-weaker}
-use Rattle.serde_json.specs.Data.{object}
-use Rattle.serde_json.specs.View.{view}
 use Rattle.serde_json.specs.declared.value.Value.TheVariants.{Object}
-use Rattle.serde_json.proofs.Views.{view-Object}
-use Rattle.ls_files.specs.SurmiseFiles.{surmise_text, surmise_value}
 use Rattle.ls_surmise.proofs.Printed.{surmise-no_float}
 use Rattle.ls_surmise.proofs.surmise.Surmise.print.Goals as goal
 

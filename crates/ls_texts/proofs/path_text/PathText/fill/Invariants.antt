@@ -1,5 +1,4 @@
-use Rattle.std.proofs.Common.{◌≡◌, take}
-use Rattle.ls_texts.specs.PathTexts.{IsTextOf}
+use Rattle.ls_texts.proofs.Vocabulary.{◌≡◌, IsTextOf, take}
 use Rattle.ls_texts.proofs.path_text.PathText.fill.Given as goal
 
 abbrev pub invariant-loop-place : goal.invariant-loop-place

@@ -1,4 +1,4 @@
-use Rattle.std.proofs.Common.{◌≡◌, rules}
+use Rattle.ls_texts.proofs.Vocabulary.{◌≡◌, rules}
 use Rattle.ls_texts.proofs.PathTexts.{behind}
 use Rattle.ls_texts.proofs.path_text.PathText.rest.Goals as goal
 

@@ -1,4 +1,4 @@
-use Rattle.std.proofs.Common.{sym, ◌∙◌}
+use Rattle.ls_texts.proofs.Vocabulary.{◌∙◌, sym}
 use Rattle.ls_texts.proofs.Saying.{ends_fine, ends_fault}
 use Rattle.ls_texts.proofs.room.Room.finish.Goals as goal
 

@@ -1,5 +1,4 @@
-use Rattle.std.proofs.Common.{ap}
-use Rattle.ls_texts.specs.Rooms.{RoomState}
+use Rattle.ls_texts.proofs.Vocabulary.{RoomState, ap}
 use Rattle.ls_texts.proofs.Saying.{says_then, says_pending}
 use Rattle.ls_texts.proofs.room.Room.put_long.Goals as goal
 

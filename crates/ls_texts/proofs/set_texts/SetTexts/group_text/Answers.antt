@@ -1,5 +1,4 @@
-use Rattle.std.proofs.Common.{◌+◌, ◌*◌, length, [], ap, ◌∙◌, arith, get_or}
-use Rattle.ls_texts.specs.SetTexts.{group_text}
+use Rattle.ls_texts.proofs.Vocabulary.{◌*◌, ◌+◌, ◌∙◌, [], ap, arith, get_or, group_text, length}
 use Rattle.ls_texts.proofs.Groups.{length-group_texts, get_or-group_texts}
 use Rattle.ls_texts.proofs.set_texts.SetTexts.group_text.Goals as goal
 

@@ -1,4 +1,4 @@
-use Rattle.std.proofs.Common.{◌∙◌, ◌%◌, arith}
+use Rattle.ls_texts.proofs.Vocabulary.{◌%◌, ◌∙◌, arith}
 use Rattle.ls_texts.proofs.Groups.{byte_pow, group_text-single}
 use Rattle.ls_texts.proofs.set_texts.SetTexts.name_text.Goals as goal
 

@@ -1,9 +1,6 @@
-use Rattle.std.proofs.Common.{[], length, take, drop, ap, sym, ◌∙◌, arith, length-drop}
-use Rattle.std.proofs.Math.ListN.{drop_of_length-le}
-use Rattle.std.proofs.Math.Seq.{take-length}
+use Rattle.ls_texts.proofs.Vocabulary.{◌∙◌, [], ap, arith, drop, drop_min, drop_of_length-le, length, length-drop, sym, take, take-length}
 use Rattle.ls_texts.proofs.Saying.{says_as, says_nothing}
 use Rattle.ls_texts.proofs.Groups.{group_text-of_set, group_text-none}
-use Rattle.std.proofs.lemmas.List.{drop_min}
 use Rattle.ls_texts.proofs.set_texts.SetTexts.put_group.Goals as goal
 
 pub returns-then-pattern-eq0-clause-says : goal.returns-then-pattern-eq0-clause-says

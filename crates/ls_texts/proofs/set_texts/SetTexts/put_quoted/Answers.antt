@@ -1,5 +1,4 @@
-use Rattle.std.proofs.Common.{◌<◌, length, ap, ◌∙◌, sym, subst}
-use Rattle.ls_texts.specs.SurmiseTexts.{quoted_name}
+use Rattle.ls_texts.proofs.Vocabulary.{◌<◌, ◌∙◌, ap, length, quoted_name, subst, sym}
 use Rattle.ls_texts.proofs.Saying.{says_then, says_as}
 use Rattle.ls_texts.proofs.Names.{quotes}
 use Rattle.ls_texts.proofs.set_texts.SetTexts.put_quoted.Goals as goal

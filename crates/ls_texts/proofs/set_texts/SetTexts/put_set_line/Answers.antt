@@ -1,5 +1,4 @@
-use Rattle.std.proofs.Common.{◌∙◌, ap, length}
-use Rattle.ls_set.specs.Cursor.{cursor}
+use Rattle.ls_texts.proofs.Vocabulary.{◌∙◌, ap, cursor, length}
 use Rattle.ls_texts.proofs.Saying.{says_then, says_as}
 use Rattle.ls_texts.proofs.Joins.{set_line}
 use Rattle.ls_texts.proofs.set_texts.SetTexts.put_set_line.Goals as goal

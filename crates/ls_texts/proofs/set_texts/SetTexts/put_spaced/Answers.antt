@@ -1,9 +1,6 @@
-use Rattle.std.proofs.Common.{◌≡◌, ◌+◌, ◌*◌, ◌++◌, length, drop, min, ap, ◌∙◌, arith, length-append}
-use Rattle.ls_set.specs.ItemSet.{has, numbers_from}
-use Rattle.ls_texts.specs.SetTexts.{group_items, spaced_names}
+use Rattle.ls_texts.proofs.Vocabulary.{◌*◌, ◌++◌, ◌+◌, ◌∙◌, ◌≡◌, ap, arith, drop, drop-parts, group_items, has, length, length-append, min, numbers_from, spaced_names}
 use Rattle.ls_texts.proofs.Saying.{says_then, says_as, says_nothing}
 use Rattle.ls_texts.proofs.Groups.{names_before, names_before-none, names_before-dropped, names_before-next, all-spaced}
-use Rattle.ls_lists.proofs.Places.{drop-parts}
 use Rattle.ls_texts.proofs.set_texts.SetTexts.put_spaced.Goals as goal
 
 pub loop-group-init : goal.loop-group-init

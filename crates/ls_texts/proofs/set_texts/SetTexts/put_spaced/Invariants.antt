@@ -1,5 +1,4 @@
-use Rattle.std.proofs.Common.{◌≡◌, ◌-◌, length, drop}
-use Rattle.ls_texts.specs.Rooms.{Says}
+use Rattle.ls_texts.proofs.Vocabulary.{◌-◌, ◌≡◌, Says, drop, length}
 use Rattle.ls_texts.proofs.Groups.{names_before}
 use Rattle.ls_texts.proofs.set_texts.SetTexts.put_spaced.Given as goal
 

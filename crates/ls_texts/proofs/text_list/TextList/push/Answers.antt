@@ -1,5 +1,4 @@
-use Rattle.std.proofs.Common.{◌≡◌, ◌++◌, ◌∷◌, [], length, ap, ap₂, ◌∙◌, arith}
-use Rattle.std.proofs.lemmas.Grind.{common_steps}
+use Rattle.ls_texts.proofs.Vocabulary.{◌++◌, ◌∙◌, ◌∷◌, ◌≡◌, [], ap, ap₂, arith, common_steps, length}
 use Rattle.ls_texts.specs.declared.text_list.Place.{Place}
 use Rattle.ls_texts.proofs.Kept.{parts, parts-next}
 use Rattle.ls_texts.proofs.text_list.TextList.push.Goals as goal

@@ -1,5 +1,4 @@
-use Rattle.std.proofs.Common.{arith}
-use Rattle.ls_weight.specs.Rows.{AreRows, width_of}
+use Rattle.ls_weight.proofs.Vocabulary.{AreRows, arith, width_of}
 use Rattle.ls_weight.proofs.Cells.{AreCells, cells-agreeing, cells-sum}
 use Rattle.ls_weight.proofs.rows.StateRows.weigh.Goals as goal
 

@@ -1,10 +1,4 @@
-use Rattle.std.proofs.Common.{ℕ, ◌*◌, ◌≡◌, [], length, replicate, map, count_by, refl, ap, ◌∙◌, arith}
-use Rattle.std.specs.List.{range_with_len}
-use Rattle.std.proofs.lemmas.List.{length-replicate}
-use Rattle.std.proofs.lemmas.List.FromFn.{length-map-range_with_len}
-use Rattle.ls_set.specs.ItemSet.{Items, has}
-use Rattle.ls_weight.specs.Sums.{table_cells}
-use Rattle.ls_weight.specs.Rows.{StateList, width_of}
+use Rattle.ls_weight.proofs.Vocabulary.{◌*◌, ◌∙◌, ◌≡◌, Items, StateList, ℕ, [], ap, arith, count_by, has, length, length-map-range_with_len, length-replicate, map, range_with_len, refl, replicate, table_cells, width_of}
 use Rattle.ls_weight.proofs.Kept.{ones-are, count-is, counts-are, first-one}
 use Rattle.ls_weight.proofs.weights.Weights.begin.Goals as goal
 

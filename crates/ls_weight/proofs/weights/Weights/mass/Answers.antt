@@ -1,4 +1,4 @@
-use Rattle.std.proofs.Common.{arith}
+use Rattle.ls_weight.proofs.Vocabulary.{arith}
 use Rattle.ls_weight.proofs.Kept.{kept-bound}
 use Rattle.ls_weight.proofs.Replied.{mass-part}
 use Rattle.ls_weight.proofs.weights.Weights.mass.Goals as goal

@@ -1,7 +1,4 @@
-use Rattle.std.proofs.Common.{length, sym, ap, ◌∙◌, arith}
-use Rattle.std.proofs.lemmas.List.{with_items_is}
-use Rattle.ls_theory.specs.declared.reply.Reply.{Reply}
-use Rattle.ls_weight.specs.Rows.{StateList}
+use Rattle.ls_weight.proofs.Vocabulary.{◌∙◌, Reply, StateList, ap, arith, length, sym, with_items_is}
 use Rattle.ls_weight.proofs.Kept.{kept-grows, kept-fits}
 use Rattle.ls_weight.proofs.Replied.{IsNext, mass-part, next-bound, next-total, next-mass, next-mass-le, next-weights, next-heaviest, next-kept}
 use Rattle.ls_weight.proofs.weights.Weights.reply.Goals as goal

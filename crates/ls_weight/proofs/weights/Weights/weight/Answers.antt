@@ -1,4 +1,4 @@
-use Rattle.std.proofs.Common.{arith}
+use Rattle.ls_weight.proofs.Vocabulary.{arith}
 use Rattle.ls_weight.proofs.Kept.{kept-bound, kept-part}
 use Rattle.ls_weight.proofs.weights.Weights.weight.Goals as goal
 

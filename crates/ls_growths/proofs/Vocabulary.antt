@@ -1,0 +1,18 @@
+-- The words that the proofs of this crate cite, passed on from one place.
+pub use Rattle.std.proofs.Common.{◌&&◌, ◌++◌, ◌+◌, ◌-◌, ◌<◌, ◌||◌, ◌∙◌, ◌∷◌, ◌≡◌, ◌≤◌, Bool, List, None, Option, Some, ℕ, [], ap, ap₂, arith, cond, drop, eq-eqb, eqb, eqb-true, false, filter, find, get_or, inl, inr, le-ltb, length, lt-ltb, ltb, ltb-true, map, max, ne_eqb, not, option_map, refl, subst, suc, sym, take, true, true≢false, unwrap_or, zero}
+pub use Rattle.std.proofs.lemmas.Bool.{and_from, and_parts, cases_Bool, cases_eq, cases_lt, cases_order, false_from_ne_true, not_from_false, or_cases, or_left, or_right}
+pub use Rattle.std.proofs.lemmas.Bool.Decides.{nat_tests}
+pub use Rattle.std.specs.List.{AllByRecursion, flat_map, list_all, list_any}
+pub use Rattle.std.specs.Option.{option_or}
+pub use Rattle.ls_laws.proofs.Counts.{len-empty, len-parts, len-single, len-zero, some_item}
+pub use Rattle.ls_laws.specs.Spans.{IsOn}
+pub use Rattle.ls_lists.proofs.Every.{All-append, All-given, All-map, each}
+pub use Rattle.ls_lists.proofs.Filters.{filter-agree, filter-all, filter-both, filter-map}
+pub use Rattle.ls_lists.proofs.Finds.{found-holds, found-passes}
+pub use Rattle.ls_query.proofs.BySize.{len-full, len-with}
+pub use Rattle.ls_set.proofs.Ascending.{find-filter, find_none, least-cases}
+pub use Rattle.ls_set.proofs.Sets.{Decides-is_same, and-false, and-true, both_ways, has-empty, has-full, has-minus, has-with, members, same_set, union-empty_left, union-empty_right}
+pub use Rattle.ls_set.specs.{Items, bound, empty, full, has, is_among, is_same, items, least, len, minus, next_item, numbers_from, set_of, single, union, with, without}
+pub use Rattle.ls_theory.specs.{is_learning_space, is_lex_before, is_order, is_path, is_space}
+unfoldable pub use Rattle.ls_theory.specs.{orders_of, paths}
+pub use Rattle.ls_growths.specs.Growths.{IsInLexOrder, first_growth, first_next, growths, is_next, next_after, next_growth}

@@ -1,0 +1,59 @@
+-- The words that the proofs of this crate cite, passed on from one place.
+pub use Rattle.std.proofs.Common.{◌&&◌, ◌++◌, ◌+◌, ◌-◌, ◌<◌, ◌^◌, ◌||◌, ◌∙◌, ◌∷◌, ◌≡◌, ◌≤◌, Bool, Equal, Err, Greater, IsUtf8, Less, List, None, Ok, Option, Result, Some, ℕ, [], ap, append-nil, append_assoc, ap₂, arith, codes, cond, drop, drop-cons, eq-eqb, eqb, eqb-true, false, filter, find, get_or, le-leb, leb, leb-true, length, lt-ltb, ltb, ltb-false, ltb-true, map, max, ne_eqb, not, option_and_then, option_map, refl, replicate, subst, suc, sym, take, true, true≢false, zero}
+pub use Rattle.std.proofs.lemmas.Bool.{agree_below_at, and_from, and_parts, not-true, not_from_false}
+pub use Rattle.std.proofs.lemmas.Map.Keys.{IsStrictlyIncreasing-from_sorted, sorted_from_strictly_increasing}
+pub use Rattle.std.proofs.lemmas.Str.{IsUtf8-append, IsUtf8-from_ascii, IsUtf8-from_is_utf8, is_utf8-from_IsUtf8}
+pub use Rattle.std.specs.Cmp.Lexicographic.{pointwise, pointwise_decides}
+pub use Rattle.std.specs.List.{AllByRecursion, list_all, list_any}
+unfoldable pub use Rattle.std.specs.List.{IsDistinct}
+unfoldable pub use Rattle.std.specs.List.Sorted.{IsStrictlySortedBy}
+pub use Rattle.std.specs.Option.{option_map_or, option_or, option_zip}
+pub use Rattle.std.specs.Ordering.{nat_cmp}
+pub use Rattle.std.specs.Prelude.{decimal, is_some, unwrap_or, ⊤}
+pub use Rattle.std.specs.Result.{is_ok, result_ok}
+pub use Rattle.std.specs.Str.{bytes_eq}
+unfoldable pub use Rattle.std.specs.Str.{chars, is_utf8}
+pub use Rattle.json.proofs.Printed.Utf8.{IsUtf8-are_ascii, IsUtf8-boolean, IsUtf8-quoted, are_ascii}
+pub use Rattle.ls_domain.proofs.Numbers.{is_name-utf8}
+pub use Rattle.ls_domain.proofs.Readings.{names_of_words-again, names_of_words-read}
+pub use Rattle.ls_domain.specs.Domains.{IsDomain, is_name, names_of_words}
+unfoldable pub use Rattle.ls_domain.specs.Domains.{names_from}
+pub use Rattle.ls_files.specs.SurmiseFiles.{in_order, list_value, read_each, read_list, wide}
+unfoldable pub use Rattle.ls_files.specs.SurmiseFiles.{surmise_from}
+pub use Rattle.ls_laws.proofs.Breaks.{good-from}
+pub use Rattle.ls_laws.specs.Spans.{IsOn}
+pub use Rattle.ls_lines.specs.{Text}
+unfoldable pub use Rattle.ls_lines.specs.{is_of}
+pub use Rattle.ls_lists.proofs.Every.{All-given, All-list_all, each, list_all-All}
+pub use Rattle.ls_set.proofs.Cursors.{nibble_of-lt, only, read_back}
+pub use Rattle.ls_set.proofs.Members.{Each-among, among-append, among-filter, among-here, among-there}
+pub use Rattle.ls_set.proofs.Order.{among-subsets, subsets_from-in_order}
+pub use Rattle.ls_set.proofs.Sets.{Decides-is_same, IsWithin-from, is_within-from}
+pub use Rattle.ls_set.specs.{is_good, most_items}
+pub use Rattle.ls_set.specs.declared.query.Query.{Query}
+pub use Rattle.ls_theory.specs.{BlockRange, Interview, accepted, all_clauses, are_limits, are_ratios, are_settings, based, begun, clauses_of, first_missing, has_share, is_compatible, is_ratio, is_same_query, most_answers, most_number, no_queries, spaces_of}
+unfoldable pub use Rattle.ls_theory.specs.{asked, base, blocks, compat, families, fitting_spaces, flaw, half_split, imbalance, interior, is_too_wide, leader, made, weight}
+pub use Rattle.ls_theory.specs.Settings.{Settings}
+unfoldable pub use Rattle.ls_theory.specs.Settings.{heavy_after}
+pub use Rattle.ls_theory.specs.Starts.{Clauses, Free, Sets, Start}
+pub use Rattle.ls_theory.specs.declared.answer.Answer.{Answer}
+pub use Rattle.ls_theory.specs.declared.base_fault.BaseFault.{BaseFault}
+pub use Rattle.ls_theory.specs.declared.ratio.Ratio.{Ratio}
+pub use Rattle.ls_theory.specs.declared.ratio.Ratios.{Ratios}
+pub use Rattle.serde_json.specs.Data.{Data, Items, Items as Values, Members, Num, array, boolean, depth, float, item, items_depth, member, members_depth, negative, no_items, no_members, null, number, object, put, string, unsigned}
+pub use Rattle.serde_json.specs.Find.{as_array, as_bool, as_object, as_str, get}
+pub use Rattle.serde_json.specs.Read.{max_depth, of_items, of_json, of_members, read}
+pub use Rattle.serde_json.specs.View.{items_of, items_view, members_view, view}
+pub use Rattle.serde_json.specs.Written.{comma_if, compact_text, has_float, items_have_float, items_outline, items_text, members_have_float, members_outline, members_text, outline}
+pub use Rattle.ls_saved.specs.Parts.{answer_from, interview_from, pupil_from, query_from, ratio_in, ratios_from, read_answer, read_base, read_block, read_course, read_interview, read_item, read_limits, read_names, read_odds, read_pupil, read_pupils, read_query, read_ratio, read_ratios, read_reply, read_set, read_settings, read_start, read_surmise, read_version, reply_from, settings_from, start_from, start_within}
+pub use Rattle.ls_saved.specs.Readers.{at_key, four_values, only_if, read_number, read_object, read_pair, two_values}
+pub use Rattle.ls_saved.specs.Reading.{or_cause}
+unfoldable pub use Rattle.ls_saved.specs.Reading.{session_from, session_of}
+pub use Rattle.ls_saved.specs.Sessions.{Pupil, Session, pupil_states}
+pub use Rattle.ls_saved.specs.Standing.{are_apart, are_made, are_pupils, follow, is_ascending, is_asked, is_base}
+unfoldable pub use Rattle.ls_saved.specs.Standing.{is_pupil, stands}
+pub use Rattle.ls_saved.specs.Values.{answer_value, limits_value, number_value, odds_value, pair_value, pupil_value, query_value, ratio_value, ratios_value, reply_value, session_value, set_value, start_value}
+unfoldable pub use Rattle.ls_saved.specs.Values.{session_text}
+pub use Rattle.ls_saved.specs.Whole.{IsNarrow, IsPupil, IsStanding, IsStart, IsWhole}
+pub use Rattle.ls_saved.specs.declared.cause.Cause.{Cause}
+pub use Rattle.ls_saved.specs.declared.version.Version.{Version}
