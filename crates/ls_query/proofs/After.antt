@@ -1,20 +1,9 @@
 -- The sets of a size before a set, the set and those after it are all sets of the size.
-use Rattle.ls_query.proofs.Vocabulary.{◌+◌, ◌-◌, ◌<◌, ◌∙◌, ◌≡◌, ◌≤◌, IsWithin, Items, List, None, Some, ℕ, after_of, ap, arith, blocks, cases_Bool, choose, filter, full, has, has-full, inl, inr, is_same, items, items-least, items-none, items-within, least, least-cases, len, len-within, length, ltb-true, numbers_from, position, refl, suc, sym, without, zero}
+use Rattle.ls_query.proofs.Vocabulary.{◌+◌, ◌-◌, ◌<◌, ◌∙◌, ◌∷◌, ◌≡◌, ◌≤◌, All, IsWithin, Items, List, Some, ℕ, after_of, ap, arith, blocks, bound, cases_Bool, choose, filter, filter_passes, full, has, has-full, inl, inr, is_same, items, items-within, len, len-within, length, ltb-true, numbers_from, position, refl, suc, sym, zero}
 use Rattle.ls_query.proofs.Binomials.{choose-none, choose-more}
 use Rattle.ls_query.proofs.BySize.{len-full, length-blocks_more}
 use Rattle.ls_query.proofs.BlockSets.{IsOfBlocks}
 use Rattle.ls_query.proofs.Placed.{with_first, place_from, place_from-none, place_from-has, place_from-lacks, find-place}
-
--- ---- the count goes on
-
-pub after-least : (n : ℕ) (left : Items) (i : ℕ) → least left ≡ Some i → after_of n (items left) ≡ choose (n - i - 1) (len left) + after_of n (items (without left i))
-unfolding len
-after-least n left i e =
-    let q = items-least left i e in
-    ap (after_of n) q ∙ ap (λ s. choose (n - i - 1) s + after_of n (items (without left i))) (sym (ap length q))
-
-pub after-none : (n : ℕ) (left : Items) → least left ≡ None → after_of n (items left) ≡ 0
-after-none n left e = ap (after_of n) (items-none left e)
 
 -- ---- all sets of a size
 
@@ -50,14 +39,14 @@ after-few n a h = omega (arith, all-of_size n a h)
 pub len-few : (n : ℕ) (a : Items) → IsWithin a (full n) → len a ≤ n
 len-few n a h = omega (arith, len-within a (full n) h, len-full n)
 
-pub least-few : (n : ℕ) (a left : Items) (i : ℕ) → IsWithin a (full n) → IsWithin left a → least left ≡ Some i → i < n
-least-few n a left i h l e =
-    let here = (least-cases left i e).0 in
-    ltb-true i n (sym (has-full n i) ∙ h i (l i here))
+pub items-few : (n : ℕ) (a : Items) → IsWithin a (full n) → All (λ i. i < n) (items a)
+unfolding items
+items-few n a h k d l = ltb-true _ n (sym (has-full n _) ∙ h _ (filter_passes (has a) (numbers_from 0 (bound a)) k d l))
 
--- what is counted with the next item is less than all
-pub counted-few : (n : ℕ) (a left : Items) (i after : ℕ) → IsWithin a (full n) → least left ≡ Some i → after + after_of n (items left) ≡ after_of n (items a) → after + choose (n - i - 1) (len left) < choose n (len a)
-counted-few n a left i after h e all = omega (arith, all, after-least n left i e, after-few n a h)
+-- the count goes on, with what is left
+pub counted-next : (n : ℕ) (a left rest : Items) (i after size : ℕ) → items left ≡ i ∷ items rest → size ≡ length (items left) → after + after_of n (items left) ≡ after_of n (items a) → after + choose (n - i - 1) size + after_of n (items rest) ≡ after_of n (items a)
+counted-next n a left rest i after size step e counted =
+    rw (let q : size ≡ suc (length (items rest)) = e ∙ ap length step in q) (omega (arith, counted, ap (after_of n) step))
 
 -- ---- the place in the blocks
 

@@ -1,5 +1,5 @@
 -- The sets of one size: how many there are, and so how many the blocks have.
-use Rattle.ls_query.proofs.Vocabulary.{◌++◌, ◌+◌, ◌-◌, ◌<◌, ◌||◌, ◌∙◌, ◌∷◌, ◌≡◌, ◌≤◌, Each-weaker, IsBetween, Items, List, Some, ℕ, [], ap, append-nil, ap₂, arith, blocks, choose, empty, eqb, false, false_from_ne_true, filter, flat_map, full, has, has-full, has-single, has-with, le-ltb, least, least-cases, len, len-empty, len-less, len-parts, len-single, length, length-append, length-map, map, members, minus, nat_tests, ne_eqb, numbers_from, refl, same_set, single, subsets_from, subsets_from-between, suc, sym, with, without, without-within, zero}
+use Rattle.ls_query.proofs.Vocabulary.{◌++◌, ◌+◌, ◌-◌, ◌<◌, ◌||◌, ◌∙◌, ◌∷◌, ◌≡◌, ◌≤◌, Each-weaker, IsBetween, Items, List, ℕ, [], ap, append-nil, ap₂, arith, blocks, choose, empty, eqb, false, false_from_ne_true, filter, flat_map, full, has, has-full, has-single, has-with, le-ltb, len, len-empty, len-parts, len-single, length, length-append, length-map, map, members, minus, nat_tests, ne_eqb, numbers_from, refl, same_set, single, subsets_from, subsets_from-between, suc, sym, with, zero}
 use Rattle.std.proofs.lemmas.Grind.{flat_map-append}
 use Rattle.std.proofs.lemmas.List.Elements.{filter-append}
 use Rattle.ls_lists.proofs.Filters.{filter-map, filter-agree, filter-nothing}
@@ -17,9 +17,6 @@ len-full zero = ap len (same_set (full 0) empty (λ j. grind (arith, members, na
 len-full (suc n) =
     ap len (same_set (full (suc n)) (with (full n) n) (λ j. grind (arith, members, nat_tests)))
     ∙ len-with (full n) n (has-full n n ∙ le-ltb n n (omega arith)) ∙ ap suc (len-full n)
-
-pub len-without_least : (s : Items) (i : ℕ) → least s ≡ Some i → len (without s i) < len s
-len-without_least s i e = len-less (without s i) s i (without-within s i) (grind (arith, members, nat_tests)) (least-cases s i e).0
 
 -- the items from x on, below y
 pub len-range : (x y : ℕ) → x ≤ y → len (minus (full y) (full x)) ≡ y - x

@@ -5,7 +5,7 @@ pub mod BySize
 pub mod BlockOrder
 pub mod BlockSets
 pub mod Steps
-pub mod LastMove
+pub mod Lasts
 pub mod Walks
 pub mod Counted
 pub mod QuerySets

@@ -3,7 +3,8 @@ pub use Rattle.std.proofs.Common.{◌&&◌, ◌*◌, ◌++◌, ◌+◌, ◌-◌,
 pub use Rattle.std.proofs.lemmas.Bool.{and_from, and_left, and_parts, and_right, cases_Bool, cases_eq, cases_lt, cases_order, false_from_ne_true, or_cases, or_left, or_right}
 pub use Rattle.std.proofs.lemmas.Bool.Decides.{nat_tests}
 pub use Rattle.std.proofs.lemmas.List.{length-map}
-pub use Rattle.std.specs.List.{flat_map, position, prefix_len}
+pub use Rattle.std.proofs.lemmas.List.Elements.{All-tail, filter_passes}
+pub use Rattle.std.specs.List.{All, flat_map, position, prefix_len}
 pub use Rattle.std.specs.Option.{option_map_or}
 pub use Rattle.ls_laws.proofs.Blocks.{among-in, in-numbers, in-queries, numbers-in}
 pub use Rattle.ls_laws.proofs.Breaks.{IsGood, good-from, good-to}
@@ -15,11 +16,10 @@ pub use Rattle.ls_lists.proofs.Sorted.{find-first, find-is, find-next, find-no_e
 pub use Rattle.ls_lists.specs.Lists.{IsIn, IsSorted}
 pub use Rattle.ls_set.proofs.Ascending.{bound-has, find_first, find_none, find_some, least-cases}
 pub use Rattle.ls_set.proofs.Firsts.{items-least, items-none}
-pub use Rattle.ls_set.proofs.Listed.{least-none_left}
 pub use Rattle.ls_set.proofs.Order.{Each-weaker, IsBetween, among-subsets, comes_before-asymmetric, comes_before-at, comes_before-irreflexive, comes_before-transitive, differs_first, subsets_from-between, subsets_from-in_order}
 pub use Rattle.ls_set.proofs.Sets.{Decides-is_same, IsWithin-from, and-true, empty-within, has-empty, has-full, has-keep_before, has-minus, has-single, has-union, has-with, has-without, is_within-from, keep_before-within, members, same_set, without-within}
 pub use Rattle.ls_set.proofs.Sizes.{items-within, len-less, len-within}
-pub use Rattle.ls_set.specs.{DiffersFirstAt, IsInOrder, IsWithin, Items, bound, comes_before, empty, full, has, is_good, is_same, is_within, keep_before, minus, most_items, numbers_from, single, subsets, subsets_from, union, with, without}
+pub use Rattle.ls_set.specs.{DiffersFirstAt, IsInOrder, IsWithin, Items, bound, comes_before, empty, full, has, is_good, is_same, is_within, keep_before, minus, numbers_from, single, subsets, subsets_from, union, with, without}
 unfoldable pub use Rattle.ls_set.specs.{items, least, len, next_item}
 pub use Rattle.ls_set.specs.declared.query.Query.{Query}
 pub use Rattle.ls_theory.specs.{BlockRange, comes_after, is_lex_before, most_sets}

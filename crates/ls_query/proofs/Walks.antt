@@ -1,55 +1,11 @@
 -- Walks through the sets of blocks: the greatest item of a set, and the step by it.
-use Rattle.ls_query.proofs.Vocabulary.{◌+◌, ◌-◌, ◌<◌, ◌∙◌, ◌≡◌, ◌≤◌, ◌⊎◌, AreBounded, BlockRange, Bool, HasNoMove, IsGreatest, IsLastMove, IsWithin, Items, None, Option, Some, ℕ, add-one, ap, arith, block_before, blocks, cases_Bool, cases_order, empty, eqb, false, false_from_ne_true, find, find-is, full, has, has-empty, has-full, inl, inr, keep_before, least, least-cases, least-none_left, len, len-empty, lt-ltb, ltb-true, members, minus, most_items, moved, nat_tests, refl, same_set, sets_of, suc, sym, true, true≢false, union, with, without, zero}
-use Rattle.std.specs.Option.{IfSome, MatchOption, SomeIff}
+use Rattle.ls_query.proofs.Vocabulary.{◌+◌, ◌-◌, ◌<◌, ◌∙◌, ◌≡◌, ◌≤◌, AreBounded, BlockRange, Bool, HasNoMove, IsGreatest, IsLastMove, IsWithin, Items, None, Option, Some, ℕ, add-one, ap, arith, block_before, blocks, cases_Bool, cases_order, empty, false, false_from_ne_true, find, find-is, full, has, has-empty, has-full, inl, inr, keep_before, len, len-empty, lt-ltb, ltb-true, members, minus, moved, nat_tests, refl, same_set, sets_of, suc, sym, true, true≢false, union, with, without, zero}
+use Rattle.std.specs.Option.{MatchOption, SomeIff}
 use Rattle.ls_query.specs.Walks.{topped, IsWalk}
-use Rattle.ls_query.proofs.LastMove.{out_cases, above_least}
 use Rattle.ls_query.proofs.BlockSets.{IsOfBlocks, blocks-in, sorted-blocks}
 use Rattle.ls_query.proofs.BlockOrder.{before-asymmetric}
 use Rattle.ls_query.proofs.BySize.{len-with}
 use Rattle.ls_query.proofs.Steps.{find-moved, find-next_size}
-
--- ---- the greatest item, as the items are looked at from the least on
-
--- last is the greatest of the items that are no longer in left, which are below those that are
-pub record Passed (a left : Items) (last : Option ℕ) : Type 0 where
-  pub within : IsWithin left a
-  pub below : (j i : ℕ) → has a j ≡ true → has left j ≡ false → has left i ≡ true → j < i
-  pub found : MatchOption last (left ≡ a) (λ i. (has a i ≡ true) × ((j : ℕ) → i < j → has a j ≡ true → has left j ≡ true))
-  pub place : IfSome last (λ i. i < most_items)
-
-pub Passed-next : (a left : Items) (last : Option ℕ) (i : ℕ) → least left ≡ Some i → i < most_items → Passed a left last → Passed a (without left i) (Some i)
-Passed-next a left last i e place seen =
-    let first = least-cases left i e in
-    record {
-      within = λ j h. seen.within j (grind (arith, members, nat_tests));
-      below = λ j k h out in_left.
-          let above = above_least left i k e in_left in
-          elim (out_cases left i j out) [
-            | inl q ↦ let l = above.1 in omega arith
-            | inr o ↦ seen.below j k h o above.0
-          ];
-      found = (
-        seen.within i first.0,
-        λ j l h. elim (cases_left left j) [
-          | inl c ↦ let other : eqb j i ≡ false = grind (arith, nat_tests) in grind (arith, members, nat_tests)
-          | inr o ↦ let m : j < i = seen.below j i h o first.0 in absurd (omega arith)
-        ],
-      );
-      place = place;
-    }
-  where
-    cases_left : (s : Items) (j : ℕ) → (has s j ≡ true) ⊎ (has s j ≡ false)
-    cases_left s j = elim (has s j) as (λ b. (b ≡ true) ⊎ (b ≡ false)) [ true ↦ inl refl | false ↦ inr refl ]
-
-pub Passed-done : (a left : Items) (last : Option ℕ) → least left ≡ None → Passed a left last → MatchOption last (a ≡ empty) (IsGreatest a)
-Passed-done a left last e seen =
-    elim last as (λ r. MatchOption r (left ≡ a) (λ i. (has a i ≡ true) × ((j : ℕ) → i < j → has a j ≡ true → has left j ≡ true)) → MatchOption r (a ≡ empty) (IsGreatest a)) [
-      | None ↦ λ same. sym same ∙ same_set left empty (λ j. least-none_left left j e ∙ sym (has-empty j))
-      | Some i ↦ λ found. record {
-        here = found.0;
-        above = λ j l. false_from_ne_true (has a j) (λ h. true≢false (sym (found.1 j l h) ∙ least-none_left left j e));
-      }
-    ] seen.found
 
 -- ---- a set by its greatest item
 
@@ -67,10 +23,13 @@ put_back a i h = same_set (with (without a i) i) a (λ j. let x = h in grind (ar
 pub topped-at : (a : Items) (i : ℕ) → IsGreatest a i → topped (without a i) (i + 1) ≡ a
 topped-at a i g = topped-with (without a i) i ∙ put_back a i g.here
 
+pub greatest-small : (b : BlockRange) (a : Items) (i : ℕ) → IsWithin a (full b.item_count) → IsGreatest a i → i < b.item_count
+greatest-small b a i within g = ltb-true i b.item_count (sym (has-full b.item_count i) ∙ within i g.here)
+
 pub walk-at : (b : BlockRange) (a : Items) (i : ℕ) → AreBounded b → IsWithin a (full b.item_count) → len a ≤ b.largest → IsGreatest a i → IsWalk b (without a i) (i + 1)
 walk-at b a i bounded within size g =
     let n = b.item_count in
-    let small : i < n = ltb-true i n (sym (has-full n i) ∙ within i g.here) in
+    let small = greatest-small b a i within g in
     let out : has (without a i) i ≡ false = grind (arith, members, nat_tests) in
     let more : len a ≡ suc (len (without a i)) = sym (ap len (put_back a i g.here)) ∙ len-with (without a i) i out in
     record {

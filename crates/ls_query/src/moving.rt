@@ -11,15 +11,8 @@ fn last_move(n: u32, a: ItemSet) -> Option<u32>
     requires { n ≤ PLACES }
     ensures { MatchOption result (HasNoMove n a) (λ i. IsLastMove n a i) }
 {
-    let mut left = a;
-    let mut last = None;
-    while let Some(i) = left.least() {
-        if i + 1 < n && !a.has(i + 1) {
-            last = Some(i);
-        }
-        left = left.without(i);
-    }
-    last
+    let end = n.saturating_sub(1);
+    a.items().filter(|i| *i < end && !a.has(*i + 1)).last()
 }
 
 // The set in which that item has moved up by one, and those behind it follow directly.

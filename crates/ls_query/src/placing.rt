@@ -32,10 +32,10 @@ fn count_after(n: u32, a: ItemSet) -> u32
     ensures { result ≡ after_of n (items a) }
 {
     let mut after = 0;
-    let mut left = a;
-    while let Some(item) = left.least() {
-        after += count_of_size(n - item - 1, left.len());
-        left = left.without(item);
+    let mut left = a.len();
+    for item in a.items() {
+        after += count_of_size(n - item - 1, left);
+        left -= 1;
     }
     after
 }

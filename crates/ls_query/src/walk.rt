@@ -1,6 +1,6 @@
 // A walk through the sets of blocks.
 ghost use Rattle.std.specs.Prelude.{◌≡◌, ◌<◌, ◌≤◌, true, false, Some, None, find, IfSome, MatchOption, if◌then◌else◌};
-ghost use Rattle.ls_set.specs.{IsWithin, empty, full, len, most_items, with};
+ghost use Rattle.ls_set.specs.{IsWithin, empty, full, len, with};
 ghost use Rattle.ls_theory.specs.{block_before};
 ghost use Rattle.ls_query.specs.Blocks.{AreBounded, sets_of};
 ghost use Rattle.ls_query.specs.Moves.{IsGreatest};
@@ -36,16 +36,9 @@ impl Model for BlockWalk {
 
 // The greatest item of the set.
 fn greatest(set: ItemSet) -> Option<u32>
-    ensures item { MatchOption result (set ≡ empty) (IsGreatest set) }
-    ensures place { IfSome result (λ i. i < most_items) }
+    ensures { MatchOption result (set ≡ empty) (IsGreatest set) }
 {
-    let mut left = set;
-    let mut last = None;
-    while let Some(i) = left.least() {
-        left = left.without(i);
-        last = Some(i);
-    }
-    last
+    set.items().last()
 }
 
 // The walk that has come to the set.

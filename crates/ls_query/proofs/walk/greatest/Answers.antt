@@ -1,13 +1,7 @@
-use Rattle.ls_query.proofs.Vocabulary.{◌∙◌, sym}
-use Rattle.ls_query.proofs.BySize.{len-without_least}
-use Rattle.ls_query.proofs.Walks.{Passed-next, Passed-done}
+use Rattle.std.proofs.lemmas.Iterator.Consumers.{YieldsList-from_first}
+use Rattle.ls_query.proofs.Vocabulary.{ap, items}
+use Rattle.ls_query.proofs.Lasts.{last-item, last-yielded}
 use Rattle.ls_query.proofs.walk.greatest.Goals as goal
 
-pub loop-i-smaller : goal.loop-i-smaller
-loop-i-smaller c = rw c.without-left.ensures (len-without_least c.loop-i.left c.in-Some.i (sym c.least.ensures.value ∙ c.in-Some.is))
-
-pub loop-i-preserved : goal.loop-i-preserved
-loop-i-preserved c = rw c.without-left.ensures (Passed-next c.args.set c.loop-i.left c.loop-i.last c.in-Some.i (sym c.least.ensures.value ∙ c.in-Some.is) c.in-Some.ensures.place c.loop-i.invariant)
-
-pub returns-clause-item : goal.returns-clause-item
-returns-clause-item c = Passed-done c.args.set c.loop-i.left c.loop-i.last (sym c.least.ensures.value ∙ c.in_default.is) c.loop-i.invariant
+pub returns : goal.returns
+returns c = last-item c.args.set c.last.result (last-yielded c.last.result c.last.ensures.ran (YieldsList-from_first (λ x. x) items (items c.args.set) (ap items c.items.ensures)))
