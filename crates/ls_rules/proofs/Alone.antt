@@ -1,5 +1,12 @@
 -- Rules whose set A is one item alone, and what such an item takes with it.
-use Rattle.ls_rules.proofs.Vocabulary.{◌++◌, ◌+◌, ◌<◌, ◌∙◌, ◌∷◌, ◌≡◌, ◌≢◌, AllByRecursion, AreSingles, CoversSets, Decides-is_same, Each-both, IsWithin, Items, List, None, Option, Query, Some, ℕ, [], add-one, and_parts, ap, ap₂, arith, asked_alone, breaks, breaks-from, breaks_none, cases_Bool, cases_eq, cases_lt, cond, drop, drop-cons, each, empty, empty-within, false, false_from_ne_true, filter, first_of, get_or, get_or-set_other, get_or-set_same, get_or_past, has, has-empty, inl, inr, is_same, least, least-at, length, map, members, minus, nat_tests, not, not-true, option_map_or, refl, remove, same_set, set, set_at, set_of, several, single, subst, suc, sym, true, true≢false, union, union-left, union-right, with, without, without-within, zero}
+use Rattle.ls_rules.proofs.Vocabulary.{◌++◌, ◌+◌, ◌<◌, ◌∙◌, ◌∷◌, ◌≡◌, ◌≢◌, AllByRecursion, AreSingles, CoversSets, Decides-is_same, Each-both, IsWithin, Items, List, None, Option, Query, Some, ℕ, [], add-one, and_parts, ap, ap₂, arith, asked_alone, breaks, breaks-from, breaks_none, cases_Bool, cases_eq, cases_lt, cond, drop, drop-cons, each, empty, empty-within, false, false_from_ne_true, filter, first_of, get_or, get_or-set_other, get_or-set_same, get_or_past, has, has-empty, inl, inr, is_same, items, least, least-at, length, map, members, minus, nat_tests, not, not-true, option_map_or, refl, remove, same_set, set, set_at, set_of, several, single, suc, sym, true, true≢false, union, union-left, union-right, with, zero}
+use Rattle.std.proofs.Common.{◌||◌, fold}
+use Rattle.std.proofs.Math.Bool.{or-false, or_assoc}
+use Rattle.std.specs.List.{list_any}
+use Rattle.ls_lists.proofs.Elements.{filter-in, in-some, some-in}
+use Rattle.ls_laws.proofs.Listed.{in-items}
+use Rattle.ls_set.specs.{bound, numbers_from}
+use Rattle.ls_set.proofs.Sets.{has-union}
 
 -- ---- the parts of a set
 
@@ -174,36 +181,30 @@ CoversSets-put items sets i s l h j a =
 
 -- ---- what the items outside a set take with them
 
--- lost is what those take with them that are outside the set and not left
-pub record Losing (singles : List Items) (set left lost : Items) : Type 0 where
-  pub outside : (i : ℕ) → has left i ≡ true → has set i ≡ false
-  pub all : (i j : ℕ) → has set i ≡ false → has left i ≡ false → has (set_at singles i) j ≡ true → has lost j ≡ true
-  pub no_other : (j : ℕ) → has lost j ≡ true → (i : ℕ) × (has set i ≡ false) × (has (set_at singles i) j ≡ true)
+-- what is joined for the listed items
+has-joined : (f : ℕ → Items) (is : List ℕ) (j : ℕ) (s : Items) → has (fold (λ s i. union s (f i)) s is) j ≡ (has s j || list_any (λ i. has (f i) j) is)
+has-joined f [] j s = sym (or-false (has s j))
+has-joined f (i ∷ is) j s = has-joined f is j (union s (f i)) ∙ ap (λ b. b || list_any (λ i. has (f i) j) is) (has-union s (f i) j) ∙ or_assoc (has s j) (has (f i) j) (list_any (λ i. has (f i) j) is)
 
-pub Losing-first : (items : Items) (singles : List Items) (set : Items) → CoversSets items singles → Losing singles set (minus items set) empty
-Losing-first items singles set covers = record {
-  outside = λ i h. grind (arith, members, nat_tests);
-  all = λ i j o l h.
-      let out : has items i ≡ false = grind (arith, members, nat_tests) in
-      absurd (true≢false (sym h ∙ ap (λ s. has s j) (covers i out) ∙ has-empty j));
-  no_other = λ j h. absurd (true≢false (sym h ∙ has-empty j));
-}
+-- what the items of a set take with them
+abbrev pub lost_of : List Items → Items → Items
+lost_of singles outside = fold (λ s i. union s (set_at singles i)) empty (items outside)
 
-pub Losing-more : (singles : List Items) (set left lost : Items) (i : ℕ) → has left i ≡ true → Losing singles set left lost → Losing singles set (without left i) (union lost (set_at singles i))
-Losing-more singles set left lost i here a = record {
-  outside = λ j h. a.outside j (without-within left i j h);
-  all = λ j k o l h. elim (cases_eq j i) [
-    | inl e ↦ union-right lost (set_at singles i) k (subst (λ x. has (set_at singles x) k ≡ true) e h)
-    | inr n ↦ union-left lost (set_at singles i) k (a.all j k o (let gone : has left j ≡ false = grind (arith, members, nat_tests) in gone) h)
-  ];
-  no_other = λ j h. elim (cases_Bool (has lost j)) [
-    | inl x ↦ a.no_other j x
-    | inr x ↦ (i, a.outside i here, grind (arith, members, nat_tests))
-  ];
-}
+has-lost : (singles : List Items) (outside : Items) (j : ℕ) → has (lost_of singles outside) j ≡ list_any (λ i. has (set_at singles i) j) (items outside)
+has-lost singles outside j = has-joined (set_at singles) (items outside) j empty ∙ ap (λ b. b || list_any (λ i. has (set_at singles i) j) (items outside)) (has-empty j)
 
-pub Losing-done : (singles : List Items) (set left lost : Items) → left ≡ empty → Losing singles set left lost → (i j : ℕ) → has set i ≡ false → has (set_at singles i) j ≡ true → has lost j ≡ true
-Losing-done singles set left lost e a i j o h = a.all i j o (ap (λ s. has s i) e ∙ has-empty i) h
+pub lost-all : (inside : Items) (singles : List Items) (set : Items) → CoversSets inside singles → (i j : ℕ) → has set i ≡ false → has (set_at singles i) j ≡ true → has (lost_of singles (minus inside set)) j ≡ true
+lost-all inside singles set covers i j out h = elim (cases_Bool (has inside i)) [
+  | inl y ↦ has-lost singles (minus inside set) j ∙ in-some (λ i. has (set_at singles i) j) (items (minus inside set)) i (in-items (minus inside set) i (grind (arith, members, nat_tests))) h
+  | inr o ↦ absurd (true≢false (sym h ∙ ap (λ s. has s j) (covers i o) ∙ has-empty j))
+]
+
+pub lost-no_other : (inside : Items) (singles : List Items) (set : Items) (j : ℕ) → has (lost_of singles (minus inside set)) j ≡ true → (i : ℕ) × (has set i ≡ false) × (has (set_at singles i) j ≡ true)
+unfolding items
+lost-no_other inside singles set j h =
+    let some = some-in (λ i. has (set_at singles i) j) (items (minus inside set)) (sym (has-lost singles (minus inside set) j) ∙ h) in
+    let here = (filter-in (has (minus inside set)) (numbers_from 0 (bound (minus inside set))) some.0 some.1).1 in
+    (some.0, grind (arith, members, nat_tests), some.2)
 
 -- ---- one more rule is looked at
 

@@ -15,7 +15,7 @@ pub use Rattle.ls_set.proofs.Order.{Each-both}
 pub use Rattle.ls_set.proofs.Sets.{Decides-is_same, IsWithin-from, and-false, and-true, empty-within, has-empty, has-meet, has-without, is_within-from, members, minus-within, same_set, same_within, union-empty_left, union-empty_right, union-left, union-right, without-within}
 pub use Rattle.ls_set.proofs.Sizes.{len-less, len-within}
 pub use Rattle.ls_set.specs.{IsWithin, Items, empty, full, has, is_among, is_good, is_within, least, meet, minus, most_items, set_of, single, union, with, without}
-unfoldable pub use Rattle.ls_set.specs.{is_same, len}
+unfoldable pub use Rattle.ls_set.specs.{is_same, items, len}
 pub use Rattle.ls_set.specs.declared.query.Query.{Query}
 pub use Rattle.ls_theory.specs.{breaks, breaks_none, interior}
 pub use Rattle.ls_rules.specs.Followers.{AreFollowed, Follows, Grows}

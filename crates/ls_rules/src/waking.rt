@@ -97,13 +97,10 @@ fn lost_outside(singles: &Singles, set: ItemSet) -> ItemSet
     ensures no_other { (j : ℕ) → has result j ≡ true →
         (i : ℕ) × (has set i ≡ false) × (has (set_at singles.now i) j ≡ true) }
 {
-    let mut left = singles.items().minus(set);
-    let mut lost = ItemSet::empty();
-    while let Some(i) = left.least() {
-        left = left.without(i);
-        lost = lost.union(singles.of(i));
-    }
-    lost
+    let outside = singles.items().minus(set);
+    outside
+        .items()
+        .fold(ItemSet::empty(), |lost, i| lost.union(singles.of(i)))
 }
 
 // Looks at the rules whose sets A begin with the item. Where no item q of theirs is kept, none of
