@@ -1,5 +1,5 @@
 -- The words that the proofs of this crate cite, passed on from one place.
-pub use Rattle.std.proofs.Common.{◌&&◌, ◌*◌, ◌++◌, ◌+◌, ◌-◌, ◌<◌, ◌∙◌, ◌∷◌, ◌≡◌, ◌≢◌, ◌≤◌, All, Bool, List, None, Option, Some, ℕ, [], add-one, add-zero, ap, ap₂, arith, cond, drop, drop-cons, eq-eqb, eqb, eqb-true, false, filter, fold, get_or, inl, inr, le-ltb, length, length-set, lt-ltb, ltb, map, ne_eqb, not, refl, rules, set, slice_get, subst, suc, sym, true, true≢false, unwrap_or, zero, zero-add}
+pub use Rattle.std.proofs.Common.{◌&&◌, ◌*◌, ◌++◌, ◌+◌, ◌-◌, ◌<◌, ◌∙◌, ◌∷◌, ◌≡◌, ◌≢◌, ◌≤◌, ◌⊎◌, All, Bool, List, None, Option, Some, ℕ, [], add-one, add-zero, ap, ap₂, arith, cond, drop, drop-cons, eq-eqb, eqb, eqb-true, false, filter, fold, get_or, inl, inr, le-ltb, length, length-set, lt-ltb, ltb, map, ne_eqb, not, refl, rules, set, slice_get, subst, suc, sym, true, true≢false, unwrap_or, zero, zero-add}
 pub use Rattle.std.proofs.lemmas.Bool.{and_from, and_parts, cases_Bool, cases_eq, cases_lt, false_from_ne_true, not-false, not-true, not_from_false}
 pub use Rattle.std.proofs.lemmas.Bool.Decides.{nat_tests}
 pub use Rattle.std.proofs.lemmas.List.{drop_all, get_or-set_other, get_or-set_same, get_or_default, get_or_past, length-map, map-append, nil_from_length, with_items_is}
@@ -18,6 +18,9 @@ pub use Rattle.ls_set.specs.{IsWithin, Items, empty, full, has, is_among, is_goo
 unfoldable pub use Rattle.ls_set.specs.{is_same, items, len}
 pub use Rattle.ls_set.specs.declared.query.Query.{Query}
 pub use Rattle.ls_theory.specs.{breaks, breaks_none, interior}
+pub use Rattle.ls_lists.specs.Lists.{IsIn}
+pub use Rattle.ls_laws.proofs.Listed.{in-items}
+pub use Rattle.ls_set.specs.{bound, numbers_from}
 pub use Rattle.ls_rules.specs.Followers.{AreFollowed, Follows, Grows}
 pub use Rattle.ls_rules.specs.Parts.{first_of, several}
 pub use Rattle.ls_rules.specs.Places.{Covers, IsIndexOf, PlaceList, least_spare, lower, lowered, no_places, places_at, places_from, spare_at, spare_within}

@@ -33,9 +33,7 @@ fn push_each(sets: &mut Sets, set: ItemSet, q: u32)
     ensures grows { Grows sets.old sets.new }
     ensures len { length sets.new ≡ length sets.old }
 {
-    let mut left = set;
-    while let Some(i) = left.least() {
-        left = left.without(i);
+    for i in set.items() {
         let items = sets.of(i).with(q);
         sets.put(i, items);
     }

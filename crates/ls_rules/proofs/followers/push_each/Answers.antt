@@ -1,30 +1,17 @@
-use Rattle.ls_rules.proofs.Vocabulary.{◌∙◌, arith, least-cases, length-set, refl, sym}
-use Rattle.ls_rules.proofs.Following.{Pushed-first, Pushed-more, Pushed-done}
-use Rattle.ls_rules.proofs.Rounds.{no_least, len-without_least}
+use Rattle.ls_rules.proofs.Vocabulary.{◌∙◌, IsIn, List, inl, inr, refl, subst, sym, ℕ}
+use Rattle.ls_rules.proofs.Following.{Pushed, Pushed-first, Pushed-more}
 use Rattle.ls_rules.proofs.followers.push_each.Goals as goal
 
 pub loop-i-init : goal.loop-i-init
-loop-i-init c = record { pushed = Pushed-first c.args.sets.now c.args.set c.args.q; same_length = refl }
+loop-i-init c = rw (c.into_iter-i-iterator.ensures.into_iter_gives ∙ c.items-i-items.ensures) (Pushed-first c.args.sets.now c.args.set c.args.q c.requires.room)
 
 pub put-requires : goal.put-requires
-put-requires c =
-    let here = least-cases c.loop-i.left c.in-Some.i (sym c.least.ensures.value ∙ c.in-Some.is) in
-    let room = c.requires.room c.in-Some.i (c.loop-i.invariant.pushed.within c.in-Some.i here.0) in
-    omega (arith, room, c.loop-i.invariant.same_length)
-
-pub loop-i-smaller : goal.loop-i-smaller
-loop-i-smaller c = rw c.without-left.ensures (len-without_least c.loop-i.left c.in-Some.i (sym c.least.ensures.value ∙ c.in-Some.is))
+put-requires c = c.loop-i.invariant.room c.in-Some.i (subst (IsIn c.in-Some.i) (sym c.in-Some.ensures.steps) (inl refl))
 
 pub loop-i-preserved : goal.loop-i-preserved
 loop-i-preserved c =
-    let i = c.in-Some.i in
-    let here = least-cases c.loop-i.left i (sym c.least.ensures.value ∙ c.in-Some.is) in
-    let room = c.requires.room i (c.loop-i.invariant.pushed.within i here.0) in
-    rw (c.put.ensures, c.without-left.ensures, c.with-items.ensures, c.of.ensures) (record {
-      pushed = Pushed-more c.args.sets.now c.loop-i.sets c.args.set c.loop-i.left c.args.q i (omega (arith, room, c.loop-i.invariant.same_length)) c.loop-i.invariant.pushed;
-      same_length = length-set c.loop-i.sets i _ ∙ c.loop-i.invariant.same_length;
-    })
+    rw (c.put.ensures, c.with-items.ensures, c.of.ensures) (Pushed-more c.args.sets.now c.loop-i.sets c.args.set c.in-Some.i _ c.args.q
+    (subst (λ (left : List ℕ). Pushed c.args.sets.now c.loop-i.sets c.args.set left c.args.q) c.in-Some.ensures.steps c.loop-i.invariant))
 
 pub returns-clause-follows : goal.returns-clause-follows
-returns-clause-follows c =
-    Pushed-done c.args.sets.now c.loop-i.sets c.args.set c.loop-i.left c.args.q (no_least c.loop-i.left (sym c.least.ensures.value ∙ c.in_default.is)) c.loop-i.invariant.pushed
+returns-clause-follows c = λ i h. elim (c.loop-i.invariant.follows i h) [ inl x ↦ absurd (subst (IsIn i) c.in-None.ensures.steps.0 x) | inr f ↦ f ]
