@@ -1,12 +1,5 @@
 -- Rules whose set A is one item alone, and what such an item takes with it.
-use Rattle.ls_rules.proofs.Vocabulary.{◌++◌, ◌+◌, ◌<◌, ◌∙◌, ◌∷◌, ◌≡◌, ◌≢◌, AllByRecursion, AreSingles, CoversSets, Decides-is_same, Each-both, IsWithin, Items, List, None, Option, Query, Some, ℕ, [], add-one, and_parts, ap, ap₂, arith, asked_alone, breaks, breaks-from, breaks_none, cases_Bool, cases_eq, cases_lt, cond, drop, drop-cons, each, empty, empty-within, false, false_from_ne_true, filter, first_of, get_or, get_or-set_other, get_or-set_same, get_or_past, has, has-empty, inl, inr, is_same, items, least, least-at, length, map, members, minus, nat_tests, not, not-true, option_map_or, refl, remove, same_set, set, set_at, set_of, several, single, suc, sym, true, true≢false, union, union-left, union-right, with, zero}
-use Rattle.std.proofs.Common.{◌||◌, fold}
-use Rattle.std.proofs.Math.Bool.{or-false, or_assoc}
-use Rattle.std.specs.List.{list_any}
-use Rattle.ls_lists.proofs.Elements.{filter-in, in-some, some-in}
-use Rattle.ls_laws.proofs.Listed.{in-items}
-use Rattle.ls_set.specs.{bound, numbers_from}
-use Rattle.ls_set.proofs.Sets.{has-union}
+use Rattle.ls_rules.proofs.Vocabulary.{◌++◌, ◌+◌, ◌<◌, ◌||◌, ◌∙◌, ◌∷◌, ◌≡◌, ◌≢◌, AllByRecursion, AreSingles, CoversSets, Decides-is_same, Each-both, IsWithin, Items, List, None, Option, Query, Some, ℕ, [], add-one, and_parts, ap, ap₂, arith, asked_alone, bound, breaks, breaks-from, breaks_none, cases_Bool, cases_eq, cases_lt, cond, drop, drop-cons, each, empty, empty-within, false, false_from_ne_true, filter, filter-in, first_of, fold, get_or, get_or-set_other, get_or-set_same, get_or_past, has, has-empty, has-union, in-items, in-some, inl, inr, is_same, items, least, least-at, length, list_any, map, members, minus, nat_tests, not, not-true, numbers_from, option_map_or, or-false, or_assoc, refl, remove, same_set, set, set_at, set_of, several, single, some-in, suc, sym, true, true≢false, union, union-left, union-right, with, zero}
 
 -- ---- the parts of a set
 

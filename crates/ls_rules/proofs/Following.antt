@@ -1,6 +1,5 @@
 -- Putting an item into the set of each item of another set.
-use Rattle.ls_rules.proofs.Vocabulary.{◌<◌, ◌∙◌, ◌∷◌, ◌≡◌, ◌⊎◌, Grows, IsIn, Items, List, ℕ, bound, has, in-items, inl, inr, items, length, length-set, numbers_from, refl, set, set_at, true, with}
-use Rattle.ls_lists.proofs.Elements.{filter-in}
+use Rattle.ls_rules.proofs.Vocabulary.{◌<◌, ◌∙◌, ◌∷◌, ◌≡◌, ◌⊎◌, Grows, IsIn, Items, List, ℕ, bound, filter-in, has, in-items, inl, inr, items, length, length-set, numbers_from, refl, set, set_at, true, with}
 use Rattle.ls_rules.proofs.Indexing.{Grows-put, followed-put}
 
 -- the items of a set that are not left are followed by q
