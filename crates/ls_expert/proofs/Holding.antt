@@ -1,5 +1,5 @@
 -- What an interview keeps, through its beginning and its changes.
-use Rattle.ls_expert.proofs.Vocabulary.{◌+◌, ◌<◌, ◌∙◌, ◌≡◌, ◌≤◌, Answer, AreStates, BlockFault, BlockRange, Interview, IsDistinct, IsHeld, IsSound, IsStanding, IsStart, Items, List, Ok, Query, Result, TableState, ℕ, [], ap, ap₂, arith, begun, begun-numbered, blocks, choose, closures_of, compat, compatible_sets, is_same_query, length, made, most_sets, nos, refl, single_items, start-sound, subst, suc, sym, table_of, yes_queries, zero}
+use Rattle.ls_expert.proofs.Vocabulary.{◌+◌, ◌<◌, ◌∙◌, ◌≡◌, ◌≤◌, Answer, BlockFault, BlockRange, Interview, IsDistinct, IsHeld, IsKeptFor, IsSound, IsStanding, IsStart, IsTabled, Items, List, No, Ok, Query, Result, TableRoom, ℕ, [], ap, ap₂, arith, begun, begun-numbered, blocks, choose, compat, compatible_sets, is_same_query, length, made, most_sets, nos, refl, single_items, start-sound, subst, suc, sym, yes_queries, zero}
 use Rattle.ls_set.specs.declared.item_set.TheConstants.{PLACES}
 use Rattle.ls_theory.specs.Starts as theory
 use Rattle.ls_query.proofs.Made.{made_of}
@@ -29,18 +29,16 @@ range-of n k b e = sym (made_of n k b e)
 
 -- ---- tables
 
--- a table that was built for the items, the start, the rules and the answers of an interview is its table
-pub tabled-by : (i : Interview) (n : ℕ) (s : theory.Start) (rules : List Query) (answers : List Answer) (t : TableState)
-    → t ≡ table_of (single_items n) (compat n s rules) (nos answers) → n ≡ i.count → s ≡ i.start → rules ≡ yes_queries i.answers → answers ≡ i.answers → t ≡ closures_of i
-tabled-by i n s rules answers t h en es er ea =
-    h ∙ ap₂ (λ (m : ℕ) (s : theory.Start). table_of (single_items m) (compat m s rules) (nos answers)) en es
-    ∙ ap₂ (λ (rs : List Query) (done : List Answer). table_of (single_items i.count) (compat i.count i.start rs) (nos done)) er ea
+-- a table that is kept for a family is kept for the same one
+pub kept-as : (b : BlockRange) (f g : List Items) (ms ns : List No) (t : TableRoom) → f ≡ g → ms ≡ ns → IsKeptFor b f ms t → IsKeptFor b g ns t
+kept-as b f g ms ns t ef en k = subst (λ h. IsKeptFor b h ns t) ef (subst (λ l. IsKeptFor b f l t) en k)
 
--- and so for the states that are kept
-pub states-by : (i : Interview) (n : ℕ) (s : theory.Start) (rules : List Query) (w : List (List Items)) → AreStates (compat n s rules) w → n ≡ i.count → s ≡ i.start → rules ≡ yes_queries i.answers → AreStates (compatible_sets i) w
-states-by i n s rules w h en es er =
-    subst (λ (rs : List Query). AreStates (compat i.count i.start rs) w) er
-    (subst (λ (t : theory.Start). AreStates (compat i.count t rules) w) es (subst (λ (m : ℕ). AreStates (compat m s rules) w) en h))
+-- a table that was built for the items, the start, the rules and the answers of an interview is its table
+pub tabled-by : (i : Interview) (n : ℕ) (s : theory.Start) (rules : List Query) (answers : List Answer) (t : TableRoom)
+    → IsKeptFor (single_items n) (compat n s rules) (nos answers) t → n ≡ i.count → s ≡ i.start → rules ≡ yes_queries i.answers → answers ≡ i.answers → IsTabled i t
+tabled-by i n s rules answers t h en es er ea =
+    kept-as (single_items i.count) (compat i.count s rules) (compatible_sets i) (nos answers) (nos i.answers) t (ap₂ (compat i.count) es er) (ap nos ea)
+    (subst (λ m. IsKeptFor (single_items m) (compat m s rules) (nos answers) t) en h)
 
 -- ---- the beginning
 
@@ -62,9 +60,9 @@ standing-begun n start is_start = record {
   numbers_left = omega arith;
 }
 
-pub held-begun : (n : ℕ) (start : theory.Start) (i : Interview) (rules : List Query) (t : TableState) → 0 < n → n ≤ PLACES → IsStart n start → begun n start ≡ i → rules ≡ [] → t ≡ closures_of i → IsHeld i rules t
+pub held-begun : (n : ℕ) (start : theory.Start) (i : Interview) (rules : List Query) (t : TableRoom) → 0 < n → n ≤ PLACES → IsStart n start → begun n start ≡ i → rules ≡ [] → IsTabled i t → IsHeld i rules t
 held-begun n start i rules t some few is_start e none table =
-    subst (λ (j : Interview). t ≡ closures_of j → IsHeld j rules t) e (λ table. record {
+    subst (λ (j : Interview). IsTabled j t → IsHeld j rules t) e (λ table. record {
       some_items = some;
       few_items = few;
       ruled = none;
@@ -90,7 +88,7 @@ standing-blocks i k h = record {
   numbers_left = h.numbers_left;
 }
 
-pub held-blocks : (i : Interview) (k : ℕ) (rules : List Query) (t : TableState) → IsHeld i rules t → IsHeld (record i { block = k }) rules t
+pub held-blocks : (i : Interview) (k : ℕ) (rules : List Query) (t : TableRoom) → IsHeld i rules t → IsHeld (record i { block = k }) rules t
 held-blocks i k rules t h =
     record { some_items = h.some_items; few_items = h.few_items; ruled = h.ruled; tabled = h.tabled; standing = standing-blocks i k h.standing }
 
@@ -109,8 +107,8 @@ standing-start i start h none is_start =
       numbers_left = h.numbers_left;
     }
 
-pub held-start : (i : Interview) (start : theory.Start) (rules after : List Query) (t new : TableState) → IsHeld i rules t → i.answers ≡ [] → IsStart i.count start → after ≡ []
-    → new ≡ closures_of (record i { start = start }) → IsHeld (record i { start = start }) after new
+pub held-start : (i : Interview) (start : theory.Start) (rules after : List Query) (t new : TableRoom) → IsHeld i rules t → i.answers ≡ [] → IsStart i.count start → after ≡ []
+    → IsTabled (record i { start = start }) new → IsHeld (record i { start = start }) after new
 held-start i start rules after t new h none is_start no_rules table = record {
   some_items = h.some_items;
   few_items = h.few_items;

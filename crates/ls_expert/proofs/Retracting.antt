@@ -1,7 +1,8 @@
 -- What an interview keeps when it takes an answer back.
-use Rattle.ls_expert.proofs.Vocabulary.{◌&&◌, ◌*◌, ◌+◌, ◌<◌, ◌∙◌, ◌∷◌, ◌≡◌, ◌≤◌, AllByRecursion, Answer, AreStates, BlockRange, Bool, Interview, IsDistinct, IsHeld, IsStanding, Items, List, No, Query, Some, TableState, ℕ, [], and_assoc, and_parts, answer_with, ap, ap₂, arith, blocks, breaks, breaks_none, closure, closures_of, compat, compatible_sets, cond, count_by, count_by-le-length, eqb, false, filter, filter-both, filter_agree, full, is_compatible, is_good, is_same_query, is_within, left_by, length, length-filter, length-map, list_all, map, meets, nos, not, refl, remove, retracted, retracted-numbered, rules_before, single_items, standing, subsets, subst, sum_by-cons, sym, table_of, taken_out, true, yes_queries}
+use Rattle.ls_expert.proofs.Vocabulary.{◌&&◌, ◌*◌, ◌+◌, ◌<◌, ◌∙◌, ◌∷◌, ◌≡◌, ◌≤◌, AllByRecursion, Answer, AreStates, BlockRange, Bool, Interview, IsDistinct, IsHeld, IsKeptFor, IsStanding, IsTabled, Items, List, No, Query, Some, TableRoom, TableState, ℕ, [], and_assoc, and_parts, answer_with, ap, ap₂, arith, blocks, breaks, breaks_none, closure, compat, compatible_sets, cond, count_by, count_by-le-length, eqb, false, filter, filter-both, filter_agree, full, is_compatible, is_good, is_same_query, is_within, left_by, length, length-filter, length-map, list_all, map, meets, nos, not, refl, remove, retracted, retracted-numbered, rules_before, single_items, standing, subsets, subst, sum_by-cons, sym, table_of, taken_out, true, yes_queries}
 use Rattle.std.proofs.lemmas.List.Recursion.{is_sum_by}
 use Rattle.ls_expert.specs.Steps.{closures_over}
+use Rattle.ls_expert.proofs.Holding.{kept-as}
 use Rattle.ls_expert.proofs.AnswerLists.{is_other, all-fewer, all-told, told-all, nos-others, rising, yes_queries-without_yes, yes_queries-without_no, nos-without_yes, rules_before-within}
 
 -- ---- what is kept
@@ -43,7 +44,7 @@ count_by-images : {X Y : Type 0} (p : Y → Bool) (g : X → Y) (xs : List X) �
 count_by-images p g = is_sum_by (λ xs. count_by p (map g xs)) (λ x. cond (p (g x)) 1 0) refl (λ x xs. sum_by-cons (λ y. cond (p y) 1 0) (g x) (map g xs))
 
 -- what a change costs, told by a table
-pub steps-over : (i : Interview) (t : TableState) (a : Items) → t ≡ closures_of i
+pub steps-over : (i : Interview) (t : TableState) (a : Items) → t ≡ table_of (single_items i.count) (compatible_sets i) (nos i.answers)
     → count_by (λ c. is_within a c) t.closures + (t.blocks.item_count + 1) * length t.standing ≤ closures_over i a + (i.count + 1) * length (nos i.answers)
 steps-over i t a h =
     let close = closure (full i.count) (compatible_sets i) in
@@ -55,12 +56,12 @@ steps-over i t a h =
     (length-map (nos i.answers) (standing i.count (compatible_sets i))) in
     omega (arith, by_ones)
 
-module _ (i : Interview) (a : Answer) (rules : List Query) (t new : TableState) (h : IsHeld i rules t) (stands : answer_with i a.number ≡ Some a) where
+module _ (i : Interview) (a : Answer) (rules : List Query) (t new : TableRoom) (h : IsHeld i rules t) (stands : answer_with i a.number ≡ Some a) where
   abbrev after : Interview
   after = retracted i a.number
 
   -- an answer is taken back
-  back : (others : List Query) → others ≡ yes_queries after.answers → new ≡ closures_of after → IsHeld after others new
+  back : (others : List Query) → others ≡ yes_queries after.answers → IsTabled after new → IsHeld after others new
   back others ruled tabled =
       record { some_items = h.some_items; few_items = h.few_items; ruled = ruled; tabled = tabled; standing = standing-back i a.number h.standing }
 
@@ -85,37 +86,21 @@ module _ (i : Interview) (a : Answer) (rules : List Query) (t new : TableState) 
       ∙ sym (and_assoc (meets i.start k) (breaks_none (yes_queries after.answers) k) (not (breaks k a.query)))) (subsets i.count)
       ∙ sym (filter-both (is_compatible i.start (yes_queries after.answers)) (λ k. not (breaks k a.query)) (subsets i.count))
 
-  pub held-without_yes : (w : List (List Items)) (others : List Query) (k : List Items) → AreStates (compatible_sets i) w → a.yes ≡ true → others ≡ remove rules (rules_before i.answers a.number) → k ≡ compat i.count i.start others
-      → ((ns : List No) → AreStates (left_by a.query k) w → t ≡ table_of t.blocks (left_by a.query k) ns → new ≡ table_of t.blocks k ns) → IsHeld after others new
-  held-without_yes w others k states y removed family kept =
+  pub held-without_yes : (others : List Query) (k : List Items) → a.yes ≡ true → others ≡ remove rules (rules_before i.answers a.number) → k ≡ compat i.count i.start others
+      → ((b : BlockRange) (ns : List No) → IsKeptFor b (left_by a.query k) ns t → IsKeptFor b k ns new) → IsHeld after others new
+  held-without_yes others k y removed family kept =
       let ruled : others ≡ yes_queries after.answers =
       removed ∙ ap (λ (l : List Query). remove l (rules_before i.answers a.number)) h.ruled ∙ sym (yes_queries-without_yes i a h.standing.numbered stands y) in
       let left : k ≡ compatible_sets after = family ∙ ap (compat i.count i.start) ruled in
-      let blocks = ap (λ (s : TableState). s.blocks) h.tabled in
       back others ruled
-      (kept (nos i.answers) (subst (λ g. AreStates g w) (left-before y ∙ ap (left_by a.query) (sym left)) states) (h.tabled ∙ ap₂ (λ (b : BlockRange) (m : List Items). table_of b m (nos i.answers)) (sym blocks) (left-before y ∙ ap (left_by a.query) (sym left)))
-      ∙ ap₂ (λ (b : BlockRange) (m : List Items). table_of b m (nos i.answers)) blocks left
-      ∙ ap (λ (l : List No). table_of (single_items i.count) (compatible_sets after) l) (sym (nos-without_yes i a h.standing.numbered stands y)))
-
-  -- the states that are kept without it
-  pub states-without_yes : (w u : List (List Items)) (others : List Query) (k : List Items) → AreStates (compatible_sets i) w → a.yes ≡ true → others ≡ remove rules (rules_before i.answers a.number) → k ≡ compat i.count i.start others
-      → ((ns : List No) → AreStates (left_by a.query k) w → t ≡ table_of t.blocks (left_by a.query k) ns → AreStates k u) → AreStates (compatible_sets after) u
-  states-without_yes w u others k states y removed family kept =
-      let ruled : others ≡ yes_queries after.answers =
-      removed ∙ ap (λ (l : List Query). remove l (rules_before i.answers a.number)) h.ruled ∙ sym (yes_queries-without_yes i a h.standing.numbered stands y) in
-      let left : k ≡ compatible_sets after = family ∙ ap (compat i.count i.start) ruled in
-      let blocks = ap (λ (s : TableState). s.blocks) h.tabled in
-      subst (λ g. AreStates g u) left
-      (kept (nos i.answers) (subst (λ g. AreStates g w) (left-before y ∙ ap (left_by a.query) (sym left)) states)
-      (h.tabled ∙ ap₂ (λ (b : BlockRange) (m : List Items). table_of b m (nos i.answers)) (sym blocks) (left-before y ∙ ap (left_by a.query) (sym left))))
+      (kept-as (single_items i.count) k _ _ _ new left (sym (nos-without_yes i a h.standing.numbered stands y))
+      (kept (single_items i.count) (nos i.answers) (kept-as (single_items i.count) _ _ _ _ t (left-before y ∙ ap (left_by a.query) (sym left)) refl h.tabled)))
 
   -- ---- a No
 
-  pub held-without_no : a.yes ≡ false → ((g : List Items) (ns : List No) → t ≡ table_of t.blocks g ns → new ≡ table_of t.blocks g (filter (λ x. not (eqb x.number a.number)) ns)) → IsHeld after rules new
-  held-without_no n kept =
+  pub held-without_no : a.yes ≡ false → ((b : BlockRange) (g : List Items) (ns : List No) → t.table ≡ table_of b g ns → new.table ≡ table_of b g (filter (λ x. not (eqb x.number a.number)) ns)) → new.witnesses ≡ t.witnesses → IsHeld after rules new
+  held-without_no n kept same_states =
       let same = yes_queries-without_no i a h.standing.numbered stands n in
-      let blocks = ap (λ (s : TableState). s.blocks) h.tabled in
       back rules (h.ruled ∙ sym same)
-      (kept (compatible_sets i) (nos i.answers) (h.tabled ∙ ap (λ (b : BlockRange). table_of b (compatible_sets i) (nos i.answers)) (sym blocks))
-      ∙ ap (λ (b : BlockRange). table_of b (compatible_sets i) (filter (λ x. not (eqb x.number a.number)) (nos i.answers))) blocks
-      ∙ ap₂ (λ (k : List Items) (l : List No). table_of (single_items i.count) k l) (ap (compat i.count i.start) (sym same)) (nos-others a.number i.answers))
+      (kept-as (single_items i.count) _ _ _ _ new (ap (compat i.count i.start) (sym same)) (nos-others a.number i.answers)
+      (record { table = kept (single_items i.count) (compatible_sets i) (nos i.answers) h.tabled.table; states = subst (AreStates (compatible_sets i)) (sym same_states) h.tabled.states }))

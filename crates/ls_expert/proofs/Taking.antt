@@ -1,11 +1,12 @@
 -- What an interview keeps when it takes an answer.
-use Rattle.ls_expert.proofs.Vocabulary.{◌&&◌, ◌++◌, ◌<◌, ◌∙◌, ◌∷◌, ◌≡◌, ◌≤◌, AllByRecursion, Answer, AreStates, BlockRange, Bool, Interview, IsDistinct, IsHeld, IsSound, IsStanding, Items, List, No, None, Option, Query, Some, SomeFits, TableState, ℕ, [], accepted, accepted-numbered, and-true, and_from, ap, ap₂, arith, breaks, closures_of, compat, compat-more, compatible-no, compatible-yes, compatible_sets, cond, false, filter-all, find, first_fault, forced_yes_unbroken, full, is_forced_no, is_forced_yes, is_full, is_good, is_same_query, known, left_by, length, length-append, list_all, list_all-append, map, most_answers, most_number, nat_tests, no_added, nos, not, not-true, not_both, not_first, opposed, option_map, or_parts, refl, refusal, single_items, some_breaks, spaces_of, standing_number, subst, sym, table_of, true, yes_added, yes_queries}
+use Rattle.ls_expert.proofs.Vocabulary.{◌&&◌, ◌++◌, ◌<◌, ◌∙◌, ◌∷◌, ◌≡◌, ◌≤◌, AllByRecursion, Answer, AreStates, BlockRange, Bool, Interview, IsDistinct, IsHeld, IsKeptFor, IsSound, IsStanding, IsTabled, Items, List, No, None, Option, Query, Some, SomeFits, TableRoom, ℕ, [], accepted, accepted-numbered, and-true, and_from, ap, arith, breaks, compat, compat-more, compatible-no, compatible-yes, compatible_sets, cond, false, filter-all, find, first_fault, forced_yes_unbroken, full, is_forced_no, is_forced_yes, is_full, is_good, is_same_query, known, left_by, length, length-append, list_all, list_all-append, map, most_answers, most_number, nat_tests, no_added, nos, not, not-true, not_both, not_first, opposed, option_map, or_parts, refl, refusal, single_items, some_breaks, spaces_of, standing_number, sym, table_of, true, yes_added, yes_queries}
 use Rattle.ls_lists.proofs.Bools.{none_common}
 use Rattle.ls_theory.specs.declared.known.Known.{Known}
 use Rattle.ls_theory.specs.declared.answer_fault.AnswerFault.{AnswerFault}
 use Rattle.ls_theory.specs.declared.answer_fault.AnswerFault.TheVariants.{BadQuery, Repeat, Full}
 use Rattle.ls_laws.specs.Families.{IsFamily}
 use Rattle.ls_laws.proofs.Families.{compat-IsFamily}
+use Rattle.ls_expert.proofs.Holding.{kept-as}
 use Rattle.ls_expert.proofs.AnswerLists.{yes_queries-yes, yes_queries-no, nos-yes, nos-no}
 
 -- ---- what a refusal that isn't found tells
@@ -98,8 +99,8 @@ pub standing-taken : (i : Interview) (r : Query) (is_yes : Bool) → IsStanding 
 standing-taken i r true h e = let p = passes-from i r true e in taken i r true h p (yes_added i r h.sound p.good (free-yes i r h.sound.some_fits p.unopposed))
 standing-taken i r false h e = let p = passes-from i r false e in taken i r false h p (no_added i r h.sound p.good (free-no i r p.unopposed))
 
-module _ (i : Interview) (r : Query) (rules : List Query) (t new : TableState) (h : IsHeld i rules t) where
-  pub held-yes : (after : List Query) → refusal i r true ≡ None → after ≡ rules ++ r ∷ [] → new ≡ closures_of (accepted i r true) → IsHeld (accepted i r true) after new
+module _ (i : Interview) (r : Query) (rules : List Query) (t new : TableRoom) (h : IsHeld i rules t) where
+  pub held-yes : (after : List Query) → refusal i r true ≡ None → after ≡ rules ++ r ∷ [] → IsTabled (accepted i r true) new → IsHeld (accepted i r true) after new
   held-yes after e ruled tabled = record {
     some_items = h.some_items;
     few_items = h.few_items;
@@ -108,7 +109,7 @@ module _ (i : Interview) (r : Query) (rules : List Query) (t new : TableState) (
     standing = standing-taken i r true h.standing e;
   }
 
-  pub held-no : refusal i r false ≡ None → new ≡ closures_of (accepted i r false) → IsHeld (accepted i r false) rules new
+  pub held-no : refusal i r false ≡ None → IsTabled (accepted i r false) new → IsHeld (accepted i r false) rules new
   held-no e tabled = record {
     some_items = h.some_items;
     few_items = h.few_items;
@@ -119,42 +120,21 @@ module _ (i : Interview) (r : Query) (rules : List Query) (t new : TableState) (
 
 -- ---- tables
 
-module _ (i : Interview) (r : Query) (old new : TableState) (kept_sets : List (List Items)) (f : List Items) (h : old ≡ closures_of i) (states : AreStates (compatible_sets i) kept_sets) where
-  own : (ns : List No) (g : List Items) → g ≡ compatible_sets i → ns ≡ nos i.answers → old ≡ table_of old.blocks g ns
-  own ns g eg en =
-      h ∙ ap (λ (b : BlockRange). table_of b (compatible_sets i) (nos i.answers)) (sym (ap (λ (t : TableState). t.blocks) h))
-      ∙ ap₂ (λ (k : List Items) (l : List No). table_of old.blocks k l) (sym eg) (sym en)
-
+module _ (i : Interview) (r : Query) (old new : TableRoom) (f : List Items) (h : IsTabled i old) where
   -- the table after a No
-  pub tabled-no : (x : No) → f ≡ compatible_sets i → x ≡ record { number = i.next; query = r }
-      → ((ns : List No) → AreStates f kept_sets → old ≡ table_of old.blocks f ns → new ≡ table_of old.blocks f (ns ++ x ∷ [])) → new ≡ closures_of (accepted i r false)
-  tabled-no x family e kept =
-      kept (nos i.answers) (subst (λ g. AreStates g kept_sets) (sym family) states) (own (nos i.answers) f family refl)
-      ∙ ap (λ (b : BlockRange). table_of b f (nos i.answers ++ x ∷ [])) (ap (λ (t : TableState). t.blocks) h)
-      ∙ ap₂ (λ (k : List Items) (l : List No). table_of (single_items i.count) k l) (family ∙ sym (compatible-no i r)) (ap (λ y. nos i.answers ++ y ∷ []) e ∙ sym (nos-no i r))
+  pub tabled-no : f ≡ compatible_sets i → ((b : BlockRange) (ns : List No) → AreStates f old.witnesses → old.table ≡ table_of b f ns → new.table ≡ table_of b f (ns ++ record { number = i.next; query = r } ∷ []))
+      → (AreStates f old.witnesses → AreStates f new.witnesses) → IsTabled (accepted i r false) new
+  tabled-no family kept states =
+      let own = kept-as (single_items i.count) _ f _ _ old (sym family) refl h in
+      kept-as (single_items i.count) f _ _ _ new (family ∙ sym (compatible-no i r)) (sym (nos-no i r)) (record { table = kept (single_items i.count) (nos i.answers) own.states own.table; states = states own.states })
 
   -- the table after a Yes
   pub tabled-yes : f ≡ compat i.count i.start (yes_queries i.answers ++ r ∷ [])
-      → ((before : List Items) (ns : List No) → IsFamily old.blocks.item_count before → f ≡ left_by r before → AreStates before kept_sets → old ≡ table_of old.blocks before ns → new ≡ table_of old.blocks f ns) → new ≡ closures_of (accepted i r true)
+      → ((b : BlockRange) (before : List Items) (ns : List No) → IsFamily b.item_count before → f ≡ left_by r before → IsKeptFor b before ns old → IsKeptFor b f ns new) → IsTabled (accepted i r true) new
   tabled-yes family kept =
-      let left : f ≡ left_by r (compatible_sets i) = family ∙ compat-more i.count i.start (yes_queries i.answers) r in
-      kept (compatible_sets i) (nos i.answers)
-      (subst (λ n. IsFamily n (compatible_sets i)) (ap (λ (t : TableState). t.blocks.item_count) (sym h)) (compat-IsFamily i.count i.start (yes_queries i.answers))) left states (own (nos i.answers) (compatible_sets i) refl refl)
-      ∙ ap (λ (b : BlockRange). table_of b f (nos i.answers)) (ap (λ (t : TableState). t.blocks) h)
-      ∙ ap₂ (λ (k : List Items) (l : List No). table_of (single_items i.count) k l) (left ∙ sym (compatible-yes i r)) (sym (nos-yes i r))
-
-  -- the states that are kept after a Yes
-  pub states-yes : (after : List (List Items)) → f ≡ compat i.count i.start (yes_queries i.answers ++ r ∷ [])
-      → ((before : List Items) (ns : List No) → IsFamily old.blocks.item_count before → f ≡ left_by r before → AreStates before kept_sets → old ≡ table_of old.blocks before ns → AreStates f after) → AreStates (compatible_sets (accepted i r true)) after
-  states-yes after family kept =
-      let left : f ≡ left_by r (compatible_sets i) = family ∙ compat-more i.count i.start (yes_queries i.answers) r in
-      subst (λ g. AreStates g after) (left ∙ sym (compatible-yes i r))
-      (kept (compatible_sets i) (nos i.answers)
-      (subst (λ n. IsFamily n (compatible_sets i)) (ap (λ (t : TableState). t.blocks.item_count) (sym h)) (compat-IsFamily i.count i.start (yes_queries i.answers))) left states (own (nos i.answers) (compatible_sets i) refl refl))
-
-  -- and after a No
-  pub states-no : (after : List (List Items)) → f ≡ compatible_sets i → (AreStates f kept_sets → AreStates f after) → AreStates (compatible_sets (accepted i r false)) after
-  states-no after family kept = subst (λ g. AreStates g after) (family ∙ sym (compatible-no i r)) (kept (subst (λ g. AreStates g kept_sets) (sym family) states))
+      let left = family ∙ compat-more i.count i.start (yes_queries i.answers) r in
+      kept-as (single_items i.count) f _ _ _ new (left ∙ sym (compatible-yes i r)) (sym (nos-yes i r))
+      (kept (single_items i.count) (compatible_sets i) (nos i.answers) (compat-IsFamily i.count i.start (yes_queries i.answers)) left h)
 
 -- a Yes that the others force leaves the compatible sets
 forced_yes : (sure never : Bool) (k : ℕ) → cond sure Known.Yes (cond never (Known.No k) Known.Unsettled) ≡ Known.Yes → sure ≡ true
@@ -174,10 +154,5 @@ forced-left i r fits e =
     filter-all (λ k. not (breaks k r)) (compatible_sets i) (none_left_out (compatible_sets i) r none)
 
 -- and so the table
-pub tabled-forced : (i : Interview) (r : Query) (t : TableState) → SomeFits i → known i r ≡ Known.Yes → t ≡ closures_of i → t ≡ closures_of (accepted i r true)
-tabled-forced i r t fits e h =
-    h ∙ ap₂ (λ (k : List Items) (l : List No). table_of (single_items i.count) k l) (sym (compatible-yes i r ∙ forced-left i r fits e)) (sym (nos-yes i r))
-
--- and the states that are kept
-pub states-forced : (i : Interview) (r : Query) (w : List (List Items)) → SomeFits i → known i r ≡ Known.Yes → AreStates (compatible_sets i) w → AreStates (compatible_sets (accepted i r true)) w
-states-forced i r w fits e = subst (λ g. AreStates g w) (sym (compatible-yes i r ∙ forced-left i r fits e))
+pub tabled-forced : (i : Interview) (r : Query) (t : TableRoom) → SomeFits i → known i r ≡ Known.Yes → IsTabled i t → IsTabled (accepted i r true) t
+tabled-forced i r t fits e = kept-as (single_items i.count) _ _ _ _ t (sym (compatible-yes i r ∙ forced-left i r fits e)) (sym (nos-yes i r))

@@ -18,7 +18,7 @@ pub use Rattle.ls_base.specs.Bases.{BaseState, family}
 pub use Rattle.ls_base.specs.Followed.{IsFollowed}
 pub use Rattle.ls_clauses.proofs.Covers.{start-sound, start-space}
 pub use Rattle.ls_clauses.specs.Starts.{IsStart}
-pub use Rattle.ls_infer.specs.Tables.{AreStates, TableState, standing, table_of}
+pub use Rattle.ls_infer.specs.Tables.{AreStates, IsKeptFor, TableRoom, TableState, standing, table_of}
 pub use Rattle.ls_laws.proofs.Accepting.{compatible-fewer, compatible-no, compatible-yes, no_added, taken_out, yes_added}
 pub use Rattle.ls_laws.proofs.Answering.{FitsIn, all_spaces, compatible_fit, forced_yes_unbroken, no_question, not_both, settles}
 pub use Rattle.ls_laws.proofs.Breaks.{among-left_parts, good-from, good-to}
@@ -43,6 +43,6 @@ unfoldable pub use Rattle.ls_theory.specs.{compat, known, made, next_question}
 pub use Rattle.ls_theory.specs.declared.answer.Answer.{Answer}
 pub use Rattle.ls_theory.specs.declared.block_fault.BlockFault.{BlockFault}
 pub use Rattle.ls_theory.specs.declared.no.No.{No}
-pub use Rattle.ls_expert.specs.Held.{IsHeld, IsInquiry, IsStanding, NoneBefore, PlaceFor, blocks_of, closures_of, interview_of, interview_on, rules_before, single_items}
+pub use Rattle.ls_expert.specs.Held.{IsHeld, IsInquiry, IsStanding, IsTabled, NoneBefore, PlaceFor, blocks_of, interview_of, interview_on, rules_before, single_items}
 pub use Rattle.ls_expert.specs.Saved.{IsStandingFault, IsTableFault, are_broken}
 pub use Rattle.ls_expert.specs.Starts.{HasItems, StartOn, start_of}

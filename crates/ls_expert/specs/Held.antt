@@ -1,14 +1,14 @@
 -- What an inquiry keeps true of its parts.
 use Rattle.std.specs.Prelude.{◌≡◌, ℕ, Bool, ◌+◌, ◌<◌, ◌≤◌, true, false, ◌&&◌, nat_lt, List, map, length, count_by, find, Option, None, Some}
 use Rattle.std.specs.List.{list_all, IsDistinct}
-use Rattle.ls_set.specs.{Items, is_good, most_items}
+use Rattle.ls_set.specs.{is_good, most_items}
 use Rattle.ls_set.specs.declared.query.Query.{Query}
 use Rattle.ls_theory.specs.declared.answer.Answer.{Answer}
 use Rattle.ls_theory.specs.Starts as theory
 use Rattle.ls_theory.specs.{BlockRange, Interview, compatible_sets, is_open, is_same_query, most_answers, most_number, next_question, nos, queries, query_before, spaces_of, yes_queries}
 use Rattle.ls_lists.specs.Lists.{IsIn}
 use Rattle.ls_laws.specs.Forced.{IsSound, IsNumbered}
-use Rattle.ls_infer.specs.Tables.{TableState, AreStates, table_of}
+use Rattle.ls_infer.specs.Tables.{TableRoom, IsKeptFor}
 use Rattle.ls_expert.specs.Starts.{StartOn}
 
 -- the interview on n items with the start, where sets up to the size k are asked, the answers stand and `next` is the number of the next
@@ -27,9 +27,9 @@ blocks_of i = record { item_count = i.count; largest = i.block }
 abbrev pub single_items : ℕ → BlockRange
 single_items n = record { item_count = n; largest = 1 }
 
--- its table, of the sets of one item
-abbrev pub closures_of : Interview → TableState
-closures_of i = table_of (single_items i.count) (compatible_sets i) (nos i.answers)
+-- its table is kept, of the sets of one item
+abbrev pub IsTabled : Interview → TableRoom → Type 0
+IsTabled i = IsKeptFor (single_items i.count) (compatible_sets i) (nos i.answers)
 
 -- Answers that stand: some space fits them, they stand in order of number, below the next number, their queries are good, and none is there twice; and there is
 -- room for them.
@@ -47,11 +47,11 @@ abbrev pub rules_before : List Answer → ℕ → ℕ
 rules_before answers number = count_by (λ a. a.yes && nat_lt a.number number) answers
 
 -- The answers stand, the rules are the Yes answers, and the table is that of what stands.
-pub record IsHeld (i : Interview) (rules : List Query) (table : TableState) : Type 0 where
+pub record IsHeld (i : Interview) (rules : List Query) (table : TableRoom) : Type 0 where
   pub some_items : 0 < i.count
   pub few_items : i.count ≤ most_items
   pub ruled : rules ≡ yes_queries i.answers
-  pub tabled : table ≡ closures_of i
+  pub tabled : IsTabled i table
   pub standing : IsStanding i
 
 -- No query of the blocks before the given one of them is open; none at all, where none is given.
@@ -64,10 +64,9 @@ abbrev pub PlaceFor : Interview → Option Query → Option Query → Type 0
 PlaceFor i None from = NoneBefore i from
 PlaceFor i (Some r) from = from ≡ find (query_before r) (queries i.count i.block)
 
--- With that compatible sets are kept, as the states of the table; the blocks, which have some sizes; the query from which an open one is looked for; and whether that is the first open one.
-pub record IsInquiry (i : Interview) (blocks : BlockRange) (rules : List Query) (table : TableState) (witnesses : List (List Items)) (from : Option Query) (is_found : Bool) : Type 0 where
+-- With that the blocks, which have some sizes; the query from which an open one is looked for; and whether that is the first open one.
+pub record IsInquiry (i : Interview) (blocks : BlockRange) (rules : List Query) (table : TableRoom) (from : Option Query) (is_found : Bool) : Type 0 where
   pub held : IsHeld i rules table
-  pub states : AreStates (compatible_sets i) witnesses
   pub asked : blocks ≡ blocks_of i
   pub some_sizes : 0 < i.block
   pub none_before : NoneBefore i from

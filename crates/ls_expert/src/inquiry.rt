@@ -4,7 +4,7 @@ ghost use Rattle.std.specs.Option.{ForSome, option_map};
 ghost use Rattle.std.specs.List.{list_all};
 ghost use Rattle.ls_set.specs.{is_good};
 ghost use Rattle.ls_theory.specs.{IsBlockFault, IsFaultOf, accepted, answer_with, base, begun, breaks_none, compat, compatible_sets, is_settled, known, made, next_question, nos, refusal, retracted, spaces_of, yes_queries};
-ghost use Rattle.ls_infer.specs.Tables.{table_of, AreStates};
+ghost use Rattle.ls_infer.specs.Tables.{IsKeptFor};
 ghost use Rattle.ls_expert.specs.Held.{single_items, blocks_of, rules_before, IsStanding, PlaceFor};
 ghost use Rattle.ls_expert.specs.Steps.{steps_back, most_steps};
 
@@ -67,7 +67,7 @@ impl Model for Inquiry {
 
     ghost invariant = { λ s. IsInquiry
         (interview_of s.family.inner s.block s.answers.items s.next)
-        s.blocks s.family.rules s.table.table s.table.witnesses s.from s.is_found };
+        s.blocks s.family.rules s.table s.from s.is_found };
 }
 
 // The table of a family with rules, of the sets of one item, for the answers that are No. It is
@@ -84,11 +84,8 @@ fn build<L: Ledger>(
     requires good { list_all (λ a. is_good family.now.inner.item_count a.query) answers.now
         ≡ true }
     ensures table { let n = family.now.inner.item_count in
-        IfOk result (λ t. t.table ≡ table_of (single_items n)
+        IfOk result (IsKeptFor (single_items n)
         (compat n family.now.inner.start family.now.rules) (nos answers.now)) }
-    ensures states { let n = family.now.inner.item_count in
-        IfOk result (λ t.
-        AreStates (compat n family.now.inner.start family.now.rules) t.witnesses) }
 {
     let nos = nos(alloc, answers)?;
     let blocks = Blocks::new(family.items(), 1).unwrap();

@@ -1,11 +1,7 @@
 -- What stays true of a table when it is built and changed.
-use Rattle.ls_infer.proofs.Vocabulary.{◌++◌, ◌∙◌, ◌∷◌, ◌≡◌, All-filter, All-list_all, IsFamily, IsGood, Items, List, No, Query, StandingNo, TableState, ℕ, [], and_from, and_parts, ap, ap₂, breaks, closure, cond, eqb, false, family_sets, filter, full, good-from, has, has-closure, is_good, is_kept, is_within, is_within-from, left_by, list_all, list_all-All, list_all-append, list_any, map, minus-within, not, not-true, or_parts, refl, sets_of, some_breaks, standing, subst, sym, table_of, true}
+use Rattle.ls_infer.proofs.Vocabulary.{◌++◌, ◌∙◌, ◌∷◌, ◌≡◌, All-filter, All-list_all, IsFamily, IsGood, Items, List, No, Query, StandingNo, ℕ, [], and_from, and_parts, ap, breaks, closure, cond, eqb, false, family_sets, filter, full, good-from, has, has-closure, is_good, is_kept, is_within, is_within-from, left_by, list_all, list_all-All, list_all-append, list_any, map, minus-within, not, not-true, or_parts, refl, some_breaks, standing, subst, sym, true}
 use Rattle.ls_infer.proofs.States.{enough-within}
 use Rattle.ls_infer.proofs.Standing.{kept-from}
-
--- the table of a family, by its parts
-pub table_is : (t : TableState) (f : List Items) (nos : List No) → t.closures ≡ map (closure (full t.blocks.item_count) f) (sets_of t.blocks) → t.standing ≡ map (standing t.blocks.item_count f) nos → t ≡ table_of t.blocks f nos
-table_is t f nos c s = ap₂ (λ cs ss. record { blocks = t.blocks; closures = cs; standing = ss }) c s
 
 -- closures are of items alone
 pub closures-within : (n : ℕ) (f : List Items) (sets : List Items) → list_all (λ c. is_within c (full n)) (map (closure (full n) f) sets) ≡ true

@@ -47,6 +47,6 @@ pub use Rattle.ls_infer.specs.Changes.{IsChange, can_grow, is_kept, is_reached, 
 pub use Rattle.ls_infer.specs.Fronts.{AreFirst, IsFront}
 pub use Rattle.ls_infer.specs.Narrowing.{IsNarrowed, owed}
 pub use Rattle.ls_infer.specs.Search.{IsSearch, is_open_by, outside_of}
-pub use Rattle.ls_infer.specs.Tables.{AreStates, TableState, closed_of, enough_for, forces, is_open_in, standing, table_of, told}
+pub use Rattle.ls_infer.specs.Tables.{AreStates, IsKeptFor, TableRoom, TableState, closed_of, enough_for, forces, is_open_in, standing, table_of, told}
 pub use Rattle.ls_infer.specs.declared.standing_no.StandingNo.{StandingNo}
 pub use Rattle.ls_infer.specs.declared.yes_change.YesChange.{YesChange}

@@ -1,6 +1,7 @@
 -- Tables of closures: what is kept of a family of sets, so that queries are answered without forming it.
 --     table_of b f nos      the table of the family f, for blocks b and the standing answers that are No
 --     AreStates f kept      the sets that are kept for each item are members of the family f
+--     IsKeptFor b f nos t      such a table is kept, with members of the family for each item
 --     forces r s      the No of which s is kept forces the query r No
 --     closed_of t a      the closure that is kept of a block set
 --     told n f nos r      what the family f and the standing Nos tell of the query r
@@ -51,6 +52,11 @@ table_of b f nos = record {
   closures = map (closure (full b.item_count) f) (sets_of b);
   standing = map (standing b.item_count f) nos;
 }
+
+-- a table that is kept for a family: it is the family's, and the sets that are kept for each item are members
+pub record IsKeptFor (b : BlockRange) (f : List Items) (nos : List No) (t : TableRoom) : Type 0 where
+  pub table : t.table ≡ table_of b f nos
+  pub states : AreStates f t.witnesses
 
 -- the No forces the query (A, q): A is within the closure of its set, and q is enough with that
 abbrev pub forces : Query → StandingNo → Bool

@@ -33,14 +33,9 @@ pub fn change_each<I: Interior, L: Ledger>(
     ensures each { (before : List Items) (k : ℕ) (nos : List No) → let n = I.item_count f.now in
         IsChange change n r.now before (I.members f.now) →
         closures.now ≡ map (closure (full n) (I.members f.now)) (blocks n k) →
-        AreStates (I.members f.now) witnesses.old →
-        kept.old ≡ map (standing n before) nos →
-        kept.new ≡ map (standing n (I.members f.now)) nos }
-    ensures states { (before : List Items) (k : ℕ) (nos : List No) → let n = I.item_count f.now in
-        IsChange change n r.now before (I.members f.now) →
-        closures.now ≡ map (closure (full n) (I.members f.now)) (blocks n k) →
-        AreStates (I.members f.now) witnesses.old →
-        kept.old ≡ map (standing n before) nos → AreStates (I.members f.now) witnesses.new }
+        AreStates (I.members f.now) witnesses.old → kept.old ≡ map (standing n before) nos →
+        (kept.new ≡ map (standing n (I.members f.now)) nos)
+        × AreStates (I.members f.now) witnesses.new }
     ensures kept { list_all (is_kept (I.item_count f.now)) kept.new ≡ true }
     ensures cost { steps.new ≤ steps.old
         + most_steps change (I.item_count f.now) * length kept.old }

@@ -54,12 +54,10 @@ pub fn standing_of<I: Interior, L: Ledger>(
     steps: &mut Steps<L>,
 ) -> Result<Vec<StandingNo>, AllocError>
     requires good { list_all (λ a. is_good (I.item_count f.now) a.query) answers.now ≡ true }
-    ensures list { (k : ℕ) → let n = I.item_count f.now in
+    ensures list { AreStates (I.members f.now) witnesses.old →
+        AreStates (I.members f.now) witnesses.new × ((k : ℕ) → let n = I.item_count f.now in
         closures.now ≡ map (closure (full n) (I.members f.now)) (blocks n k) →
-        AreStates (I.members f.now) witnesses.old →
-        IfOk result (λ v. v.items ≡ map (standing n (I.members f.now)) answers.now) }
-    ensures states { AreStates (I.members f.now) witnesses.old →
-        AreStates (I.members f.now) witnesses.new }
+        IfOk result (λ v. v.items ≡ map (standing n (I.members f.now)) answers.now)) }
     ensures cost { steps.new ≤ steps.old + (I.item_count f.now + 1) * length answers.now }
 {
     let mut kept = Vec::new(alloc);

@@ -50,13 +50,11 @@ pub fn enough_among<I: Interior, L: Ledger>(
     requires known { IsWithin known (full (I.item_count f.now)) }
     requires rest { IsWithin rest.items (full (I.item_count f.now)) }
     ensures value { is_among (I.members f.now) (minus (full (I.item_count f.now)) closed) ≡ true →
-        AreStates (I.members f.now) witnesses.old →
-        IsWithin known (enough_for (I.item_count f.now) (I.members f.now) closed q) →
-        ((r : ℕ) → has (enough_for (I.item_count f.now) (I.members f.now) closed q) r ≡ true →
-        (has known r ≡ true) ⊎ (has rest.items r ≡ true)) →
-        result ≡ enough_for (I.item_count f.now) (I.members f.now) closed q }
-    ensures states { is_among (I.members f.now) (minus (full (I.item_count f.now)) closed) ≡ true →
-        AreStates (I.members f.now) witnesses.old → AreStates (I.members f.now) witnesses.new }
+        AreStates (I.members f.now) witnesses.old → AreStates (I.members f.now) witnesses.new
+        × (let enough = enough_for (I.item_count f.now) (I.members f.now) closed q in
+        IsWithin known enough →
+        ((r : ℕ) → has enough r ≡ true → (has known r ≡ true) ⊎ (has rest.items r ≡ true)) →
+        result ≡ enough) }
     ensures within { IsWithin result (full (I.item_count f.now)) }
     ensures cost { steps.new ≤ steps.old + owed rest }
 {
@@ -94,12 +92,9 @@ pub fn enough_between<I: Interior, L: Ledger>(
     requires known { IsWithin known (full (I.item_count f.now)) }
     requires among { IsWithin among (full (I.item_count f.now)) }
     ensures value { is_among (I.members f.now) (minus (full (I.item_count f.now)) closed) ≡ true →
-        AreStates (I.members f.now) witnesses.old →
-        IsWithin known (enough_for (I.item_count f.now) (I.members f.now) closed q) →
-        IsWithin (enough_for (I.item_count f.now) (I.members f.now) closed q) among →
-        result ≡ enough_for (I.item_count f.now) (I.members f.now) closed q }
-    ensures states { is_among (I.members f.now) (minus (full (I.item_count f.now)) closed) ≡ true →
-        AreStates (I.members f.now) witnesses.old → AreStates (I.members f.now) witnesses.new }
+        AreStates (I.members f.now) witnesses.old → AreStates (I.members f.now) witnesses.new
+        × (let enough = enough_for (I.item_count f.now) (I.members f.now) closed q in
+        IsWithin known enough → IsWithin enough among → result ≡ enough) }
     ensures within { IsWithin result (full (I.item_count f.now)) }
     ensures cost { steps.new + 1 ≤ steps.old + I.item_count f.now }
     ensures fewer { (i : ℕ) → has closed i ≡ true → i < I.item_count f.now →

@@ -80,12 +80,9 @@ impl StandingNo {
         requires known { IsWithin known (full (I.item_count f.now)) }
         ensures value { let n = I.item_count f.now in
             closed ≡ closure (full n) (I.members f.now) no.query.a →
-            AreStates (I.members f.now) witnesses.old →
-            IsWithin known (enough_for n (I.members f.now) closed no.query.q) →
-            result ≡ standing n (I.members f.now) no }
-        ensures states { let n = I.item_count f.now in
-            closed ≡ closure (full n) (I.members f.now) no.query.a →
-            AreStates (I.members f.now) witnesses.old → AreStates (I.members f.now) witnesses.new }
+            AreStates (I.members f.now) witnesses.old → AreStates (I.members f.now) witnesses.new
+            × (IsWithin known (enough_for n (I.members f.now) closed no.query.q) →
+            result ≡ standing n (I.members f.now) no) }
         ensures kept { is_kept (I.item_count f.now) result ≡ true }
         ensures cost { steps.new ≤ steps.old + (I.item_count f.now + 1) }
         ensures fewer { (i : ℕ) → has closed i ≡ true → i < I.item_count f.now →
@@ -120,12 +117,10 @@ impl StandingNo {
         steps: &mut Steps<L>,
     ) -> StandingNo
         requires { is_good (I.item_count f.now) answer.now.query ≡ true }
-        ensures value { (k : ℕ) → let n = I.item_count f.now in
+        ensures value { AreStates (I.members f.now) witnesses.old →
+            AreStates (I.members f.now) witnesses.new × ((k : ℕ) → let n = I.item_count f.now in
             closures.now ≡ map (closure (full n) (I.members f.now)) (blocks n k) →
-            AreStates (I.members f.now) witnesses.old →
-            result ≡ standing n (I.members f.now) answer.now }
-        ensures states { AreStates (I.members f.now) witnesses.old →
-            AreStates (I.members f.now) witnesses.new }
+            result ≡ standing n (I.members f.now) answer.now) }
         ensures kept { is_kept (I.item_count f.now) result ≡ true }
         ensures cost { steps.new ≤ steps.old + (I.item_count f.now + 1) }
     {
@@ -147,13 +142,10 @@ impl StandingNo {
         requires within { IsWithin closed (full (I.item_count f.now)) }
         ensures value { let n = I.item_count f.now in
             closed ≡ closure (full n) (I.members f.now) self.now.no.query.a →
-            AreStates (I.members f.now) witnesses.old →
+            AreStates (I.members f.now) witnesses.old → AreStates (I.members f.now) witnesses.new
+            × (is_among (I.members f.now) self.now.enough ≡ false →
             IsWithin self.now.enough (enough_for n (I.members f.now) closed self.now.no.query.q) →
-            is_among (I.members f.now) self.now.enough ≡ false →
-            result ≡ standing n (I.members f.now) self.now.no }
-        ensures states { let n = I.item_count f.now in
-            closed ≡ closure (full n) (I.members f.now) self.now.no.query.a →
-            AreStates (I.members f.now) witnesses.old → AreStates (I.members f.now) witnesses.new }
+            result ≡ standing n (I.members f.now) self.now.no) }
         ensures kept { is_kept (I.item_count f.now) result ≡ true }
         ensures cost { steps.new ≤ steps.old + I.item_count f.now }
         ensures fewer { (i : ℕ) → has closed i ≡ true → i < I.item_count f.now →
@@ -193,16 +185,12 @@ impl StandingNo {
         requires good { is_good (I.item_count f.now) r.now ≡ true }
         requires item { r.now.q < PLACES }
         requires few { I.item_count f.now ≤ PLACES }
-        ensures value { (before : List Items) (k : ℕ) → let n = I.item_count f.now in
-            IsChange YesChange.Added n r.now before (I.members f.now) →
-            closures.now ≡ map (closure (full n) (I.members f.now)) (blocks n k) →
-            AreStates (I.members f.now) witnesses.old →
-            self.now ≡ standing n before self.now.no →
-            result ≡ standing n (I.members f.now) self.now.no }
-        ensures states { (before : List Items) → let n = I.item_count f.now in
+        ensures value { (before : List Items) → let n = I.item_count f.now in
             IsChange YesChange.Added n r.now before (I.members f.now) →
             self.now ≡ standing n before self.now.no →
-            AreStates (I.members f.now) witnesses.old → AreStates (I.members f.now) witnesses.new }
+            AreStates (I.members f.now) witnesses.old → AreStates (I.members f.now) witnesses.new
+            × ((k : ℕ) → closures.now ≡ map (closure (full n) (I.members f.now)) (blocks n k) →
+            result ≡ standing n (I.members f.now) self.now.no) }
         ensures kept { is_kept (I.item_count f.now) result ≡ true }
         ensures cost { steps.new ≤ steps.old + (I.item_count f.now + 1) }
     {
@@ -244,16 +232,12 @@ impl StandingNo {
         requires good { is_good (I.item_count f.now) r.now ≡ true }
         requires item { r.now.q < PLACES }
         requires few { I.item_count f.now ≤ PLACES }
-        ensures value { (before : List Items) (k : ℕ) → let n = I.item_count f.now in
-            IsChange YesChange.Removed n r.now before (I.members f.now) →
-            closures.now ≡ map (closure (full n) (I.members f.now)) (blocks n k) →
-            AreStates (I.members f.now) witnesses.old →
-            self.now ≡ standing n before self.now.no →
-            result ≡ standing n (I.members f.now) self.now.no }
-        ensures states { (before : List Items) → let n = I.item_count f.now in
+        ensures value { (before : List Items) → let n = I.item_count f.now in
             IsChange YesChange.Removed n r.now before (I.members f.now) →
             self.now ≡ standing n before self.now.no →
-            AreStates (I.members f.now) witnesses.old → AreStates (I.members f.now) witnesses.new }
+            AreStates (I.members f.now) witnesses.old → AreStates (I.members f.now) witnesses.new
+            × ((k : ℕ) → closures.now ≡ map (closure (full n) (I.members f.now)) (blocks n k) →
+            result ≡ standing n (I.members f.now) self.now.no) }
         ensures kept { is_kept (I.item_count f.now) result ≡ true }
         ensures cost { steps.new ≤ steps.old + I.item_count f.now }
     {
@@ -311,16 +295,12 @@ impl StandingNo {
         requires good { is_good (I.item_count f.now) r.now ≡ true }
         requires item { r.now.q < PLACES }
         requires few { I.item_count f.now ≤ PLACES }
-        ensures value { (before : List Items) (k : ℕ) → let n = I.item_count f.now in
-            IsChange change n r.now before (I.members f.now) →
-            closures.now ≡ map (closure (full n) (I.members f.now)) (blocks n k) →
-            AreStates (I.members f.now) witnesses.old →
-            self.now ≡ standing n before self.now.no →
-            result ≡ standing n (I.members f.now) self.now.no }
-        ensures states { (before : List Items) → let n = I.item_count f.now in
+        ensures value { (before : List Items) → let n = I.item_count f.now in
             IsChange change n r.now before (I.members f.now) →
             self.now ≡ standing n before self.now.no →
-            AreStates (I.members f.now) witnesses.old → AreStates (I.members f.now) witnesses.new }
+            AreStates (I.members f.now) witnesses.old → AreStates (I.members f.now) witnesses.new
+            × ((k : ℕ) → closures.now ≡ map (closure (full n) (I.members f.now)) (blocks n k) →
+            result ≡ standing n (I.members f.now) self.now.no) }
         ensures kept { is_kept (I.item_count f.now) result ≡ true }
         ensures cost { steps.new ≤ steps.old + most_steps change (I.item_count f.now) }
     {

@@ -61,7 +61,8 @@ impl Model for Table {
 
 impl Table {
     ghost use Rattle.ls_infer.specs.Changes.{IsChange, most_steps};
-    ghost use Rattle.ls_infer.specs.Tables.{table_of, standing, AreStates};
+    ghost use Rattle.ls_theory.specs.{BlockRange};
+    ghost use Rattle.ls_infer.specs.Tables.{table_of, standing, AreStates, IsKeptFor};
 
     /// The table of a family, for blocks of its items and the standing answers that are No, whose
     /// queries are good. It takes at most a step for each block set, and for each answer a step for
@@ -75,8 +76,7 @@ impl Table {
     ) -> Result<Table, AllocError>
         requires items { I.item_count f.now ≡ blocks.item_count }
         requires good { list_all (λ a. is_good (I.item_count f.now) a.query) answers.now ≡ true }
-        ensures built { IfOk result (λ t. t.table ≡ table_of blocks (I.members f.now) answers.now) }
-        ensures states { IfOk result (λ t. AreStates (I.members f.now) t.witnesses) }
+        ensures built { IfOk result (IsKeptFor blocks (I.members f.now) answers.now) }
         ensures cost { steps.new ≤ steps.old
             + (length (sets_of blocks) + (I.item_count f.now + 1) * length answers.now) }
     {
@@ -117,16 +117,10 @@ impl Table {
     )
         requires items { I.item_count f.now ≡ self.old.table.blocks.item_count }
         requires good { is_good self.old.table.blocks.item_count r.now ≡ true }
-        ensures kept { (before : List Items) (nos : List No) →
-            IsChange change self.old.table.blocks.item_count r.now before (I.members f.now) →
-            AreStates (I.members f.now) self.old.witnesses →
-            self.old.table ≡ table_of self.old.table.blocks before nos →
-            self.new.table ≡ table_of self.old.table.blocks (I.members f.now) nos }
-        ensures states { (before : List Items) (nos : List No) →
-            IsChange change self.old.table.blocks.item_count r.now before (I.members f.now) →
-            AreStates (I.members f.now) self.old.witnesses →
-            self.old.table ≡ table_of self.old.table.blocks before nos →
-            AreStates (I.members f.now) self.new.witnesses }
+        ensures kept { (b : BlockRange) (before : List Items) (nos : List No) →
+            let after = I.members f.now in IsChange change b.item_count r.now before after →
+            self.old.table ≡ table_of b before nos → AreStates after self.old.witnesses →
+            IsKeptFor b after nos self.new }
         ensures cost { steps.new ≤ steps.old
             + (count_by (λ c. is_within r.now.a c) self.old.table.closures
             + most_steps change self.old.table.blocks.item_count
@@ -163,16 +157,9 @@ impl Table {
     pub fn yes_added<I: Interior, L: Ledger>(&mut self, f: &I, r: &Query, steps: &mut Steps<L>)
         requires items { I.item_count f.now ≡ self.old.table.blocks.item_count }
         requires good { is_good self.old.table.blocks.item_count r.now ≡ true }
-        ensures kept { (before : List Items) (nos : List No) →
-            IsFamily self.old.table.blocks.item_count before →
-            I.members f.now ≡ left_by r.now before → AreStates before self.old.witnesses →
-            self.old.table ≡ table_of self.old.table.blocks before nos →
-            self.new.table ≡ table_of self.old.table.blocks (I.members f.now) nos }
-        ensures states { (before : List Items) (nos : List No) →
-            IsFamily self.old.table.blocks.item_count before →
-            I.members f.now ≡ left_by r.now before → AreStates before self.old.witnesses →
-            self.old.table ≡ table_of self.old.table.blocks before nos →
-            AreStates (I.members f.now) self.new.witnesses }
+        ensures kept { (b : BlockRange) (before : List Items) (nos : List No) →
+            IsFamily b.item_count before → I.members f.now ≡ left_by r.now before →
+            IsKeptFor b before nos self.old → IsKeptFor b (I.members f.now) nos self.new }
         ensures cost { steps.new ≤ steps.old
             + (count_by (λ c. is_within r.now.a c) self.old.table.closures
             + (self.old.table.blocks.item_count + 1) * length self.old.table.standing) }
@@ -189,14 +176,9 @@ impl Table {
     pub fn yes_removed<I: Interior, L: Ledger>(&mut self, f: &I, r: &Query, steps: &mut Steps<L>)
         requires items { I.item_count f.now ≡ self.old.table.blocks.item_count }
         requires good { is_good self.old.table.blocks.item_count r.now ≡ true }
-        ensures kept { (nos : List No) →
-            AreStates (left_by r.now (I.members f.now)) self.old.witnesses →
-            self.old.table ≡ table_of self.old.table.blocks (left_by r.now (I.members f.now)) nos →
-            self.new.table ≡ table_of self.old.table.blocks (I.members f.now) nos }
-        ensures states { (nos : List No) →
-            AreStates (left_by r.now (I.members f.now)) self.old.witnesses →
-            self.old.table ≡ table_of self.old.table.blocks (left_by r.now (I.members f.now)) nos →
-            AreStates (I.members f.now) self.new.witnesses }
+        ensures kept { (b : BlockRange) (nos : List No) →
+            IsKeptFor b (left_by r.now (I.members f.now)) nos self.old →
+            IsKeptFor b (I.members f.now) nos self.new }
         ensures cost { steps.new ≤ steps.old
             + (count_by (λ c. is_within r.now.a c) self.old.table.closures
             + (self.old.table.blocks.item_count + 1) * length self.old.table.standing) }
@@ -229,9 +211,9 @@ impl Table {
         requires items { I.item_count f.now ≡ self.old.table.blocks.item_count }
         requires room { 0 < self.old.spare }
         requires good { is_good self.old.table.blocks.item_count x.query ≡ true }
-        ensures kept { (nos : List No) →
-            self.old.table ≡ table_of self.old.table.blocks (I.members f.now) nos →
-            self.new.table ≡ table_of self.old.table.blocks (I.members f.now) (nos ++ x ∷ []) }
+        ensures kept { (b : BlockRange) (nos : List No) →
+            self.old.table ≡ table_of b (I.members f.now) nos →
+            self.new.table ≡ table_of b (I.members f.now) (nos ++ x ∷ []) }
         ensures last { let n = self.old.table.blocks.item_count in
             self.new.table.standing
             ≡ self.old.table.standing ++ standing n (I.members f.now) x ∷ [] }
@@ -249,9 +231,10 @@ impl Table {
         requires items { I.item_count f.now ≡ self.old.table.blocks.item_count }
         requires room { 0 < self.old.spare }
         requires good { is_good self.old.table.blocks.item_count x.query ≡ true }
-        ensures kept { (nos : List No) → AreStates (I.members f.now) self.old.witnesses →
-            self.old.table ≡ table_of self.old.table.blocks (I.members f.now) nos →
-            self.new.table ≡ table_of self.old.table.blocks (I.members f.now) (nos ++ x ∷ []) }
+        ensures kept { (b : BlockRange) (nos : List No) →
+            AreStates (I.members f.now) self.old.witnesses →
+            self.old.table ≡ table_of b (I.members f.now) nos →
+            self.new.table ≡ table_of b (I.members f.now) (nos ++ x ∷ []) }
         ensures states { AreStates (I.members f.now) self.old.witnesses →
             AreStates (I.members f.now) self.new.witnesses }
         ensures closures { self.new.table.closures ≡ self.old.table.closures }
@@ -265,10 +248,9 @@ impl Table {
 
     /// Lets go of the standing No with the number. It takes no memory and no step.
     pub fn no_removed(&mut self, number: u64)
-        ensures kept { (f : List Items) (nos : List No) →
-            self.old.table ≡ table_of self.old.table.blocks f nos →
-            let others = filter (λ a. not (a.number == number)) nos in
-            self.new.table ≡ table_of self.old.table.blocks f others }
+        ensures kept { (b : BlockRange) (f : List Items) (nos : List No) →
+            self.old.table ≡ table_of b f nos →
+            self.new.table ≡ table_of b f (filter (λ a. not (a.number == number)) nos) }
         ensures others { self.new.table.standing
             ≡ filter (λ s. not (s.no.number == number)) self.old.table.standing }
         ensures witnesses { self.new.witnesses ≡ self.old.witnesses }

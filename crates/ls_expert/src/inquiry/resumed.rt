@@ -4,7 +4,7 @@ ghost use Rattle.std.specs.List.{list_all};
 ghost use Rattle.ls_set.specs.{is_good};
 ghost use Rattle.ls_theory.specs.{compat, made, nos, yes_queries};
 ghost use Rattle.ls_expert.specs.Starts.{start_of, IsStartOn};
-ghost use Rattle.ls_infer.specs.Tables.{table_of, AreStates};
+ghost use Rattle.ls_infer.specs.Tables.{IsKeptFor};
 ghost use Rattle.ls_expert.specs.Held.{blocks_of, interview_on, single_items, IsStanding};
 ghost use Rattle.ls_expert.specs.Saved.{are_broken, IsStandingFault, IsTableFault};
 
@@ -55,11 +55,8 @@ fn table_with<L: Ledger>(
         ≡ true }
     ensures broken { OnOk result (are_broken family.now answers.now ≡ true) }
     ensures table { let n = family.now.inner.item_count in
-        IfOk result (λ t. t.table ≡ table_of (single_items n)
+        IfOk result (IsKeptFor (single_items n)
         (compat n family.now.inner.start family.now.rules) (nos answers.now)) }
-    ensures states { let n = family.now.inner.item_count in
-        IfOk result (λ t.
-        AreStates (compat n family.now.inner.start family.now.rules) t.witnesses) }
     ensures fault { IfErr result (IsTableFault (are_broken family.now answers.now)) }
 {
     if !each_no_broken(&Counted::new(family), answers, steps) {

@@ -1,6 +1,6 @@
-use Rattle.ls_expert.proofs.Vocabulary.{◌∙◌, ◌≡◌, AreStates, BlockRange, IfOk-weaker, Items, List, No, Query, RuledState, StartOn, ℕ, [], ap, ap₂, breaks_none, compat, filter, is_good, list_all, made, not, refl, single_items, subst, sym, table_of, true}
+use Rattle.ls_expert.proofs.Vocabulary.{◌∙◌, ◌≡◌, BlockRange, IfOk-weaker, List, No, Query, RuledState, StartOn, ℕ, [], ap, ap₂, breaks_none, compat, filter, is_good, list_all, made, not, refl, single_items, sym, true}
 use Rattle.ls_expert.proofs.AnswerLists.{all-told}
-use Rattle.ls_expert.proofs.Holding.{made-one, one-made}
+use Rattle.ls_expert.proofs.Holding.{kept-as, made-one, one-made}
 use Rattle.ls_expert.proofs.Ruling.{ruled-compat}
 use Rattle.ls_expert.proofs.inquiry.build.Given as given
 use Rattle.ls_expert.proofs.inquiry.build.Goals as goal
@@ -40,16 +40,8 @@ build-requires-clause-good g c =
 pub returns-clause-table : goal.returns-clause-table
 returns-clause-table g c =
     let f = c.args.family.now in
-    let n = f.inner.item_count in
     IfOk-weaker c.build.result _ _
-    (λ t h. h ∙ ap (λ (b : BlockRange). table_of b (filter (breaks_none c.new-2.result.rules) (compat c.new-2.result.inner.item_count c.new-2.result.inner.start [])) c.deref.result.now) (blocks_are g (goal.at.returns-clause-table g c).After-unwrap-blocks)
-    ∙ ap₂ (λ (k : List Items) (l : List No). table_of (single_items n) k l)
+    (λ t k. kept-as (single_items f.inner.item_count) _ _ _ _ t
     (rw c.new-2.ensures (left_are f c.in_ok-leading.leading c.inner.result.now c.rules.result.now c.inner.ensures c.rules.ensures c.in_ok-leading.ensures.inner c.in_ok-leading.ensures.members))
-    (c.deref.ensures.value ∙ c.in_ok-nos.ensures))
+    (c.deref.ensures.value ∙ c.in_ok-nos.ensures) (rw (blocks_are g (goal.at.returns-clause-table g c).After-unwrap-blocks) at k))
     c.build.ensures.built
-
-pub returns-clause-states : goal.returns-clause-states
-returns-clause-states g c =
-    let f = c.args.family.now in
-    let n = f.inner.item_count in
-    IfOk-weaker c.build.result _ _ (λ t h. subst (λ g. AreStates g t.witnesses) (rw c.new-2.ensures (left_are f c.in_ok-leading.leading c.inner.result.now c.rules.result.now c.inner.ensures c.rules.ensures c.in_ok-leading.ensures.inner c.in_ok-leading.ensures.members)) h) c.build.ensures.states

@@ -18,10 +18,9 @@ loop-s-preserved g c =
       | then-is_reached w ↦ rw (w.kept-is, w.witnesses-is, w.steps-is) (record {
         kept = list_all-set (is_kept n) ys i w.after.result v.kept w.after.ensures.kept;
         made = λ before k nos change closed states e.
-            let so = v.made before k nos change closed states e in (
-              standing-next n before after nos ys i x w.after.result (placed before nos e) so.0 (ap (get_or ys i) c.s-item.is) (w.after.ensures.value before k change closed so.1),
-              w.after.ensures.states before change (standing-at n before after nos ys i x (placed before nos e) so.0 (ap (get_or ys i) c.s-item.is)) so.1,
-            );
+            let so = v.made before k nos change closed states e in
+            let new = w.after.ensures.value before change (standing-at n before after nos ys i x (placed before nos e) so.0 (ap (get_or ys i) c.s-item.is)) so.1 in
+            (standing-next n before after nos ys i x w.after.result (placed before nos e) so.0 (ap (get_or ys i) c.s-item.is) (λ _. new.1 k closed), new.0);
         cost = grind (arith, common_steps, v.cost, w.after.ensures.cost);
       })
       | else-is_reached w ↦ rw (w.kept-is, w.witnesses-is, w.steps-is) (record {
@@ -41,7 +40,5 @@ returns-clause-each g c = λ before k nos change closed states e.
     let n = g.I.Interior.item_count c.args.f.now in
     let i = c.loop-s.s-index in
     let past : length nos ≤ i = omega (arith, c.loop-s-test.false, ap length e, length-map nos (standing n before)) in
-    (c.loop-s.invariant.made before k nos change closed states e).0 ∙ images-end (standing n (g.I.Interior.members c.args.f.now)) (standing n before) nos i past
-
-pub returns-clause-states : goal.returns-clause-states
-returns-clause-states g c = λ before k nos change closed states e. (c.loop-s.invariant.made before k nos change closed states e).1
+    let so = c.loop-s.invariant.made before k nos change closed states e in
+    (so.0 ∙ images-end (standing n (g.I.Interior.members c.args.f.now)) (standing n before) nos i past, so.1)

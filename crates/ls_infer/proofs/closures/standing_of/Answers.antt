@@ -10,8 +10,10 @@ loop-answer-preserved g c =
     let v = c.loop-answer.invariant in
     let at : slice_get c.args.answers.now i ≡ Some a = slice_get-get_or c.args.answers.now i a c.loop-answer-test.true ∙ ap Some (sym c.answer-item.is) in
     record {
-      list = λ k closed states. c.in_ok-push.ensures.items ∙ ap₂ (λ l x. l ++ x ∷ []) (v.list k closed states) (c.shared.ensures.value k closed (v.states states)) ∙ mapped-next (standing n f) c.args.answers.now i a at;
-      states = λ states. c.shared.ensures.states (v.states states);
+      list = λ states.
+          let so = v.list states in
+          let new = c.shared.ensures.value so.0 in
+          (new.0, λ k closed. c.in_ok-push.ensures.items ∙ ap₂ (λ l x. l ++ x ∷ []) (so.1 k closed) (new.1 k closed) ∙ mapped-next (standing n f) c.args.answers.now i a at);
       left = grind (arith, common_steps, v.left);
       cost = grind (arith, common_steps, v.cost, c.shared.ensures.cost);
     }

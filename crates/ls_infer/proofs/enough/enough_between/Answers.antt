@@ -5,9 +5,9 @@ use Rattle.ls_infer.proofs.States.{enough-all, with-itself, among-others, others
 use Rattle.ls_infer.proofs.enough.enough_between.Goals as goal
 
 pub returns-then-has-clause-value : goal.returns-then-has-clause-value
-returns-then-has-clause-value g c = λ member states known among.
+returns-then-has-clause-value g c = λ _ states.
     let n = g.I.Interior.item_count c.args.f.now in
-    c.full-all.ensures ∙ ap full c.items.ensures.count ∙ sym (enough-all n (g.I.Interior.members c.args.f.now) c.args.closed c.args.q c.requires.item (sym c.has.ensures ∙ c.if-has.true))
+    (states, λ _ _. c.full-all.ensures ∙ ap full c.items.ensures.count ∙ sym (enough-all n (g.I.Interior.members c.args.f.now) c.args.closed c.args.q c.requires.item (sym c.has.ensures ∙ c.if-has.true)))
 
 pub enough_among-requires-clause-known : goal.enough_among-requires-clause-known
 enough_among-requires-clause-known g c = rw c.with-known.ensures (with-within _ c.args.known c.args.q c.requires.known c.requires.item)
@@ -16,12 +16,12 @@ pub enough_among-requires-clause-rest : goal.enough_among-requires-clause-rest
 enough_among-requires-clause-rest g c = rw (c.minus-items.ensures, c.minus.ensures) (others-within _ c.args.among c.with-known.result c.args.closed c.requires.among)
 
 pub returns-clause-value : goal.returns-clause-value
-returns-clause-value g c = λ member states known among.
+returns-clause-value g c = λ member states.
     let n = g.I.Interior.item_count c.args.f.now in
     let f = g.I.Interior.members c.args.f.now in
     let others : c.minus-items.result ≡ minus (minus c.args.among c.with-known.result) c.args.closed = rw c.minus.ensures at c.minus-items.ensures in
-    c.enough_among.ensures.value member states (rw c.with-known.ensures (with-itself n f c.args.closed c.args.q c.args.known c.requires.item known))
-    (λ r h. rw others (among-others n f c.args.closed c.args.q c.with-known.result c.args.among r member (sym c.has.ensures ∙ c.if-has.false) among h))
+    let so = c.enough_among.ensures.value member states in
+    (so.0, λ known among. so.1 (rw c.with-known.ensures (with-itself n f c.args.closed c.args.q c.args.known c.requires.item known)) (λ r h. rw others (among-others n f c.args.closed c.args.q c.with-known.result c.args.among r member (sym c.has.ensures ∙ c.if-has.false) among h)))
 
 pub returns-clause-cost : goal.returns-clause-cost
 returns-clause-cost g c =

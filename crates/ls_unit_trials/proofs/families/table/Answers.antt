@@ -10,5 +10,5 @@ build-requires-clause-items g c =
 
 pub changes-requires-clause-blocks : goal.changes-requires-clause-blocks
 changes-requires-clause-blocks g c =
-    ap (λ (t : TableState). t.blocks.item_count) c.in-Ok-build.ensures.built
+    ap (λ (t : TableState). t.blocks.item_count) c.in-Ok-build.ensures.built.table
     ∙ sym (ap (λ (b : BlockRange). b.item_count) (made_of 3 1 c.in-Ok.blocks (sym c.new.ensures.value ∙ c.in-Ok.is)))

@@ -1,6 +1,6 @@
 use Rattle.ls_expert.proofs.Vocabulary.{◌∙◌, ◌≡◌, Answer, Decides, Interview, IsHeld, IsSound, Ok, StartOn, ap, are_broken, blocks_of, interview_on, is_good, list_all, made, refl, start_of, sym, true, true≢false, yes_queries}
 use Rattle.ls_expert.proofs.Asking.{asking}
-use Rattle.ls_expert.proofs.Holding.{range-of, some-made, tabled-by, states-by}
+use Rattle.ls_expert.proofs.Holding.{range-of, some-made, tabled-by}
 use Rattle.ls_expert.proofs.Saving.{made-as, ran_out, no_table, fit-decides}
 use Rattle.ls_expert.proofs.inquiry.Inquiry.from_standing.Given as given
 use Rattle.ls_expert.proofs.inquiry.Inquiry.from_standing.Goals as goal
@@ -62,18 +62,16 @@ invariant_of-result g c =
     let inner = c.in_ok-family.ensures.inner in
     let ruled = c.in_ok-family.ensures.rules in
     let i = asked g (goal.at.invariant_of-result g c).In_ok-blocks in
-    let held : IsHeld i (yes_queries i.answers) c.in_ok-table.table.table = record {
+    let held : IsHeld i (yes_queries i.answers) c.in_ok-table.table = record {
       some_items = c.requires.some;
       few_items = c.requires.few;
       ruled = refl;
-      tabled = tabled-by i c.in_ok-family.family.inner.item_count c.in_ok-family.family.inner.start c.in_ok-family.family.rules c.args.answers.now c.in_ok-table.table.table c.in_ok-table.ensures.table
+      tabled = tabled-by i c.in_ok-family.family.inner.item_count c.in_ok-family.family.inner.start c.in_ok-family.family.rules c.args.answers.now c.in_ok-table.table c.in_ok-table.ensures.table
           (ap (λ (u : StartOn). u.item_count) inner) (ap (λ (u : StartOn). u.start) inner) ruled refl;
       standing = c.can_stand.ensures.enough i.start c.args.k c.if-not-can_stand.false ((decides g (goal.at.invariant_of-result g c).In_ok-family).0 c.in_ok-table.ensures.broken);
     } in
-    let states = states-by i c.in_ok-family.family.inner.item_count c.in_ok-family.family.inner.start c.in_ok-family.family.rules c.in_ok-table.table.witnesses c.in_ok-table.ensures.states
-    (ap (λ (u : StartOn). u.item_count) inner) (ap (λ (u : StartOn). u.start) inner) ruled in
     rw (inner, ruled, c.in_ok-copied.ensures.items)
-    (asking i c.in_ok-blocks.blocks (yes_queries i.answers) c.in_ok-table.table.table c.in_ok-table.table.witnesses c.next_query.result held states (range g (goal.at.invariant_of-result g c).In_ok-blocks) (some-made c.args.n c.args.k c.in_ok-blocks.blocks (sym c.new.ensures.value ∙ c.in_ok-blocks.was)) c.next_query.ensures)
+    (asking i c.in_ok-blocks.blocks (yes_queries i.answers) c.in_ok-table.table c.next_query.result held (range g (goal.at.invariant_of-result g c).In_ok-blocks) (some-made c.args.n c.args.k c.in_ok-blocks.blocks (sym c.new.ensures.value ∙ c.in_ok-blocks.was)) c.next_query.ensures)
 
 pub returns-clause-made : goal.returns-clause-made
 returns-clause-made g c =

@@ -1,5 +1,5 @@
 use Rattle.ls_expert.proofs.Vocabulary.{◌∙◌, ◌≡◌, StartOn, ap, arith, interview_of, refl, single_items, start_of, sym, yes_queries}
-use Rattle.ls_expert.proofs.Holding.{made-one, one-made, tabled-by, states-by, begun-as, held-begun}
+use Rattle.ls_expert.proofs.Holding.{made-one, one-made, tabled-by, begun-as, held-begun}
 use Rattle.ls_expert.proofs.Asking.{asking}
 use Rattle.ls_expert.proofs.inquiry.Inquiry.new.Given as given
 use Rattle.ls_expert.proofs.inquiry.Inquiry.new.Goals as goal
@@ -29,9 +29,8 @@ invariant_of-result g c =
     let items = sym (items_are g (goal.at.invariant_of-result g c).After-new-family) in
     let blocks = one-made c.args.n c.args.n c.new-2.result c.unwrap-blocks.result c.requires.some c.requires.few refl c.new-2.ensures.value c.unwrap-blocks.ensures in
     let same = begun-as c.args.n s.item_count (start_of c.args.start) s.start c.new-answers.result.items items (sym (ap (λ (s : StartOn). s.start) c.new-family.ensures.inner ∙ c.new.ensures.start)) c.new-answers.ensures.items in
-    asking i c.unwrap-blocks.result rules c.in_ok-table.table.table c.in_ok-table.table.witnesses c.next_query.result
-    (held-begun c.args.n (start_of c.args.start) i rules c.in_ok-table.table.table c.requires.some c.requires.few c.requires.start.is_start same c.new-family.ensures.rules
-    (tabled-by i s.item_count s.start rules c.deref.result.now c.in_ok-table.table.table c.in_ok-table.ensures.table
+    asking i c.unwrap-blocks.result rules c.in_ok-table.table c.next_query.result
+    (held-begun c.args.n (start_of c.args.start) i rules c.in_ok-table.table c.requires.some c.requires.few c.requires.start.is_start same c.new-family.ensures.rules
+    (tabled-by i s.item_count s.start rules c.deref.result.now c.in_ok-table.table c.in_ok-table.ensures.table
     refl refl (c.new-family.ensures.rules ∙ sym (ap yes_queries c.new-answers.ensures.items)) c.deref.ensures.value))
-    (states-by i s.item_count s.start rules c.in_ok-table.table.witnesses c.in_ok-table.ensures.states refl refl (c.new-family.ensures.rules ∙ sym (ap yes_queries c.new-answers.ensures.items)))
     (blocks ∙ ap single_items items) (omega arith) c.next_query.ensures

@@ -23,7 +23,7 @@ returns-clause-value c =
     let last = option_map (λ r. r.now) c.args.after in
     c.find_open.ensures.found i held.standing.sound (ap (λ b. b.item_count) (sym c.self.invariant.asked)) (ap (λ b. b.largest) (sym c.self.invariant.asked))
     (ruled-compat s.item_count s.start c.self.inside.family.rules ∙ ap (compat s.item_count s.start) held.ruled)
-    (own_blocks i c.self.inside.table.table held.tabled)
+    (own_blocks i c.self.inside.table.table held.tabled.table)
     ∙ place-some i last c.in_ok-from.from (subst (λ (j : Interview). PlaceFor j last (Some c.in_ok-from.from)) (sym c.self.view_is) (subst (PlaceFor c.args.self.now last) c.in_ok-from.was c.place_for.ensures))
     ∙ ap (λ (j : Interview). next_question j last) c.self.view_is
 

@@ -9,7 +9,6 @@ invariant_of-self c =
     let first = c.next_question-self-inside.ensures.value ∙ ap (λ (j : Interview). next_question j None) (sym c.self.view_is) in
     record {
       held = c.self.invariant.held;
-      states = c.self.invariant.states;
       asked = c.self.invariant.asked;
       some_sizes = c.self.invariant.some_sizes;
       none_before = none-before_question i c.next_question-self-inside.result first;

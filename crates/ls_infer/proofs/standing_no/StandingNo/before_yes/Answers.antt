@@ -18,6 +18,13 @@ closed_is g c before change e =
       | else-is_within w ↦ w.closed-is ∙ before-lack n before after c.args.r.now c.args.self.now change (g.met.I.Interior.is_family c.args.f.now) c.requires.good e (sym c.is_within.ensures ∙ w.if-is_within.false)
     ]
 
+-- and is of items alone
+closed_within : (g : given.Over) (c : Joined-is_within g) → IsWithin c.if-is_within.closed (full (g.I.Interior.item_count c.args.f.now))
+closed_within g c = elim c.if-is_within.branch [
+  | then-is_within w ↦ rw (w.closed-is, w.closure-closed.ensures.value) (minus-within _ _)
+  | else-is_within w ↦ rw w.closed-is (kept-parts _ c.args.self.now c.requires.kept).closed
+]
+
 pub closure-closed-requires : goal.closure-closed-requires
 closure-closed-requires g c = (kept-parts _ c.args.self.now c.requires.kept).good.small
 
@@ -34,73 +41,47 @@ pub enough_between-enough-requires-clause-among : goal.enough_between-enough-req
 enough_between-enough-requires-clause-among g c = (kept-parts _ c.args.self.now c.requires.kept).enough
 
 pub returns-then-is_within-2-clause-value : goal.returns-then-is_within-2-clause-value
-returns-then-is_within-2-clause-value g c = λ before k change kept_closures states e.
+returns-then-is_within-2-clause-value g c = λ before change e states.
     let n = g.I.Interior.item_count c.args.f.now in
     let after = g.I.Interior.members c.args.f.now in
-    let family = g.met.I.Interior.is_family c.args.f.now in
     let r = c.args.r.now in
     let s = c.args.self.now in
     let closed = c.if-is_within.closed in
     let made = closed_is g (goal.at.returns-then-is_within-2-clause-value g c).Joined-is_within before change e in
     let small = (kept-parts n s c.requires.kept).enough in
-    let known = reached n after closed s.no.query.q c.reaching-known.result (λ i h. small i (c.reaching-known.ensures.part i h)) (c.reaching-known.ensures.closures n k after small kept_closures) in
-    let all = c.enough_between-enough.ensures.value (rw made (outside-member n after s.no.query.a (family_sets n after family))) states known (before-among n before after r s closed change e made) in
-    before-state n before after r s closed c.enough_between-enough.result change e made all (IsWithin-from s.enough c.enough_between-enough.result (sym c.is_within-then-keeps_state.ensures ∙ c.if-is_within-2.true)) (sym c.keeps_state.ensures ∙ c.if-keeps_state.true)
+    let known = reached n after closed s.no.query.q c.reaching-known.result (λ i h. small i (c.reaching-known.ensures.part i h)) in
+    let among = before-among n before after r s closed change e made in
+    let so = c.enough_between-enough.ensures.value (rw made (outside-member n after s.no.query.a (family_sets n after (g.met.I.Interior.is_family c.args.f.now)))) states in
+    let within = IsWithin-from s.enough c.enough_between-enough.result (sym c.is_within-then-keeps_state.ensures ∙ c.if-is_within-2.true) in
+    (so.0, λ k sets. before-state n before after r s closed c.enough_between-enough.result change e made (so.1 (known (c.reaching-known.ensures.closures n k after small sets)) among) within (sym c.keeps_state.ensures ∙ c.if-keeps_state.true))
 
 pub returns-then-is_within-2-clause-kept : goal.returns-then-is_within-2-clause-kept
 returns-then-is_within-2-clause-kept g c =
-    let n = g.I.Interior.item_count c.args.f.now in
-    let f = g.I.Interior.members c.args.f.now in
     let s = c.args.self.now in
-    let k = kept-parts n s c.requires.kept in
-    let within : IsWithin c.if-is_within.closed (full n) = elim c.if-is_within.branch [
-      | then-is_within w ↦ rw (w.closed-is, w.closure-closed.ensures.value) (minus-within _ _)
-      | else-is_within w ↦ rw w.closed-is k.closed
-    ] in
-    kept-again n s c.if-is_within.closed s.enough s.is_state c.requires.kept within k.enough
-
-pub returns-then-is_within-2-clause-states : goal.returns-then-is_within-2-clause-states
-returns-then-is_within-2-clause-states g c = λ before change e.
-    let n = g.I.Interior.item_count c.args.f.now in
-    let after = g.I.Interior.members c.args.f.now in
-    let made = closed_is g (goal.at.returns-then-is_within-2-clause-states g c).Joined-is_within before change e in
-    c.enough_between-enough.ensures.states (rw made (outside-member n after c.args.self.now.no.query.a (family_sets n after (g.met.I.Interior.is_family c.args.f.now))))
+    kept-again _ s c.if-is_within.closed s.enough s.is_state c.requires.kept (closed_within g (goal.at.returns-then-is_within-2-clause-kept g c).Joined-is_within) (kept-parts _ s c.requires.kept).enough
 
 pub of-requires : goal.of-requires
 of-requires g c = c.enough_between-enough.ensures.within
 
 pub returns-clause-value : goal.returns-clause-value
-returns-clause-value g c = λ before k change kept_closures states e.
+returns-clause-value g c = λ before change e states.
     let n = g.I.Interior.item_count c.args.f.now in
     let after = g.I.Interior.members c.args.f.now in
-    let family = g.met.I.Interior.is_family c.args.f.now in
     let r = c.args.r.now in
     let s = c.args.self.now in
     let closed = c.if-is_within.closed in
     let made = closed_is g (goal.at.returns-clause-value g c).Joined-is_within before change e in
     let small = (kept-parts n s c.requires.kept).enough in
-    let known = reached n after closed s.no.query.q c.reaching-known.result (λ i h. small i (c.reaching-known.ensures.part i h)) (c.reaching-known.ensures.closures n k after small kept_closures) in
-    c.of.ensures.value ∙ standing-from n after s.no closed c.enough_between-enough.result _ made
-    (c.enough_between-enough.ensures.value (rw made (outside-member n after s.no.query.a (family_sets n after family))) states known (before-among n before after r s closed change e made)) refl
-
-pub returns-clause-states : goal.returns-clause-states
-returns-clause-states g c = λ before change e.
-    let n = g.I.Interior.item_count c.args.f.now in
-    let after = g.I.Interior.members c.args.f.now in
-    let made = closed_is g (goal.at.returns-clause-states g c).Joined-is_within before change e in
-    c.enough_between-enough.ensures.states (rw made (outside-member n after c.args.self.now.no.query.a (family_sets n after (g.met.I.Interior.is_family c.args.f.now))))
+    let known = reached n after closed s.no.query.q c.reaching-known.result (λ i h. small i (c.reaching-known.ensures.part i h)) in
+    let among = before-among n before after r s closed change e made in
+    let so = c.enough_between-enough.ensures.value (rw made (outside-member n after s.no.query.a (family_sets n after (g.met.I.Interior.is_family c.args.f.now)))) states in
+    (so.0, λ k sets. c.of.ensures.value ∙ standing-from n after s.no closed c.enough_between-enough.result _ made (so.1 (known (c.reaching-known.ensures.closures n k after small sets)) among) refl)
 
 pub returns-clause-kept : goal.returns-clause-kept
 returns-clause-kept g c =
     let n = g.I.Interior.item_count c.args.f.now in
-    let f = g.I.Interior.members c.args.f.now in
     let s = c.args.self.now in
-    let k = kept-parts n s c.requires.kept in
-    let within : IsWithin c.if-is_within.closed (full n) = elim c.if-is_within.branch [
-      | then-is_within w ↦ rw (w.closed-is, w.closure-closed.ensures.value) (minus-within _ _)
-      | else-is_within w ↦ rw w.closed-is k.closed
-    ] in
-    rw c.of.ensures.value (kept-again n s c.if-is_within.closed c.enough_between-enough.result (is_among f c.enough_between-enough.result) c.requires.kept within c.enough_between-enough.ensures.within)
+    rw c.of.ensures.value (kept-again n s c.if-is_within.closed c.enough_between-enough.result (is_among (g.I.Interior.members c.args.f.now) c.enough_between-enough.result) c.requires.kept (closed_within g (goal.at.returns-clause-kept g c).Joined-is_within) c.enough_between-enough.ensures.within)
 
 pub returns-clause-cost : goal.returns-clause-cost
 returns-clause-cost g c =

@@ -19,16 +19,15 @@ pub has-requires-then-not-has : goal.has-requires-then-not-has
 has-requires-then-not-has g c = let item = (good-from _ c.args.no.query c.requires.good).item in omega (arith, item, c.items.ensures.count, c.items.ensures.few)
 
 pub returns-then-has-clause-value : goal.returns-then-has-clause-value
-returns-then-has-clause-value g c = λ made states sound.
+returns-then-has-clause-value g c = λ made states.
     let n = g.I.Interior.item_count c.args.f.now in
     let f = g.I.Interior.members c.args.f.now in
     let q = c.args.no.query.q in
     let sets = family_sets n f (g.met.I.Interior.is_family c.args.f.now) in
     let left : c.interior-left.result ≡ interior f (with c.args.known q) = c.interior-left.ensures.value ∙ ap (interior f) c.with-known.ensures in
     let inside : has (interior f (with c.args.known q)) q ≡ true = ap (λ s. has s q) (sym left) ∙ sym c.has-then-not-has.ensures ∙ c.if-has.true in
-    rw c.with-known.ensures
-    (standing-only n f c.args.no c.args.closed c.args.known c.is_within.result sets (good-from n c.args.no.query c.requires.good).item made sound (sym c.has.ensures ∙ c.if-not-has.true) inside
-    (c.is_within.ensures ∙ ap (is_within c.with-known.result) c.interior-left.ensures.value ∙ is_within-interior f sets.holds_empty sets.holds_unions c.with-known.result ∙ ap (is_among f) c.with-known.ensures))
+    let is_state = c.is_within.ensures ∙ ap (is_within c.with-known.result) c.interior-left.ensures.value ∙ is_within-interior f sets.holds_empty sets.holds_unions c.with-known.result ∙ ap (is_among f) c.with-known.ensures in
+    (states, λ sound. rw c.with-known.ensures (standing-only n f c.args.no c.args.closed c.args.known c.is_within.result sets (good-from n c.args.no.query c.requires.good).item made sound (sym c.has.ensures ∙ c.if-not-has.true) inside is_state))
 
 pub returns-then-has-clause-kept : goal.returns-then-has-clause-kept
 returns-then-has-clause-kept g c =
@@ -41,21 +40,13 @@ pub enough_between-enough-requires-clause-known : goal.enough_between-enough-req
 enough_between-enough-requires-clause-known g c = rw c.with-known.ensures (with-within _ c.args.known c.args.no.query.q c.requires.known (good-from _ c.args.no.query c.requires.good).item)
 
 pub returns-clause-value : goal.returns-clause-value
-returns-clause-value g c = λ made states sound.
+returns-clause-value g c = λ made states.
     let n = g.I.Interior.item_count c.args.f.now in
     let f = g.I.Interior.members c.args.f.now in
     let a = c.args.no in
     let all : c.full-all.result ≡ full n = c.full-all.ensures ∙ ap full c.items.ensures.count in
-    c.of.ensures.value ∙ standing-from n f a c.args.closed c.enough_between-enough.result _ made
-    (c.enough_between-enough.ensures.value (rw made (outside-member n f a.query.a (family_sets n f (g.met.I.Interior.is_family c.args.f.now)))) states
-    (rw c.with-known.ensures (with-itself n f c.args.closed a.query.q c.args.known (good-from n a.query c.requires.good).item sound))
-    (rw all (enough-within n f _ _))) refl
-
-pub returns-clause-states : goal.returns-clause-states
-returns-clause-states g c = λ made.
-    let n = g.I.Interior.item_count c.args.f.now in
-    let f = g.I.Interior.members c.args.f.now in
-    c.enough_between-enough.ensures.states (rw made (outside-member n f c.args.no.query.a (family_sets n f (g.met.I.Interior.is_family c.args.f.now))))
+    let so = c.enough_between-enough.ensures.value (rw made (outside-member n f a.query.a (family_sets n f (g.met.I.Interior.is_family c.args.f.now)))) states in
+    (so.0, λ sound. c.of.ensures.value ∙ standing-from n f a c.args.closed c.enough_between-enough.result _ made (so.1 (rw c.with-known.ensures (with-itself n f c.args.closed a.query.q c.args.known (good-from n a.query c.requires.good).item sound)) (rw all (enough-within n f _ _))) refl)
 
 pub returns-clause-kept : goal.returns-clause-kept
 returns-clause-kept g c =

@@ -15,13 +15,13 @@ pub between-requires-clause-known : goal.between-requires-clause-known
 between-requires-clause-known g c = rw (c.full-all.ensures, c.items.ensures.count) at c.reaching-known.ensures.part
 
 pub returns-clause-value : goal.returns-clause-value
-returns-clause-value g c = λ k kept_closures states.
+returns-clause-value g c = λ states.
     let n = g.I.Interior.item_count c.args.f.now in
     let f = g.I.Interior.members c.args.f.now in
     let all : c.full-all.result ≡ full n = c.full-all.ensures ∙ ap full c.items.ensures.count in
     let part : IsWithin c.reaching-known.result (full n) = rw all at c.reaching-known.ensures.part in
-    c.between.ensures.value c.closure-closed.ensures.value states
-    (reached n f c.closure-closed.result c.args.answer.now.query.q c.reaching-known.result part (c.reaching-known.ensures.closures n k f (rw all (λ i h. h)) kept_closures))
+    let so = c.between.ensures.value c.closure-closed.ensures.value states in
+    (so.0, λ k kept_closures. so.1 (reached n f c.closure-closed.result c.args.answer.now.query.q c.reaching-known.result part (c.reaching-known.ensures.closures n k f (rw all (λ i h. h)) kept_closures)))
 
 pub returns-clause-cost : goal.returns-clause-cost
 returns-clause-cost g c =

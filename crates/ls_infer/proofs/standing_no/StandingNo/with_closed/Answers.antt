@@ -14,15 +14,14 @@ pub enough_between-enough-requires-clause-among : goal.enough_between-enough-req
 enough_between-enough-requires-clause-among g c = rw (c.full-all.ensures, c.items.ensures.count) (λ i h. h)
 
 pub returns-then-is_within-clause-value : goal.returns-then-is_within-clause-value
-returns-then-is_within-clause-value g c = λ made states known none.
+returns-then-is_within-clause-value g c = λ made states.
     let n = g.I.Interior.item_count c.args.f.now in
     let f = g.I.Interior.members c.args.f.now in
     let s = c.args.self.now in
     let all : c.full-all.result ≡ full n = c.full-all.ensures ∙ ap full c.items.ensures.count in
-    let found : c.enough_between-enough.result ≡ enough_for n f c.args.closed s.no.query.q =
-    c.enough_between-enough.ensures.value (rw made (outside-member n f s.no.query.a (family_sets n f (g.met.I.Interior.is_family c.args.f.now)))) states known (rw all (enough-within n f _ _)) in
-    standing-from n f s.no c.args.closed s.enough _ made
-    (same_within s.enough (enough_for n f c.args.closed s.no.query.q) known (rw found at (IsWithin-from c.enough_between-enough.result s.enough (sym c.is_within.ensures ∙ c.if-is_within.true)))) (sym none)
+    let so = c.enough_between-enough.ensures.value (rw made (outside-member n f s.no.query.a (family_sets n f (g.met.I.Interior.is_family c.args.f.now)))) states in
+    let within = IsWithin-from c.enough_between-enough.result s.enough (sym c.is_within.ensures ∙ c.if-is_within.true) in
+    (so.0, λ none known. standing-from n f s.no c.args.closed s.enough _ made (same_within s.enough (enough_for n f c.args.closed s.no.query.q) known (rw (so.1 known (rw all (enough-within n f _ _))) at within)) (sym none))
 
 pub returns-then-is_within-clause-kept : goal.returns-then-is_within-clause-kept
 returns-then-is_within-clause-kept g c =
@@ -30,29 +29,17 @@ returns-then-is_within-clause-kept g c =
     let k = kept-parts _ s c.requires.kept in
     kept-again _ s c.args.closed s.enough false c.requires.kept c.requires.within k.enough
 
-pub returns-then-is_within-clause-states : goal.returns-then-is_within-clause-states
-returns-then-is_within-clause-states g c = λ made.
-    let n = g.I.Interior.item_count c.args.f.now in
-    let f = g.I.Interior.members c.args.f.now in
-    c.enough_between-enough.ensures.states (rw made (outside-member n f c.args.self.now.no.query.a (family_sets n f (g.met.I.Interior.is_family c.args.f.now))))
-
 pub of-requires : goal.of-requires
 of-requires g c = c.enough_between-enough.ensures.within
 
 pub returns-clause-value : goal.returns-clause-value
-returns-clause-value g c = λ made states known none.
+returns-clause-value g c = λ made states.
     let n = g.I.Interior.item_count c.args.f.now in
     let f = g.I.Interior.members c.args.f.now in
     let s = c.args.self.now in
     let all : c.full-all.result ≡ full n = c.full-all.ensures ∙ ap full c.items.ensures.count in
-    c.of.ensures.value ∙ standing-from n f s.no c.args.closed c.enough_between-enough.result _ made
-    (c.enough_between-enough.ensures.value (rw made (outside-member n f s.no.query.a (family_sets n f (g.met.I.Interior.is_family c.args.f.now)))) states known (rw all (enough-within n f _ _))) refl
-
-pub returns-clause-states : goal.returns-clause-states
-returns-clause-states g c = λ made.
-    let n = g.I.Interior.item_count c.args.f.now in
-    let f = g.I.Interior.members c.args.f.now in
-    c.enough_between-enough.ensures.states (rw made (outside-member n f c.args.self.now.no.query.a (family_sets n f (g.met.I.Interior.is_family c.args.f.now))))
+    let so = c.enough_between-enough.ensures.value (rw made (outside-member n f s.no.query.a (family_sets n f (g.met.I.Interior.is_family c.args.f.now)))) states in
+    (so.0, λ none known. c.of.ensures.value ∙ standing-from n f s.no c.args.closed c.enough_between-enough.result _ made (so.1 known (rw all (enough-within n f _ _))) refl)
 
 pub returns-clause-kept : goal.returns-clause-kept
 returns-clause-kept g c =

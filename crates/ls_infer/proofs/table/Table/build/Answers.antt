@@ -20,7 +20,7 @@ invariant_of-result g c =
     let at = (goal.at.invariant_of-result g c).In_ok-standing in
     let n = g.I.Interior.item_count c.args.f.now in
     let f = g.I.Interior.members c.args.f.now in
-    let kept = c.in_ok-standing.ensures.list c.args.blocks.largest (closed g at) (begun g at) in
+    let kept = (c.in_ok-standing.ensures.list (begun g at)).1 c.args.blocks.largest (closed g at) in
     record {
       items = c.items-n.ensures.count ∙ c.requires.items;
       few = c.items-n.ensures.few;
@@ -32,12 +32,9 @@ invariant_of-result g c =
 
 pub returns-clause-built : goal.returns-clause-built
 returns-clause-built g c =
-    let n = g.I.Interior.item_count c.args.f.now in
-    let f = g.I.Interior.members c.args.f.now in
-    let kept = c.in_ok-standing.ensures.list c.args.blocks.largest (closed g c) (begun g c) in
-    rw (c.in_ok-closures.ensures.list, kept, c.requires.items) refl
-
-pub returns-clause-states : goal.returns-clause-states
-returns-clause-states g c =
+    let kept = c.in_ok-standing.ensures.list (begun g c) in
     let long : length c.standing_of.new.witnesses ≡ c.in_ok-witnesses.witnesses.len = omega (arith, c.standing_of.auto.witnesses, c.deref_mut.ensures.len) in
-    rw (take_at c.standing_of.new.witnesses _ c.in_ok-witnesses.witnesses.len long) (c.in_ok-standing.ensures.states (begun g c))
+    record {
+      table = rw (c.in_ok-closures.ensures.list, kept.1 c.args.blocks.largest (closed g c), c.requires.items) refl;
+      states = rw (take_at c.standing_of.new.witnesses _ c.in_ok-witnesses.witnesses.len long) kept.0;
+    }

@@ -1,5 +1,5 @@
-use Rattle.ls_infer.proofs.Vocabulary.{◌∙◌, TableState, ap, eqb, filter, not}
-use Rattle.ls_infer.proofs.Changes.{kept-removed, standing-removed, table_is}
+use Rattle.ls_infer.proofs.Vocabulary.{◌∙◌, TableState, ap, eqb, filter, not, table_of}
+use Rattle.ls_infer.proofs.Changes.{kept-removed, standing-removed}
 use Rattle.ls_infer.proofs.table.Table.no_removed.Goals as goal
 
 pub invariant_of-self : goal.invariant_of-self
@@ -15,6 +15,6 @@ invariant_of-self c =
     }
 
 pub returns-clause-kept : goal.returns-clause-kept
-returns-clause-kept c = rw (← c.self.view_is) (λ f nos e.
-    table_is _ f _ (ap (λ (t : TableState). t.closures) e)
-    (c.take_out.ensures ∙ ap (λ (t : TableState). filter (λ s. not (eqb s.no.number c.args.number)) t.standing) e ∙ standing-removed c.self.inside.blocks.item_count f nos c.args.number))
+returns-clause-kept c = rw (← c.self.view_is) (λ b f nos e.
+    rw c.take_out.ensures (ap (λ (t : TableState). record t { standing = filter (λ s. not (eqb s.no.number c.args.number)) t.standing }) e
+    ∙ ap (λ ss. record (table_of b f nos) { standing = ss }) (standing-removed b.item_count f nos c.args.number)))
