@@ -1,5 +1,5 @@
 -- The compatible sets as a family with rules, and the lists of an interview's answers.
-use Rattle.ls_expert.proofs.Vocabulary.{◌&&◌, ◌∙◌, ◌∷◌, ◌≡◌, BaseState, BlockRange, Bool, HasItems, IfSome, Interview, IsIn, IsWithin, Items, List, None, Option, Query, Some, TableState, ℕ, [], among-compat, and-true, and_from, ap, base, breaks_none, comes_after, compat, compatible_sets, cond, false, false_from_ne_true, family, filter, filter-both, filter_agree, find, full, good-to, inl, inr, interior, interior-member, is_compatible, is_good, is_open, is_settled, is_some, is_within, is_within-from, meets, next_question, no_question, nos, not, nothing, queries, queries-in, query_before, refl, spaces_of, spanned, start_of, subsets, subst, sym, table_of, true, true≢false}
+use Rattle.ls_expert.proofs.Vocabulary.{◌&&◌, ◌∙◌, ◌∷◌, ◌≡◌, BaseState, BlockRange, Bool, HasItems, IfSome, Interview, IsIn, IsWithin, Items, List, None, Option, Query, Some, TableState, ℕ, [], among-compat, and-true, and_from, ap, base, breaks_none, comes_after, compat, compatible_sets, cond, false, false_from_ne_true, family, filter, filter-both, filter_agree, find, full, good-to, inl, inr, interior, interior-member, is_compatible, is_good, is_open, is_settled, is_some, is_within, is_within-from, meets, next_question, no_question, nos, not, nothing, queries, queries-in, query_before, refl, single_items, spaces_of, spanned, start_of, subsets, subst, sym, table_of, true, true≢false}
 use Rattle.ls_theory.specs.Starts as theory
 use Rattle.ls_lists.proofs.Elements.{filter-in}
 use Rattle.ls_laws.proofs.BaseStarts.{compat-sets}

@@ -46,7 +46,7 @@ pub record IsStanding (i : Interview) : Type 0 where
 abbrev pub rules_before : List Answer → ℕ → ℕ
 rules_before answers number = count_by (λ a. a.yes && nat_lt a.number number) answers
 
--- The answers stand, the rules are the Yes answers, and the table is that of what stands.
+-- The answers stand, the rules are the Yes answers, and the table is kept for what stands.
 pub record IsHeld (i : Interview) (rules : List Query) (table : TableRoom) : Type 0 where
   pub some_items : 0 < i.count
   pub few_items : i.count ≤ most_items

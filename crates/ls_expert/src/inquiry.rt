@@ -83,7 +83,7 @@ fn build<L: Ledger>(
     requires rules { list_all (is_good family.now.inner.item_count) family.now.rules ≡ true }
     requires good { list_all (λ a. is_good family.now.inner.item_count a.query) answers.now
         ≡ true }
-    ensures table { let n = family.now.inner.item_count in
+    ensures { let n = family.now.inner.item_count in
         IfOk result (IsKeptFor (single_items n)
         (compat n family.now.inner.start family.now.rules) (nos answers.now)) }
 {

@@ -37,11 +37,11 @@ build-requires-clause-good g c =
     ∙ all-told (λ (a : No). is_good n a.query) (λ a. not a.yes) (λ a. let x : No = record { number = a.number; query = a.query } in x) c.args.answers.now c.requires.good in
     told
 
-pub returns-clause-table : goal.returns-clause-table
-returns-clause-table g c =
+pub returns : goal.returns
+returns g c =
     let f = c.args.family.now in
     IfOk-weaker c.build.result _ _
     (λ t k. kept-as (single_items f.inner.item_count) _ _ _ _ t
     (rw c.new-2.ensures (left_are f c.in_ok-leading.leading c.inner.result.now c.rules.result.now c.inner.ensures c.rules.ensures c.in_ok-leading.ensures.inner c.in_ok-leading.ensures.members))
-    (c.deref.ensures.value ∙ c.in_ok-nos.ensures) (rw (blocks_are g (goal.at.returns-clause-table g c).After-unwrap-blocks) at k))
+    (c.deref.ensures.value ∙ c.in_ok-nos.ensures) (rw (blocks_are g (goal.at.returns g c).After-unwrap-blocks) at k))
     c.build.ensures.built

@@ -31,6 +31,6 @@ invariant_of-result g c =
     let same = begun-as c.args.n s.item_count (start_of c.args.start) s.start c.new-answers.result.items items (sym (ap (λ (s : StartOn). s.start) c.new-family.ensures.inner ∙ c.new.ensures.start)) c.new-answers.ensures.items in
     asking i c.unwrap-blocks.result rules c.in_ok-table.table c.next_query.result
     (held-begun c.args.n (start_of c.args.start) i rules c.in_ok-table.table c.requires.some c.requires.few c.requires.start.is_start same c.new-family.ensures.rules
-    (tabled-by i s.item_count s.start rules c.deref.result.now c.in_ok-table.table c.in_ok-table.ensures.table
+    (tabled-by i s.item_count s.start rules c.deref.result.now c.in_ok-table.table c.in_ok-table.ensures
     refl refl (c.new-family.ensures.rules ∙ sym (ap yes_queries c.new-answers.ensures.items)) c.deref.ensures.value))
     (blocks ∙ ap single_items items) (omega arith) c.next_query.ensures

@@ -13,7 +13,7 @@ invariant_of-self g c =
     let none = nil_from_length c.self.inside.answers.items (sym (ap length c.deref.ensures.value) ∙ c.deref.ensures.len ∙ eqb-true _ 0 (sym c.is_empty.ensures ∙ c.if-not-is_empty.false)) in
     let is_start : IsStart s.item_count t = subst (λ (j : Interview). IsStart j.count t) (sym c.self.view_is) c.requires.is_start in
     let tabled =
-    tabled-by (record i { start = t }) c.new-family.result.inner.item_count c.new-family.result.inner.start rules c.deref.result.now c.in_ok-table.table c.in_ok-table.ensures.table
+    tabled-by (record i { start = t }) c.new-family.result.inner.item_count c.new-family.result.inner.start rules c.deref.result.now c.in_ok-table.table c.in_ok-table.ensures
     (ap (λ (x : StartOn). x.item_count) inner) (ap (λ (x : StartOn). x.start) inner)
     (c.new-family.ensures.rules ∙ sym (ap yes_queries none)) c.deref.ensures.value in
     let held = held-start i t c.self.inside.family.rules rules c.self.inside.table c.in_ok-table.table c.self.invariant.held none is_start c.new-family.ensures.rules tabled in
