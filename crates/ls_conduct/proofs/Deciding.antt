@@ -5,8 +5,8 @@ use Rattle.std.proofs.lemmas.Bool.{true≢false}
 use Rattle.ls_theory.specs.{Interview}
 use Rattle.ls_lines.specs.declared.command.Command.{Command}
 use Rattle.ls_lines.specs.declared.command.Command.TheVariants as command
-use Rattle.ls_reply.specs.declared.request.Request.{Request}
-use Rattle.ls_reply.specs.declared.request.Request.TheVariants.{View, Edit, Setting, Pupil}
+use Rattle.ls_meaning.specs.declared.request.Request.{Request}
+use Rattle.ls_meaning.specs.declared.request.Request.TheVariants.{View, Edit, Setting, Pupil}
 
 -- ---- what is seen of the folder where no call is made there
 

@@ -5,7 +5,7 @@ use Rattle.std.specs.FinMap as map
 use Rattle.std.proofs.lemmas.Result.{on_ok_weaker, on_err_weaker}
 use Rattle.ls_edge.specs.declared.traits.FetchFault.{FetchFault}
 use Rattle.ls_edge.specs.declared.traits.FetchFault.TheVariants as fetch
-use Rattle.ls_reply.specs.declared.request.StartFile.{StartFile}
+use Rattle.ls_meaning.specs.declared.request.StartFile.{StartFile}
 use Rattle.ls_conduct.proofs.Deciding.{makes_as}
 
 abbrev is_failed : Result (Vec ℕ Global) FetchFault → Bool

@@ -10,8 +10,8 @@ use Rattle.ls_edge.specs.declared.traits.FetchFault.TheVariants as fetch
 use Rattle.ls_lines.specs.{Text}
 use Rattle.ls_lines.specs.declared.command.Command.{Command}
 use Rattle.ls_lines.specs.declared.command.Command.TheVariants as command
-use Rattle.ls_reply.specs.{Bytes, Calls, Effect, Failed, Fetched, Missing, Session, TooLarge, calls_of, folder_with}
-use Rattle.ls_reply.specs.declared.response.Response.{Response}
+use Rattle.ls_meaning.specs.{Bytes, Calls, Effect, Failed, Fetched, Missing, Session, TooLarge, calls_of, folder_with}
+use Rattle.ls_meaning.specs.declared.response.Response.{Response}
 
 -- a command that needs a domain: any but the first four
 abbrev pub NeedsDomain : Command → Type 0

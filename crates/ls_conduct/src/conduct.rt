@@ -1,6 +1,6 @@
 // What a command does where a domain stands.
 ghost use Rattle.std.specs.Prelude.{◌≡◌, ◌<◌, length, IfOk, Some};
-ghost use Rattle.ls_reply.specs.{command_effect};
+ghost use Rattle.ls_meaning.specs.{command_effect};
 ghost use Rattle.ls_course.specs.States.{CanTell};
 ghost use Rattle.ls_conduct.specs.Decides.{Decides, NeedsDomain};
 
@@ -10,7 +10,7 @@ use ls_course::Course;
 use ls_edge::Shelf;
 use ls_interior::Steps;
 use ls_lines::Command;
-use ls_reply::{Response, StartFile};
+use ls_meaning::{Response, StartFile};
 use std::alloc::AllocError;
 use std::sync::ledger::Ledger;
 use std::thread::Threads;

@@ -1,6 +1,6 @@
 // Commands that fetch a file, where a domain stands.
 ghost use Rattle.std.specs.Prelude.{◌≡◌, ◌<◌, ◌∷◌, [], Err, IfOk, length};
-ghost use Rattle.ls_reply.specs.{Fetched, answers, bytes_fetched, changes_interview, class_row, file_effect, file_refusals, file_shown, refusal_items, start_read, start_row, starts_by, test_row};
+ghost use Rattle.ls_meaning.specs.{Fetched, answers, bytes_fetched, changes_interview, class_row, file_effect, file_refusals, file_shown, refusal_items, start_read, start_row, starts_by, test_row};
 ghost use Rattle.ls_course.specs.States.{CanTell};
 ghost use Rattle.ls_conduct.specs.Decides.{Decides, Makes, IsFetched};
 
@@ -8,7 +8,7 @@ use ls_course::Course;
 use ls_edge::{FetchFault, Shelf};
 use ls_interior::Steps;
 use ls_lines::Word;
-use ls_reply::{Refusal, Response, StartFile};
+use ls_meaning::{Refusal, Response, StartFile};
 use std::alloc::AllocError;
 use std::sync::ledger::Ledger;
 use std::thread::Threads;

@@ -1,14 +1,14 @@
 // The command that keeps the session in a file, where a domain stands.
 ghost use Rattle.std.specs.Prelude.{◌<◌, IfOk, length};
-ghost use Rattle.ls_reply.specs.{Session, file_stored, refuse, save_row, stores};
-ghost use Rattle.ls_reply.specs.declared.refusal.Refusal.TheVariants.{FileFailed};
+ghost use Rattle.ls_meaning.specs.{Session, file_stored, refuse, save_row, stores};
+ghost use Rattle.ls_meaning.specs.declared.refusal.Refusal.TheVariants.{FileFailed};
 ghost use Rattle.ls_course.specs.States.{CourseState, CanTell};
 ghost use Rattle.ls_conduct.specs.Decides.{Decides};
 
 use ls_course::Course;
 use ls_edge::{LONGEST_FILE, Shelf, StoreFault};
 use ls_lines::Word;
-use ls_reply::{Refusal, Response};
+use ls_meaning::{Refusal, Response};
 use std::alloc::AllocError;
 
 // Keeps a text that is not too long as the file of the name.

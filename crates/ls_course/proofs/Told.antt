@@ -4,12 +4,12 @@ use Rattle.std.specs.declared.option.Option.{Option}
 use Rattle.std.specs.declared.result.Result.{Result}
 use Rattle.std.specs.Prelude.{List, Bool}
 use Rattle.ls_theory.specs.declared.answer_fault.AnswerFault.{AnswerFault}
-use Rattle.ls_reply.specs.declared.refusal.Refusal.TheVariants as refusal_of
-use Rattle.ls_reply.specs.declared.response.Response.TheVariants.{Done}
+use Rattle.ls_meaning.specs.declared.refusal.Refusal.TheVariants as refusal_of
+use Rattle.ls_meaning.specs.declared.response.Response.TheVariants.{Done}
 use Rattle.ls_theory.specs.declared.asked.Asked.TheVariants.{Item, Over}
-use Rattle.ls_reply.specs.declared.response.Response.{Response}
-use Rattle.ls_reply.specs.declared.response.Response.TheVariants as response
-use Rattle.ls_reply.specs.declared.response.Shown.TheVariants as shown
+use Rattle.ls_meaning.specs.declared.response.Response.{Response}
+use Rattle.ls_meaning.specs.declared.response.Response.TheVariants as response
+use Rattle.ls_meaning.specs.declared.response.Shown.TheVariants as shown
 use Rattle.ls_pupils.specs.Cases as pupils
 
 -- the response to an answer names no item

@@ -5,7 +5,7 @@ pub use Rattle.ls_base.proofs.Trails.{AreAskable-good, IsTrail-more}
 pub use Rattle.ls_base.specs.Trail.{EndsAt, IsTrail, last_followed, trail_sets}
 pub use Rattle.ls_expert.specs.Held.{IsStanding, rules_before}
 pub use Rattle.ls_lines.specs.{Text}
-pub use Rattle.ls_reply.specs.{Effect, answer_row, answers, asked_effect, changed, refuse_fault, request_of, start_of_base, unnamed_at, unnamed_places, view_row}
+pub use Rattle.ls_meaning.specs.{Effect, answer_row, answers, asked_effect, changed, refuse_fault, request_of, start_of_base, unnamed_at, unnamed_places, view_row}
 pub use Rattle.ls_set.specs.{Items, full}
 pub use Rattle.ls_set.specs.declared.query.Query.{Query}
 pub use Rattle.ls_theory.specs.{Interview, accepted, answer_with, base, based, compat, compatible_sets, peak_of, refusal, retracted, verdict, yes_queries}

@@ -4,7 +4,7 @@ use Rattle.ls_theory.specs.Starts as theory
 use Rattle.ls_lines.specs.{Text}
 use Rattle.ls_expert.specs.Starts.{start_of, IsStartOn}
 use Rattle.ls_expert.specs.declared.start.Start.{Start}
-use Rattle.ls_reply.specs.declared.refusal.Refusal.{Refusal}
+use Rattle.ls_meaning.specs.declared.refusal.Refusal.{Refusal}
 use Rattle.ls_writing.specs.Names.{CanRefuse}
 
 -- what was read is what the definition reads: a start on the named items, or a refusal that can be told

@@ -6,14 +6,14 @@ use Rattle.ls_base.specs.Trail.{IsTrail}
 use Rattle.ls_base.specs.declared.trail.Entry.{Entry}
 use Rattle.ls_lines.specs.{Text}
 use Rattle.ls_theory.specs.Settings.{Settings}
-use Rattle.ls_reply.specs.{Session}
+use Rattle.ls_meaning.specs.{Session}
 use Rattle.ls_pupils.specs.Cases.{pupils_of, ArePupils}
 use Rattle.ls_pupils.specs.declared.cases.PupilCase.{PupilCase}
 use Rattle.ls_spans.specs.Speaking.{IsVerdictOn}
 use Rattle.ls_writing.specs.Names.{CanRefuse}
-use Rattle.ls_reply.specs.declared.response.Response.{Response}
-use Rattle.ls_reply.specs.declared.response.Response.TheVariants as response
-use Rattle.ls_reply.specs.declared.response.Shown.TheVariants as shown
+use Rattle.ls_meaning.specs.declared.response.Response.{Response}
+use Rattle.ls_meaning.specs.declared.response.Response.TheVariants as response
+use Rattle.ls_meaning.specs.declared.response.Shown.TheVariants as shown
 use Rattle.ls_views.specs.Views as views
 
 -- the session of an interview on named items, with settings and pupils

@@ -1,13 +1,13 @@
 // How the interview of a course changes, and what of its trail is kept.
 ghost use Rattle.std.specs.Prelude.{◌≡◌, IfOk, OnOk, OnErr, List};
 ghost use Rattle.ls_base.specs.declared.trail.Entry.{Entry};
-ghost use Rattle.ls_reply.specs.{answer_row, blocks_row, retract_row};
+ghost use Rattle.ls_meaning.specs.{answer_row, blocks_row, retract_row};
 ghost use Rattle.ls_course.specs.States.{IsTrailOf};
 
 use ls_base::Trail;
 use ls_expert::Inquiry;
 use ls_interior::Steps;
-use ls_reply::{Refusal, Response};
+use ls_meaning::{Refusal, Response};
 use ls_set::Query;
 use ls_theory::{AnswerFault, BlockFault};
 use std::alloc::AllocError;

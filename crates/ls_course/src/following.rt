@@ -6,7 +6,7 @@ ghost use Rattle.ls_course.specs.States.{IsTrailOf};
 
 use ls_base::Trail;
 use ls_expert::Inquiry;
-use ls_reply::View;
+use ls_meaning::View;
 use std::alloc::AllocError;
 
 /// Follows the base of the compatible sets over the Yes answers. Where memory runs out, the trail

@@ -1,12 +1,12 @@
 // Families that files give, tested.
 ghost use Rattle.std.specs.Prelude.{◌≡◌, [], length, IfOk};
 ghost use Rattle.ls_files.specs.SetFiles.{sets_of};
-ghost use Rattle.ls_reply.specs.{tested_by};
+ghost use Rattle.ls_meaning.specs.{tested_by};
 ghost use Rattle.ls_course.specs.States.{CanTestOn};
 
 use ls_domain::Domain;
 use ls_family::{Family, FamilyFault, files_have_sets_of_items};
-use ls_reply::{Refusal, Response, Shown};
+use ls_meaning::{Refusal, Response, Shown};
 use ls_space::test;
 use std::alloc::{AllocError, Global};
 use std::thread::Threads;

@@ -1,7 +1,7 @@
 -- Pupils stay pupils of n items, and what their rows come to.
 use Rattle.ls_pupils.proofs.Vocabulary.{◌++◌, ◌+◌, ◌<◌, ◌∙◌, ◌∷◌, ◌≡◌, ◌≤◌, Agreed, All-append, All-drop, All-push, All-set, All-take, ArePupils, Bool, Done, IsCase, List, None, Pupil, PupilCase, Refused, ReplyFault, Some, ℕ, [], ap, arith, asked, asked_of, close_row, drop, false, filter, get-map, has_name, have_own_names, is_named, length, length-append, list_any, map-remove, most_pupils, not, pupil_of, pupil_with, pupils_of, refl, remove, replied, reply_fault, reply_row, set, slice_get, slice_get_within, subst, suc, sym, take, true, unwrap_or, unwrap_or-slice_get, with_pupil, zero}
 use Rattle.std.proofs.lemmas.List.{map-set, length-set}
-use Rattle.ls_reply.specs.declared.refusal.Refusal.TheVariants as refusal
+use Rattle.ls_meaning.specs.declared.refusal.Refusal.TheVariants as refusal
 use Rattle.ls_pupils.proofs.Own.{replaced-set, left_out-remove, own-set, own-remove, own-push, own-map, own_name}
 use Rattle.ls_pupils.proofs.Named.{name_of, IsAt}
 use Rattle.ls_pupils.proofs.Rows.{asked-same, row-taken, row-refused}

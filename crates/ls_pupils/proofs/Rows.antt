@@ -4,9 +4,9 @@ use Rattle.std.specs.declared.alloc.AllocError.{AllocError}
 use Rattle.ls_theory.specs.Settings.{Settings, most_states, heavy_after}
 use Rattle.ls_weight.specs.declared.fault.WeightFault.{WeightFault}
 use Rattle.ls_weight.specs.declared.fault.WeightFault.TheVariants.{Heavy, Memory}
-use Rattle.ls_reply.specs.declared.refusal.Refusal.{Refusal}
-use Rattle.ls_reply.specs.declared.refusal.Refusal.TheVariants as refusal
-use Rattle.ls_reply.specs.declared.response.Response.{Response}
+use Rattle.ls_meaning.specs.declared.refusal.Refusal.{Refusal}
+use Rattle.ls_meaning.specs.declared.refusal.Refusal.TheVariants as refusal
+use Rattle.ls_meaning.specs.declared.response.Response.{Response}
 use Rattle.ls_theory.specs.declared.asked.Asked.{Asked}
 use Rattle.ls_theory.specs.declared.asked.Asked.TheVariants.{Item, Over}
 use Rattle.ls_theory.specs.declared.outcome.Outcome.{Outcome}
@@ -14,7 +14,7 @@ use Rattle.ls_theory.specs.declared.fringe_pair.FringePair.{FringePair}
 use Rattle.ls_theory.specs.declared.reply_fault.ReplyFault.TheVariants as faults
 use Rattle.ls_theory.specs.declared.reply_fault.ReplyFault.TheVariants.{WrongItem}
 use Rattle.ls_fringe.proofs.Chosen.{inner-within, outer-within}
-use Rattle.ls_reply.specs.declared.response.Shown.TheVariants as shown
+use Rattle.ls_meaning.specs.declared.response.Shown.TheVariants as shown
 
 -- the first of the refusals is told
 pub changed-first : {A : Type 0} (old : A) (refusals : List Refusal) (response : Response) (next : A) (r : Refusal) → slice_get refusals 0 ≡ Some r → changed old refusals response next ≡ record { response = Refused r; next = old }

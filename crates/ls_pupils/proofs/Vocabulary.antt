@@ -14,9 +14,9 @@ pub use Rattle.ls_laws.specs.Families.{IsFamily}
 pub use Rattle.ls_laws.specs.Spans.{IsOn}
 pub use Rattle.ls_lists.proofs.Every.{All-given, list_any-map}
 pub use Rattle.ls_lists.proofs.Places.{get-map, map-remove, position-here, position-later}
-pub use Rattle.ls_reply.specs.{asked_of, begin_row, changed, close_row, has_name, most_pupils, new_pupil, pupil_with, replied, reply_row, weighing_refusals, with_pupil}
-pub use Rattle.ls_reply.specs.Sessions.{Pupil}
-pub use Rattle.ls_reply.specs.declared.response.Response.TheVariants.{Agreed, Done, Refused, Shown}
+pub use Rattle.ls_meaning.specs.{asked_of, begin_row, changed, close_row, has_name, most_pupils, new_pupil, pupil_with, replied, reply_row, weighing_refusals, with_pupil}
+pub use Rattle.ls_meaning.specs.Sessions.{Pupil}
+pub use Rattle.ls_meaning.specs.declared.response.Response.TheVariants.{Agreed, Done, Refused, Shown}
 pub use Rattle.ls_set.proofs.Sets.{Decides-is_same, empty-within}
 pub use Rattle.ls_set.specs.{IsWithin, Items, empty, full, is_among, is_good}
 unfoldable pub use Rattle.ls_set.specs.{is_same}

@@ -6,9 +6,9 @@ use Rattle.ls_theory.specs.Settings.{Settings}
 use Rattle.ls_weight.specs.Weighings.{Weighing}
 use Rattle.ls_weight.specs.declared.fault.WeightFault.{WeightFault}
 use Rattle.ls_weight.specs.declared.fault.WeightFault.TheVariants.{Heavy, Memory}
-use Rattle.ls_reply.specs.{weighing_refusals}
-use Rattle.ls_reply.specs.declared.refusal.Refusal.{Refusal}
-use Rattle.ls_reply.specs.declared.refusal.Refusal.TheVariants as refusal
+use Rattle.ls_meaning.specs.{weighing_refusals}
+use Rattle.ls_meaning.specs.declared.refusal.Refusal.{Refusal}
+use Rattle.ls_meaning.specs.declared.refusal.Refusal.TheVariants as refusal
 
 -- a pupil over the states of the interview with no replies, where these can be weighed; or the first refusal
 abbrev pub IsNewPupil : Interview → Settings → Result Weighing Refusal → Type 0

@@ -7,12 +7,12 @@ use Rattle.std.specs.List.{All, list_all}
 use Rattle.ls_set.specs.{IsWithin, full, is_good, most_items}
 use Rattle.ls_theory.specs.{compat, most_states}
 use Rattle.ls_theory.specs.declared.asked.Asked.TheVariants.{Item, Over}
-use Rattle.ls_reply.specs.{most_pupils, refusal_items}
+use Rattle.ls_meaning.specs.{most_pupils, refusal_items}
 use Rattle.ls_expert.specs.Starts.{start_of, IsStartOn}
-use Rattle.ls_reply.specs.Sessions.{Pupil}
-use Rattle.ls_reply.specs.declared.response.Response.{Response}
-use Rattle.ls_reply.specs.declared.response.Response.TheVariants as response
-use Rattle.ls_reply.specs.declared.response.Shown.TheVariants as shown
+use Rattle.ls_meaning.specs.Sessions.{Pupil}
+use Rattle.ls_meaning.specs.declared.response.Response.{Response}
+use Rattle.ls_meaning.specs.declared.response.Response.TheVariants as response
+use Rattle.ls_meaning.specs.declared.response.Shown.TheVariants as shown
 use Rattle.ls_pupils.specs.Own.{have_own_names}
 use Rattle.ls_pupils.specs.declared.cases.PupilCase.{PupilCase}
 

@@ -1,14 +1,14 @@
 // What pupils are asked and reply, and how they are closed.
 ghost use Rattle.std.specs.Prelude.{◌≡◌, ◌≤◌, ℕ, IfSome, option_map};
-ghost use Rattle.ls_reply.specs.Pupils.{pupil_with, shown_of, question_shown, report_shown, reply_row, close_row};
-ghost use Rattle.ls_reply.specs.declared.response.Response.TheVariants.{Shown as ShownAs};
+ghost use Rattle.ls_meaning.specs.Pupils.{pupil_with, shown_of, question_shown, report_shown, reply_row, close_row};
+ghost use Rattle.ls_meaning.specs.declared.response.Response.TheVariants.{Shown as ShownAs};
 ghost use Rattle.ls_pupils.specs.Cases.{pupil_of, pupils_of, IsCase, ArePupils, CanTell};
 
 use crate::cases::{PupilCase, PupilCases};
 use ls_fringe::fringes;
 use ls_interior::Listed;
 use ls_lines::Word;
-use ls_reply::{Refusal, Response, Shown};
+use ls_meaning::{Refusal, Response, Shown};
 use ls_set::PLACES;
 
 // The case of the name.

@@ -1,6 +1,6 @@
 // What is asked of pupils, or done with them.
 ghost use Rattle.std.specs.Prelude.{◌≡◌, length, IfOk, OnOk, OnErr};
-ghost use Rattle.ls_reply.specs.{pupil_row};
+ghost use Rattle.ls_meaning.specs.{pupil_row};
 ghost use Rattle.ls_pupils.specs.Cases.{pupils_of, ArePupils, CanTell};
 
 use crate::asking::{close, question, reply, report};
@@ -10,7 +10,7 @@ use ls_assess::Settings;
 use ls_expert::Inquiry;
 use ls_interior::Steps;
 use ls_lines::Word;
-use ls_reply::{PupilRequest, Response};
+use ls_meaning::{PupilRequest, Response};
 use std::alloc::{AllocError, Global};
 use std::sync::ledger::Ledger;
 

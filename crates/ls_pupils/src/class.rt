@@ -4,7 +4,7 @@ ghost use Rattle.ls_theory.specs.{compatible_sets};
 ghost use Rattle.ls_laws.specs.Spans.{IsOn};
 ghost use Rattle.ls_weight.specs.Weighings.{IsWeighable};
 ghost use Rattle.ls_class.specs.Tables.{class_of};
-ghost use Rattle.ls_reply.specs.{classed_by};
+ghost use Rattle.ls_meaning.specs.{classed_by};
 ghost use Rattle.ls_pupils.specs.Cases.{CanTell};
 
 use crate::beginning::MOST_STATES;
@@ -15,7 +15,7 @@ use ls_enum::{ListFault, list_all};
 use ls_expert::Inquiry;
 use ls_interior::{Counted, Steps};
 use ls_replay::{OpenGate, run_class};
-use ls_reply::{Refusal, Response, Shown};
+use ls_meaning::{Refusal, Response, Shown};
 use ls_set::SetList;
 use std::alloc::{AllocError, Global};
 use std::sync::ledger::Ledger;

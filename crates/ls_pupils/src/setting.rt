@@ -1,11 +1,11 @@
 // How settings change.
 ghost use Rattle.std.specs.Prelude.{◌≡◌, ℕ, length};
-ghost use Rattle.ls_reply.specs.{setting_row};
-ghost use Rattle.ls_meanings.specs.Asked.{IsSettingOn};
+ghost use Rattle.ls_meaning.specs.{setting_row};
+ghost use Rattle.ls_resolve.specs.Asked.{IsSettingOn};
 ghost use Rattle.ls_pupils.specs.Cases.{CanTell};
 
 use ls_assess::Settings;
-use ls_reply::{Refusal, Response, Setting};
+use ls_meaning::{Refusal, Response, Setting};
 
 /// `odds`, `ratio` and `limits`
 pub fn set(settings: &mut Settings, setting: Setting) -> Response

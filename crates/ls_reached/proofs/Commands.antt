@@ -20,10 +20,10 @@ use Rattle.ls_domain.proofs.Readings.{names_of_words-read, names_of_table-read}
 use Rattle.ls_saved.specs.declared.cause.Cause.{Cause}
 use Rattle.ls_saved.proofs.Inverse.{chosen, map-some, then-some}
 use Rattle.ls_saved.proofs.Read.{read_whole}
-use Rattle.ls_reply.specs.declared.request.Request.{Request}
-use Rattle.ls_reply.specs.declared.request.Request.TheVariants.{View, Edit, Setting, Pupil}
-use Rattle.ls_reply.specs.declared.request.StartFile.TheVariants as start_file
-use Rattle.ls_reply.specs.declared.request.PupilRequest.TheVariants as pupil
+use Rattle.ls_meaning.specs.declared.request.Request.{Request}
+use Rattle.ls_meaning.specs.declared.request.Request.TheVariants.{View, Edit, Setting, Pupil}
+use Rattle.ls_meaning.specs.declared.request.StartFile.TheVariants as start_file
+use Rattle.ls_meaning.specs.declared.request.PupilRequest.TheVariants as pupil
 use Rattle.ls_reached.proofs.Refusals.{changed-holds, none-both}
 use Rattle.ls_reached.proofs.Interviews.{started-whole, edited-whole, start-whole, set-whole}
 use Rattle.ls_reached.proofs.Pupils.{pupils-whole}

@@ -20,7 +20,7 @@ use Rattle.ls_family.proofs.Fitting.{sets-fit, each-fits}
 use Rattle.ls_surmise.proofs.Files.{clauses-on, row-named}
 use Rattle.ls_saved.proofs.Starts.{base-small}
 use Rattle.ls_saved.proofs.Surmises.{narrow-read}
-use Rattle.ls_reply.specs.declared.request.StartFile.TheVariants as start_file
+use Rattle.ls_meaning.specs.declared.request.StartFile.TheVariants as start_file
 
 -- ---- surmise functions
 

@@ -2,7 +2,7 @@
 use Rattle.ls_session.proofs.Vocabulary.{◌≡◌, AllocError, CanRefuse, CourseState, Decides, Effect, Failed, FetchCause, Fetched, Fetches, Folder, HasNames, IsFetched, IsSayable, Makes, Missing, None, Option, Refused, Response, Result, Session, Some, Text, Vec, ℕ, ap, bytes_fetched, changes, decides_fetched, false, file_refusals, has_domain, has_domain-some, is_some, load_items_row, load_items_row-begins, makes_as, names_of_table, refl, standing_session, started_by}
 use Rattle.std.specs.declared.alloc.Global.{Global}
 use Rattle.ls_edge.specs.declared.traits.FetchFault.{FetchFault}
-use Rattle.ls_reply.specs.declared.refusal.Refusal.{Refusal}
+use Rattle.ls_meaning.specs.declared.refusal.Refusal.{Refusal}
 
 -- a domain stands exactly where there is a course
 pub has_domain-is : (c : Option CourseState) → HasNames c → has_domain (standing_session c) ≡ is_some c

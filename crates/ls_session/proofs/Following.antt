@@ -6,7 +6,7 @@ use Rattle.std.proofs.KnownBytes.{Keeps-refl, Appends-nil}
 use Rattle.ls_edge.specs.Causes.{AppendsFront}
 use Rattle.ls_edge.specs.declared.traits.SinkFault.{SinkFault}
 use Rattle.ls_edge.specs.declared.traits.SinkFault.TheVariants as sink
-use Rattle.ls_reply.proofs.Refusing.{is_refusal-lines_of}
+use Rattle.ls_meaning.proofs.Refusing.{is_refusal-lines_of}
 use Rattle.ls_texts.specs.Rooms.{Wrote}
 use Rattle.ls_session.specs.Faults.{step_fault}
 use Rattle.ls_session.specs.Follows.{Follows, MovesSink}

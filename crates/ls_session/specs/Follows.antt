@@ -4,7 +4,7 @@ use Rattle.std.specs.declared.option.Option.{Option}
 use Rattle.std.specs.Io.KnownBytes.{Appends, Keeps}
 use Rattle.ls_edge.specs.Causes.{Rose, AppendsFront}
 use Rattle.ls_edge.specs.Files.{Folder}
-use Rattle.ls_reply.specs.{Calls, Effect, Session, is_refusal, reply_of}
+use Rattle.ls_meaning.specs.{Calls, Effect, Session, is_refusal, reply_of}
 use Rattle.ls_conduct.specs.Decides.{Sees, IsDecided}
 
 -- the bytes were appended, and it is told whether they begin with `no `

@@ -3,7 +3,7 @@ ghost use Rattle.std.specs.Prelude.{◌≡◌, [], None, List, Result, IfOk, opt
 ghost use Rattle.ls_domain.specs.Domains.{names_of_table};
 ghost use Rattle.ls_domain.specs.declared.domain_fault.DomainFault.{DomainFault as Fault};
 ghost use Rattle.ls_lines.specs.{Text};
-ghost use Rattle.ls_reply.specs.{Fetched, bytes_fetched, bytes_of, changes, command_effect, file_refusals, items_row, line_effect, lines_of, load_items_row, started_by};
+ghost use Rattle.ls_meaning.specs.{Fetched, bytes_fetched, bytes_of, changes, command_effect, file_refusals, items_row, line_effect, lines_of, load_items_row, started_by};
 ghost use Rattle.ls_texts.specs.Rooms.{Says};
 ghost use Rattle.ls_texts.specs.Names.{names_in};
 ghost use Rattle.ls_conduct.specs.Decides.{Decides, Makes, IsFetched, NeedsDomain};
@@ -17,7 +17,7 @@ use ls_domain::{Domain, DomainFault};
 use ls_edge::{FetchFault, Shelf, Sink};
 use ls_interior::Steps;
 use ls_lines::{Command, LONGEST_LINE, LineFault, Word, WordList, read_command};
-use ls_reply::{Refusal, Response};
+use ls_meaning::{Refusal, Response};
 use ls_texts::Room;
 use ls_writing::{put_agreed, put_done, put_refusal};
 use std::alloc::{AllocError, Global};

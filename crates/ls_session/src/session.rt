@@ -3,8 +3,8 @@ ghost use Rattle.std.specs.Prelude.{◌≡◌, true, List, ℕ, [], length, IfOk
 ghost use Rattle.std.specs.declared.option.Option.{Option};
 ghost use Rattle.ls_edge.specs.Files.{Folder};
 ghost use Rattle.ls_lines.specs.{is_long};
-ghost use Rattle.ls_reply.specs.{Calls, Session as State, answers, line_effect, started};
-ghost use Rattle.ls_reply.specs.declared.response.Response.TheVariants.{Silence};
+ghost use Rattle.ls_meaning.specs.{Calls, Session as State, answers, line_effect, started};
+ghost use Rattle.ls_meaning.specs.declared.response.Response.TheVariants.{Silence};
 ghost use Rattle.ls_texts.specs.Rooms.{Ends, no_reply};
 ghost use Rattle.ls_session.specs.Follows.{Follows, MovesSink};
 
@@ -13,7 +13,7 @@ use crate::decider::Decider;
 use ls_edge::{Shelf, Sink, SinkFault};
 use ls_interior::Steps;
 use ls_lines::{LONGEST_LINE, is_note};
-use ls_reply::Refusal;
+use ls_meaning::Refusal;
 use ls_texts::Room;
 use ls_writing::put_refusal;
 use std::alloc::{AllocError, Global};
@@ -39,7 +39,7 @@ fn is_passed(line: &[u8]) -> bool
 }
 
 impl Model for Session {
-    ghost use Rattle.ls_reply.specs.{Session as State};
+    ghost use Rattle.ls_meaning.specs.{Session as State};
     ghost use Rattle.ls_session.specs.Courses.{standing_session, IsIdle};
 
     ghost Value = { State };

@@ -6,7 +6,7 @@ use Rattle.std.proofs.lemmas.Map.Made.{AllPairs-from_IsDistinct}
 use Rattle.std.proofs.lemmas.Map.Text.{is_eq-slice_cmp}
 use Rattle.serde_json.specs.Data.{Data, string, Members, no_members, member, put}
 use Rattle.serde_json.specs.View.{items_of as values_of}
-use Rattle.ls_reply.specs.Lines.{surmise_words}
+use Rattle.ls_meaning.specs.Lines.{surmise_words}
 use Rattle.ls_files.specs.SurmiseFiles.{list_value, clause_value, members_from, surmise_text}
 use Rattle.ls_texts.proofs.Names.{numbers-All, by_name-All}
 

@@ -21,8 +21,8 @@ unfoldable pub use Rattle.ls_lines.specs.{is_of}
 pub use Rattle.ls_lists.proofs.Joins.{gap-snoc, join-spaced, join-spaced-one, join_more, join_next, spaced-next}
 pub use Rattle.ls_lists.proofs.Places.{drop-next, drop-parts, part-kept, part-last}
 pub use Rattle.ls_lists.specs.Lists.{gap, spaced}
-pub use Rattle.ls_reply.specs.{path_words, set_words}
-unfoldable pub use Rattle.ls_reply.specs.{line_of}
+pub use Rattle.ls_meaning.specs.{path_words, set_words}
+unfoldable pub use Rattle.ls_meaning.specs.{line_of}
 pub use Rattle.ls_set.specs.{IsWithin, Items, cursor, full, items, numbers_from, set_of}
 unfoldable pub use Rattle.ls_set.specs.{has, single}
 pub use Rattle.ls_theory.specs.{atom_items, atoms_at, clauses_at, is_atom_at}

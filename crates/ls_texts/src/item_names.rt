@@ -3,7 +3,7 @@ ghost use Rattle.std.specs.Prelude.{◌≡◌, ◌<◌, ◌∷◌, [], ◌++◌,
 ghost use Rattle.ls_lists.specs.Lists.{spaced};
 ghost use Rattle.ls_set.specs.{items};
 ghost use Rattle.ls_domain.specs.Texts.{name_of, joined_names};
-ghost use Rattle.ls_reply.specs.{double_words};
+ghost use Rattle.ls_meaning.specs.{double_words};
 ghost use Rattle.ls_texts.specs.Rooms.{Says};
 ghost use Rattle.ls_texts.specs.Names.{names_in, AreNamed};
 

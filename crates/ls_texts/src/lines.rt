@@ -1,7 +1,7 @@
 // Lines that are said into a room.
 ghost use Rattle.std.specs.Prelude.{◌<◌, ◌++◌, ◌∷◌, [], length, map, decimal, if◌then◌else◌};
 ghost use Rattle.std.specs.List.{join_with_byte, flat_map};
-ghost use Rattle.ls_reply.specs.{line_of, more_words};
+ghost use Rattle.ls_meaning.specs.{line_of, more_words};
 ghost use Rattle.ls_texts.specs.Rooms.{Says};
 
 use crate::Room;

@@ -1,7 +1,7 @@
 // The line of a learning path, and the front that successive paths share, with its text.
 ghost use Rattle.std.specs.Prelude.{◌≡◌, ◌<◌, ◌≤◌, ◌++◌, ◌∷◌, [], true, false, length, take, IfSome};
 ghost use Rattle.std.specs.List.{All};
-ghost use Rattle.ls_reply.specs.{line_of, path_words};
+ghost use Rattle.ls_meaning.specs.{line_of, path_words};
 ghost use Rattle.ls_texts.specs.Rooms.{Says};
 ghost use Rattle.ls_texts.specs.PathTexts.{IsTextOf, no_front};
 

@@ -5,7 +5,7 @@ ghost use Rattle.ls_lists.specs.Lists.{spaced};
 ghost use Rattle.ls_set.specs.{IsWithin, full, has, items};
 ghost use Rattle.ls_domain.specs.Domains.{IsDomain};
 ghost use Rattle.ls_domain.specs.Texts.{name_of, joined_names, set_text};
-ghost use Rattle.ls_reply.specs.{line_of, set_words};
+ghost use Rattle.ls_meaning.specs.{line_of, set_words};
 ghost use Rattle.ls_texts.specs.Rooms.{Says};
 ghost use Rattle.ls_texts.specs.SetTexts.{group_items, group_text, group_texts, spaced_names};
 ghost use Rattle.ls_texts.specs.SurmiseTexts.{items_by_name, insert_by_name, quoted_name};

@@ -4,8 +4,8 @@ ghost use Rattle.std.specs.List.{All};
 ghost use Rattle.serde_json.specs.Written.{comma_if};
 ghost use Rattle.ls_set.specs.{IsWithin, full, items, set_of};
 ghost use Rattle.ls_theory.specs.{atom_items, atoms_at, clauses_at};
-ghost use Rattle.ls_reply.specs.{line_of};
-ghost use Rattle.ls_reply.specs.Lines.{surmise_words};
+ghost use Rattle.ls_meaning.specs.{line_of};
+ghost use Rattle.ls_meaning.specs.Lines.{surmise_words};
 ghost use Rattle.ls_texts.specs.Rooms.{Says};
 ghost use Rattle.ls_texts.specs.SurmiseTexts.{listed, quoted_name, clause_text, row_text};
 

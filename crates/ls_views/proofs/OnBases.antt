@@ -6,7 +6,7 @@ use Rattle.ls_laws.proofs.Answering.{compatible_fit, compat_family}
 use Rattle.ls_laws.proofs.Families.{family_sets, spanned-IsFamily}
 use Rattle.ls_spans.proofs.Traces.{projection-IsFamily}
 use Rattle.ls_base.specs.Bases.{BaseState, family}
-use Rattle.ls_reply.specs.declared.request.View.TheVariants as view
+use Rattle.ls_meaning.specs.declared.request.View.TheVariants as view
 
 pub compatible-space : (i : Interview) → IsSound i → is_space (full i.count) (compatible_sets i) ≡ true
 compatible-space i sound =

@@ -1,8 +1,8 @@
 -- The effect of a command that looks at an interview, and the bytes of responses.
 use Rattle.ls_views.proofs.Vocabulary.{◌<◌, ◌∙◌, ◌∷◌, ◌≡◌, Bool, Calls, Interview, List, Response, Session, Some, Text, View, [], answers, ap, asked_effect, bytes_of, command_effect, cond, is_reading, length, lines_of, reply_of, request_of, session_with, sym, true, true≢false, unnamed_at, unnamed_places, view_row}
 use Rattle.ls_lines.specs.declared.command.Command.{Command}
-use Rattle.ls_reply.specs.declared.request.Request.TheVariants as request
-use Rattle.ls_reply.proofs.Effects.{has_domain-some, command_effect-asked}
+use Rattle.ls_meaning.specs.declared.request.Request.TheVariants as request
+use Rattle.ls_meaning.proofs.Effects.{has_domain-some, command_effect-asked}
 
 pub said_bytes : (s : Session) (a b : Response) → a ≡ b → bytes_of (lines_of s b) ≡ bytes_of (lines_of s a)
 said_bytes s a b e = ap (λ (x : Response). bytes_of (lines_of s x)) (sym e)

@@ -12,12 +12,12 @@ use Rattle.ls_spans.proofs.Spoken.{base_verdict-on, inner-within, outer-within, 
 use Rattle.ls_theory.specs.declared.known.Known.{Known}
 use Rattle.ls_theory.specs.declared.answer_fault.AnswerFault.TheVariants.{BadQuery}
 use Rattle.ls_expert.proofs.Ruling.{question-good}
-use Rattle.ls_reply.specs.declared.refusal.Refusal.{Refusal}
-use Rattle.ls_reply.specs.declared.refusal.Refusal.TheVariants as refusal_of
-use Rattle.ls_reply.specs.declared.response.Response.TheVariants.{Shown}
-use Rattle.ls_reply.specs.declared.response.Shown.TheVariants as shown
-use Rattle.ls_reply.specs.declared.request.View.TheVariants as view
-use Rattle.ls_meanings.specs.Asked as asked_on
+use Rattle.ls_meaning.specs.declared.refusal.Refusal.{Refusal}
+use Rattle.ls_meaning.specs.declared.refusal.Refusal.TheVariants as refusal_of
+use Rattle.ls_meaning.specs.declared.response.Response.TheVariants.{Shown}
+use Rattle.ls_meaning.specs.declared.response.Shown.TheVariants as shown
+use Rattle.ls_meaning.specs.declared.request.View.TheVariants as view
+use Rattle.ls_resolve.specs.Asked as asked_on
 use Rattle.ls_writing.proofs.Names.{double-named}
 use Rattle.ls_views.proofs.OnBases.{compatible-space}
 use Rattle.ls_base.specs.declared.followed.Followed.{Followed}

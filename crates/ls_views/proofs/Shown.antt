@@ -3,7 +3,7 @@ use Rattle.ls_views.proofs.Vocabulary.{◌++◌, ◌<◌, ◌∙◌, ◌∷◌, 
 use Rattle.ls_set.proofs.Members.{among-here, among-there}
 use Rattle.ls_spans.proofs.Spanning.{atom_items-spanning}
 use Rattle.ls_base.proofs.Spanned.{atoms_at-base}
-use Rattle.ls_reply.specs.declared.response.Shown.{Shown}
+use Rattle.ls_meaning.specs.declared.response.Shown.{Shown}
 
 -- the line of a question, from its pieces
 pub question_line : (a name : List ℕ) → (((codes "ask " ++ a) ++ codes " : ") ++ name) ++ (10 ∷ []) ≡ line_of (codes "ask" ∷ a ∷ codes ":" ∷ name ∷ [])

@@ -12,12 +12,12 @@ pub use Rattle.ls_laws.proofs.Compat.{compat-IsUnionFamily, compat-in_order}
 pub use Rattle.ls_laws.specs.Forced.{IsSound}
 pub use Rattle.ls_laws.specs.Spans.{IsOn, spanned}
 pub use Rattle.ls_lines.specs.{Text}
-pub use Rattle.ls_meanings.specs.Asked.{IsAfter, IsAskedOn}
+pub use Rattle.ls_resolve.specs.Asked.{IsAfter, IsAskedOn}
 pub use Rattle.ls_paths.specs.Left.{paths_left}
-pub use Rattle.ls_reply.specs.{◌otherwise◌, Calls, Session, answers, asked_effect, based_row, bytes_of, command_effect, is_refusal, learned, learning_refusals, lines_of, more_words, past_refusal, path_lines, path_words, paths_shown, project_row, refusal_items, refusal_words, refuse, refuse_fault, reply_of, request_of, shown_lines, started, state_shown, states_row, unnamed_at, unnamed_places, view_row}
-unfoldable pub use Rattle.ls_reply.specs.{line_of}
-pub use Rattle.ls_reply.specs.declared.request.View.{View}
-pub use Rattle.ls_reply.specs.declared.response.Response.{Response}
+pub use Rattle.ls_meaning.specs.{◌otherwise◌, Calls, Session, answers, asked_effect, based_row, bytes_of, command_effect, is_refusal, learned, learning_refusals, lines_of, more_words, past_refusal, path_lines, path_words, paths_shown, project_row, refusal_items, refusal_words, refuse, refuse_fault, reply_of, request_of, shown_lines, started, state_shown, states_row, unnamed_at, unnamed_places, view_row}
+unfoldable pub use Rattle.ls_meaning.specs.{line_of}
+pub use Rattle.ls_meaning.specs.declared.request.View.{View}
+pub use Rattle.ls_meaning.specs.declared.response.Response.{Response}
 pub use Rattle.ls_set.specs.{IsWithin, Items, comes_before, full, is_among, is_good, numbers_from, set_of}
 pub use Rattle.ls_texts.proofs.Saying.{says_as, says_nothing, says_then, says_void, wrote}
 pub use Rattle.ls_texts.specs.Names.{AreNamed, names_in}

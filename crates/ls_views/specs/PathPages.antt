@@ -3,7 +3,7 @@ use Rattle.std.specs.Prelude.{ℕ, List, filter, take, length, nat_lt, Option}
 use Rattle.ls_set.specs.{Items}
 use Rattle.ls_theory.specs.{Page, comes_after, is_lex_before, paths}
 use Rattle.ls_lines.specs.{Text}
-use Rattle.ls_reply.specs.{bytes_of, path_lines}
+use Rattle.ls_meaning.specs.{bytes_of, path_lines}
 
 -- the learning paths that come after the order, or all of them
 abbrev pub paths_after : ℕ → List Items → Option (List ℕ) → List (List ℕ)

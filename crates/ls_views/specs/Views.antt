@@ -7,17 +7,17 @@ use Rattle.ls_theory.specs.{Interview, atom_sets, base, base_verdict, compatible
 use Rattle.ls_theory.specs.declared.fringe_pair.FringePair.{FringePair}
 use Rattle.ls_laws.specs.Spans.{IsOn}
 use Rattle.ls_spans.specs.Speaking.{IsBaseVerdictOn, IsVerdictOn}
-use Rattle.ls_reply.specs.{learned, paths_shown, state_shown}
+use Rattle.ls_meaning.specs.{learned, paths_shown, state_shown}
 use Rattle.ls_lines.specs.{Text}
 use Rattle.ls_lines.specs.declared.command.Command.{Command}
 use Rattle.ls_lines.specs.declared.command.Command.TheVariants as command
-use Rattle.ls_reply.specs.{Session}
-use Rattle.ls_reply.specs.declared.request.View.{View}
-use Rattle.ls_reply.specs.declared.request.View.TheVariants as view
-use Rattle.ls_reply.specs.declared.response.Response.{Response}
-use Rattle.ls_reply.specs.declared.response.Response.TheVariants as response
-use Rattle.ls_reply.specs.declared.response.Shown.{Shown}
-use Rattle.ls_reply.specs.declared.response.Shown.TheVariants as shown
+use Rattle.ls_meaning.specs.{Session}
+use Rattle.ls_meaning.specs.declared.request.View.{View}
+use Rattle.ls_meaning.specs.declared.request.View.TheVariants as view
+use Rattle.ls_meaning.specs.declared.response.Response.{Response}
+use Rattle.ls_meaning.specs.declared.response.Response.TheVariants as response
+use Rattle.ls_meaning.specs.declared.response.Shown.{Shown}
+use Rattle.ls_meaning.specs.declared.response.Shown.TheVariants as shown
 use Rattle.ls_writing.specs.Names.{CanAsk, CanRefuse}
 
 -- a session with these names and this interview, whatever its settings and its pupils

@@ -2,10 +2,10 @@
 ghost use Rattle.std.specs.Prelude.{◌≡◌, ◌≤◌, ◌+◌, true, [], length, IfOk, OnOk, OnErr};
 ghost use Rattle.std.specs.Io.KnownBytes.{Appends};
 ghost use Rattle.ls_edge.specs.Causes.{AppendsFront, HasSinkCause};
-ghost use Rattle.ls_reply.specs.{Calls, Session, answers, bytes_of, command_effect, is_refusal, lines_of, reply_of, unnamed_places, view_row};
+ghost use Rattle.ls_meaning.specs.{Calls, Session, answers, bytes_of, command_effect, is_refusal, lines_of, reply_of, unnamed_places, view_row};
 ghost use Rattle.ls_theory.specs.{yes_queries};
 ghost use Rattle.ls_base.specs.Followed.{IsFollowed, followed_sets};
-ghost use Rattle.ls_meanings.specs.Asked.{IsOn};
+ghost use Rattle.ls_resolve.specs.Asked.{IsOn};
 ghost use Rattle.ls_texts.specs.Rooms.{Says, Wrote, no_reply};
 ghost use Rattle.ls_views.specs.Views.{CanSay, is_reading, command_steps, response_steps, view_steps, session_with};
 
@@ -18,8 +18,8 @@ use ls_edge::{Sink, SinkFault};
 use ls_expert::{Inquiry, Interview};
 use ls_interior::Steps;
 use ls_lines::Command;
-use ls_meanings::{ResolveFault, resolve};
-use ls_reply::{Request, Response, View};
+use ls_resolve::{ResolveFault, resolve};
+use ls_meaning::{Request, Response, View};
 use ls_set::ItemSet;
 use ls_texts::{Room, SetTexts};
 use ls_writing::{put_agreed, put_done, put_refusal};

@@ -3,8 +3,8 @@ ghost use Rattle.std.specs.Prelude.{◌≡◌, ◌≤◌, ◌+◌, ◌*◌, true
 ghost use Rattle.std.specs.Option.{ForSome};
 ghost use Rattle.ls_set.specs.{IsWithin, comes_before, full, is_good};
 ghost use Rattle.ls_theory.specs.{page};
-ghost use Rattle.ls_reply.specs.Texts.{line_of, bytes_of};
-ghost use Rattle.ls_reply.specs.Lines.{known_words, question_words, page_lines, shown_lines};
+ghost use Rattle.ls_meaning.specs.Texts.{line_of, bytes_of};
+ghost use Rattle.ls_meaning.specs.Lines.{known_words, question_words, page_lines, shown_lines};
 ghost use Rattle.ls_texts.specs.Rooms.{Says};
 ghost use Rattle.ls_views.specs.Views.{CanShow, shown_steps};
 
@@ -13,7 +13,7 @@ use ls_edge::Sink;
 use ls_expert::{Inquiry, Known};
 use ls_interior::{Counted, Inside, Steps};
 use ls_project::Trace;
-use ls_reply::Shown;
+use ls_meaning::Shown;
 use ls_set::{ItemSet, Query};
 use ls_texts::{Room, SetTexts, put_line, put_numbered, put_surmise};
 use ls_writing::{

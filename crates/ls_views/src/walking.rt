@@ -4,7 +4,7 @@ ghost use Rattle.std.specs.Option.{ForSome};
 ghost use Rattle.ls_set.specs.{full};
 ghost use Rattle.ls_theory.specs.{is_learning_space, is_lex_before, is_order, page, paths};
 ghost use Rattle.ls_paths.specs.Left.{paths_left};
-ghost use Rattle.ls_reply.specs.{bytes_of, path_lines};
+ghost use Rattle.ls_meaning.specs.{bytes_of, path_lines};
 ghost use Rattle.ls_texts.specs.Rooms.{Says};
 ghost use Rattle.ls_views.specs.PathPages.{paths_after};
 

@@ -10,8 +10,8 @@ pub use Rattle.ls_enum.proofs.Left.{more-ended, more-full, more-left, more_steps
 pub use Rattle.ls_enum.specs.Listings.{left_after}
 pub use Rattle.ls_lines.specs.{Text}
 pub use Rattle.ls_lists.specs.Lists.{spaced}
-pub use Rattle.ls_reply.specs.{asked_words, double_words, fringes_words, learning_words, more_words, outcome_words, page_lines, reason_word, refusal_words, result_words, set_words, verdict_words}
-unfoldable pub use Rattle.ls_reply.specs.{bytes_of, line_of}
+pub use Rattle.ls_meaning.specs.{asked_words, double_words, fringes_words, learning_words, more_words, outcome_words, page_lines, reason_word, refusal_words, result_words, set_words, verdict_words}
+unfoldable pub use Rattle.ls_meaning.specs.{bytes_of, line_of}
 pub use Rattle.ls_set.specs.{IsWithin, Items, comes_before, full, has, items, numbers_from}
 pub use Rattle.ls_spans.specs.Speaking.{IsBaseVerdictOn, IsDoubleOn, IsVerdictOn}
 pub use Rattle.ls_texts.proofs.Saying.{says_as, says_nothing, says_then, says_void}

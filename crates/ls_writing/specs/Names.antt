@@ -3,9 +3,9 @@ use Rattle.std.specs.Prelude.{◌<◌, Bool, true, false, List, length, ⊤}
 use Rattle.ls_theory.specs.declared.asked.Asked.{Asked}
 use Rattle.ls_theory.specs.declared.asked.Asked.TheVariants.{Item, Over}
 use Rattle.ls_lines.specs.{Text}
-use Rattle.ls_reply.specs.{refusal_items}
-use Rattle.ls_reply.specs.declared.refusal.Refusal.{Refusal}
-use Rattle.ls_reply.specs.declared.refusal.Refusal.TheVariants.{ManyStates, Heavy, ManyPupils, PupilStands, NoPupil, Reply, BadSetting, BadClass}
+use Rattle.ls_meaning.specs.{refusal_items}
+use Rattle.ls_meaning.specs.declared.refusal.Refusal.{Refusal}
+use Rattle.ls_meaning.specs.declared.refusal.Refusal.TheVariants.{ManyStates, Heavy, ManyPupils, PupilStands, NoPupil, Reply, BadSetting, BadClass}
 use Rattle.ls_texts.specs.Names.{AreNamed}
 
 -- each item that the refusal names has a name

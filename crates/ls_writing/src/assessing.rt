@@ -1,7 +1,7 @@
 // The lines of assessments.
 ghost use Rattle.std.specs.Prelude.{◌∷◌, [], length};
 ghost use Rattle.ls_set.specs.{IsWithin, full};
-ghost use Rattle.ls_reply.specs.{asked_words, bytes_of, fringes_words, line_of, outcome_words};
+ghost use Rattle.ls_meaning.specs.{asked_words, bytes_of, fringes_words, line_of, outcome_words};
 ghost use Rattle.ls_texts.specs.Rooms.{Says};
 ghost use Rattle.ls_writing.specs.Names.{CanAsk};
 

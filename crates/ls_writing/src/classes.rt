@@ -3,7 +3,7 @@ ghost use Rattle.std.specs.Prelude.{length, map};
 ghost use Rattle.std.specs.List.{All};
 ghost use Rattle.ls_set.specs.{IsWithin, full};
 ghost use Rattle.ls_class.specs.Results.{result_of};
-ghost use Rattle.ls_reply.specs.{bytes_of, class_lines, line_of, result_words};
+ghost use Rattle.ls_meaning.specs.{bytes_of, class_lines, line_of, result_words};
 ghost use Rattle.ls_texts.specs.Rooms.{Says};
 
 use crate::pupil_refusals::reason_word;

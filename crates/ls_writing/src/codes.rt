@@ -1,6 +1,6 @@
 // The lines of refusals that tell a code alone, or a code and a number.
 ghost use Rattle.std.specs.Prelude.{◌∷◌, [], codes, decimal};
-ghost use Rattle.ls_reply.specs.{line_of};
+ghost use Rattle.ls_meaning.specs.{line_of};
 ghost use Rattle.ls_texts.specs.Rooms.{Says};
 
 use ls_edge::Sink;

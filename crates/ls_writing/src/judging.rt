@@ -2,7 +2,7 @@
 ghost use Rattle.std.specs.Prelude.{◌<◌, ◌∷◌, [], length, codes};
 ghost use Rattle.ls_set.specs.{IsWithin, full};
 ghost use Rattle.ls_domain.specs.Texts.{set_text, fringe_words};
-ghost use Rattle.ls_reply.specs.{learning_words, line_of, verdict_words};
+ghost use Rattle.ls_meaning.specs.{learning_words, line_of, verdict_words};
 ghost use Rattle.ls_spans.specs.Speaking.{IsBaseVerdictOn, IsVerdictOn};
 ghost use Rattle.ls_texts.specs.Rooms.{Says};
 

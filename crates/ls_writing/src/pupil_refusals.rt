@@ -1,6 +1,6 @@
 // The lines of refusals of settings, of pupils and of classes.
 ghost use Rattle.std.specs.Prelude.{◌≡◌, ◌∷◌, true, codes, option_copied};
-ghost use Rattle.ls_reply.specs.{line_of, reason_word, refusal_words, reply_items, reply_words};
+ghost use Rattle.ls_meaning.specs.{line_of, reason_word, refusal_words, reply_items, reply_words};
 ghost use Rattle.ls_texts.specs.Rooms.{Says};
 ghost use Rattle.ls_texts.specs.Names.{names_in, AreNamed};
 ghost use Rattle.ls_writing.specs.Names.{CanRefuse, is_of_pupils};
@@ -8,7 +8,7 @@ ghost use Rattle.ls_writing.specs.Names.{CanRefuse, is_of_pupils};
 use crate::codes::{put_code, put_code_number};
 use ls_domain::Domain;
 use ls_edge::Sink;
-use ls_reply::Refusal;
+use ls_meaning::Refusal;
 use ls_texts::{Room, name_in, put_line};
 use ls_theory::{Reason, ReplyFault};
 

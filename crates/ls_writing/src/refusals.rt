@@ -1,6 +1,6 @@
 // The lines of refusals, and of commands that were carried out.
 ghost use Rattle.std.specs.Prelude.{◌≡◌, [], ◌∷◌, codes, decimal, option_copied};
-ghost use Rattle.ls_reply.specs.{answer_words, block_words, cause_word, cursor_words, domain_words, line_of, refusal_words};
+ghost use Rattle.ls_meaning.specs.{answer_words, block_words, cause_word, cursor_words, domain_words, line_of, refusal_words};
 ghost use Rattle.ls_texts.specs.Rooms.{Says};
 ghost use Rattle.ls_texts.specs.Names.{names_in};
 ghost use Rattle.ls_writing.specs.Names.{CanRefuse};
@@ -10,7 +10,7 @@ use crate::pupil_refusals::put_pupil_refusal;
 use crate::start_refusals::{put_base_fault, put_sets_fault, put_surmise_fault};
 use ls_domain::{Domain, DomainFault};
 use ls_edge::Sink;
-use ls_reply::Refusal;
+use ls_meaning::Refusal;
 use ls_saved::Cause;
 use ls_set::CursorFault;
 use ls_texts::{Room, put_double, put_line, put_numbered};

@@ -1,8 +1,8 @@
 // The lines of refusals of starts.
 ghost use Rattle.std.specs.Prelude.{◌∷◌, [], codes, decimal, option_copied};
-ghost use Rattle.ls_reply.specs.{line_of};
+ghost use Rattle.ls_meaning.specs.{line_of};
 ghost use Rattle.ls_files.specs.SurmiseFiles.{surmise_items};
-ghost use Rattle.ls_reply.specs.Refusals.{surmise_words, sets_words, base_words, base_items};
+ghost use Rattle.ls_meaning.specs.Refusals.{surmise_words, sets_words, base_words, base_items};
 ghost use Rattle.ls_texts.specs.Rooms.{Says};
 ghost use Rattle.ls_texts.specs.Names.{names_in, AreNamed};
 

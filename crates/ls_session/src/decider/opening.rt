@@ -1,8 +1,8 @@
 // The line that takes up a session that was kept in a file.
 ghost use Rattle.std.specs.Prelude.{◌≡◌, [], length, IfOk};
 ghost use Rattle.ls_saved.specs.{session_of};
-ghost use Rattle.ls_reply.specs.{Fetched, bytes_fetched, changes, file_refusals, open_row, opened_by};
-ghost use Rattle.ls_reply.specs.declared.response.Response.TheVariants.{Done};
+ghost use Rattle.ls_meaning.specs.{Fetched, bytes_fetched, changes, file_refusals, open_row, opened_by};
+ghost use Rattle.ls_meaning.specs.declared.response.Response.TheVariants.{Done};
 ghost use Rattle.ls_conduct.specs.Decides.{Decides, Makes, IsFetched};
 ghost use Rattle.ls_session.specs.Courses.{standing_session, IsSayable};
 
@@ -12,7 +12,7 @@ use ls_course::Course;
 use ls_edge::{FetchFault, Shelf};
 use ls_interior::Steps;
 use ls_lines::Word;
-use ls_reply::{Refusal, Response};
+use ls_meaning::{Refusal, Response};
 use ls_store::SessionFault;
 use std::alloc::AllocError;
 use std::sync::ledger::Ledger;

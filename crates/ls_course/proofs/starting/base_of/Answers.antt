@@ -4,7 +4,7 @@ use Rattle.ls_theory.specs.declared.base_fault.BaseFault.{BaseFault}
 use Rattle.ls_theory.specs.declared.base_fault.BaseFault.TheVariants.{NotSpanning, Past, Memory}
 use Rattle.ls_base.specs.Bases.{IsFaultOf}
 use Rattle.ls_clauses.proofs.BaseCovers.{based-cover, missing-lt}
-use Rattle.ls_reply.specs.declared.refusal.Refusal.TheVariants.{StartBase}
+use Rattle.ls_meaning.specs.declared.refusal.Refusal.TheVariants.{StartBase}
 use Rattle.ls_texts.specs.Names.{AreNamed}
 use Rattle.ls_writing.specs.Names.{CanRefuse}
 use Rattle.ls_course.proofs.starting.base_of.Goals as goal

@@ -1,5 +1,5 @@
 use Rattle.ls_views.proofs.Vocabulary.{◌∙◌, ◌∷◌, ◌≡◌, CanRefuse, CanSay, List, Some, Text, [], ap, bytes_of-none, bytes_of-one, codes, decimal, line_of, names_in, refusal_words, says_as, says_nothing, session_with, subst, sym}
-use Rattle.ls_reply.specs.declared.response.Response.TheVariants as response
+use Rattle.ls_meaning.specs.declared.response.Response.TheVariants as response
 use Rattle.ls_views.proofs.Replying.{said_bytes}
 use Rattle.ls_views.proofs.reading.put_response.Goals as goal
 

@@ -1,5 +1,5 @@
 use Rattle.ls_views.proofs.Vocabulary.{◌<◌, ◌∙◌, ◌≡◌, CanSay, IfOk-weaker, IsAskedOn, Some, answers, ap, arith, followed_sets, length, request_of, session_with, subst, sym}
-use Rattle.ls_reply.specs.declared.request.Request.TheVariants as request
+use Rattle.ls_meaning.specs.declared.request.Request.TheVariants as request
 use Rattle.ls_views.proofs.Replying.{reading-effect}
 use Rattle.ls_views.proofs.Saying.{can-view, followed-base}
 use Rattle.ls_views.proofs.reading.respond.Goals as goal

@@ -1,7 +1,7 @@
 use Rattle.ls_views.proofs.Vocabulary.{◌++◌, ◌∙◌, ◌∷◌, ◌≡◌, All, CanShow, IsWithin, Items, List, [], ap, ap₂, base, breaks_none, bytes_of, bytes_of-append, bytes_of-one, clauses_at, codes, comes_before, compat, compatible_sets, filter, fringe_words, full, is_lex_before, length, line_of, page, paths, projection, says_as, says_then, set_text, subst, sym}
 use Rattle.ls_expert.specs.Starts.{StartOn}
-use Rattle.ls_reply.specs.Lines.{known_words, question_words, surmise_words, base_lines, page_lines, path_lines, learning_words, verdict_words, asked_words}
-use Rattle.ls_reply.specs.declared.response.Shown.TheVariants as shown
+use Rattle.ls_meaning.specs.Lines.{known_words, question_words, surmise_words, base_lines, page_lines, path_lines, learning_words, verdict_words, asked_words}
+use Rattle.ls_meaning.specs.declared.response.Shown.TheVariants as shown
 use Rattle.ls_views.proofs.Shown.{shown_bytes, base-within, base-clauses, base-atoms, all-within}
 use Rattle.ls_views.proofs.showing.put_shown.Goals as goal
 

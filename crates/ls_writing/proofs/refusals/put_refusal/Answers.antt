@@ -1,5 +1,5 @@
 use Rattle.ls_writing.proofs.Vocabulary.{◌∙◌, ◌∷◌, [], ap, arith, codes, double_words, line_of, names_in, option_copied, refusal_words, says_as, says_then, subst, sym}
-use Rattle.ls_reply.specs.declared.refusal.Refusal.{Refusal}
+use Rattle.ls_meaning.specs.declared.refusal.Refusal.{Refusal}
 use Rattle.ls_writing.specs.Names.{CanRefuse}
 use Rattle.ls_writing.proofs.Joins.{line-spaced}
 use Rattle.ls_writing.proofs.refusals.put_refusal.Goals as goal

@@ -1,5 +1,5 @@
 use Rattle.ls_writing.proofs.Vocabulary.{◌∙◌, ◌∷◌, Text, [], ap, codes, decimal, line_of, names_in, option_copied, says_as, sym}
-use Rattle.ls_reply.specs.Refusals.{surmise_words}
+use Rattle.ls_meaning.specs.Refusals.{surmise_words}
 use Rattle.ls_theory.specs.declared.surmise_fault.SurmiseFault.{SurmiseFault}
 use Rattle.ls_writing.proofs.start_refusals.put_surmise_fault.Goals as goal
 

@@ -1,5 +1,5 @@
 use Rattle.ls_course.proofs.Vocabulary.{◌<◌, ◌∙◌, ◌≡◌, CourseState, Effect, IfOk-weaker, List, Some, Text, [], answers, ap, asked_effect, length, request_of, subst, sym, unnamed_at, unnamed_places, view_row}
-use Rattle.ls_reply.specs.declared.request.Request.TheVariants as request
+use Rattle.ls_meaning.specs.declared.request.Request.TheVariants as request
 use Rattle.ls_views.proofs.Replying.{asked-view}
 use Rattle.ls_course.proofs.Told.{on_ok}
 use Rattle.ls_course.proofs.course.Course.ask.Given as given

@@ -1,5 +1,5 @@
 use Rattle.ls_course.proofs.Vocabulary.{◌∙◌, CanSay, CourseState, IfOk-weaker, ap, can-view, length, option_copied, subst, sym, trail_sets}
-use Rattle.ls_meanings.specs.Asked.{IsOn}
+use Rattle.ls_resolve.specs.Asked.{IsOn}
 use Rattle.ls_course.proofs.Trailed.{last-sets}
 use Rattle.ls_course.proofs.course.Course.based.Goals as goal
 
