@@ -5,7 +5,7 @@ use Rattle.ls_lines.specs.{Text}
 use Rattle.ls_expert.specs.Starts.{start_of, IsStartOn}
 use Rattle.ls_expert.specs.declared.start.Start.{Start}
 use Rattle.ls_meaning.specs.declared.refusal.Refusal.{Refusal}
-use Rattle.ls_writing.specs.Names.{CanRefuse}
+use Rattle.ls_write.specs.Names.{CanRefuse}
 
 -- what was read is what the definition reads: a start on the named items, or a refusal that can be told
 abbrev pub IsStartRead : List Text → Result theory.Start Refusal → Result Start Refusal → Type 0

@@ -10,7 +10,7 @@ use Rattle.ls_meaning.specs.{Session}
 use Rattle.ls_pupils.specs.Cases.{pupils_of, ArePupils}
 use Rattle.ls_pupils.specs.declared.cases.PupilCase.{PupilCase}
 use Rattle.ls_spans.specs.Speaking.{IsVerdictOn}
-use Rattle.ls_writing.specs.Names.{CanRefuse}
+use Rattle.ls_write.specs.Names.{CanRefuse}
 use Rattle.ls_meaning.specs.declared.response.Response.{Response}
 use Rattle.ls_meaning.specs.declared.response.Response.TheVariants as response
 use Rattle.ls_meaning.specs.declared.response.Shown.TheVariants as shown

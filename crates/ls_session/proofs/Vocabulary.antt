@@ -14,7 +14,7 @@ unfoldable pub use Rattle.ls_meaning.specs.{command_effect}
 pub use Rattle.ls_meaning.specs.declared.refusal.Refusal.TheVariants.{LongLine, Unnamed}
 pub use Rattle.ls_meaning.specs.declared.response.Response.{Response}
 pub use Rattle.ls_meaning.specs.declared.response.Response.TheVariants.{Refused, Silence}
-pub use Rattle.ls_texts.proofs.Saying.{says_as, says_nothing, wrote}
-pub use Rattle.ls_writing.proofs.Joins.{bytes_of-none, bytes_of-one}
-pub use Rattle.ls_writing.specs.Names.{CanRefuse}
+pub use Rattle.ls_write.proofs.Saying.{says_as, says_nothing, wrote}
+pub use Rattle.ls_write.proofs.Joins.{bytes_of-none, bytes_of-one}
+pub use Rattle.ls_write.specs.Names.{CanRefuse}
 pub use Rattle.ls_session.specs.Courses.{HasNames, IsSayable, standing_session}

@@ -7,8 +7,8 @@ use Rattle.ls_domain.specs.declared.domain_fault.DomainFault.{DomainFault}
 use Rattle.ls_meaning.specs.{Session, started}
 use Rattle.ls_meaning.specs.declared.response.Response.{Response}
 use Rattle.ls_meaning.specs.declared.response.Response.TheVariants.{Refused, Shown}
-use Rattle.ls_texts.specs.Rooms.{RoomState, no_reply}
-use Rattle.ls_writing.specs.Names.{CanRefuse}
+use Rattle.ls_write.specs.Rooms.{RoomState, no_reply}
+use Rattle.ls_write.specs.Names.{CanRefuse}
 use Rattle.ls_course.specs.States.{CourseState, CanTell}
 
 -- where there is none, no domain stands

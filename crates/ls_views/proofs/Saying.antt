@@ -18,7 +18,7 @@ use Rattle.ls_meaning.specs.declared.response.Response.TheVariants.{Shown}
 use Rattle.ls_meaning.specs.declared.response.Shown.TheVariants as shown
 use Rattle.ls_meaning.specs.declared.request.View.TheVariants as view
 use Rattle.ls_resolve.specs.Asked as asked_on
-use Rattle.ls_writing.proofs.Names.{double-named}
+use Rattle.ls_write.proofs.Names.{double-named}
 use Rattle.ls_views.proofs.OnBases.{compatible-space}
 use Rattle.ls_base.specs.declared.followed.Followed.{Followed}
 use Rattle.ls_base.specs.declared.followed.Followed.TheVariants.{Within, Past}

@@ -19,12 +19,12 @@ unfoldable pub use Rattle.ls_meaning.specs.{line_of}
 pub use Rattle.ls_meaning.specs.declared.request.View.{View}
 pub use Rattle.ls_meaning.specs.declared.response.Response.{Response}
 pub use Rattle.ls_set.specs.{IsWithin, Items, comes_before, full, is_among, is_good, numbers_from, set_of}
-pub use Rattle.ls_texts.proofs.Saying.{says_as, says_nothing, says_then, says_void, wrote}
-pub use Rattle.ls_texts.specs.Names.{AreNamed, names_in}
-pub use Rattle.ls_texts.specs.PathTexts.{IsTextOf}
+pub use Rattle.ls_write.proofs.Saying.{says_as, says_nothing, says_then, says_void, wrote}
+pub use Rattle.ls_write.specs.Names.{AreNamed, names_in}
+pub use Rattle.ls_write.specs.PathTexts.{IsTextOf}
 pub use Rattle.ls_theory.specs.{Interview, Page, Peak, atom_items, atom_sets, atoms_at, base, base_verdict, breaks_none, clauses_at, compat, compatible_sets, double_atom, fringes, is_learning_space, is_lex_before, is_order, is_space, is_well_graded, known, next_question, outer_fringe, page, paths, peak_of, projection, state_of, yes_queries}
 pub use Rattle.ls_theory.specs.declared.verdict.BaseVerdict.{BaseVerdict}
-pub use Rattle.ls_writing.proofs.Joins.{bytes_of-append, bytes_of-none, bytes_of-one}
-pub use Rattle.ls_writing.specs.Names.{CanRefuse}
+pub use Rattle.ls_write.proofs.Joins.{bytes_of-append, bytes_of-none, bytes_of-one}
+pub use Rattle.ls_write.specs.Names.{CanRefuse}
 pub use Rattle.ls_views.specs.PathPages.{left_bytes, paths_after}
 pub use Rattle.ls_views.specs.Views.{CanSay, CanShow, based_on, is_based, is_reading, session_with}

@@ -18,7 +18,7 @@ use Rattle.ls_meaning.specs.declared.response.Response.{Response}
 use Rattle.ls_meaning.specs.declared.response.Response.TheVariants as response
 use Rattle.ls_meaning.specs.declared.response.Shown.{Shown}
 use Rattle.ls_meaning.specs.declared.response.Shown.TheVariants as shown
-use Rattle.ls_writing.specs.Names.{CanAsk, CanRefuse}
+use Rattle.ls_write.specs.Names.{CanAsk, CanRefuse}
 
 -- a session with these names and this interview, whatever its settings and its pupils
 abbrev pub session_with : Session → List Text → Interview → Session

@@ -6,7 +6,7 @@ ghost use Rattle.ls_meaning.specs.{Calls, Session, answers, bytes_of, command_ef
 ghost use Rattle.ls_theory.specs.{yes_queries};
 ghost use Rattle.ls_base.specs.Followed.{IsFollowed, followed_sets};
 ghost use Rattle.ls_resolve.specs.Asked.{IsOn};
-ghost use Rattle.ls_texts.specs.Rooms.{Says, Wrote, no_reply};
+ghost use Rattle.ls_write.specs.Rooms.{Says, Wrote, no_reply};
 ghost use Rattle.ls_views.specs.Views.{CanSay, is_reading, command_steps, response_steps, view_steps, session_with};
 
 use crate::based::decide_based;
@@ -21,8 +21,8 @@ use ls_lines::Command;
 use ls_resolve::{ResolveFault, resolve};
 use ls_meaning::{Request, Response, View};
 use ls_set::ItemSet;
-use ls_texts::{Room, SetTexts};
-use ls_writing::{put_agreed, put_done, put_refusal};
+use ls_write::{Room, SetTexts};
+use ls_write::{put_agreed, put_done, put_refusal};
 use std::alloc::{AllocError, Global};
 use std::sync::ledger::Ledger;
 

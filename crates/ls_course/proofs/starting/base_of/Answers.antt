@@ -5,8 +5,8 @@ use Rattle.ls_theory.specs.declared.base_fault.BaseFault.TheVariants.{NotSpannin
 use Rattle.ls_base.specs.Bases.{IsFaultOf}
 use Rattle.ls_clauses.proofs.BaseCovers.{based-cover, missing-lt}
 use Rattle.ls_meaning.specs.declared.refusal.Refusal.TheVariants.{StartBase}
-use Rattle.ls_texts.specs.Names.{AreNamed}
-use Rattle.ls_writing.specs.Names.{CanRefuse}
+use Rattle.ls_write.specs.Names.{AreNamed}
+use Rattle.ls_write.specs.Names.{CanRefuse}
 use Rattle.ls_course.proofs.starting.base_of.Goals as goal
 
 one-named : (names : List Text) (q : ℕ) → q < length names → AreNamed names (q ∷ [])

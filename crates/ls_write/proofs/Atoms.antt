@@ -1,0 +1,16 @@
+-- The items at which a set is an atom, as they are told.
+use Rattle.ls_write.proofs.Vocabulary.{◌&&◌, ◌<◌, ◌∙◌, ◌≡◌, Bool, Items, List, ℕ, ap, atom_items, false, get_or, get_or-map, has, is_atom_at, length, map, refl, set_of, sym, true}
+use Rattle.ls_laws.proofs.ReadBack.{has-chosen}
+
+absorbed : (a b : Bool) → (a && (a && b)) ≡ (a && b)
+absorbed true b = refl
+absorbed false b = refl
+
+-- whether the set at a place is an atom at an item
+pub atom-told : (sets atoms : List Items) (i q : ℕ) (k a : Items) → i < length sets → atoms ≡ map (λ k. set_of (atom_items sets k)) sets → k ≡ get_or sets i k → a ≡ get_or atoms i a
+    → has a q ≡ is_atom_at sets q k
+atom-told sets atoms i q k a lt e at told =
+    ap (λ s. has s q) (told ∙ ap (λ l. get_or l i a) e ∙ get_or-map (λ k. set_of (atom_items sets k)) sets i k a lt)
+    ∙ ap (λ l. has (set_of (atom_items sets l)) q) (sym at)
+    ∙ has-chosen (λ q. is_atom_at sets q k) k q
+    ∙ absorbed (has k q) _

@@ -1,0 +1,6 @@
+pub mod Rooms
+pub mod SetTexts
+pub mod Names
+pub mod SurmiseTexts
+pub mod PathTexts
+pub mod PathPages
