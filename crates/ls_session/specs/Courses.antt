@@ -9,7 +9,7 @@ use Rattle.ls_meaning.specs.declared.response.Response.{Response}
 use Rattle.ls_meaning.specs.declared.response.Response.TheVariants.{Refused, Shown}
 use Rattle.ls_write.specs.Rooms.{RoomState, no_reply}
 use Rattle.ls_write.specs.Names.{CanRefuse}
-use Rattle.ls_course.specs.States.{CourseState, CanTell}
+use Rattle.ls_session.specs.States.{CourseState, CanTell}
 
 -- where there is none, no domain stands
 abbrev pub standing_session : Option CourseState → Session

@@ -6,13 +6,13 @@ ghost use Rattle.ls_lines.specs.{Text};
 ghost use Rattle.ls_meaning.specs.{Fetched, bytes_fetched, bytes_of, changes, command_effect, file_refusals, items_row, line_effect, lines_of, load_items_row, started_by};
 ghost use Rattle.ls_write.specs.Rooms.{Says};
 ghost use Rattle.ls_write.specs.Names.{names_in};
-ghost use Rattle.ls_conduct.specs.Decides.{Decides, Makes, IsFetched, NeedsDomain};
+ghost use Rattle.ls_session.specs.Decides.{Decides, Makes, IsFetched, NeedsDomain};
 ghost use Rattle.ls_session.specs.Courses.{standing_session, HasNames, IsSayable, IsRead};
 
 mod opening;
 
-use ls_conduct::{carry_out, put_in_place, refusal_of};
-use ls_course::Course;
+use crate::{carry_out, put_in_place, refusal_of};
+use crate::Course;
 use ls_domain::{Domain, DomainFault};
 use ls_edge::{FetchFault, Shelf, Sink};
 use ls_interior::Steps;

@@ -1,9 +1,16 @@
 //! A session: what a line does, decided and then written.
 #![tactic(auto)]
 
+mod changing;
 mod decider;
+mod following;
+mod loading;
+mod saving;
 mod session;
+mod starting;
+mod state;
 mod step_fault;
+mod testing;
 
 pub use session::Session;
 pub use step_fault::StepFault;

@@ -3,12 +3,12 @@ ghost use Rattle.std.specs.Prelude.{◌≡◌, [], length, IfOk};
 ghost use Rattle.ls_saved.specs.{session_of};
 ghost use Rattle.ls_meaning.specs.{Fetched, bytes_fetched, changes, file_refusals, open_row, opened_by};
 ghost use Rattle.ls_meaning.specs.declared.response.Response.TheVariants.{Done};
-ghost use Rattle.ls_conduct.specs.Decides.{Decides, Makes, IsFetched};
+ghost use Rattle.ls_session.specs.Decides.{Decides, Makes, IsFetched};
 ghost use Rattle.ls_session.specs.Courses.{standing_session, IsSayable};
 
 use crate::decider::Decider;
-use ls_conduct::{put_in_place, refusal_of};
-use ls_course::Course;
+use crate::{put_in_place, refusal_of};
+use crate::Course;
 use ls_edge::{FetchFault, Shelf};
 use ls_interior::Steps;
 use ls_lines::Word;

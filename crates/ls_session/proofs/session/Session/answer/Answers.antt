@@ -1,5 +1,5 @@
 use Rattle.ls_session.proofs.Vocabulary.{◌∙◌, decides_nothing, refl, wrote}
-use Rattle.ls_session.proofs.Following.{follows_undone, follows_whole, follows_front, follows_of}
+use Rattle.ls_session.proofs.Steps.{follows_undone, follows_whole, follows_front, follows_of}
 use Rattle.ls_session.proofs.session.Session.answer.Goals as goal
 
 pub returns-in_err-room : goal.returns-in_err-room

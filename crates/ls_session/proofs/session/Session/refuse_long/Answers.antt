@@ -1,6 +1,6 @@
 use Rattle.ls_session.proofs.Vocabulary.{◌∙◌, ◌∷◌, ◌≡◌, Decides, Folder, List, LongLine, Ok, Refused, Session, ℕ, [], ap, bytes_of-one, codes, decides_made, decides_nothing, is_long, length, line_effect, line_effect-long, longest_line, ltb-true, refl, refusal_words, says_as, sym, true, wrote}
 use Rattle.std.specs.declared.option.Option.{Option}
-use Rattle.ls_session.proofs.Following.{follows_undone, follows_whole, follows_front, follows_of, moves_wrote, told_failed}
+use Rattle.ls_session.proofs.Steps.{follows_undone, follows_whole, follows_front, follows_of, moves_wrote, told_failed}
 use Rattle.ls_session.proofs.session.Session.refuse_long.Goals as goal
 
 decides_long : (s : Session) (line : List ℕ) (bytes : ℕ) (folder : Option Folder) (faults : ℕ) → length line ≡ bytes → is_long line ≡ true
