@@ -1,5 +1,5 @@
 -- A command keeps a session whole where it has a domain.
-use Rattle.ls_reached.proofs.Vocabulary.{◌++◌, ◌∙◌, ◌∷◌, ◌≡◌, Bool, Calls, Effect, Err, Fetched, IsDomain, IsKept, IsWhole, List, None, Ok, Option, Refusal, Result, Session, Some, StartFile, Text, ℕ, [], ap, bytes_fetched, command, command_effect, command_of, cond, cons_option, cut, drop, false, file_effect, filter_map, forms, front, has_domain, is_long, is_name, is_of, line_effect, names_of_table, names_of_words, one, opened_by, option_map, parts, refl, session_of, session_text, slice_get, slice_index_or, start_row, started, started_by, stores, subst, take, true, words, words_effect, ⊤}
+use Rattle.ls_reached.proofs.Vocabulary.{◌++◌, ◌∙◌, ◌∷◌, ◌≡◌, Bool, Calls, Effect, Err, Fetched, IsDomain, IsKept, IsWhole, List, None, Ok, Option, Refusal, Result, Session, Some, StartFile, Text, ℕ, [], ap, bytes_fetched, command, command_effect, command_of, cond, cons_option, cut, drop, false, filter_map, forms, front, has_domain, is_long, is_name, is_of, line_effect, names_of_table, names_of_words, one, opened_by, option_map, parts, refl, session_of, session_text, slice_get, slice_index_or, start_row, started, started_by, stores, subst, take, true, words, words_effect, ⊤}
 use Rattle.ls_meaning.specs.{edit_of, file_effect, in_domain, opening_row, pupil_of, setting_of, unless_unnamed}
 use Rattle.ls_lines.specs.{pupil_name}
 use Rattle.std.proofs.lemmas.Option.{none-some, same_Some}

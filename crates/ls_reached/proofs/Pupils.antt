@@ -12,7 +12,7 @@ use Rattle.ls_expert.proofs.AnswerLists.{all-told}
 use Rattle.ls_saved.proofs.Answers.{apart-from}
 use Rattle.ls_saved.proofs.Sound.{apart-distinct}
 use Rattle.ls_meaning.specs.Sessions.{Session, Pupil, pupil_states}
-use Rattle.ls_meaning.specs.declared.refusal.Refusal.TheVariants as refusal_of
+use Rattle.ls_meaning.specs.declared.response.Refusal.TheVariants as refusal_of
 use Rattle.ls_meaning.specs.declared.request.PupilRequest.{PupilRequest}
 use Rattle.ls_meaning.specs.declared.request.PupilRequest.TheVariants as pupil
 use Rattle.ls_reached.proofs.Refusals.{changed-holds, none-both, not-refused, no-fault}
