@@ -1,6 +1,6 @@
 // Replies as values.
 use crate::refusal::Refusal;
-use ls_class::Results;
+use ls_files::Results;
 use ls_set::{ItemList, ItemSet, Query, SetList};
 use ls_theory::{Asked, BaseVerdict, FringePair, Known, Outcome, Verdict};
 
