@@ -1,4 +1,4 @@
-//! What files say of a space: set files and surmise files. The readings stand in specs/, as
+//! What files say: set files, surmise files and class tables. The readings stand in specs/, as
 //! functions of the names and the bytes; here are the data types of which they speak.
 #![tactic(auto)]
 
