@@ -1,2 +1,4 @@
 pub mod SetFiles
 pub mod SurmiseFiles
+pub mod ClassTables
+pub mod ClassResults

@@ -8,7 +8,7 @@ use Rattle.ls_theory.specs.declared.outcome.Outcome.{Outcome}
 use Rattle.ls_lines.specs.{Text}
 pub use Rattle.ls_saved.specs.Sessions.{most_pupils}
 use Rattle.ls_meaning.specs.Sessions.{Pupil, pupil_states}
-use Rattle.ls_class.specs.Tables.{class_of}
+use Rattle.ls_files.specs.ClassTables.{class_of}
 use Rattle.ls_meaning.specs.Scenes.{Fetched}
 use Rattle.ls_meaning.specs.Rows.{file_refusals, bytes_fetched}
 use Rattle.ls_meaning.specs.Effects.{Change, changed, refuse, refuse_fault, ◌otherwise◌}

@@ -4,7 +4,7 @@ use crate::faults::{
     reply_notice, sets_notice, surmise_notice,
 };
 use crate::notices::{Detail, Notice};
-use ls_class::Results;
+use ls_files::Results;
 use ls_domain::DomainFault;
 use ls_files::FamilyFault;
 use ls_saved::Cause;
