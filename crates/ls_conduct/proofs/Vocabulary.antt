@@ -9,6 +9,6 @@ unfoldable pub use Rattle.ls_reply.specs.{command_effect}
 pub use Rattle.ls_reply.specs.declared.refusal.Refusal.TheVariants.{AnswersStand, FileFailed, LargeFile, NoFile, Unnamed}
 pub use Rattle.ls_reply.specs.declared.response.Response.{Response}
 pub use Rattle.ls_reply.specs.declared.response.Response.TheVariants.{Done, Refused}
-pub use Rattle.ls_saved.specs.{session_text}
+pub use Rattle.ls_files.specs.{session_text}
 pub use Rattle.ls_theory.specs.declared.answer.Answer.{Answer}
 pub use Rattle.ls_conduct.specs.Decides.{Decides, IsDecided, IsFetched, Makes, NeedsDomain, Sees}

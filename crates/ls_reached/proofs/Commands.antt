@@ -17,9 +17,9 @@ use Rattle.ls_lines.specs.declared.command.Command.{Command}
 use Rattle.ls_lines.specs.declared.command.Command.TheVariants as command
 use Rattle.ls_domain.specs.declared.domain_fault.DomainFault.{DomainFault}
 use Rattle.ls_domain.proofs.Readings.{names_of_words-read, names_of_table-read}
-use Rattle.ls_saved.specs.declared.cause.Cause.{Cause}
-use Rattle.ls_saved.proofs.Inverse.{chosen, map-some, then-some}
-use Rattle.ls_saved.proofs.Read.{read_whole}
+use Rattle.ls_files.specs.declared.cause.Cause.{Cause}
+use Rattle.ls_store.proofs.Inverse.{chosen, map-some, then-some}
+use Rattle.ls_store.proofs.Read.{read_whole}
 use Rattle.ls_reply.specs.declared.request.Request.{Request}
 use Rattle.ls_reply.specs.declared.request.Request.TheVariants.{View, Edit, Setting, Pupil}
 use Rattle.ls_reply.specs.declared.request.StartFile.TheVariants as start_file

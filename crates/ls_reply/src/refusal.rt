@@ -1,7 +1,7 @@
 // Refusals.
 use ls_domain::DomainFault;
 use ls_files::FamilyFault;
-use ls_saved::Cause;
+use ls_files::Cause;
 use ls_set::{CursorFault, ItemSet};
 use ls_theory::{AnswerFault, BaseFault, BlockFault, ReplyFault, SurmiseFault};
 
