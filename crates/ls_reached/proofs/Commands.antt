@@ -21,9 +21,9 @@ use Rattle.ls_lines.specs.declared.command.Command.{Command}
 use Rattle.ls_lines.specs.declared.command.Command.TheVariants as command
 use Rattle.ls_domain.specs.declared.domain_fault.DomainFault.{DomainFault}
 use Rattle.ls_domain.proofs.Readings.{names_of_words-read, names_of_table-read}
-use Rattle.ls_saved.specs.declared.cause.Cause.{Cause}
-use Rattle.ls_saved.proofs.Inverse.{chosen, map-some, then-some}
-use Rattle.ls_saved.proofs.Read.{read_whole}
+use Rattle.ls_files.specs.declared.cause.Cause.{Cause}
+use Rattle.ls_store.proofs.Inverse.{chosen, map-some, then-some}
+use Rattle.ls_store.proofs.Read.{read_whole}
 use Rattle.ls_meaning.specs.declared.request.StartFile.TheVariants as start_file
 use Rattle.ls_meaning.specs.declared.request.PupilRequest.TheVariants as pupil
 use Rattle.ls_reached.proofs.Refusals.{changed-holds, none-both}

@@ -16,8 +16,9 @@ pub use Rattle.ls_meaning.specs.{Calls, Effect, Fetched, Marked, Missing, Sessio
 unfoldable pub use Rattle.ls_meaning.specs.{command_effect, line_effect, world_after}
 pub use Rattle.ls_meaning.specs.declared.response.Refusal.{Refusal}
 pub use Rattle.ls_meaning.specs.declared.request.StartFile.{StartFile}
-pub use Rattle.ls_saved.specs.{IsNarrow, IsPupil, IsStanding, IsStart, IsWhole, are_made, are_pupils, follow, is_asked, session_of, session_text}
-unfoldable pub use Rattle.ls_saved.specs.{is_pupil}
+pub use Rattle.ls_files.specs.{are_made, are_pupils, follow, is_asked, session_of, session_text}
+pub use Rattle.ls_store.specs.{IsNarrow, IsPupil, IsStanding, IsStart, IsWhole}
+unfoldable pub use Rattle.ls_files.specs.{is_pupil}
 pub use Rattle.ls_set.specs.{Items, is_good}
 unfoldable pub use Rattle.ls_set.specs.{bound, comes_before, differing, empty, full, has, is_same, is_within, items, least, len, meet, minus, single, union, with}
 pub use Rattle.ls_theory.specs.{BlockRange, Free, Interview, Start, accepted, asked, base, based, begun, compatible_sets, first_missing, is_same_query, limited, made, most_base_sets, refusal, reply_fault, retracted, standard, yes_queries}
