@@ -2,12 +2,12 @@
 ghost use Rattle.std.specs.Prelude.{length, map};
 ghost use Rattle.std.specs.List.{All};
 ghost use Rattle.ls_set.specs.{IsWithin, full};
-ghost use Rattle.ls_class.specs.Results.{result_of};
+ghost use Rattle.ls_files.specs.ClassResults.{result_of};
 ghost use Rattle.ls_meaning.specs.{bytes_of, class_lines, line_of, result_words};
 ghost use Rattle.ls_write.specs.Rooms.{Says};
 
 use crate::pupil_refusals::reason_word;
-use ls_class::{ClassResult, Results};
+use ls_files::{ClassResult, Results};
 use ls_edge::Sink;
 use crate::{Room, SetTexts, put_numbered};
 

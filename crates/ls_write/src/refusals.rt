@@ -11,7 +11,7 @@ use crate::start_refusals::{put_base_fault, put_sets_fault, put_surmise_fault};
 use ls_domain::{Domain, DomainFault};
 use ls_edge::Sink;
 use ls_meaning::Refusal;
-use ls_saved::Cause;
+use ls_files::Cause;
 use ls_set::CursorFault;
 use crate::{Room, put_double, put_line, put_numbered};
 use ls_theory::{AnswerFault, BlockFault};
