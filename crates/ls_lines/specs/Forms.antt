@@ -98,7 +98,9 @@ number given place = unwrap_or (number_up_to greatest_number (one given place)) 
 abbrev pub is_right : List (List Text) → ℕ → Bool
 is_right given place = bytes_eq (one given place) (codes "right")
 
--- ---- each topic: its forms, their parts, their commands, and how a command is spelled
+-- ---- Each topic has its forms; the parts of their lines; the commands that they make of the words
+-- at the parts; and the way back, by which a command is printed: its form, and what stands at those
+-- parts that are no fixed words.
 
 -- ---- opening a session
 
@@ -334,8 +336,8 @@ command (form.View f) given = commands.View (view_command f given)
 command (form.Setting f) given = commands.Setting (setting_command f given)
 command (form.Pupil f) given = commands.Pupil (pupil_command f given)
 
--- the form by which a command is printed, and what stands at its parts that are no fixed words;
--- `states` has its count
+-- the form by which a command is printed, and what stands at those of its parts that are no fixed
+-- words; `states` has its count
 unfoldable pub spelled_as : Command → Form × List Filling
 spelled_as commands.Nothing = (form.Nothing, [])
 spelled_as (commands.Opening c) = let s = opening_spelled_as c in (form.Opening s.0, s.1)

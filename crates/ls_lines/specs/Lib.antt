@@ -17,7 +17,8 @@ pub use Rattle.ls_lines.specs.Forms.{one}
 unfoldable pub use Rattle.ls_lines.specs.Forms.{command, forms, parts, spelled_as, spelling}
 pub use Rattle.ls_lines.specs.Kinds.{greatest_number, is_file, is_from_to, is_name_byte}
 unfoldable pub use Rattle.ls_lines.specs.Kinds.{is_of}
-pub use Rattle.ls_lines.specs.Lines.{Text, is_blank, is_long, is_note, longest_line, parts_words, without_return}
+pub use Rattle.ls_lines.specs.Lines.{Text, is_blank, is_long, is_note, longest_line}
+pub use Rattle.ls_lines.specs.Lines.{parts_words, without_return}
 unfoldable pub use Rattle.ls_lines.specs.Lines.{lines, words}
 pub use Rattle.ls_lines.specs.Numbers.{is_decimal, number_up_to}
 pub use Rattle.ls_lines.specs.Printing.{words_joined}

@@ -29,12 +29,13 @@ impl Default for Operand<'_> {
     }
 }
 
-// The operands, in order.
-pub(crate) fn operands<'a>(list: &[Operand<'a>]) -> Operands<'a>
-    requires { length list.now ≤ MOST_OPERANDS }
-    ensures { result.items ≡ list.now }
+// The form, and the operands in an array of their own.
+pub(crate) fn spell<'a, F>(form: F, operands: &[Operand<'a>]) -> (F, Operands<'a>)
+    requires { length operands.now ≤ MOST_OPERANDS }
+    ensures form { result.0 ≡ form }
+    ensures operands { result.1.items ≡ operands.now }
 {
-    ArrayVec::try_from(list).unwrap()
+    (form, ArrayVec::try_from(operands).unwrap())
 }
 
 impl<'a> Operand<'a> {
