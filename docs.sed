@@ -25,3 +25,13 @@ s/`crates\/ls_replay\/src\//`crates\/ls_class\/src\//
 s/`crates\/ls_class\/src\/results.rt`, `crates\/ls_class\/specs\/Results.antt`/`crates\/ls_files\/src\/class_results.rt`, `crates\/ls_files\/specs\/ClassResults.antt`/
 # tools/wrong-bodies-by-trials/README.md
 s/^| `ls_replay` | the test of/| `ls_class` | the test of/
+# ls_growths is a module of ls_paths: ARCHITECTURE.md
+s/^                  ls_spans   ls_growths   ls_weight/                  ls_spans   ls_weight/
+/^| `ls_growths` | learning paths as growths (laws alone) |/d
+s/^| `ls_paths` | orders of items, and the learning paths one after another | `ls_growths`, `ls_interior` and what they stand on | whether/| `ls_paths` | orders of items, and the learning paths one after another; learning paths as growths (laws) | `ls_query`, `ls_interior` and what they stand on | the paths are the growths of the empty set, in their order; the first, and the next after any order, step by step; whether/
+# DEFINITIONS.md
+s/, `crates\/ls_growths\/specs`)/, `crates\/ls_paths\/specs`)/
+s/^| `ls_growths` Growths: /| `ls_paths` Growths: /
+# PROVED.md
+s/`crates\/ls_growths\/src\/paths.rt`/`crates\/ls_paths\/src\/laws.rt`/
+s/`crates\/ls_growths\/specs\/Growths.antt`/`crates\/ls_paths\/specs\/Growths.antt`/
