@@ -1,4 +1,4 @@
-# The same moves in docs/*.md and tools/wrong-bodies-by-trials/README.md; the table of docs/PERFORMANCE.md is left.
+# The same moves in docs/*.md and tools/wrong-bodies-by-trials/README.md; the table of docs/PERFORMANCE.md is left. To be run once.
 #     sed -i -f docs.sed docs/[A-O]*.md docs/PROVED.md tools/wrong-bodies-by-trials/README.md
 # ARCHITECTURE.md
 s/^                  ls_expert   ls_space   ls_replay         the interview/                  ls_expert   ls_space   ls_class          the interview/
