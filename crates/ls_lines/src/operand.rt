@@ -1,18 +1,40 @@
 // What stands at a part of a form.
-ghost use Rattle.std.specs.Prelude.{◌≡◌, ◌++◌, ◌∷◌, [], OnOk};
+ghost use Rattle.std.specs.Prelude.{◌≡◌, ◌≤◌, ◌++◌, ◌∷◌, [], OnOk, length};
 ghost use Rattle.ls_lines.specs.Operands.{shown, with_spaces};
 
 use crate::{Word, WordList};
+use arrayvec::ArrayVec;
 use std::alloc::{AllocError, Global};
 
 // What a command has at a part of its form that is no fixed word.
-#[derive(Drop)]
+#[derive(Clone, Copy)]
 pub(crate) enum Operand<'a> {
     One(&'a Word),
     Many(&'a WordList),
     Count(u32),
     Number(u64),
     Right(bool),
+}
+
+// The most parts of a form that are no fixed words.
+const MOST_OPERANDS: usize = 5;
+
+// What a command has at those parts, in order. It takes no memory.
+pub(crate) type Operands<'a> = ArrayVec<Operand<'a>, MOST_OPERANDS>;
+
+// An operand at each place that holds none yet.
+impl Default for Operand<'_> {
+    fn default() -> Self {
+        Operand::Right(false)
+    }
+}
+
+// The operands, in order.
+pub(crate) fn operands<'a>(list: &[Operand<'a>]) -> Operands<'a>
+    requires { length list.now ≤ MOST_OPERANDS }
+    ensures { result.items ≡ list.now }
+{
+    ArrayVec::try_from(list).unwrap()
 }
 
 impl<'a> Operand<'a> {
