@@ -1,8 +1,8 @@
 // A domain, the interview on its items, and its pupils.
 ghost use Rattle.std.specs.Prelude.{◌≡◌, ◌<◌, ◌==◌, true, not, [], length, Ok, IfOk, IfErr, OnOk, OnErr};
 ghost use Rattle.ls_theory.specs.{compatible_sets};
-ghost use Rattle.ls_class.specs.Tables.{class_of};
-ghost use Rattle.ls_saved.specs.{session_of, session_text};
+ghost use Rattle.ls_files.specs.ClassTables.{class_of};
+ghost use Rattle.ls_files.specs.{session_of, session_text};
 ghost use Rattle.ls_store.specs.Chains.{IsSessionFault};
 ghost use Rattle.ls_meaning.specs.{asked_effect, bytes_of, classed_by, edit_row, pupil_row, request_of, setting_row, shown_lines, start_read, started, starts_by, tested_by, unnamed_at, view_row};
 ghost use Rattle.ls_files.specs.SetFiles.{sets_of};

@@ -1,13 +1,13 @@
 // The lines of a class.
 ghost use Rattle.std.specs.Prelude.{map};
-ghost use Rattle.ls_class.specs.Results.{result_of};
+ghost use Rattle.ls_files.specs.ClassResults.{result_of};
 ghost use Rattle.ls_meaning.specs.{class_lines, line_bytes, lines_bytes, result_line};
 ghost use Rattle.ls_write.specs.Rooms.{Says};
 
 use crate::lines::put_numbered;
 use crate::{Room, SetTexts};
-use ls_class::{ClassResult, Results};
 use ls_edge::Sink;
+use ls_files::{ClassResult, Results};
 use ls_meaning::reason_word;
 
 /// Says what is known of the pupils of a class, and how many they are.

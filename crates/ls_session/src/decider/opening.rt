@@ -1,6 +1,6 @@
 // The line that takes up a session that was kept in a file.
 ghost use Rattle.std.specs.Prelude.{◌≡◌, [], length, IfOk};
-ghost use Rattle.ls_saved.specs.{session_of};
+ghost use Rattle.ls_files.specs.{session_of};
 ghost use Rattle.ls_meaning.specs.{Fetched, bytes_fetched, changes, file_refusals, open_row, opened_by};
 ghost use Rattle.ls_meaning.specs.declared.response.Response.TheVariants.{Done};
 ghost use Rattle.ls_session.specs.Decides.{Decides, Makes, IsFetched};
