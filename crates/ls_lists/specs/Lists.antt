@@ -1,5 +1,6 @@
 -- Words for lists: their elements, their order, and how they are joined and written over.
-use Rattle.std.specs.Prelude.{◌≡◌, ◌⊎◌, ℕ, ◌+◌, ◌<◌, Bool, true, List, [], ◌∷◌, ◌++◌, map, take, drop, Option, Some, None}
+use Rattle.std.specs.Prelude.{◌≡◌, ◌⊎◌, ℕ, ◌+◌, ◌<◌, Bool, true, List, [], ◌∷◌, ◌++◌}
+use Rattle.std.specs.Prelude.{map, take, drop, Option, Some, None}
 use Rattle.std.specs.List.{AllByRecursion, flat_map}
 
 -- x is an element of the list
