@@ -6,7 +6,10 @@ use mathlib.Core.Bool.{Bool-set}
 
 -- with any two members their union is one
 abbrev pub IsUnionClosed : List Items → Type 0
-IsUnionClosed f = (s t : Items) → is_among f s ≡ true → is_among f t ≡ true → is_among f (union s t) ≡ true
+IsUnionClosed f = (s t : Items)
+    → is_among f s ≡ true
+    → is_among f t ≡ true
+    → is_among f (union s t) ≡ true
 
 -- sets of items below n, in the order, with the empty set, and with any two members their union
 pub record IsFamily (n : ℕ) (f : List Items) : Type 0 where
