@@ -1,6 +1,7 @@
 -- Blocks as contracts see them: their sets and queries, and their number.
 --     choose m k      how many sets of k items m items have
---     sets_of b, queries_of b      the sets of the blocks, and their good queries, in the order of queries
+--     sets_of b, queries_of b      the sets of the blocks, and their good queries,
+--         in the order of queries
 use Rattle.std.specs.Prelude.{ℕ, zero, suc, ◌+◌, ◌<◌, ◌≤◌, List, length}
 use Rattle.ls_set.specs.{Items, most_items}
 use Rattle.ls_set.specs.declared.query.Query.{Query}
