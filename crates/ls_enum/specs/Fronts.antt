@@ -7,7 +7,12 @@ use Rattle.ls_set.specs.{IsWithin, Items, is_among, keep_before}
 use Rattle.ls_enum.specs.declared.fronts.Front.{Front}
 
 abbrev pub IsFront : List Items → ℕ → Items → Type 0
-IsFront f place member = (is_among f member ≡ true) × ((t : Items) → is_among f t ≡ true → IsWithin (keep_before t place) member → IsWithin t member)
+IsFront f place member =
+    (is_among f member ≡ true)
+    × ((t : Items)
+    → is_among f t ≡ true
+    → IsWithin (keep_before t place) member
+    → IsWithin t member)
 
 abbrev pub AreFronts : List Items → List Front → Type 0
 AreFronts f fronts = All (λ front. IsFront f front.place front.member) fronts
