@@ -1,6 +1,7 @@
 -- Hidden orders: a number makes one on n items.
 --     implied n number a q      whether a is before q in the order on n items that the number makes
-use Rattle.std.specs.Prelude.{ℕ, zero, suc, ◌%◌, Bool, false, ◌&&◌, ◌||◌, ◌==◌, List, [], ◌∷◌, map, filter, length}
+use Rattle.std.specs.Prelude.{ℕ, zero, suc, ◌%◌, Bool, false, ◌&&◌, ◌||◌, ◌==◌}
+use Rattle.std.specs.Prelude.{List, [], ◌∷◌, map, filter, length}
 use Rattle.std.specs.List.{list_any, zip}
 use Rattle.rand_pcg.specs.Lcg.{Lcg, started, increment_of}
 use Rattle.rand_pcg.specs.Pcg.{pcg32, multiplier_64}
@@ -30,10 +31,12 @@ related n number =
     let all = item_pairs n in
     map (λ d. d.0) (filter (λ d. d.1 % 4 == 0) (zip all (words (length all) (generator_of number))))
 
--- whether some chain of at most m of the pairs leads from a to q, each from where the one before it ends
+-- whether some chain of at most m of the pairs leads from a to q,
+-- each from where the one before it ends
 unfoldable pub is_chained : List (ℕ × ℕ) → ℕ → ℕ → ℕ → Bool
 is_chained related zero a q = false
-is_chained related (suc m) a q = list_any (λ p. p.0 == a && (p.1 == q || is_chained related m p.1 q)) related
+is_chained related (suc m) a q =
+    list_any (λ p. p.0 == a && (p.1 == q || is_chained related m p.1 q)) related
 
 -- a is before q: a chain of related pairs leads from a to q
 abbrev pub implied : ℕ → ℕ → ℕ → ℕ → Bool
