@@ -34,6 +34,6 @@ unfoldable pub use Rattle.ls_theory.specs.{interior, peak}
 pub use Rattle.ls_base.specs.Bases.{BaseState, IsFaultOf, IsPastOf, base_fault, family, own_items, single_sets}
 pub use Rattle.ls_base.specs.Followed.{IsAskable, IsFollowed, IsFollowedBase}
 pub use Rattle.ls_base.specs.Gains.{broken_at, broken_in, gained_at, gained_below, is_gained, least_size}
-pub use Rattle.ls_base.specs.Trail.{AreAskable, EndsAt, IsEntry, IsTrail, begins_at_none, cut, given_up, last_entry, reached}
+pub use Rattle.ls_base.specs.Trail.{AreAskable, EndsAt, IsEntry, IsTrail, begins_at_none, cut, followed_count, given_up, last_entry}
 pub use Rattle.ls_base.specs.declared.followed.Followed.{Followed}
 pub use Rattle.ls_base.specs.declared.trail.Entry.{Entry}

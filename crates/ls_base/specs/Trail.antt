@@ -31,8 +31,8 @@ abbrev pub last_followed : List Entry → Option Followed
 last_followed trail = option_map (λ e. e.followed) (last_entry trail)
 
 -- the greatest number of Yes answers for which the last entry stands
-abbrev pub reached : List Entry → ℕ
-reached trail = option_map_or (λ e. e.last) (last_entry trail) 0
+abbrev pub followed_count : List Entry → ℕ
+followed_count trail = option_map_or (λ e. e.last) (last_entry trail) 0
 
 -- the last entry is what is followed over all of the Yes answers
 pub record EndsAt (n : ℕ) (start : Start) (yeses : List Query) (trail : List Entry) : Type 0 where
