@@ -26,7 +26,7 @@ pub use Rattle.ls_theory.specs.declared.known.Known.{Known}
 pub use Rattle.rand_pcg.specs.Lcg.{Lcg}
 pub use Rattle.rand_pcg.specs.Pcg.{pcg32}
 pub use Rattle.ls_drill.specs.Draws.{IsKept, IsPair, row}
-unfoldable pub use Rattle.ls_drill.specs.Draws.{after_words, drawn, reached}
+unfoldable pub use Rattle.ls_drill.specs.Draws.{after_words, drawn, has_chain}
 pub use Rattle.ls_drill.specs.Drills.{IsDrill, reply}
 unfoldable pub use Rattle.ls_drill.specs.Drills.{after_turn, after_turns, drilled}
 pub use Rattle.ls_drill.specs.HiddenOrders.{HiddenOrder, generator_of, implied, item_pairs, most_drilled, words}

@@ -26,9 +26,9 @@ pub record IsPair (n : ℕ) (p : ℕ × ℕ) : Type 0 where
   pub small : p.1 < n
 
 -- whether some chain of the pairs leads from a to q, where each is followed by later ones alone
-unfoldable pub reached : List (ℕ × ℕ) → ℕ → ℕ → Bool
-reached [] a q = false
-reached (p ∷ ps) a q = (p.0 == a && (p.1 == q || reached ps p.1 q)) || reached ps a q
+unfoldable pub has_chain : List (ℕ × ℕ) → ℕ → ℕ → Bool
+has_chain [] a q = false
+has_chain (p ∷ ps) a q = (p.0 == a && (p.1 == q || has_chain ps p.1 q)) || has_chain ps a q
 
 -- for each item, those that it is before
 pub record IsKept (n number : ℕ) (after : List Items) : Type 0 where
