@@ -1,5 +1,5 @@
 -- A list of items taken one by one, and the places at which the next growth can leave it.
---     reached k order      the set that k grows to by the items of the list
+--     grown_to k order      the set that k grows to by the items of the list
 --     is_grown f k order      each item is outside what is reached before it,
 --         and what it leads to is a member
 --     is_fresh k order      each item is outside what is reached before it
@@ -13,9 +13,9 @@ use Rattle.std.specs.Option.{option_or}
 use Rattle.ls_set.specs.{Items, empty, has, with}
 use Rattle.ls_growths.specs.Growths.{is_next, next_after, first_growth}
 
-abbrev pub reached : Items → List ℕ → Items
-reached k [] = k
-reached k (i ∷ is) = reached (with k i) is
+abbrev pub grown_to : Items → List ℕ → Items
+grown_to k [] = k
+grown_to k (i ∷ is) = grown_to (with k i) is
 
 abbrev pub is_grown : List Items → Items → List ℕ → Bool
 is_grown f k [] = true
@@ -31,7 +31,7 @@ is_whole n f order = length order == n && is_grown f empty order
 
 abbrev pub leaves_at : ℕ → List Items → Items → List ℕ → ℕ → Option (List ℕ)
 leaves_at n f k order j =
-    let here = reached k (take j order) in
+    let here = grown_to k (take j order) in
     option_map
     (λ i. take j order ++ i ∷ first_growth n f (length (drop (suc j) order)) (with here i))
     (next_after n f here (slice_index order j))

@@ -3,7 +3,7 @@ ghost use Rattle.std.specs.Prelude.{◌≡◌, ◌<◌, ◌≤◌, true, None, S
 ghost use Rattle.ls_set.specs.{IsWithin, empty, full, is_among, minus, most_items, with};
 ghost use Rattle.ls_theory.specs.{is_learning_space};
 ghost use Rattle.ls_growths.specs.Growths.{first_next, next_after, first_growth, next_growth};
-ghost use Rattle.ls_growths.specs.Levels.{reached, is_fresh, leaves_below};
+ghost use Rattle.ls_growths.specs.Levels.{grown_to, is_fresh, leaves_below};
 
 use ls_interior::{Inside, is_member};
 use ls_set::ItemSet;
@@ -78,9 +78,9 @@ pub fn grow<F: Inside>(f: &F, k: ItemSet, outside: ItemSet, order: &mut [u32])
 // after it, and the set of them: all of them, or those up to the first that cannot be added.
 pub fn first_level<F: Inside>(f: &F, order: &[u32]) -> (usize, ItemSet)
     requires fresh { is_fresh empty order.now ≡ true }
-    requires small { IsWithin (reached empty order.now) (full (F.item_count f.now)) }
+    requires small { IsWithin (grown_to empty order.now) (full (F.item_count f.now)) }
     ensures level { result.0 ≤ length order.now }
-    ensures set { result.1 ≡ reached empty (take result.0 order.now) }
+    ensures set { result.1 ≡ grown_to empty (take result.0 order.now) }
     ensures small { IsWithin result.1 (full (F.item_count f.now)) }
     ensures leaves { next_growth (F.item_count f.now) (F.members f.now) order.now empty
         ≡ leaves_below (F.item_count f.now) (F.members f.now) empty order.now result.0 }
@@ -103,7 +103,7 @@ pub fn leave<F: Inside>(f: &F, k: ItemSet, level: usize, order: &mut [u32]) -> b
     requires fresh { is_fresh empty order.old ≡ true }
     requires fits { length order.old ≤ F.item_count f.now }
     requires level { level ≤ length order.old }
-    requires set { k ≡ reached empty (take level order.old) }
+    requires set { k ≡ grown_to empty (take level order.old) }
     requires small { IsWithin k (full (F.item_count f.now)) }
     ensures { MatchBool result
         (leaves_below (F.item_count f.now) (F.members f.now) empty order.old level
