@@ -1,7 +1,7 @@
 -- Fronts are filled from the first place on: a front at a place, which has just the word's items before it, gives the front at the next place.
 use Rattle.ls_enum.proofs.Vocabulary.{◌+◌, ◌-◌, ◌<◌, ◌∙◌, ◌≡◌, ◌≤◌, DiffersFirstAt, IsFamily, IsFront, IsWithin, IsWithin-from, Items, List, None, NoneFrom, Option, Some, ℕ, add-one, and_from, and_parts, ap, arith, cases_order, cond, count_before, eq-eqb, eqb, false, false_from_ne_true, find, has, has-without, inl, inr, interior, interior_keeping, is_among, is_within-from, keep_before, ne_eqb, not, refl, same_within, subst, suc, sym, true, true≢false, without, zero}
 use Rattle.ls_enum.proofs.Successors.{inside-is}
-use Rattle.ls_enum.proofs.Reaches.{before-parts, before-from, agreeing, keeping-some, keeping-none, first-front}
+use Rattle.ls_enum.proofs.Filled.{before-parts, before-from, agreeing, keeping-some, keeping-none, first-front}
 
 -- a front at i that has just the word's items before i
 pub record IsSought (f : List Items) (word : Items) (i : ℕ) (member : Items) : Type 0 where

@@ -1,6 +1,6 @@
 -- Listings of a family: what comes after a set, and pages joined one after another.
 --     first_after word f      the first member that comes after word, which may be any set
---     reach n word i      where an interior is formed in search of it
+--     filled_above n word i      where an interior is formed in search of it
 --     NoneFrom f word i      no member first differs from word at an item from i on, which word has
 --     count_before word i      how many items below i it has
 --     left_after cursor f      the members after the cursor, or all of them where there is none
@@ -17,8 +17,8 @@ abbrev pub first_after : Items → List Items → Option Items
 first_after word f = find (comes_before word) f
 
 -- the items of the word before i, and all items after i
-abbrev pub reach : ℕ → Items → ℕ → Items
-reach n word i = union (keep_before word i) (minus (full n) (full (i + 1)))
+abbrev pub filled_above : ℕ → Items → ℕ → Items
+filled_above n word i = union (keep_before word i) (minus (full n) (full (i + 1)))
 
 abbrev pub NoneFrom : List Items → Items → ℕ → Type 0
 NoneFrom f word i = (t : Items)

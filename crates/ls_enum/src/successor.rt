@@ -4,7 +4,7 @@ ghost use Rattle.std.specs.Option.{ForSome};
 ghost use Rattle.ls_set.specs.{IsWithin, comes_before, full, keep_before};
 ghost use Rattle.ls_theory.specs.{comes_after};
 ghost use Rattle.ls_interior.specs.Keeping.{interior_keeping};
-ghost use Rattle.ls_enum.specs.Listings.{first_after, reach};
+ghost use Rattle.ls_enum.specs.Listings.{filled_above, first_after};
 ghost use Rattle.ls_enum.specs.Fronts.{AreFronts};
 
 use crate::forward::fill;
@@ -60,7 +60,7 @@ fn next_by<I: Interior, L: Ledger>(
     let end = fill(f, word, fronts, steps);
     for i in (0..end).rev() {
         if word.has(i) {
-            if let Some(inside) = inside_reach(f, word, i, fronts, steps) {
+            if let Some(inside) = inside_filled(f, word, i, fronts, steps) {
                 fronts.push(i + 1, inside);
                 return Some(inside);
             }
@@ -71,7 +71,7 @@ fn next_by<I: Interior, L: Ledger>(
 
 // The interior of the items of the word before `i` and all items after it, where it has all that
 // was kept, in one step. With a front it is that of a member without an item.
-fn inside_reach<I: Interior, L: Ledger>(
+fn inside_filled<I: Interior, L: Ledger>(
     f: &I,
     word: ItemSet,
     i: u32,
@@ -82,7 +82,7 @@ fn inside_reach<I: Interior, L: Ledger>(
     requires item { i < I.item_count f.now }
     requires fronts { AreFronts (I.members f.now) fronts.old.held.items }
     ensures value { result ≡ interior_keeping (I.members f.now)
-        (reach (I.item_count f.now) word i) (keep_before word i) }
+        (filled_above (I.item_count f.now) word i) (keep_before word i) }
     ensures fronts { AreFronts (I.members f.now) fronts.new.held.items }
     ensures cost { steps.new ≡ steps.old + 1 }
 {
@@ -91,7 +91,7 @@ fn inside_reach<I: Interior, L: Ledger>(
     if let Some(front) = fronts.at(i, keep) {
         return f.interior_without(front, i, keep, steps);
     }
-    let inside = f.interior(reach(word, i, n), steps);
+    let inside = f.interior(filled_above(word, i, n), steps);
     if keep.is_within(inside) {
         Some(inside)
     } else {
@@ -100,10 +100,10 @@ fn inside_reach<I: Interior, L: Ledger>(
 }
 
 // The items of the word before `i`, and all items after it.
-fn reach(word: ItemSet, i: u32, n: u32) -> ItemSet
+fn filled_above(word: ItemSet, i: u32, n: u32) -> ItemSet
     requires within { i < n }
     requires few { n ≤ PLACES }
-    ensures { result ≡ reach n word i }
+    ensures { result ≡ filled_above n word i }
 {
     word.keep_before(i)
         .union(ItemSet::full(n).minus(ItemSet::full(i + 1)))

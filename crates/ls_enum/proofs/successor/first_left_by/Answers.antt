@@ -1,5 +1,5 @@
 use Rattle.ls_enum.proofs.Vocabulary.{◌∙◌, find-any, sym}
-use Rattle.ls_enum.proofs.Reaches.{first-front}
+use Rattle.ls_enum.proofs.Filled.{first-front}
 use Rattle.ls_enum.proofs.successor.first_left_by.Goals as goal
 
 pub next_by-requires-clause-small : goal.next_by-requires-clause-small

@@ -1,7 +1,7 @@
 use Rattle.ls_enum.proofs.Vocabulary.{◌-◌, ◌≡◌, AreFronts, IsFront, Items, List, Some, length, slice_get, subst, sym}
 use Rattle.std.proofs.lemmas.Option.{slice_get_within, get_or_from_slice_get}
 use Rattle.ls_enum.specs.declared.fronts.Front.{Front}
-use Rattle.ls_enum.proofs.Reaches.{later-front}
+use Rattle.ls_enum.proofs.Filled.{later-front}
 use Rattle.ls_enum.proofs.fronts.Fronts.at.Goals as goal
 
 -- the one at a place

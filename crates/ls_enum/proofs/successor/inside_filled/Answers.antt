@@ -1,6 +1,6 @@
-use Rattle.ls_enum.proofs.Successors.{reach-within}
-use Rattle.ls_enum.proofs.Reaches.{keeping-front}
-use Rattle.ls_enum.proofs.successor.inside_reach.Goals as goal
+use Rattle.ls_enum.proofs.Successors.{filled-within}
+use Rattle.ls_enum.proofs.Filled.{keeping-front}
+use Rattle.ls_enum.proofs.successor.inside_filled.Goals as goal
 
 -- the interior of the front without the item, where it keeps what stood before
 pub returns-in-Some-clause-value : goal.returns-in-Some-clause-value
@@ -12,4 +12,4 @@ returns-in-Some-clause-value g c =
     c.in-Some.ensures.before c.keep_before-keep.ensures c.interior_without.ensures.value
 
 pub interior-inside-requires : goal.interior-inside-requires
-interior-inside-requires g c = rw (c.reach.ensures, c.items-n.ensures.count) (reach-within _ _ _ c.requires.small)
+interior-inside-requires g c = rw (c.filled_above.ensures, c.items-n.ensures.count) (filled-within _ _ _ c.requires.small)
