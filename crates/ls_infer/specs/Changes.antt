@@ -3,7 +3,7 @@
 --     IsChange c n r before after      the family was before the change, and is after it
 --     is_stale c r closed      whether a closure from before the change can be another after it
 --     can_grow r s      whether more can be enough for a standing No where a Yes comes
---     is_reached c r s      whether what is kept of a standing No can be another after it
+--     can_change c r s      whether what is kept of a standing No can be another after it
 --     most_steps c n      the most steps that what is kept of a standing No takes after it
 use Rattle.std.specs.Prelude.{ℕ, ◌+◌, Bool, not, ◌&&◌, ◌||◌, if◌then◌else◌, ◌≡◌, List}
 use Rattle.ls_set.specs.{Items, empty, full, has, is_good, is_same, is_within, meet}
@@ -32,9 +32,9 @@ can_grow r s = if s.is_state then breaks s.enough r else is_same (meet r.a s.eno
 
 -- where the Yes comes, the closure lacks q, and has the items of A, or more can be enough;
 -- where it is taken back, the closure has the items of A, or lacks q
-abbrev pub is_reached : YesChange → Query → StandingNo → Bool
-is_reached YesChange.Added r s = not (has s.closed r.q) && (is_within r.a s.closed || can_grow r s)
-is_reached YesChange.Removed r s = is_within r.a s.closed || not (has s.closed r.q)
+abbrev pub can_change : YesChange → Query → StandingNo → Bool
+can_change YesChange.Added r s = not (has s.closed r.q) && (is_within r.a s.closed || can_grow r s)
+can_change YesChange.Removed r s = is_within r.a s.closed || not (has s.closed r.q)
 
 -- what is kept of a No to a good query, whose closure is of items below n,
 -- as are those that are enough

@@ -41,7 +41,7 @@ pub fn change_each<I: Interior, L: Ledger>(
         + most_steps change (I.item_count f.now) * length kept.old }
 {
     for s in kept.iter_mut() {
-        if s.is_reached(change, r) {
+        if s.can_change(change, r) {
             *s = s.after(f, closures, change, r, witnesses, steps);
         }
     }

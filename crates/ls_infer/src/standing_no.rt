@@ -4,7 +4,7 @@ ghost use Rattle.ls_set.specs.{IsWithin, Items, full, has, is_among, is_good};
 ghost use Rattle.ls_set.specs.declared.query.Query.{Query};
 ghost use Rattle.ls_theory.specs.{blocks, breaks, closure};
 ghost use Rattle.ls_theory.specs.declared.no.No.{No};
-ghost use Rattle.ls_infer.specs.Changes.{IsChange, can_grow, is_kept, is_reached, most_steps};
+ghost use Rattle.ls_infer.specs.Changes.{IsChange, can_change, can_grow, is_kept, most_steps};
 ghost use Rattle.ls_infer.specs.Tables.{enough_for, standing, forces, AreStates};
 ghost use Rattle.ls_infer.specs.declared.yes_change.YesChange.TheVariants as YesChange;
 
@@ -269,9 +269,9 @@ impl StandingNo {
     }
 
     /// Whether a Yes to `r` that came or was taken back can change what is kept of it.
-    pub fn is_reached(&self, change: YesChange, r: &Query) -> bool
+    pub fn can_change(&self, change: YesChange, r: &Query) -> bool
         requires { r.now.q < PLACES }
-        ensures { result ≡ is_reached change r.now self.now }
+        ensures { result ≡ can_change change r.now self.now }
     {
         match change {
             YesChange::Added => {
