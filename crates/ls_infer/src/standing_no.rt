@@ -10,7 +10,7 @@ ghost use Rattle.ls_infer.specs.declared.yes_change.YesChange.TheVariants as Yes
 
 use crate::breaking::breaks;
 use crate::enough::{enough_between, enough_for, is_state};
-use crate::reaching::reaching;
+use crate::entailing::items_entailing;
 use crate::witnesses::Witnesses;
 use crate::yes_change::YesChange;
 use ls_interior::{Interior, Steps, closure};
@@ -126,7 +126,7 @@ impl StandingNo {
     {
         let closed = closure(f, answer.query.a, steps);
         let all = ItemSet::full(f.items());
-        let known = reaching(closures, all, answer.query.q);
+        let known = items_entailing(closures, all, answer.query.q);
         StandingNo::between(f, *answer, closed, known, witnesses, steps)
     }
 
@@ -206,7 +206,7 @@ impl StandingNo {
             return StandingNo { closed, ..*self };
         }
         let all = ItemSet::full(f.items());
-        let known = reaching(closures, all, self.no.query.q).union(self.enough);
+        let known = items_entailing(closures, all, self.no.query.q).union(self.enough);
         StandingNo::between(f, self.no, closed, known, witnesses, steps)
     }
 
@@ -247,7 +247,7 @@ impl StandingNo {
             self.closed
         };
         let q = self.no.query.q;
-        let known = reaching(closures, self.enough, q);
+        let known = items_entailing(closures, self.enough, q);
         let enough = enough_between(f, closed, q, known, self.enough, witnesses, steps);
         if self.keeps_state(r) && self.enough.is_within(enough) {
             return StandingNo { closed, ..*self };

@@ -28,14 +28,14 @@ closed_within g c = elim c.if-is_within.branch [
 pub closure-closed-requires : goal.closure-closed-requires
 closure-closed-requires g c = (kept-parts _ c.args.self.now c.requires.kept).good.small
 
-pub reaching-known-requires : goal.reaching-known-requires
-reaching-known-requires g c = let item = (kept-parts _ c.args.self.now c.requires.kept).good.item in omega (arith, item, c.requires.few)
+pub items_entailing-known-requires : goal.items_entailing-known-requires
+items_entailing-known-requires g c = let item = (kept-parts _ c.args.self.now c.requires.kept).good.item in omega (arith, item, c.requires.few)
 
 pub enough_between-enough-requires-clause-item : goal.enough_between-enough-requires-clause-item
 enough_between-enough-requires-clause-item g c = (kept-parts _ c.args.self.now c.requires.kept).good.item
 
 pub enough_between-enough-requires-clause-known : goal.enough_between-enough-requires-clause-known
-enough_between-enough-requires-clause-known g c i h = (kept-parts _ c.args.self.now c.requires.kept).enough i (c.reaching-known.ensures.part i h)
+enough_between-enough-requires-clause-known g c i h = (kept-parts _ c.args.self.now c.requires.kept).enough i (c.items_entailing-known.ensures.part i h)
 
 pub enough_between-enough-requires-clause-among : goal.enough_between-enough-requires-clause-among
 enough_between-enough-requires-clause-among g c = (kept-parts _ c.args.self.now c.requires.kept).enough
@@ -49,11 +49,11 @@ returns-then-is_within-2-clause-value g c = λ before change e states.
     let closed = c.if-is_within.closed in
     let made = closed_is g (goal.at.returns-then-is_within-2-clause-value g c).Joined-is_within before change e in
     let small = (kept-parts n s c.requires.kept).enough in
-    let known = reached n after closed s.no.query.q c.reaching-known.result (λ i h. small i (c.reaching-known.ensures.part i h)) in
+    let known = reached n after closed s.no.query.q c.items_entailing-known.result (λ i h. small i (c.items_entailing-known.ensures.part i h)) in
     let among = before-among n before after r s closed change e made in
     let so = c.enough_between-enough.ensures.value (rw made (outside-member n after s.no.query.a (family_sets n after (g.met.I.Interior.is_family c.args.f.now)))) states in
     let within = IsWithin-from s.enough c.enough_between-enough.result (sym c.is_within-then-keeps_state.ensures ∙ c.if-is_within-2.true) in
-    (so.0, λ k sets. before-state n before after r s closed c.enough_between-enough.result change e made (so.1 (known (c.reaching-known.ensures.closures n k after small sets)) among) within (sym c.keeps_state.ensures ∙ c.if-keeps_state.true))
+    (so.0, λ k sets. before-state n before after r s closed c.enough_between-enough.result change e made (so.1 (known (c.items_entailing-known.ensures.closures n k after small sets)) among) within (sym c.keeps_state.ensures ∙ c.if-keeps_state.true))
 
 pub returns-then-is_within-2-clause-kept : goal.returns-then-is_within-2-clause-kept
 returns-then-is_within-2-clause-kept g c =
@@ -72,10 +72,10 @@ returns-clause-value g c = λ before change e states.
     let closed = c.if-is_within.closed in
     let made = closed_is g (goal.at.returns-clause-value g c).Joined-is_within before change e in
     let small = (kept-parts n s c.requires.kept).enough in
-    let known = reached n after closed s.no.query.q c.reaching-known.result (λ i h. small i (c.reaching-known.ensures.part i h)) in
+    let known = reached n after closed s.no.query.q c.items_entailing-known.result (λ i h. small i (c.items_entailing-known.ensures.part i h)) in
     let among = before-among n before after r s closed change e made in
     let so = c.enough_between-enough.ensures.value (rw made (outside-member n after s.no.query.a (family_sets n after (g.met.I.Interior.is_family c.args.f.now)))) states in
-    (so.0, λ k sets. c.of.ensures.value ∙ standing-from n after s.no closed c.enough_between-enough.result _ made (so.1 (known (c.reaching-known.ensures.closures n k after small sets)) among) refl)
+    (so.0, λ k sets. c.of.ensures.value ∙ standing-from n after s.no closed c.enough_between-enough.result _ made (so.1 (known (c.items_entailing-known.ensures.closures n k after small sets)) among) refl)
 
 pub returns-clause-kept : goal.returns-clause-kept
 returns-clause-kept g c =

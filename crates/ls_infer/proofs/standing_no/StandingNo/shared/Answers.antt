@@ -5,23 +5,23 @@ use Rattle.ls_infer.proofs.standing_no.StandingNo.shared.Goals as goal
 pub closure-closed-requires : goal.closure-closed-requires
 closure-closed-requires g c = (good-from _ c.args.answer.now.query c.requires).small
 
-pub reaching-known-requires : goal.reaching-known-requires
-reaching-known-requires g c = let item = (good-from _ c.args.answer.now.query c.requires).item in omega (arith, item, c.items.ensures.count, c.items.ensures.few)
+pub items_entailing-known-requires : goal.items_entailing-known-requires
+items_entailing-known-requires g c = let item = (good-from _ c.args.answer.now.query c.requires).item in omega (arith, item, c.items.ensures.count, c.items.ensures.few)
 
 pub between-requires-clause-within : goal.between-requires-clause-within
 between-requires-clause-within g c = rw c.closure-closed.ensures.value (minus-within _ _)
 
 pub between-requires-clause-known : goal.between-requires-clause-known
-between-requires-clause-known g c = rw (c.full-all.ensures, c.items.ensures.count) at c.reaching-known.ensures.part
+between-requires-clause-known g c = rw (c.full-all.ensures, c.items.ensures.count) at c.items_entailing-known.ensures.part
 
 pub returns-clause-value : goal.returns-clause-value
 returns-clause-value g c = λ states.
     let n = g.I.Interior.item_count c.args.f.now in
     let f = g.I.Interior.members c.args.f.now in
     let all : c.full-all.result ≡ full n = c.full-all.ensures ∙ ap full c.items.ensures.count in
-    let part : IsWithin c.reaching-known.result (full n) = rw all at c.reaching-known.ensures.part in
+    let part : IsWithin c.items_entailing-known.result (full n) = rw all at c.items_entailing-known.ensures.part in
     let so = c.between.ensures.value c.closure-closed.ensures.value states in
-    (so.0, λ k kept_closures. so.1 (reached n f c.closure-closed.result c.args.answer.now.query.q c.reaching-known.result part (c.reaching-known.ensures.closures n k f (rw all (λ i h. h)) kept_closures)))
+    (so.0, λ k kept_closures. so.1 (reached n f c.closure-closed.result c.args.answer.now.query.q c.items_entailing-known.result part (c.items_entailing-known.ensures.closures n k f (rw all (λ i h. h)) kept_closures)))
 
 pub returns-clause-cost : goal.returns-clause-cost
 returns-clause-cost g c =

@@ -1,6 +1,6 @@
 use Rattle.ls_infer.proofs.Vocabulary.{◌∙◌, ◌≡◌, Some, ap, has, has-empty, slice_get, slice_get-get_or, sym, true≢false}
 use Rattle.ls_infer.proofs.Places.{closed-alone}
-use Rattle.ls_infer.proofs.reaching.closed_alone.Goals as goal
+use Rattle.ls_infer.proofs.entailing.closed_alone.Goals as goal
 
 pub returns-in-Some : goal.returns-in-Some
 returns-in-Some c n k f l made i h =

@@ -19,20 +19,20 @@ fn closed_alone(closures: &[ItemSet], item: u32) -> ItemSet
 }
 
 /// The items of a set whose closures, each of the item alone, are kept and have `q`.
-pub fn reaching(closures: &[ItemSet], among: ItemSet, q: u32) -> ItemSet
+pub fn items_entailing(closures: &[ItemSet], among: ItemSet, q: u32) -> ItemSet
     requires { q < PLACES }
     ensures part { IsWithin result among }
     ensures closures { (n k : ℕ) (f : List Items) → IsWithin among (full n) →
         closures.now ≡ map (closure (full n) f) (blocks n k) → (i : ℕ) →
         has result i ≡ true → has (closure (full n) f (single i)) q ≡ true }
 {
-    let mut reaching = ItemSet::empty();
+    let mut entailing = ItemSet::empty();
     let mut left = among;
     while let Some(item) = left.least() {
         left = left.without(item);
         if closed_alone(closures, item).has(q) {
-            reaching = reaching.with(item);
+            entailing = entailing.with(item);
         }
     }
-    reaching
+    entailing
 }
