@@ -62,7 +62,7 @@ pub fn standing_of<I: Interior, L: Ledger>(
 {
     let mut kept = Vec::new(alloc);
     for answer in answers {
-        kept.push(StandingNo::shared(f, closures, answer, witnesses, steps))?;
+        kept.push(StandingNo::from_closures(f, closures, answer, witnesses, steps))?;
     }
     Ok(kept)
 }

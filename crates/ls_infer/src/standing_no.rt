@@ -33,7 +33,7 @@ pub struct StandingNo {
 
 impl StandingNo {
     // What is kept of the answer with its closure and what is enough, in one step.
-    fn of<I: Interior, L: Ledger>(
+    fn from_enough<I: Interior, L: Ledger>(
         f: &I,
         no: No,
         closed: ItemSet,
@@ -61,13 +61,13 @@ impl StandingNo {
     {
         let closed = closure(f, answer.query.a, steps);
         let enough = enough_for(f, closed, answer.query.q, steps);
-        StandingNo::of(f, *answer, closed, enough, steps)
+        StandingNo::from_enough(f, *answer, closed, enough, steps)
     }
 
     // What is kept of the answer with its closure, where those of `known` are enough, in a step at
     // most for each item and one more. Where p is left with those that are known alone, no other
     // item is enough.
-    fn between<I: Interior, L: Ledger>(
+    fn from_known<I: Interior, L: Ledger>(
         f: &I,
         no: No,
         closed: ItemSet,
@@ -103,13 +103,13 @@ impl StandingNo {
             }
         }
         let enough = enough_between(f, closed, q, known, all, witnesses, steps);
-        StandingNo::of(f, no, closed, enough, steps)
+        StandingNo::from_enough(f, no, closed, enough, steps)
     }
 
     /// What is kept of the answer, in a step at most for each item and one more. Items whose
     /// closures, by those that are kept of the block sets, have p are enough without a step, and
     /// what is not enough is shared. So it mostly takes fewer steps than `new`, which takes all.
-    pub fn shared<I: Interior, L: Ledger>(
+    pub fn from_closures<I: Interior, L: Ledger>(
         f: &I,
         closures: &[ItemSet],
         answer: &No,
@@ -127,7 +127,7 @@ impl StandingNo {
         let closed = closure(f, answer.query.a, steps);
         let all = ItemSet::full(f.items());
         let known = items_entailing(closures, all, answer.query.q);
-        StandingNo::between(f, *answer, closed, known, witnesses, steps)
+        StandingNo::from_known(f, *answer, closed, known, witnesses, steps)
     }
 
     // What is kept of it with its closure, where what was enough stays so, but is no state.
@@ -168,7 +168,7 @@ impl StandingNo {
                 ..*self
             };
         }
-        StandingNo::of(f, self.no, closed, enough, steps)
+        StandingNo::from_enough(f, self.no, closed, enough, steps)
     }
 
     // What is kept of it under a Yes to the good query `r` that comes. What was enough stays so, and
@@ -207,7 +207,7 @@ impl StandingNo {
         }
         let all = ItemSet::full(f.items());
         let known = items_entailing(closures, all, self.no.query.q).union(self.enough);
-        StandingNo::between(f, self.no, closed, known, witnesses, steps)
+        StandingNo::from_known(f, self.no, closed, known, witnesses, steps)
     }
 
     // Whether what is enough is a state without a Yes to `r` exactly where it is one with it.
@@ -252,7 +252,7 @@ impl StandingNo {
         if self.keeps_state(r) && self.enough.is_within(enough) {
             return StandingNo { closed, ..*self };
         }
-        StandingNo::of(f, self.no, closed, enough, steps)
+        StandingNo::from_enough(f, self.no, closed, enough, steps)
     }
 
     // Whether more can be enough under a Yes to `r`.

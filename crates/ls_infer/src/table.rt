@@ -242,7 +242,7 @@ impl Table {
         ensures cost { steps.new ≤ steps.old + (self.old.table.blocks.item_count + 1) }
     {
         renew(&mut self.witnesses, x.query.q);
-        let kept = StandingNo::shared(f, &self.closures, &x, &mut self.witnesses, steps);
+        let kept = StandingNo::from_closures(f, &self.closures, &x, &mut self.witnesses, steps);
         self.standing.push_reserved(kept);
     }
 

@@ -3,8 +3,8 @@ use Rattle.ls_infer.proofs.Kept.{with-within}
 use Rattle.ls_infer.proofs.Outside.{outside-member}
 use Rattle.ls_infer.proofs.States.{enough-within, with-itself, good-several}
 use Rattle.ls_infer.proofs.Standing.{kept-from, standing-from, standing-only}
-use Rattle.ls_infer.proofs.standing_no.StandingNo.between.Goals as goal
-use Rattle.ls_infer.proofs.standing_no.StandingNo.between.Goals.{then-not-has+else-has, else-not-has}
+use Rattle.ls_infer.proofs.standing_no.StandingNo.from_known.Goals as goal
+use Rattle.ls_infer.proofs.standing_no.StandingNo.from_known.Goals.{then-not-has+else-has, else-not-has}
 
 pub with-known-requires : goal.with-known-requires
 with-known-requires g c = let item = (good-from _ c.args.no.query c.requires.good).item in omega (arith, item, c.items.ensures.count, c.items.ensures.few)
@@ -46,26 +46,26 @@ returns-clause-value g c = λ made states.
     let a = c.args.no in
     let all : c.full-all.result ≡ full n = c.full-all.ensures ∙ ap full c.items.ensures.count in
     let so = c.enough_between-enough.ensures.value (rw made (outside-member n f a.query.a (family_sets n f (g.met.I.Interior.is_family c.args.f.now)))) states in
-    (so.0, λ sound. c.of.ensures.value ∙ standing-from n f a c.args.closed c.enough_between-enough.result _ made (so.1 (rw c.with-known.ensures (with-itself n f c.args.closed a.query.q c.args.known (good-from n a.query c.requires.good).item sound)) (rw all (enough-within n f _ _))) refl)
+    (so.0, λ sound. c.from_enough.ensures.value ∙ standing-from n f a c.args.closed c.enough_between-enough.result _ made (so.1 (rw c.with-known.ensures (with-itself n f c.args.closed a.query.q c.args.known (good-from n a.query c.requires.good).item sound)) (rw all (enough-within n f _ _))) refl)
 
 pub returns-clause-kept : goal.returns-clause-kept
 returns-clause-kept g c =
     let n = g.I.Interior.item_count c.args.f.now in
     let f = g.I.Interior.members c.args.f.now in
-    rw c.of.ensures.value
+    rw c.from_enough.ensures.value
     (kept-from n (record { no = c.args.no; closed = c.args.closed; enough = c.enough_between-enough.result; is_state = is_among f c.enough_between-enough.result })
     (record { good = good-from n c.args.no.query c.requires.good; closed = c.requires.within; enough = c.enough_between-enough.ensures.within }))
 
 pub returns-clause-cost : goal.returns-clause-cost
 returns-clause-cost g c = elim c.if-not-has.branch [
-  | then-not-has+else-has w ↦ omega (arith, w.steps-is, w.interior-left.ensures.cost, c.enough_between-enough.ensures.cost, c.of.ensures.cost)
-  | else-not-has w ↦ omega (arith, w.steps-is, c.enough_between-enough.ensures.cost, c.of.ensures.cost)
+  | then-not-has+else-has w ↦ omega (arith, w.steps-is, w.interior-left.ensures.cost, c.enough_between-enough.ensures.cost, c.from_enough.ensures.cost)
+  | else-not-has w ↦ omega (arith, w.steps-is, c.enough_between-enough.ensures.cost, c.from_enough.ensures.cost)
 ]
 
 pub returns-clause-fewer : goal.returns-clause-fewer
 returns-clause-fewer g c i here l =
     let fewer = c.enough_between-enough.ensures.fewer i here l (good-several _ _ (good-from _ c.args.no.query c.requires.good)) in
     elim c.if-not-has.branch [
-      | then-not-has+else-has w ↦ omega (arith, w.steps-is, w.interior-left.ensures.cost, fewer, c.of.ensures.cost)
-      | else-not-has w ↦ omega (arith, w.steps-is, fewer, c.of.ensures.cost)
+      | then-not-has+else-has w ↦ omega (arith, w.steps-is, w.interior-left.ensures.cost, fewer, c.from_enough.ensures.cost)
+      | else-not-has w ↦ omega (arith, w.steps-is, fewer, c.from_enough.ensures.cost)
     ]
