@@ -1,5 +1,5 @@
 -- The sets that are given for a base: whether they have each item, and the base of what they span.
-use Rattle.ls_base.proofs.Vocabulary.{◌∙◌, ◌≡◌, ◌≤◌, Bool, Err, IsFaultOf, IsOn, IsPastOf, Items, List, None, Ok, Option, Some, ℕ, ap, ap₂, base, base_fault, based, every-from, filter, filter-all, first_missing, full, interior, is_among, is_within, is_within-from, le-ltb, least, length, limited, list_all-All, lt-ltb, minus, most_base_sets, refl, spanned, subst, sym, true, unions}
+use Rattle.ls_base.proofs.Vocabulary.{◌∙◌, ◌≡◌, ◌≤◌, Bool, Err, IsBaseFault, IsOn, IsPastOf, Items, List, None, Ok, Option, Some, ℕ, ap, ap₂, base, base_fault, based, every-from, filter, filter-all, first_missing, full, interior, is_among, is_within, is_within-from, le-ltb, least, length, limited, list_all-All, lt-ltb, minus, most_base_sets, refl, spanned, subst, sym, true, unions}
 use Rattle.ls_laws.proofs.BaseStarts.{compat-sets}
 use Rattle.ls_base.specs.declared.fault.PastFault.{PastFault}
 use Rattle.ls_base.specs.declared.fault.PastFault.TheVariants as Limit
@@ -31,7 +31,7 @@ pub based-base : (n : ℕ) (sets made : List Items) → first_missing n sets ≡
 based-base n sets made e is few = based-spanning n sets e ∙ ap limited is ∙ rw (le-ltb most_base_sets (length made) few) refl
 
 -- a fault of the base is one of the sets
-pub IsFaultOf-past : (n : ℕ) (sets made : List Items) (fault : PastFault) → first_missing n sets ≡ None → base (spanned n sets) ≡ made → IsPastOf made fault → IsFaultOf (based n sets) (base_fault fault)
-IsFaultOf-past n sets made (Limit.Past count) e is past =
+pub IsBaseFault-past : (n : ℕ) (sets made : List Items) (fault : PastFault) → first_missing n sets ≡ None → base (spanned n sets) ≡ made → IsPastOf made fault → IsBaseFault (based n sets) (base_fault fault)
+IsBaseFault-past n sets made (Limit.Past count) e is past =
     based-spanning n sets e ∙ ap limited is ∙ rw (lt-ltb most_base_sets (length made) past.0) (ap (λ c. Err (Past c)) (sym past.1))
-IsFaultOf-past n sets made (Limit.Memory fault) e is past = tt
+IsBaseFault-past n sets made (Limit.Memory fault) e is past = tt

@@ -31,7 +31,7 @@ unfoldable pub use Rattle.ls_set.specs.{is_same, items, len}
 pub use Rattle.ls_set.specs.declared.query.Query.{Query}
 pub use Rattle.ls_theory.specs.{Peak, Start, atom_items, atoms_at, base, base_size, based, breaks, compat, first_missing, is_atom_at, limited, most_base_sets, some_breaks, unions}
 unfoldable pub use Rattle.ls_theory.specs.{interior, peak}
-pub use Rattle.ls_base.specs.Bases.{BaseState, IsFaultOf, IsPastOf, base_fault, family, own_items, single_sets}
+pub use Rattle.ls_base.specs.Bases.{BaseState, IsBaseFault, IsPastOf, base_fault, family, own_items, single_sets}
 pub use Rattle.ls_base.specs.Followed.{IsAskable, IsFollowed, IsFollowedBase}
 pub use Rattle.ls_base.specs.Gains.{broken_at, broken_in, gained_at, gained_below, is_gained, least_size}
 pub use Rattle.ls_base.specs.Trail.{AreAskable, EndsAt, IsEntry, IsTrail, begins_at_none, cut, followed_count, given_up, last_entry}

@@ -4,7 +4,7 @@ ghost use Rattle.ls_set.specs.{empty, is_good, subsets};
 ghost use Rattle.ls_theory.specs.Queries.{some_breaks};
 ghost use Rattle.ls_theory.specs.Bases.{base, atom_sets, based, is_atom_at, atoms_at, most_base_sets};
 ghost use Rattle.ls_laws.specs.Spans.{IsOn, left_by, spanned};
-ghost use Rattle.ls_base.specs.Bases.{family, single_sets, own_items, IsFaultOf, IsPastOf, IsOfMany};
+ghost use Rattle.ls_base.specs.Bases.{family, single_sets, own_items, IsBaseFault, IsPastOf, IsOfMany};
 
 use crate::atoms::is_atom_at;
 use crate::fault::PastFault;
@@ -71,7 +71,7 @@ impl Base {
         requires is_on { IsOn n sets.now }
         ensures based { IfOk result (λ b. based n sets.now ≡ Ok b.sets) }
         ensures item_count { IfOk result (λ b. b.item_count ≡ n) }
-        ensures fault { IfErr result (IsFaultOf (based n sets.now)) }
+        ensures fault { IfErr result (IsBaseFault (based n sets.now)) }
     {
         let all = ItemSet::full(n);
         if let Some(item) = all.minus(union_within(sets, all)).least() {

@@ -21,5 +21,5 @@ pub use Rattle.ls_set.specs.{Items}
 unfoldable pub use Rattle.ls_set.specs.{empty, full, is_same, single, union, with}
 pub use Rattle.ls_set.specs.declared.item_set.TheConstants.{PLACES}
 pub use Rattle.ls_theory.specs.{Row}
-pub use Rattle.ls_class.specs.Tables.{IsFaultOf, IsRowFault, is_mark, is_next_name, is_right, marked, most_class_pupils, right_of}
+pub use Rattle.ls_class.specs.Tables.{IsClassFault, IsRowFault, is_mark, is_next_name, is_right, marked, most_class_pupils, right_of}
 unfoldable pub use Rattle.ls_class.specs.Tables.{class_in, class_of, columns_of, next_row, rows_from}

@@ -73,9 +73,9 @@ class_of names bytes = class_in names (table_records bytes)
 -- ---- faults
 
 -- the fault is that of the reading, unless memory ran out
-abbrev pub IsFaultOf : Result (List Row) ℕ → ClassFault → Type 0
-IsFaultOf reading (Memory e) = ⊤
-IsFaultOf reading (BadClass row) = reading ≡ Err row
+abbrev pub IsClassFault : Result (List Row) ℕ → ClassFault → Type 0
+IsClassFault reading (Memory e) = ⊤
+IsClassFault reading (BadClass row) = reading ≡ Err row
 
 -- the same of one record
 abbrev pub IsRowFault : Option Row → ℕ → ClassFault → Type 0

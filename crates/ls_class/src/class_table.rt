@@ -3,7 +3,7 @@ ghost use Rattle.std.specs.Prelude.{◌≡◌, ◌<◌, ◌≤◌, ◌==◌, ◌
 ghost use Rattle.csv.specs.Records.{fields_of};
 ghost use Rattle.ls_domain.specs.Meanings.{is_named};
 ghost use Rattle.ls_theory.specs.{Row};
-ghost use Rattle.ls_class.specs.Tables.{class_of, most_class_pupils, next_row, IsFaultOf, IsRowFault};
+ghost use Rattle.ls_class.specs.Tables.{class_of, most_class_pupils, next_row, IsClassFault, IsRowFault};
 
 use crate::ClassFault;
 use crate::columns::columns_of;
@@ -46,7 +46,7 @@ impl ClassTable {
     /// many; or memory ran out.
     pub fn from_csv(alloc: Global, domain: &Domain, bytes: &[u8]) -> Result<ClassTable, ClassFault>
         ensures read { IfOk result (λ t. class_of domain.now bytes.now ≡ Ok t) }
-        ensures fault { IfErr result (IsFaultOf (class_of domain.now bytes.now)) }
+        ensures fault { IfErr result (IsClassFault (class_of domain.now bytes.now)) }
     {
         let most = MOST_CLASS_PUPILS + 1;
         let records = first_records(alloc, bytes, most).map_err(ClassFault::Memory)?;

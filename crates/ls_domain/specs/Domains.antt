@@ -85,9 +85,9 @@ names_of_table bytes = names_of (first_fields (table_records bytes))
 -- ---- faults
 
 -- the fault is that of the reading, unless memory ran out
-abbrev pub IsFaultOf : Result (List Text) DomainFault → DomainFault → Type 0
-IsFaultOf reading (Memory e) = ⊤
-IsFaultOf reading fault = reading ≡ Err fault
+abbrev pub IsDomainFault : Result (List Text) DomainFault → DomainFault → Type 0
+IsDomainFault reading (Memory e) = ⊤
+IsDomainFault reading fault = reading ≡ Err fault
 
 -- the same of one name
 abbrev pub IsNameFault : Option DomainFault → DomainFault → Type 0

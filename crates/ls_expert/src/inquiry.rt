@@ -3,7 +3,7 @@ ghost use Rattle.std.specs.Prelude.{◌≡◌, ◌≢◌, ◌+◌, ◌-◌, max,
 ghost use Rattle.std.specs.Option.{ForSome, option_map};
 ghost use Rattle.std.specs.List.{list_all};
 ghost use Rattle.ls_set.specs.{is_good};
-ghost use Rattle.ls_theory.specs.{IsBlockFault, IsFaultOf, accepted, answer_with, base, begun, breaks_none, compat, compatible_sets, is_settled, known, made, next_question, nos, refusal, retracted, spaces_of, yes_queries};
+ghost use Rattle.ls_theory.specs.{IsAnswerFault, IsBlockFault, accepted, answer_with, base, begun, breaks_none, compat, compatible_sets, is_settled, known, made, next_question, nos, refusal, retracted, spaces_of, yes_queries};
 ghost use Rattle.ls_infer.specs.Tables.{IsKeptFor};
 ghost use Rattle.ls_expert.specs.Held.{single_items, blocks_of, rules_before, IsStanding, PlaceFor};
 ghost use Rattle.ls_expert.specs.Steps.{steps_back, most_steps};
@@ -179,7 +179,7 @@ impl Inquiry {
         ensures taken { OnOk result (refusal self.old query yes ≡ None) }
         ensures number { IfOk result (λ m. m ≡ self.old.next) }
         ensures ok { OnOk result (self.new ≡ accepted self.old query yes) }
-        ensures fault { IfErr result (IsFaultOf (refusal self.old query yes)) }
+        ensures fault { IfErr result (IsAnswerFault (refusal self.old query yes)) }
         ensures err { OnErr result (self.new ≡ self.old) }
         ensures cost { steps.new ≤ steps.old + most_steps self.old query yes }
         ensures refused { OnErr result (steps.new ≤ steps.old + 1) }

@@ -60,6 +60,6 @@ refusal i r is_yes =
     (if is_full i then Some Full else None)))
 
 -- the fault is the one that is found, unless memory ran out
-abbrev pub IsFaultOf : Option AnswerFault → AnswerFault → Type 0
-IsFaultOf found (Memory e) = ⊤
-IsFaultOf found fault = found ≡ Some fault
+abbrev pub IsAnswerFault : Option AnswerFault → AnswerFault → Type 0
+IsAnswerFault found (Memory e) = ⊤
+IsAnswerFault found fault = found ≡ Some fault

@@ -20,7 +20,7 @@ pub mod Settings
 pub mod Assessment
 pub mod Classes
 pub mod Bounds
-pub use Rattle.ls_theory.specs.Answering.{IsFaultOf, answer_with, first_fault, is_full}
+pub use Rattle.ls_theory.specs.Answering.{IsAnswerFault, answer_with, first_fault, is_full}
 pub use Rattle.ls_theory.specs.Answering.{is_same_query, most_answers, most_number, opposed}
 pub use Rattle.ls_theory.specs.Answering.{refusal, standing_number}
 pub use Rattle.ls_theory.specs.Assessment.{has_share, outcome, reply_fault}
