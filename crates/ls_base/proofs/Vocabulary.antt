@@ -16,7 +16,7 @@ pub use Rattle.ls_laws.proofs.Counts.{as_many, len-zero}
 pub use Rattle.ls_laws.proofs.Interiors.{IsUnionFamily, from-interior, has-interior, interior-member, interior-whole, interior-within, subsets-IsUnionFamily, to-interior}
 pub use Rattle.ls_laws.proofs.Lists.{IsInOrder-filter, every-from, same_members, some-among, some-filter, some-from, some-same}
 pub use Rattle.ls_laws.proofs.Spans.{base-in_order, base-needed, base-of, spanned-IsUnionFamily, spanned-base, spanned-has, spanned-in_order, spanned-same, spanned-whole}
-pub use Rattle.ls_laws.specs.Spans.{IsOn, IsPart, Spans, is_proper, joins, left_by, spanned, union_below}
+pub use Rattle.ls_laws.specs.Spans.{AreOn, IsPart, Spans, is_proper, joins, left_by, spanned, union_below}
 unfoldable pub use Rattle.ls_laws.specs.Spans.{needed}
 pub use Rattle.ls_lists.proofs.Bools.{beq-cases, beq-same, same_truth}
 pub use Rattle.ls_lists.proofs.Every.{list_all-All}

@@ -3,7 +3,7 @@ ghost use Rattle.std.specs.Prelude.{◌≡◌, ◌<◌, ◌≤◌, true, not, Ok
 ghost use Rattle.ls_set.specs.{empty, is_good, subsets};
 ghost use Rattle.ls_theory.specs.Queries.{some_breaks};
 ghost use Rattle.ls_theory.specs.Bases.{base, atom_sets, based, is_atom_at, atoms_at, most_base_sets};
-ghost use Rattle.ls_laws.specs.Spans.{IsOn, left_by, spanned};
+ghost use Rattle.ls_laws.specs.Spans.{AreOn, left_by, spanned};
 ghost use Rattle.ls_base.specs.Bases.{family, single_sets, own_items, IsBaseFault, IsPastOf, IsOfMany};
 
 use crate::atoms::is_atom_at;
@@ -68,7 +68,7 @@ impl Base {
     /// where the base has more sets than [`MOST_BASE_SETS`]; or memory ran out.
     pub fn from_sets(alloc: Global, n: u32, sets: &[ItemSet]) -> Result<Base, BaseFault>
         requires few_items { n ≤ PLACES }
-        requires is_on { IsOn n sets.now }
+        requires is_on { AreOn n sets.now }
         ensures based { IfOk result (λ b. based n sets.now ≡ Ok b.sets) }
         ensures item_count { IfOk result (λ b. b.item_count ≡ n) }
         ensures fault { IfErr result (IsBaseFault (based n sets.now)) }
@@ -86,7 +86,7 @@ impl Base {
     /// [`MOST_BASE_SETS`], which it doesn't where no more are given; or memory ran out.
     pub fn spanned_by(alloc: Global, n: u32, sets: Vec<ItemSet>) -> Result<Base, PastFault>
         requires few_items { n ≤ PLACES }
-        requires is_on { IsOn n sets.items }
+        requires is_on { AreOn n sets.items }
         ensures sets { IfOk result (λ b. b.sets ≡ base (spanned n sets.items)) }
         ensures item_count { IfOk result (λ b. b.item_count ≡ n) }
         ensures few { OnOk result (length (base (spanned n sets.items)) ≤ most_base_sets) }

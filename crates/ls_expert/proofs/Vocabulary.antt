@@ -26,7 +26,7 @@ pub use Rattle.ls_laws.proofs.Compat.{among-compat, compat-IsUnionFamily, compat
 pub use Rattle.ls_laws.proofs.Interiors.{interior-member, space-from}
 pub use Rattle.ls_laws.proofs.Numbered.{accepted-numbered, begun-numbered, retracted-numbered}
 pub use Rattle.ls_laws.specs.Forced.{IsNumbered, IsSound, SomeFits}
-pub use Rattle.ls_laws.specs.Spans.{IsOn, left_by, spanned}
+pub use Rattle.ls_laws.specs.Spans.{AreOn, left_by, spanned}
 pub use Rattle.ls_lists.proofs.Every.{All-filter, All-list_all, each, list_all-All}
 pub use Rattle.ls_lists.proofs.Filters.{filter-all, filter-both, filter_true}
 pub use Rattle.ls_lists.proofs.Options.{not_first, nothing}

@@ -1,5 +1,5 @@
 -- The next growth by the places at which it can leave a list, and what growths and orders reach.
-use Rattle.ls_growths.proofs.Vocabulary.{◌&&◌, ◌++◌, ◌+◌, ◌<◌, ◌∙◌, ◌∷◌, ◌≡◌, ◌≤◌, Bool, Decides-is_same, IsOn, Items, List, None, Option, Some, ℕ, [], and_from, and_parts, ap, ap₂, arith, cases_Bool, cases_eq, cond, drop, empty, eq-eqb, eqb, eqb-true, false, false_from_ne_true, first_growth, first_next, found-passes, full, get_or, has, has-empty, has-minus, has-with, inl, inr, is_among, is_next, is_order, is_same, len, len-empty, len-full, len-with, len-zero, length, members, minus, nat_tests, next_after, next_growth, not, not_from_false, numbers_from, option_map, option_or, or_right, refl, same_set, set_of, subst, suc, sym, take, true, true≢false, union, union-empty_left, union-empty_right, unwrap_or, with, without, zero}
+use Rattle.ls_growths.proofs.Vocabulary.{◌&&◌, ◌++◌, ◌+◌, ◌<◌, ◌∙◌, ◌∷◌, ◌≡◌, ◌≤◌, Bool, Decides-is_same, AreOn, Items, List, None, Option, Some, ℕ, [], and_from, and_parts, ap, ap₂, arith, cases_Bool, cases_eq, cond, drop, empty, eq-eqb, eqb, eqb-true, false, false_from_ne_true, first_growth, first_next, found-passes, full, get_or, has, has-empty, has-minus, has-with, inl, inr, is_among, is_next, is_order, is_same, len, len-empty, len-full, len-with, len-zero, length, members, minus, nat_tests, next_after, next_growth, not, not_from_false, numbers_from, option_map, option_or, or_right, refl, same_set, set_of, subst, suc, sym, take, true, true≢false, union, union-empty_left, union-empty_right, unwrap_or, with, without, zero}
 use Rattle.ls_growths.specs.Levels.{grown_to, is_grown, is_fresh, is_whole, leaves_at, leaves_below}
 use Rattle.ls_growths.proofs.Growths.{IsLearning, begins, some-next, next-left, with-union}
 use Rattle.ls_growths.proofs.PathOrder.{all-left}
@@ -127,7 +127,7 @@ next-grown n f (o ∷ os) k new learning c e is =
 
 -- ---- what a growth to the end reaches
 
-pub reaches-full : (n : ℕ) (f : List Items) (k : Items) (order : List ℕ) → IsOn n f → is_among f k ≡ true → is_grown f k order ≡ true → len (minus (full n) k) ≡ length order → grown_to k order ≡ full n
+pub reaches-full : (n : ℕ) (f : List Items) (k : Items) (order : List ℕ) → AreOn n f → is_among f k ≡ true → is_grown f k order ≡ true → len (minus (full n) k) ≡ length order → grown_to k order ≡ full n
 reaches-full n f k [] small c h e =
     let none : minus (full n) k ≡ empty = len-zero (minus (full n) k) e in
     same_set k (full n) (λ i.

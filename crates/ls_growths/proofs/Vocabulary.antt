@@ -5,7 +5,7 @@ pub use Rattle.std.proofs.lemmas.Bool.Decides.{nat_tests}
 pub use Rattle.std.specs.List.{AllByRecursion, flat_map, list_all, list_any}
 pub use Rattle.std.specs.Option.{option_or}
 pub use Rattle.ls_laws.proofs.Counts.{len-empty, len-parts, len-single, len-zero, some_item}
-pub use Rattle.ls_laws.specs.Spans.{IsOn}
+pub use Rattle.ls_laws.specs.Spans.{AreOn}
 pub use Rattle.ls_lists.proofs.Every.{All-append, All-given, All-map, each}
 pub use Rattle.ls_lists.proofs.Filters.{filter-agree, filter-all, filter-both, filter-map}
 pub use Rattle.ls_lists.proofs.Finds.{found-holds, found-passes}

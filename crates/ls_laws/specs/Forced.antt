@@ -9,7 +9,7 @@ use Rattle.ls_set.specs.declared.query.Query.{Query}
 use Rattle.ls_theory.specs.declared.known.Known.{Known}
 use Rattle.ls_theory.specs.{Interview, closure, compatible_sets, fits, no_queries, nos, some_breaks}
 use Rattle.ls_theory.specs.{spaces_of, yes_queries}
-use Rattle.ls_laws.specs.Spans.{IsOn, left_by}
+use Rattle.ls_laws.specs.Spans.{AreOn, left_by}
 
 -- some space fits the answers
 abbrev pub SomeFits : Interview → Type 0
@@ -28,7 +28,7 @@ pub record IsNumbered (i : Interview) : Type 0 where
 -- a family on the items that fits the answers
 pub record FitsAnswers (i : Interview) (f : List Items) : Type 0 where
   pub in_order : IsInOrder f
-  pub is_on : IsOn i.count f
+  pub is_on : AreOn i.count f
   pub passes : fits i.count i.start (yes_queries i.answers) (no_queries i.answers) f ≡ true
 
 -- a query r is forced No by a No s: no set that is left without those that break r breaks s

@@ -7,8 +7,8 @@ use Rattle.ls_set.specs.declared.query.Query.{Query}
 use Rattle.ls_theory.specs.{atom_items, breaks, interior}
 
 -- each set of the list has items below n alone
-abbrev pub IsOn : ℕ → List Items → Type 0
-IsOn n f = (k : Items) → is_among f k ≡ true → IsWithin k (full n)
+abbrev pub AreOn : ℕ → List Items → Type 0
+AreOn n f = (k : Items) → is_among f k ≡ true → IsWithin k (full n)
 
 -- each set of the first list is in the second
 abbrev pub IsPart : List Items → List Items → Type 0

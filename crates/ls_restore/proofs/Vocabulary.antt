@@ -7,7 +7,7 @@ pub use Rattle.std.specs.Result.{is_ok, result_ok}
 pub use Rattle.ls_expert.specs.Held.{interview_on}
 pub use Rattle.ls_expert.specs.Saved.{IsStandingFault}
 pub use Rattle.ls_files.specs.SurmiseFiles.{read_list}
-pub use Rattle.ls_laws.specs.Spans.{IsOn}
+pub use Rattle.ls_laws.specs.Spans.{AreOn}
 pub use Rattle.ls_saved.proofs.Answers.{block-most, stands-from}
 pub use Rattle.ls_saved.proofs.Read.{on-from}
 pub use Rattle.ls_saved.specs.{are_made, at_key, interview_from, is_base, only_if, read_answer, read_block, read_interview, read_number, read_set, stands}

@@ -21,7 +21,7 @@ unfoldable pub use Rattle.ls_domain.specs.Domains.{names_from}
 pub use Rattle.ls_files.specs.SurmiseFiles.{in_order, list_value, read_each, read_list, wide}
 unfoldable pub use Rattle.ls_files.specs.SurmiseFiles.{surmise_from}
 pub use Rattle.ls_laws.proofs.Breaks.{good-from}
-pub use Rattle.ls_laws.specs.Spans.{IsOn}
+pub use Rattle.ls_laws.specs.Spans.{AreOn}
 pub use Rattle.ls_lines.specs.{Text}
 unfoldable pub use Rattle.ls_lines.specs.{is_of}
 pub use Rattle.ls_lists.proofs.Every.{All-given, All-list_all, each, list_all-All}

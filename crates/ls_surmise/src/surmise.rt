@@ -4,7 +4,7 @@ ghost use Rattle.std.specs.List.{All};
 ghost use Rattle.ls_set.specs.{Items, is_among, most_items};
 ghost use Rattle.ls_theory.specs.{all_clauses, base, clauses_at, clauses_of};
 ghost use Rattle.ls_base.specs.Bases.{family};
-ghost use Rattle.ls_laws.specs.Spans.{IsOn};
+ghost use Rattle.ls_laws.specs.Spans.{AreOn};
 ghost use Rattle.ls_clauses.specs.Surmise.{IsSurmise};
 ghost use Rattle.ls_files.specs.SurmiseFiles.{surmise_from, surmise_of, surmise_items, IsSurmiseFaultOf};
 ghost use Rattle.ls_surmise.specs.Surmises.{met_by, surmised, IsFromFaultOf};
@@ -125,7 +125,7 @@ impl Surmise {
     pub fn from_clauses(alloc: Global, n: u32, clauses: &[SetList]) -> Result<Surmise, SurmiseFault>
         requires few { n ≤ most_items }
         requires items { length clauses.now ≡ n }
-        requires within { IsOn n (all_clauses clauses.now) }
+        requires within { AreOn n (all_clauses clauses.now) }
         ensures clauses { IfOk result (λ s. surmise_from n clauses.now ≡ Ok s.clauses) }
         ensures item_count { IfOk result (λ s. s.item_count ≡ n) }
         ensures surmise { IfOk result (λ s. IsSurmise s.item_count s.clauses) }
