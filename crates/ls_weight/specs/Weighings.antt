@@ -40,7 +40,7 @@ pub record KeptSums : Type 0 where
 -- the weights and sums are those of the states, of `count` items, which can be weighed
 -- and are not too heavy; the replies are on items, and there are no more than the budget,
 -- for which there is room
-pub record IsWeighed (count : ℕ) (w : Weighing) (kept : KeptSums) : Type 0 where
+pub record AreKeptSums (count : ℕ) (w : Weighing) (kept : KeptSums) : Type 0 where
   pub items : count ≡ length w.settings.ratios
   pub weighable : IsWeighable (length w.settings.ratios) w.states w.settings
   pub allowed : IsAllowed w.settings

@@ -38,7 +38,7 @@ pub struct Weights {
 
 impl Model for Weights {
     ghost use Rattle.std.specs.Prelude.{length, vec_capacity};
-    ghost use Rattle.ls_weight.specs.Weighings.{Weighing, IsWeighed};
+    ghost use Rattle.ls_weight.specs.Weighings.{Weighing, AreKeptSums};
 
     ghost Value = { Weighing };
 
@@ -48,7 +48,7 @@ impl Model for Weights {
       replies = w.replies.items;
     } };
 
-    ghost invariant = { λ w. IsWeighed w.rows.value.item_count
+    ghost invariant = { λ w. AreKeptSums w.rows.value.item_count
         (record {
           settings = w.settings;
           states = w.rows.value.states;
