@@ -35,9 +35,9 @@ folder_of [] = map.empty
 folder_of (file ∷ files) = map.insert (folder_of files) (string_bytes file.0) file.1.items
 
 -- told files stay as they were
-abbrev pub Stays : Option Folder → Option Folder → Type 0
-Stays None new = ⊤
-Stays (Some m) new = new ≡ Some m
+abbrev pub FolderStays : Option Folder → Option Folder → Type 0
+FolderStays None new = ⊤
+FolderStays (Some m) new = new ≡ Some m
 
 -- these bytes and no others, unless the object failed or memory ran out
 abbrev pub GivesBytes : List ℕ → Result (Vec ℕ Global) FetchFault → Type 0
@@ -62,7 +62,8 @@ FetchedFrom file result =
 -- a fetch changes no told file, and answers of the file that the name has
 abbrev pub Fetches :
     Option Folder → Option Folder → List ℕ → Result (Vec ℕ Global) FetchFault → Type 0
-Fetches old new name result = Stays old new × IfSome old (λ m. FetchedFrom (map.get m name) result)
+Fetches old new name result =
+    FolderStays old new × IfSome old (λ m. FetchedFrom (map.get m name) result)
 
 -- a store sets the name to the bytes and leaves all other names,
 -- and one that was refused leaves all
