@@ -21,7 +21,7 @@ pub use Rattle.ls_lists.proofs.Every.{All-given, All-kept, list_any-map}
 pub use Rattle.ls_lists.proofs.Joins.{gap-snoc, join_more}
 pub use Rattle.ls_lists.proofs.Options.{nothing, ok-err, same_Ok}
 pub use Rattle.ls_lists.proofs.Places.{begun-some, is_some-position, moved-here, moved-next, moved-none, moved-zero, position-map}
-pub use Rattle.ls_lists.specs.Lists.{gap, moved}
+pub use Rattle.ls_lists.specs.Lists.{gap, shifted}
 pub use Rattle.ls_set.proofs.Sets.{empty-within, has-full, members, same_set}
 pub use Rattle.ls_set.specs.{IsWithin, Items, bound, full, has, numbers_from, set_of, with}
 unfoldable pub use Rattle.ls_set.specs.{items}
