@@ -1,5 +1,5 @@
 -- The items that can be added to a set, looked for among those outside it.
-use Rattle.ls_growths.proofs.Vocabulary.{◌&&◌, ◌+◌, ◌-◌, ◌<◌, ◌||◌, ◌∙◌, ◌≡◌, ◌≤◌, Bool, AreOn, Items, List, None, Some, ℕ, and-false, and_from, and_parts, ap, arith, cases_order, eq-eqb, eqb, false, false_from_ne_true, find, find_none, first_next, full, has, has-full, has-minus, has-with, inl, inr, is_among, is_next, least, least-cases, lt-ltb, ltb-true, minus, next_after, next_item, not, not_from_false, numbers_from, or_right, refl, suc, sym, true, true≢false, unwrap_or, with, zero}
+use Rattle.ls_growths.proofs.Vocabulary.{◌&&◌, ◌+◌, ◌-◌, ◌<◌, ◌||◌, ◌∙◌, ◌≡◌, ◌≤◌, Bool, AreOn, Items, List, None, Some, ℕ, and-false, and_from, and_parts, ap, arith, cases_order, eq-eqb, eqb, false, false_from_ne_true, find, find_none, first_next, full, has, has-full, has-minus, has-with, inl, inr, is_among, is_next, least, least-cases, lt-ltb, ltb-true, minus, next_item_after, next_item, not, not_from_false, numbers_from, or_right, refl, suc, sym, true, true≢false, unwrap_or, with, zero}
 use Rattle.ls_theory.proofs.Numbers.{numbers_first}
 use Rattle.ls_query.proofs.QuerySets.{next_item-cases, next_item-none_left, least-none_left}
 use Rattle.ls_growths.proofs.Growths.{IsLearning, begins, some-next-outside}
@@ -49,24 +49,24 @@ no-next f k i a = ap (λ b. not (has k i) && b) a ∙ and-false (not (has k i))
 -- ---- the least that can be added above an item
 
 -- the next item outside the set is the first of those above that may be
-above : (n : ℕ) (f : List Items) (k : Items) (item next : ℕ) → AreOn n f → next_item (minus (full n) k) item ≡ Some next → next_after n f k item ≡ find (is_next f k) (numbers_from next (n - next))
+above : (n : ℕ) (f : List Items) (k : Items) (item next : ℕ) → AreOn n f → next_item (minus (full n) k) item ≡ Some next → next_item_after n f k item ≡ find (is_next f k) (numbers_from next (n - next))
 above n f k item next small e =
     let p = next_item-cases (minus (full n) k) item next e in
     let l = (outside-small n k next p.1).0 in
     let less = p.0 in
     find-from (is_next f k) n (next - suc item) (suc item) next (omega arith) (omega arith) (λ j g h. not-next n f k j small (p.2 j (omega arith) h))
 
-pub above-found : (n : ℕ) (f : List Items) (k : Items) (item next : ℕ) → AreOn n f → next_item (minus (full n) k) item ≡ Some next → is_among f (with k next) ≡ true → next_after n f k item ≡ Some next
+pub above-found : (n : ℕ) (f : List Items) (k : Items) (item next : ℕ) → AreOn n f → next_item (minus (full n) k) item ≡ Some next → is_among f (with k next) ≡ true → next_item_after n f k item ≡ Some next
 above-found n f k item next small e a =
     let p = next_item-cases (minus (full n) k) item next e in
     above n f k item next small e ∙ find-here (is_next f k) n next (outside-small n k next p.1).0 (is-next n f k next p.1 a)
 
-pub above-passed : (n : ℕ) (f : List Items) (k : Items) (item next : ℕ) → AreOn n f → next_item (minus (full n) k) item ≡ Some next → is_among f (with k next) ≡ false → next_after n f k item ≡ next_after n f k next
+pub above-passed : (n : ℕ) (f : List Items) (k : Items) (item next : ℕ) → AreOn n f → next_item (minus (full n) k) item ≡ Some next → is_among f (with k next) ≡ false → next_item_after n f k item ≡ next_item_after n f k next
 above-passed n f k item next small e a =
     let p = next_item-cases (minus (full n) k) item next e in
     above n f k item next small e ∙ find-past (is_next f k) n next (outside-small n k next p.1).0 (no-next f k next a)
 
-pub above-none : (n : ℕ) (f : List Items) (k : Items) (item : ℕ) → AreOn n f → next_item (minus (full n) k) item ≡ None → next_after n f k item ≡ None
+pub above-none : (n : ℕ) (f : List Items) (k : Items) (item : ℕ) → AreOn n f → next_item (minus (full n) k) item ≡ None → next_item_after n f k item ≡ None
 above-none n f k item small e =
     find_none (is_next f k) (suc item) (n - suc item) (λ j g h. not-next n f k j small (next_item-none_left (minus (full n) k) item j e (omega arith)))
 

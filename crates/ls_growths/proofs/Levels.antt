@@ -1,5 +1,5 @@
 -- The next growth by the places at which it can leave a list, and what growths and orders reach.
-use Rattle.ls_growths.proofs.Vocabulary.{◌&&◌, ◌++◌, ◌+◌, ◌<◌, ◌∙◌, ◌∷◌, ◌≡◌, ◌≤◌, Bool, Decides-is_same, AreOn, Items, List, None, Option, Some, ℕ, [], and_from, and_parts, ap, ap₂, arith, cases_Bool, cases_eq, cond, drop, empty, eq-eqb, eqb, eqb-true, false, false_from_ne_true, first_growth, first_next, found-passes, full, get_or, has, has-empty, has-minus, has-with, inl, inr, is_among, is_next, is_order, is_same, len, len-empty, len-full, len-with, len-zero, length, members, minus, nat_tests, next_after, next_growth, not, not_from_false, numbers_from, option_map, option_or, or_right, refl, same_set, set_of, subst, suc, sym, take, true, true≢false, union, union-empty_left, union-empty_right, unwrap_or, with, without, zero}
+use Rattle.ls_growths.proofs.Vocabulary.{◌&&◌, ◌++◌, ◌+◌, ◌<◌, ◌∙◌, ◌∷◌, ◌≡◌, ◌≤◌, Bool, Decides-is_same, AreOn, Items, List, None, Option, Some, ℕ, [], and_from, and_parts, ap, ap₂, arith, cases_Bool, cases_eq, cond, drop, empty, eq-eqb, eqb, eqb-true, false, false_from_ne_true, first_growth, first_next, found-passes, full, get_or, has, has-empty, has-minus, has-with, inl, inr, is_among, is_next, is_order, is_same, len, len-empty, len-full, len-with, len-zero, length, members, minus, nat_tests, next_item_after, next_growth, not, not_from_false, numbers_from, option_map, option_or, or_right, refl, same_set, set_of, subst, suc, sym, take, true, true≢false, union, union-empty_left, union-empty_right, unwrap_or, with, without, zero}
 use Rattle.ls_growths.specs.Levels.{grown_to, is_grown, is_fresh, is_whole, leaves_at, leaves_below}
 use Rattle.ls_growths.proofs.Growths.{IsLearning, begins, some-next, next-left, with-union}
 use Rattle.ls_growths.proofs.PathOrder.{all-left}
@@ -24,7 +24,7 @@ leaves-deeper : (n : ℕ) (f : List Items) (k : Items) (o : ℕ) (os : List ℕ)
 leaves-deeper n f k o os j =
     let here = grown_to (with k o) (take j os) in
     let first = λ (i : ℕ). first_growth n f (length (drop (suc j) os)) (with here i) in
-    elim (next_after n f here (get_or os j 0)) as (λ r. option_map (λ i. (o ∷ take j os) ++ i ∷ first i) r ≡ option_map (λ rest. o ∷ rest) (option_map (λ i. take j os ++ i ∷ first i) r)) [
+    elim (next_item_after n f here (get_or os j 0)) as (λ r. option_map (λ i. (o ∷ take j os) ++ i ∷ first i) r ≡ option_map (λ rest. o ∷ rest) (option_map (λ i. take j os ++ i ∷ first i) r)) [
       | None ↦ refl
       | Some i ↦ refl
     ]
@@ -96,21 +96,21 @@ next-cases : (n : ℕ) (f : List Items) (o : ℕ) (os : List ℕ) (k : Items) (n
     → next_growth n f (o ∷ os) k ≡ Some new → P new
 next-cases n f o os k new P kept left is =
     elim (cases_Bool (is_next f k o)) [
-      | inr a ↦ past (next_after n f k o) refl (sym (at_test a) ∙ is)
+      | inr a ↦ past (next_item_after n f k o) refl (sym (at_test a) ∙ is)
       | inl a ↦
           elim (next_growth n f os (with k o)) as (λ r. next_growth n f os (with k o) ≡ r → option_or (option_map (λ rest. o ∷ rest) r) later ≡ Some new → P new) [
-            | None ↦ λ _ e. past (next_after n f k o) refl e
+            | None ↦ λ _ e. past (next_item_after n f k o) refl e
             | Some rest ↦ λ found e. subst P (some-same (o ∷ rest) new e) (kept a rest found)
           ] refl (sym (at_test a) ∙ is)
     ]
   where
     later : Option (List ℕ)
-    later = option_map (λ i. i ∷ first_growth n f (length os) (with k i)) (next_after n f k o)
+    later = option_map (λ i. i ∷ first_growth n f (length os) (with k i)) (next_item_after n f k o)
 
     at_test : {b : Bool} → is_next f k o ≡ b → next_growth n f (o ∷ os) k ≡ option_or (cond b (option_map (λ rest. o ∷ rest) (next_growth n f os (with k o))) None) later
     at_test e = ap (λ b. option_or (cond b (option_map (λ rest. o ∷ rest) (next_growth n f os (with k o))) None) later) e
 
-    past : (r : Option ℕ) → next_after n f k o ≡ r → option_map (λ i. i ∷ first_growth n f (length os) (with k i)) r ≡ Some new → P new
+    past : (r : Option ℕ) → next_item_after n f k o ≡ r → option_map (λ i. i ∷ first_growth n f (length os) (with k i)) r ≡ Some new → P new
     past None _ e = absurd (let z : None ≡ Some new = e in cc)
     past (Some i) found e = subst P (some-same (i ∷ first_growth n f (length os) (with k i)) new e) (left i (found-passes (is_next f k) _ i found))
 
@@ -222,12 +222,12 @@ order-fresh n order h =
 
 -- ---- the places at which a list can be left
 
-pub leaves-found : (n : ℕ) (f : List Items) (k : Items) (order : List ℕ) (j i : ℕ) → next_after n f (grown_to k (take j order)) (get_or order j 0) ≡ Some i → leaves_below n f k order (suc j) ≡ Some (take j order ++ i ∷ first_growth n f (length (drop (suc j) order)) (with (grown_to k (take j order)) i))
+pub leaves-found : (n : ℕ) (f : List Items) (k : Items) (order : List ℕ) (j i : ℕ) → next_item_after n f (grown_to k (take j order)) (get_or order j 0) ≡ Some i → leaves_below n f k order (suc j) ≡ Some (take j order ++ i ∷ first_growth n f (length (drop (suc j) order)) (with (grown_to k (take j order)) i))
 leaves-found n f k order j i e =
     let here = grown_to k (take j order) in
     ap (λ r. option_or (option_map (λ i. take j order ++ i ∷ first_growth n f (length (drop (suc j) order)) (with here i)) r) (leaves_below n f k order j)) e
 
-pub leaves-passed : (n : ℕ) (f : List Items) (k : Items) (order : List ℕ) (j : ℕ) → next_after n f (grown_to k (take j order)) (get_or order j 0) ≡ None → leaves_below n f k order (suc j) ≡ leaves_below n f k order j
+pub leaves-passed : (n : ℕ) (f : List Items) (k : Items) (order : List ℕ) (j : ℕ) → next_item_after n f (grown_to k (take j order)) (get_or order j 0) ≡ None → leaves_below n f k order (suc j) ≡ leaves_below n f k order j
 leaves-passed n f k order j e =
     let here = grown_to k (take j order) in
     ap (λ r. option_or (option_map (λ i. take j order ++ i ∷ first_growth n f (length (drop (suc j) order)) (with here i)) r) (leaves_below n f k order j)) e

@@ -15,4 +15,4 @@ pub use Rattle.ls_set.proofs.Sets.{Decides-is_same, and-false, and-true, both_wa
 pub use Rattle.ls_set.specs.{Items, bound, empty, full, has, is_among, is_same, items, least, len, minus, next_item, numbers_from, set_of, single, union, with, without}
 pub use Rattle.ls_theory.specs.{is_learning_space, is_lex_before, is_order, is_path, is_space}
 unfoldable pub use Rattle.ls_theory.specs.{orders_of, paths}
-pub use Rattle.ls_growths.specs.Growths.{IsInLexOrder, first_growth, first_next, growths, is_next, next_after, next_growth}
+pub use Rattle.ls_growths.specs.Growths.{IsInLexOrder, first_growth, first_next, growths, is_next, next_growth, next_item_after}

@@ -11,7 +11,7 @@ use Rattle.std.specs.Prelude.{ℕ, zero, suc, Bool, true, not, ◌&&◌, ◌==�
 use Rattle.std.specs.Prelude.{length, take, drop, Option, None, option_map, slice_index}
 use Rattle.std.specs.Option.{option_or}
 use Rattle.ls_set.specs.{Items, empty, has, with}
-use Rattle.ls_growths.specs.Growths.{is_next, next_after, first_growth}
+use Rattle.ls_growths.specs.Growths.{is_next, next_item_after, first_growth}
 
 abbrev pub grown_to : Items → List ℕ → Items
 grown_to k [] = k
@@ -34,7 +34,7 @@ leaves_at n f k order j =
     let here = grown_to k (take j order) in
     option_map
     (λ i. take j order ++ i ∷ first_growth n f (length (drop (suc j) order)) (with here i))
-    (next_after n f here (slice_index order j))
+    (next_item_after n f here (slice_index order j))
 
 abbrev pub leaves_below : ℕ → List Items → Items → List ℕ → ℕ → Option (List ℕ)
 leaves_below n f k order zero = None

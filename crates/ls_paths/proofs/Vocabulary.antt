@@ -6,7 +6,7 @@ pub use Rattle.ls_growths.proofs.Added.{Least, above-found, above-none, above-pa
 pub use Rattle.ls_growths.proofs.Growths.{IsLearning, learning-from}
 pub use Rattle.ls_growths.proofs.Levels.{first-long, first-whole, fresh-at, grown-fresh, grown-next, leaves-found, leaves-passed, next-broken, next-is_whole, next-whole, order-fresh, order-parts, reached-all, reached-has, reached-next, taken-back, whole-order, whole-parts, whole-reaches}
 pub use Rattle.ls_growths.proofs.PathOrder.{after-next, after-none, paths-begin, paths-in_order, paths-next}
-pub use Rattle.ls_growths.specs.Growths.{first_growth, first_next, is_next, next_after, next_growth}
+pub use Rattle.ls_growths.specs.Growths.{first_growth, first_next, is_next, next_growth, next_item_after}
 pub use Rattle.ls_growths.specs.Levels.{grown_to, is_fresh, is_grown, is_whole, leaves_below}
 pub use Rattle.ls_lists.proofs.Finds.{found-passes, slice_get-filter}
 pub use Rattle.ls_set.proofs.Sets.{Decides-is_same, has-full, has-with, members, same_set, without-within}

@@ -1,5 +1,5 @@
 -- Steps of a walk: a list that is written from a place on, and the sets that its items give.
-use Rattle.ls_paths.proofs.Vocabulary.{◌&&◌, ◌++◌, ◌+◌, ◌-◌, ◌<◌, ◌∙◌, ◌∷◌, ◌≡◌, ◌≤◌, Bool, IsWithin, Items, List, None, Option, Some, ℕ, [], and_from, and_parts, ap, append-nil, append_assoc, ap₂, arith, drop, drop_all, empty, eqb-true, false, first_growth, first_next, found-passes, fresh-at, full, get_or, grown-next, has, has-full, has-with, inl, inr, is_among, is_fresh, is_grown, is_next, leaves-found, leaves-passed, leaves_below, length, length-drop, length-set, length-take-le, lt-ltb, ltb-true, members, minus, next-above, next-broken, next-small, next-whole, next_after, next_growth, next_item, not, not_from_false, or_cases, grown_to, reached-has, reached-next, refl, same_set, set, subst, suc, sym, take, take_all, take_more_set, taken-back, true, with, without, without-within, zero}
+use Rattle.ls_paths.proofs.Vocabulary.{◌&&◌, ◌++◌, ◌+◌, ◌-◌, ◌<◌, ◌∙◌, ◌∷◌, ◌≡◌, ◌≤◌, Bool, IsWithin, Items, List, None, Option, Some, ℕ, [], and_from, and_parts, ap, append-nil, append_assoc, ap₂, arith, drop, drop_all, empty, eqb-true, false, first_growth, first_next, found-passes, fresh-at, full, get_or, grown-next, has, has-full, has-with, inl, inr, is_among, is_fresh, is_grown, is_next, leaves-found, leaves-passed, leaves_below, length, length-drop, length-set, length-take-le, lt-ltb, ltb-true, members, minus, next-above, next-broken, next-small, next-whole, next_item_after, next_growth, next_item, not, not_from_false, or_cases, grown_to, reached-has, reached-next, refl, same_set, set, subst, suc, sym, take, take_all, take_more_set, taken-back, true, with, without, without-within, zero}
 use Rattle.std.proofs.lemmas.Bool.Decides.{nat_tests}
 use borrow.Rule.Slice.PartMut.{put_mid}
 
@@ -103,20 +103,20 @@ pub level-end : (n : ℕ) (f : List Items) (order : List ℕ) (j : ℕ) → leng
 level-end n f order j l h = next-whole n f empty order (ap (is_grown f empty) (sym (take_all j order l)) ∙ h)
 
 -- what can be added gives a member
-pub next-member : (n : ℕ) (f : List Items) (k : Items) (o i : ℕ) → next_after n f k o ≡ Some i → is_among f (with k i) ≡ true
+pub next-member : (n : ℕ) (f : List Items) (k : Items) (o i : ℕ) → next_item_after n f k o ≡ Some i → is_among f (with k i) ≡ true
 next-member n f k o i e = (and_parts (not (has k i)) (is_among f (with k i)) (found-passes (is_next f k) _ i e)).1
 
 -- another item can be taken at the place before the level
-pub leave-at : (n : ℕ) (f : List Items) (order : List ℕ) (j m : ℕ) (k : Items) (next d : ℕ) (new : List ℕ) → m ≡ suc j → k ≡ grown_to empty (take j order) → next_after n f k (get_or order j 0) ≡ Some next → d ≡ length order - suc j → new ≡ take j order ++ next ∷ first_growth n f d (with k next) → leaves_below n f empty order m ≡ Some new
+pub leave-at : (n : ℕ) (f : List Items) (order : List ℕ) (j m : ℕ) (k : Items) (next d : ℕ) (new : List ℕ) → m ≡ suc j → k ≡ grown_to empty (take j order) → next_item_after n f k (get_or order j 0) ≡ Some next → d ≡ length order - suc j → new ≡ take j order ++ next ∷ first_growth n f d (with k next) → leaves_below n f empty order m ≡ Some new
 leave-at n f order j m k next d new e kk found dd is =
     let long : length (drop (suc j) order) ≡ d = length-drop (suc j) order ∙ sym dd in
-    ap (leaves_below n f empty order) e ∙ leaves-found n f empty order j next (ap (λ s. next_after n f s (get_or order j 0)) (sym kk) ∙ found)
+    ap (leaves_below n f empty order) e ∙ leaves-found n f empty order j next (ap (λ s. next_item_after n f s (get_or order j 0)) (sym kk) ∙ found)
     ∙ ap Some (ap₂ (λ c s. take j order ++ next ∷ first_growth n f c (with s next)) long (sym kk) ∙ sym is)
 
 -- none can
-pub leave-past : (n : ℕ) (f : List Items) (order : List ℕ) (j m : ℕ) (k : Items) → m ≡ suc j → k ≡ grown_to empty (take j order) → next_after n f k (get_or order j 0) ≡ None → leaves_below n f empty order m ≡ leaves_below n f empty order j
+pub leave-past : (n : ℕ) (f : List Items) (order : List ℕ) (j m : ℕ) (k : Items) → m ≡ suc j → k ≡ grown_to empty (take j order) → next_item_after n f k (get_or order j 0) ≡ None → leaves_below n f empty order m ≡ leaves_below n f empty order j
 leave-past n f order j m k e kk none =
-    ap (leaves_below n f empty order) e ∙ leaves-passed n f empty order j (ap (λ s. next_after n f s (get_or order j 0)) (sym kk) ∙ none)
+    ap (leaves_below n f empty order) e ∙ leaves-passed n f empty order j (ap (λ s. next_item_after n f s (get_or order j 0)) (sym kk) ∙ none)
 
 -- the item before the level is taken back
 pub record TakenBack (n : ℕ) (order was : List ℕ) (j : ℕ) (k out : Items) : Type 0 where
@@ -140,7 +140,7 @@ taken-at n order was j m k out e l fresh same set outside small =
 
 -- the list with the next item at the place, and the growth behind it
 pub leave-write : (n : ℕ) (f : List Items) (order was : List ℕ) (j m : ℕ) (k : Items) (next : ℕ) (ys : List ℕ) (w : Items)
-    → m ≡ suc j → k ≡ grown_to empty (take j order) → next_after n f k (get_or order j 0) ≡ Some next → was ≡ order → j < length order → w ≡ with k next
+    → m ≡ suc j → k ≡ grown_to empty (take j order) → next_item_after n f k (get_or order j 0) ≡ Some next → was ≡ order → j < length order → w ≡ with k next
     → (let xs = set was j next in let rest = length xs - (j + 1) in ys ≡ first_growth n f (length (take rest (drop (j + 1) xs))) w → leaves_below n f empty order m ≡ Some (put_mid (j + 1) rest xs ys))
 leave-write n f order was j m k next ys w e kk found same l ww grown =
     let xs = set was j next in

@@ -2,7 +2,7 @@
 ghost use Rattle.std.specs.Prelude.{◌≡◌, ◌<◌, ◌≤◌, true, None, Some, length, take, IfSome, MatchBool};
 ghost use Rattle.ls_set.specs.{IsWithin, empty, full, is_among, minus, most_items, with};
 ghost use Rattle.ls_theory.specs.{is_learning_space};
-ghost use Rattle.ls_growths.specs.Growths.{first_next, next_after, first_growth, next_growth};
+ghost use Rattle.ls_growths.specs.Growths.{first_next, next_item_after, first_growth, next_growth};
 ghost use Rattle.ls_growths.specs.Levels.{grown_to, is_fresh, leaves_below};
 
 use ls_interior::{Inside, is_member};
@@ -40,7 +40,7 @@ fn next_item<F: Inside>(f: &F, k: ItemSet, outside: ItemSet, above: u32) -> Opti
     requires outside { outside ≡ minus (full (F.item_count f.now)) k }
     requires small { IsWithin k (full (F.item_count f.now)) }
     requires item { above < F.item_count f.now }
-    ensures value { result ≡ next_after (F.item_count f.now) (F.members f.now) k above }
+    ensures value { result ≡ next_item_after (F.item_count f.now) (F.members f.now) k above }
     ensures place { IfSome result (λ i. i < most_items) }
 {
     let mut item = above;
