@@ -33,7 +33,7 @@ pub use Rattle.ls_lists.proofs.Options.{not_first, nothing}
 pub use Rattle.ls_lists.proofs.Sorted.{find-is, find-no_element, find-none_is, find-same, rising-from}
 pub use Rattle.ls_lists.specs.Lists.{IsIn, IsRising, IsSorted}
 pub use Rattle.ls_query.proofs.QuerySets.{before-by_item, before-by_set, queries-in, query_before-asymmetric, query_before-cases, sorted-queries}
-pub use Rattle.ls_query.specs.Blocks.{choose, queries_of}
+pub use Rattle.ls_query.specs.Blocks.{block_queries, choose}
 pub use Rattle.ls_rules.specs.Ruled.{RuledState}
 pub use Rattle.ls_set.proofs.Sets.{and-false, and-true, has-full, has-minus, is_within-from, minus-within}
 pub use Rattle.ls_set.specs.{IsWithin, Items, full, has, is_among, is_good, is_within, minus, subsets}

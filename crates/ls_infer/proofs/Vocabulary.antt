@@ -32,7 +32,7 @@ pub use Rattle.ls_query.proofs.BlockSets.{blocks-in, first-blocks, sorted-blocks
 pub use Rattle.ls_query.proofs.Passing.{ArePassing, first-passing, good_items, next-passing, none-passing, passing-all, passing-end, passing-later, passing-outside}
 pub use Rattle.ls_query.proofs.Placed.{block_place, get-append_left, position-at, position-get}
 pub use Rattle.ls_query.proofs.QuerySets.{asked_of, before-by_item, before-by_set, least-none_left, never_before, queries-in, query_before-asymmetric, query_before-cases, sorted-queries}
-pub use Rattle.ls_query.specs.Blocks.{queries_of, sets_of}
+pub use Rattle.ls_query.specs.Blocks.{block_queries, block_sets}
 pub use Rattle.ls_set.proofs.Ascending.{least-cases, least-none}
 pub use Rattle.ls_set.proofs.Sets.{Decides-is_same, IsWithin-from, and-true, empty-within, has-empty, has-full, has-meet, has-minus, has-single, has-with, has-without, is_within-from, members, minus-within, same_set, same_within, union-within, without-within}
 pub use Rattle.ls_set.proofs.Sizes.{items-within, len-less, len-within}

@@ -4,11 +4,11 @@
 use Rattle.std.specs.Prelude.{ℕ, ◌≡◌, true, List, map, take, length}
 use Rattle.ls_set.specs.{Items, full, has}
 use Rattle.ls_theory.specs.{BlockRange, closure}
-use Rattle.ls_query.specs.Blocks.{sets_of}
+use Rattle.ls_query.specs.Blocks.{block_sets}
 use Rattle.ls_infer.specs.declared.fronts.Front.{Front}
 
 abbrev pub IsFront : ℕ → List Items → Front → Type 0
 IsFront n f e = (i : ℕ) → has e.set i ≡ true → e.closed ≡ closure (full n) f e.set
 
 abbrev pub AreFirst : ℕ → List Items → BlockRange → List Items → Type 0
-AreFirst n f b cs = cs ≡ map (closure (full n) f) (take (length cs) (sets_of b))
+AreFirst n f b cs = cs ≡ map (closure (full n) f) (take (length cs) (block_sets b))

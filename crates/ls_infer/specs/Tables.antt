@@ -18,7 +18,7 @@ use Rattle.ls_theory.specs.declared.no.No.{No}
 use Rattle.ls_theory.specs.declared.known.Known.{Known}
 use Rattle.ls_theory.specs.{BlockRange, closure, first_least, most_sets}
 use Rattle.ls_laws.specs.Forced.{is_forced_by_closures}
-use Rattle.ls_query.specs.Blocks.{sets_of}
+use Rattle.ls_query.specs.Blocks.{block_sets}
 use Rattle.ls_infer.specs.declared.standing_no.StandingNo.{StandingNo}
 use Rattle.ls_infer.specs.Changes.{is_kept}
 
@@ -57,7 +57,7 @@ AreStates f kept = list_all (list_all (is_among f)) kept ≡ true
 abbrev pub table_of : BlockRange → List Items → List No → TableState
 table_of b f nos = record {
   blocks = b;
-  closures = map (closure (full b.item_count) f) (sets_of b);
+  closures = map (closure (full b.item_count) f) (block_sets b);
   standing = map (standing b.item_count f) nos;
 }
 
@@ -76,7 +76,7 @@ forces r s = is_within r.a s.closed && has s.enough r.q
 abbrev pub closed_of : TableState → Items → Items
 closed_of t a =
     option_map_or (λ i. unwrap_or (slice_get t.closures i) empty)
-    (position (is_same a) (sets_of t.blocks))
+    (position (is_same a) (block_sets t.blocks))
     empty
 
 -- a block query is open by the table: no closure decides it, and no standing No
@@ -98,7 +98,7 @@ told n f nos r =
 pub record IsTable (n : ℕ) (t : TableState) : Type 0 where
   pub items : n ≡ t.blocks.item_count
   pub few : n ≤ most_items
-  pub each : length t.closures ≡ length (sets_of t.blocks)
+  pub each : length t.closures ≡ length (block_sets t.blocks)
   pub few_sets : length t.closures ≤ most_sets
   pub within : list_all (λ c. is_within c (full n)) t.closures ≡ true
   pub kept : list_all (is_kept n) t.standing ≡ true

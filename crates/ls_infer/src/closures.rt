@@ -3,7 +3,7 @@ ghost use Rattle.std.specs.Prelude.{◌≡◌, ◌+◌, ◌*◌, ◌<◌, ◌≤
 ghost use Rattle.std.specs.List.{list_all, position};
 ghost use Rattle.ls_set.specs.{Items, full, is_good, is_within};
 ghost use Rattle.ls_theory.specs.{block_before, blocks, closure, most_sets};
-ghost use Rattle.ls_query.specs.Blocks.{sets_of};
+ghost use Rattle.ls_query.specs.Blocks.{block_sets};
 ghost use Rattle.ls_infer.specs.Changes.{IsChange, is_stale};
 ghost use Rattle.ls_infer.specs.Tables.{standing, AreStates};
 
@@ -27,9 +27,9 @@ pub fn closures_of<I: Interior, L: Ledger>(
 ) -> Result<Vec<ItemSet>, AllocError>
     requires { I.item_count f.now ≡ blocks.item_count }
     ensures list { IfOk result (λ v. v.items
-        ≡ map (closure (full (I.item_count f.now)) (I.members f.now)) (sets_of blocks)) }
-    ensures cost { steps.new ≤ steps.old + length (sets_of blocks) }
-    ensures few { length (sets_of blocks) ≤ most_sets }
+        ≡ map (closure (full (I.item_count f.now)) (I.members f.now)) (block_sets blocks)) }
+    ensures cost { steps.new ≤ steps.old + length (block_sets blocks) }
+    ensures few { length (block_sets blocks) ≤ most_sets }
 {
     let mut closures = Vec::new(alloc);
     let mut walk = blocks.walk_from(ItemSet::empty());
@@ -88,10 +88,10 @@ fn first_stale(change: YesChange, r: &Query, closures: &[ItemSet]) -> Option<usi
 
 // The walk that comes next to the set at the place.
 fn walk_before(blocks: Blocks, place: usize) -> BlockWalk
-    requires { place ≤ length (sets_of blocks) }
+    requires { place ≤ length (block_sets blocks) }
     ensures blocks { result.blocks ≡ blocks }
-    ensures next { find (block_before result.set) (sets_of blocks)
-        ≡ slice_get (sets_of blocks) place }
+    ensures next { find (block_before result.set) (block_sets blocks)
+        ≡ slice_get (block_sets blocks) place }
 {
     let mut walk = blocks.walk_from(ItemSet::empty());
     for _passed in 0..place {
@@ -112,13 +112,13 @@ pub fn close_again<I: Interior, L: Ledger>(
 )
     requires items { I.item_count f.now ≡ blocks.item_count }
     requires good { is_good (I.item_count f.now) r.now ≡ true }
-    requires each { length closures.old ≡ length (sets_of blocks) }
+    requires each { length closures.old ≡ length (block_sets blocks) }
     requires within { list_all (λ c. is_within c (full (I.item_count f.now))) closures.old ≡ true }
     ensures each { (before : List Items) →
         IsChange change (I.item_count f.now) r.now before (I.members f.now) →
-        closures.old ≡ map (closure (full (I.item_count f.now)) before) (sets_of blocks) →
+        closures.old ≡ map (closure (full (I.item_count f.now)) before) (block_sets blocks) →
         closures.new
-        ≡ map (closure (full (I.item_count f.now)) (I.members f.now)) (sets_of blocks) }
+        ≡ map (closure (full (I.item_count f.now)) (I.members f.now)) (block_sets blocks) }
     ensures within { list_all (λ c. is_within c (full (I.item_count f.now))) closures.new ≡ true }
     ensures cost { steps.new ≤ steps.old + count_by (λ c. is_within r.now.a c) closures.old }
 {

@@ -5,7 +5,7 @@ ghost use Rattle.ls_set.specs.{Items, is_good, is_within};
 ghost use Rattle.ls_theory.specs.{breaks};
 ghost use Rattle.ls_laws.specs.Spans.{left_by};
 ghost use Rattle.ls_laws.specs.Families.{IsFamily};
-ghost use Rattle.ls_query.specs.Blocks.{sets_of};
+ghost use Rattle.ls_query.specs.Blocks.{block_sets};
 
 mod telling;
 
@@ -78,7 +78,7 @@ impl Table {
         requires good { list_all (λ a. is_good (I.item_count f.now) a.query) answers.now ≡ true }
         ensures built { IfOk result (IsKeptFor blocks (I.members f.now) answers.now) }
         ensures cost { steps.new ≤ steps.old
-            + (length (sets_of blocks) + (I.item_count f.now + 1) * length answers.now) }
+            + (length (block_sets blocks) + (I.item_count f.now + 1) * length answers.now) }
     {
         let n = f.items();
         let mut witnesses = no_witnesses(alloc, n, answers.len())?;
