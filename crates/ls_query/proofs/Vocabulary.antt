@@ -28,4 +28,4 @@ pub use Rattle.ls_theory.specs.declared.block_fault.BlockFault.TheVariants.{BadB
 pub use Rattle.ls_query.specs.Blocks.{AreBounded, block_sets}
 unfoldable pub use Rattle.ls_query.specs.Blocks.{choose}
 pub use Rattle.ls_query.specs.Moves.{HasNoMove, IsGreatest, IsLastMove, moved}
-pub use Rattle.ls_query.specs.Places.{after_of}
+pub use Rattle.ls_query.specs.Places.{count_after}
