@@ -72,11 +72,11 @@ abbrev pub even_field : ℕ → List Text → FirstField
 even_field width fields = if length fields == width then Some (first_field fields) else None
 
 -- how many fields the first record has
-abbrev pub width_of : List (List Text) → ℕ
-width_of table = length (slice_index_or table 0 [])
+abbrev pub field_count : List (List Text) → ℕ
+field_count table = length (slice_index_or table 0 [])
 
 abbrev pub first_fields : List (List Text) → List FirstField
-first_fields table = map (even_field (width_of table)) table
+first_fields table = map (even_field (field_count table)) table
 
 -- the first field of each record is a name, and further fields are passed over
 abbrev pub names_of_table : List ℕ → Result (List Text) DomainFault
