@@ -43,7 +43,7 @@ pub use Rattle.ls_theory.specs.{BlockRange, Interview, block_before, breaks, clo
 unfoldable pub use Rattle.ls_theory.specs.{blocks, next_question}
 pub use Rattle.ls_theory.specs.declared.known.Known.{Known}
 pub use Rattle.ls_theory.specs.declared.no.No.{No}
-pub use Rattle.ls_infer.specs.Changes.{IsChange, can_change, can_grow, is_kept, is_stale, most_steps}
+pub use Rattle.ls_infer.specs.Changes.{IsChange, can_change, can_grow, is_kept, is_stale, most_steps_each}
 pub use Rattle.ls_infer.specs.Fronts.{AreFirst, IsFront}
 pub use Rattle.ls_infer.specs.Narrowing.{IsNarrowed, owed}
 pub use Rattle.ls_infer.specs.Search.{IsSearch, is_open_by, outside_of}

@@ -4,7 +4,7 @@
 --     is_stale c r closed      whether a closure from before the change can be another after it
 --     can_grow r s      whether more can be enough for a standing No where a Yes comes
 --     can_change c r s      whether what is kept of a standing No can be another after it
---     most_steps c n      the most steps that what is kept of a standing No takes after it
+--     most_steps_each c n      the most steps that what is kept of a standing No takes after it
 use Rattle.std.specs.Prelude.{ℕ, ◌+◌, Bool, not, ◌&&◌, ◌||◌, if◌then◌else◌, ◌≡◌, List}
 use Rattle.ls_set.specs.{Items, empty, full, has, is_good, is_same, is_within, meet}
 use Rattle.ls_set.specs.declared.query.Query.{Query}
@@ -42,6 +42,6 @@ abbrev pub is_kept : ℕ → StandingNo → Bool
 is_kept n s = is_good n s.no.query && is_within s.closed (full n) && is_within s.enough (full n)
 
 -- a step for each item, and one more where the Yes comes
-abbrev pub most_steps : YesChange → ℕ → ℕ
-most_steps YesChange.Added n = n + 1
-most_steps YesChange.Removed n = n
+abbrev pub most_steps_each : YesChange → ℕ → ℕ
+most_steps_each YesChange.Added n = n + 1
+most_steps_each YesChange.Removed n = n

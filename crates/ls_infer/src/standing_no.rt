@@ -4,7 +4,7 @@ ghost use Rattle.ls_set.specs.{IsWithin, Items, full, has, is_among, is_good};
 ghost use Rattle.ls_set.specs.declared.query.Query.{Query};
 ghost use Rattle.ls_theory.specs.{blocks, breaks, closure};
 ghost use Rattle.ls_theory.specs.declared.no.No.{No};
-ghost use Rattle.ls_infer.specs.Changes.{IsChange, can_change, can_grow, is_kept, most_steps};
+ghost use Rattle.ls_infer.specs.Changes.{IsChange, can_change, can_grow, is_kept, most_steps_each};
 ghost use Rattle.ls_infer.specs.Tables.{enough_for, standing, forces, AreStates};
 ghost use Rattle.ls_infer.specs.declared.yes_change.YesChange.TheVariants as YesChange;
 
@@ -302,7 +302,7 @@ impl StandingNo {
             × ((k : ℕ) → closures.now ≡ map (closure (full n) (I.members f.now)) (blocks n k) →
             result ≡ standing n (I.members f.now) self.now.no) }
         ensures kept { is_kept (I.item_count f.now) result ≡ true }
-        ensures cost { steps.new ≤ steps.old + most_steps change (I.item_count f.now) }
+        ensures cost { steps.new ≤ steps.old + most_steps_each change (I.item_count f.now) }
     {
         match change {
             YesChange::Added => self.after_yes(f, closures, r, witnesses, steps),

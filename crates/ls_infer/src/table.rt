@@ -60,7 +60,7 @@ impl Model for Table {
 }
 
 impl Table {
-    ghost use Rattle.ls_infer.specs.Changes.{IsChange, most_steps};
+    ghost use Rattle.ls_infer.specs.Changes.{IsChange, most_steps_each};
     ghost use Rattle.ls_theory.specs.{BlockRange};
     ghost use Rattle.ls_infer.specs.Tables.{table_of, standing, AreStates, IsKeptFor};
 
@@ -123,7 +123,7 @@ impl Table {
             IsKeptFor b after nos self.new }
         ensures cost { steps.new ≤ steps.old
             + (count_by (λ c. is_within r.now.a c) self.old.table.closures
-            + most_steps change self.old.table.blocks.item_count
+            + most_steps_each change self.old.table.blocks.item_count
             * length self.old.table.standing) }
         ensures blocks { self.new.table.blocks ≡ self.old.table.blocks }
     {
