@@ -17,9 +17,9 @@ abbrev pub generator_of : ℕ → Lcg
 generator_of number = started 64 multiplier_64 number (increment_of 64 54)
 
 -- the next words of a generator, one after another
-abbrev pub words : ℕ → Lcg → List ℕ
-words zero g = []
-words (suc count) g = (pcg32 g).0 ∷ words count (pcg32 g).1
+abbrev pub drawn_words : ℕ → Lcg → List ℕ
+drawn_words zero g = []
+drawn_words (suc count) g = (pcg32 g).0 ∷ drawn_words count (pcg32 g).1
 
 -- the pairs of items, the first below the second: by the first, then by the second
 abbrev pub item_pairs : ℕ → List (ℕ × ℕ)
@@ -29,7 +29,8 @@ item_pairs n = pairs (numbers_from 0 n)
 unfoldable pub related : ℕ → ℕ → List (ℕ × ℕ)
 related n number =
     let all = item_pairs n in
-    map (λ d. d.0) (filter (λ d. d.1 % 4 == 0) (zip all (words (length all) (generator_of number))))
+    let words = drawn_words (length all) (generator_of number) in
+    map (λ d. d.0) (filter (λ d. d.1 % 4 == 0) (zip all words))
 
 -- whether some chain of at most m of the pairs leads from a to q,
 -- each from where the one before it ends
