@@ -1,5 +1,5 @@
 -- What stands after each item while the pairs are put in, the last pair first.
-use Rattle.ls_drill.proofs.Vocabulary.{◌&&◌, ◌+◌, ◌<◌, ◌||◌, ◌∙◌, ◌∷◌, ◌≡◌, ◌≢◌, ◌≤◌, Bool, Decides-eqb, IsKept, IsPair, Items, List, ℕ, [], add-one, ap, ap₂, arith, cases_Bool, drop, drop-cons, empty, eqb, false, get_or, get_or-set_other, get_or-set_same, has, has-empty, has-union, has-with, inl, inr, length, length-set, most_drilled, has_chain, refl, related, replicate, set, subst, suc, sym, true, union, with, zero}
+use Rattle.ls_drill.proofs.Vocabulary.{◌&&◌, ◌+◌, ◌<◌, ◌||◌, ◌∙◌, ◌∷◌, ◌≡◌, ◌≢◌, ◌≤◌, Bool, Decides-eqb, KeepsHiddenOrder, IsPair, Items, List, ℕ, [], add-one, ap, ap₂, arith, cases_Bool, drop, drop-cons, empty, eqb, false, get_or, get_or-set_other, get_or-set_same, has, has-empty, has-union, has-with, inl, inr, length, length-set, most_drilled, has_chain, refl, related, replicate, set, subst, suc, sym, true, union, with, zero}
 use Rattle.ls_drill.proofs.Chains.{reached-implied}
 
 pub none-of : (n a : ℕ) → get_or (replicate n empty) a empty ≡ empty
@@ -64,7 +64,7 @@ put-next after new pairs place lt pair inv e a q small =
     ∙ ap (λ (l : List (ℕ × ℕ)). has_chain l a q) (ap (λ k. p ∷ drop k pairs) (add-one place) ∙ sym (drop-cons pairs place (0, 0) lt))
 
 pub kept : (n number : ℕ) (after : List Items) (pairs : List (ℕ × ℕ)) → n ≤ most_drilled → pairs ≡ related n number → length after ≡ n
-    → ((a q : ℕ) → a < n → has (get_or after a empty) q ≡ has_chain pairs a q) → IsKept n number after
+    → ((a q : ℕ) → a < n → has (get_or after a empty) q ≡ has_chain pairs a q) → KeepsHiddenOrder n number after
 kept n number after pairs few e items all = record {
   few = few;
   items = items;

@@ -25,7 +25,7 @@ pub use Rattle.ls_theory.specs.declared.answer.Answer.{Answer}
 pub use Rattle.ls_theory.specs.declared.known.Known.{Known}
 pub use Rattle.rand_pcg.specs.Lcg.{Lcg}
 pub use Rattle.rand_pcg.specs.Pcg.{pcg32}
-pub use Rattle.ls_drill.specs.Draws.{IsKept, IsPair, row}
+pub use Rattle.ls_drill.specs.Draws.{KeepsHiddenOrder, IsPair, row}
 unfoldable pub use Rattle.ls_drill.specs.Draws.{after_words, drawn, has_chain}
 pub use Rattle.ls_drill.specs.Drills.{IsDrill, reply}
 unfoldable pub use Rattle.ls_drill.specs.Drills.{after_turn, after_turns, drilled}

@@ -31,7 +31,7 @@ has_chain [] a q = false
 has_chain (p ∷ ps) a q = (p.0 == a && (p.1 == q || has_chain ps p.1 q)) || has_chain ps a q
 
 -- for each item, those that it is before
-pub record IsKept (n number : ℕ) (after : List Items) : Type 0 where
+pub record KeepsHiddenOrder (n number : ℕ) (after : List Items) : Type 0 where
   pub few : n ≤ most_drilled
   pub items : length after ≡ n
   pub implies : (a q : ℕ) → a < n → has (slice_index_or after a empty) q ≡ implied n number a q
