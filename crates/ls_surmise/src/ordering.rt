@@ -50,7 +50,11 @@ fn all_clauses(alloc: Global, clauses: &[SetList]) -> Result<Vec<ItemSet>, Alloc
 
 /// The base of the unions of all clauses, unless there are more distinct ones than a base may have
 /// sets: they are then told by their number.
-pub(crate) fn base_of(alloc: Global, n: u32, clauses: &[SetList]) -> Result<Base, SurmiseFault>
+pub(crate) fn base_of_clauses(
+    alloc: Global,
+    n: u32,
+    clauses: &[SetList],
+) -> Result<Base, SurmiseFault>
     requires few_items { n ≤ PLACES }
     requires is_on { AreOn n (all_clauses clauses.now) }
     ensures few { OnOk result (wide n clauses.now ≡ None) }

@@ -11,7 +11,7 @@ ghost use Rattle.ls_surmise.specs.Surmises.{met_by, surmised, IsFromFaultOf};
 
 use crate::fault::FromFault;
 use crate::flaws::flaw;
-use crate::ordering::{base_of, put_clauses};
+use crate::ordering::{base_of_clauses, put_clauses};
 use crate::reading::read_file;
 use ls_base::Base;
 use ls_domain::Domain;
@@ -138,7 +138,7 @@ impl Surmise {
         if let Some(fault) = flaw(n, clauses, &ordered) {
             return Err(fault);
         }
-        let base = base_of(alloc, n, clauses)?;
+        let base = base_of_clauses(alloc, n, clauses)?;
         Ok(Surmise {
             base,
             clauses: ordered,

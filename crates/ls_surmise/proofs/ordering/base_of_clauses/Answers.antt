@@ -1,6 +1,6 @@
 use Rattle.ls_surmise.proofs.Vocabulary.{◌<◌, ◌∙◌, ◌≡◌, ◌≤◌, Items, Some, Wide, all_clauses, ap, arith, is_among, length, most_base_sets, rules}
 use Rattle.ls_surmise.proofs.Orderings.{put-is, wide-many, wide-few, based-members}
-use Rattle.ls_surmise.proofs.ordering.base_of.Goals as goal
+use Rattle.ls_surmise.proofs.ordering.base_of_clauses.Goals as goal
 
 pub returns-then-len-gt-MOST_BASE_SETS-clause-fault : goal.returns-then-len-gt-MOST_BASE_SETS-clause-fault
 returns-then-len-gt-MOST_BASE_SETS-clause-fault c =

@@ -1,5 +1,5 @@
 use Rattle.ls_drill.proofs.Based.{followed-base, never-past}
-use Rattle.ls_drill.proofs.states.base_of.Goals as goal
+use Rattle.ls_drill.proofs.states.base_of_states.Goals as goal
 
 pub unreachable-requires : goal.unreachable-requires
 unreachable-requires c =
