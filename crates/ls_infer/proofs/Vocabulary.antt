@@ -44,7 +44,7 @@ unfoldable pub use Rattle.ls_theory.specs.{blocks, next_question}
 pub use Rattle.ls_theory.specs.declared.known.Known.{Known}
 pub use Rattle.ls_theory.specs.declared.no.No.{No}
 pub use Rattle.ls_infer.specs.Changes.{IsChange, can_change, can_grow, is_kept, is_stale, most_steps_each}
-pub use Rattle.ls_infer.specs.Fronts.{AreFirst, IsFront}
+pub use Rattle.ls_infer.specs.BlockClosures.{AreFirst, IsKeptClosure}
 pub use Rattle.ls_infer.specs.Narrowing.{IsNarrowed, owed}
 pub use Rattle.ls_infer.specs.Search.{IsSearch, is_open_by, outside_of}
 pub use Rattle.ls_infer.specs.Tables.{AreStates, IsKeptFor, TableRoom, TableState, closed_of, enough_for, forces, is_open_in, standing, table_of, told}

@@ -7,7 +7,7 @@ ghost use Rattle.ls_query.specs.Blocks.{block_sets};
 ghost use Rattle.ls_infer.specs.Changes.{IsChange, is_stale};
 ghost use Rattle.ls_infer.specs.Tables.{standing, AreStates};
 
-use crate::fronts::{Front, close_block};
+use crate::block_closures::{KeptClosure, close_block};
 use crate::standing_no::StandingNo;
 use crate::witnesses::Witnesses;
 use crate::yes_change::YesChange;
@@ -33,12 +33,12 @@ pub fn closures_of<I: Interior, L: Ledger>(
 {
     let mut closures = Vec::new(alloc);
     let mut walk = blocks.walk_from(ItemSet::empty());
-    let mut front = Front::new();
+    let mut kept = KeptClosure::new();
     for _place in 0..blocks.count() {
         if !walk.advance() {
             return Ok(closures);
         }
-        closures.push(close_block(&closures, blocks, &walk, f, &mut front, steps))?;
+        closures.push(close_block(&closures, blocks, &walk, f, &mut kept, steps))?;
     }
     Ok(closures)
 }
@@ -126,12 +126,12 @@ pub fn close_again<I: Interior, L: Ledger>(
         return;
     };
     let mut walk = walk_before(blocks, start);
-    let mut front = Front::new();
+    let mut kept = KeptClosure::new();
     for place in start..closures.len() {
         walk.advance();
         if is_stale(change, r, &closures[place]) {
             let first = &closures[..place];
-            closures[place] = close_block(first, blocks, &walk, f, &mut front, steps);
+            closures[place] = close_block(first, blocks, &walk, f, &mut kept, steps);
         }
     }
 }

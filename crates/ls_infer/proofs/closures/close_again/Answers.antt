@@ -1,4 +1,4 @@
-use Rattle.ls_infer.proofs.Vocabulary.{◌+◌, ◌<◌, ◌∙◌, ◌≡◌, ◌≤◌, IsFront, Items, List, Some, ap, arith, closure, cond, count-next, count_by, drop_more_same, empty, false, full, get_or, good-from, images-at, images-end, images-next, is_some, is_some-position, is_stale, is_within, is_within-from, left-at, left-next, length, list_all-set, list_any, position-lt, refl, block_sets, slice_get, subst, sym, take}
+use Rattle.ls_infer.proofs.Vocabulary.{◌+◌, ◌<◌, ◌∙◌, ◌≡◌, ◌≤◌, IsKeptClosure, Items, List, Some, ap, arith, closure, cond, count-next, count_by, drop_more_same, empty, false, full, get_or, good-from, images-at, images-end, images-next, is_some, is_some-position, is_stale, is_within, is_within-from, left-at, left-next, length, list_all-set, list_any, position-lt, refl, block_sets, slice_get, subst, sym, take}
 use Rattle.std.proofs.lemmas.List.Quantifiers.{position-Some}
 use Rattle.ls_infer.proofs.Places.{next_place, came-within}
 use Rattle.ls_infer.proofs.Closing.{first-images, fresh-first, images-stay, fresh_stays, stale_has, all_fresh}
@@ -22,7 +22,7 @@ loop-place-init g c =
       within = c.requires.within;
       left = refl;
       made = λ before change e. fresh-first c.args.change n r before f (block_sets c.args.blocks) c.args.closures.now start (g.met.I.Interior.is_family c.args.f.now) (good-from n r c.requires.good) change below first.2 e;
-      front = λ before change e. c.new-front.ensures.front c.args.blocks.item_count f;
+      kept = λ before change e. c.new-kept.ensures.kept c.args.blocks.item_count f;
       cost = omega arith;
     }
 
@@ -51,9 +51,9 @@ loop-place-preserved g c =
         within = rw w.closures-is (list_all-set (λ c. is_within c (full n)) ys i w.close_block.result v.within (is_within-from w.close_block.result (full n) w.close_block.ensures.within));
         left = rw w.closures-is (left-next xs ys i w.close_block.result v.left);
         made = λ before change e. w.closures-is ∙ images-next (closure (full n) f) (closure (full n) before) (block_sets b) ys i s w.close_block.result at (v.made before change e)
-            (w.close_block.ensures.value (first-images n b.item_count f before b ys i c.requires.items below (v.made before change e)) (v.front before change e));
-        front = λ before change e. subst (IsFront b.item_count f) (sym w.front-is)
-            (w.close_block.ensures.front (first-images n b.item_count f before b ys i c.requires.items below (v.made before change e)) (v.front before change e));
+            (w.close_block.ensures.value (first-images n b.item_count f before b ys i c.requires.items below (v.made before change e)) (v.kept before change e));
+        kept = λ before change e. subst (IsKeptClosure b.item_count f) (sym w.kept-is)
+            (w.close_block.ensures.kept (first-images n b.item_count f before b ys i c.requires.items below (v.made before change e)) (v.kept before change e));
         cost =
             let one = ap (λ z. count_by (is_within r.a) (take i xs) + cond z 1 0) (stale_has c.args.change r x (told ∙ sym w.if-is_stale.ensures)) in
             omega (arith, counted, one, v.cost, w.close_block.ensures.cost, w.steps-is);
@@ -67,7 +67,7 @@ loop-place-preserved g c =
             let closed = c.index-closures-place.is ∙ ap (λ l. get_or l i x) (v.made before change e) ∙ images-at (closure (full n) f) (closure (full n) before) (block_sets b) i s x at in
             w.closures-is ∙ images-stay (closure (full n) f) (closure (full n) before) (block_sets b) ys i s at (v.made before change e)
             (fresh_stays c.args.change n r before f s (g.met.I.Interior.is_family c.args.f.now) (good-from n r c.requires.good) change (ap (is_stale c.args.change r) (sym closed) ∙ told ∙ sym w.if-is_stale.ensures));
-        front = λ before change e. subst (IsFront b.item_count f) (sym w.front-is) (v.front before change e);
+        kept = λ before change e. subst (IsKeptClosure b.item_count f) (sym w.kept-is) (v.kept before change e);
         cost = omega (arith, counted, v.cost, w.steps-is);
       }
     ]

@@ -14,7 +14,7 @@ loop-place-init g c = record {
   list = c.new-closures.ensures.items;
   of_blocks = c.walk_from-walk.ensures.blocks;
   place = rw (c.walk_from-walk.ensures.set, c.empty.ensures) (first_place c.args.blocks.item_count c.args.blocks.largest);
-  front = c.new-front.ensures.front c.args.blocks.item_count (g.I.Interior.members c.args.f.now);
+  kept = c.new-kept.ensures.kept c.args.blocks.item_count (g.I.Interior.members c.args.f.now);
   cost = omega arith;
 }
 
@@ -37,9 +37,9 @@ loop-place-preserved g c =
     subst (λ n. c.loop-place.closures.items ≡ map (closure (full n) f) (take (length c.loop-place.closures.items) (block_sets b))) c.requires (first-mapped cl (block_sets b) c.loop-place.closures.items c.loop-place._place v.list) in
     let given = subst (AreFirst b.item_count f b) (sym c.deref.ensures.value) first in
     record {
-      list = c.in_ok-push.ensures.items ∙ ap₂ (λ l x. l ++ x ∷ []) v.list (c.close_block.ensures.value given v.front) ∙ mapped-next cl (block_sets b) c.loop-place._place set at;
+      list = c.in_ok-push.ensures.items ∙ ap₂ (λ l x. l ++ x ∷ []) v.list (c.close_block.ensures.value given v.kept) ∙ mapped-next cl (block_sets b) c.loop-place._place set at;
       of_blocks = c.advance.ensures.blocks ∙ v.of_blocks;
       place = next_place b.item_count b.largest c.loop-place._place set at;
-      front = c.close_block.ensures.front given v.front;
+      kept = c.close_block.ensures.kept given v.kept;
       cost = omega (arith, v.cost, c.close_block.ensures.cost);
     }

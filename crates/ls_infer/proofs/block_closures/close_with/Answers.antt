@@ -1,6 +1,6 @@
 use Rattle.ls_infer.proofs.Vocabulary.{◌∙◌, ◌≡◌, ap, empty, family_sets, full, has, interior_keeping, is_among, minus, minus-within, subst, sym, true, unwrap_or, without}
 use Rattle.ls_infer.proofs.Closing.{closed-already, closed-further}
-use Rattle.ls_infer.proofs.fronts.close_with.Goals as goal
+use Rattle.ls_infer.proofs.block_closures.close_with.Goals as goal
 
 pub returns-then-not-has-clause-value : goal.returns-then-not-has-clause-value
 returns-then-not-has-clause-value g c set w e =

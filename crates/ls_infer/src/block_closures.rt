@@ -2,7 +2,7 @@
 ghost use Rattle.std.specs.Prelude.{◌≡◌, ◌+◌, ◌<◌, ◌≤◌, ℕ, true, List};
 ghost use Rattle.ls_set.specs.{IsWithin, Items, empty, full, has, with};
 ghost use Rattle.ls_theory.specs.{closure};
-ghost use Rattle.ls_infer.specs.Fronts.{IsFront, AreFirst};
+ghost use Rattle.ls_infer.specs.BlockClosures.{IsKeptClosure, AreFirst};
 
 use ls_interior::{Interior, Steps, closure};
 use ls_query::{BlockWalk, Blocks};
@@ -11,42 +11,47 @@ use std::sync::ledger::Ledger;
 
 /// A set and its closure, or the empty set and nothing more.
 #[derive(Clone, Copy)]
-pub struct Front {
+pub struct KeptClosure {
     pub set: ItemSet,
     pub closed: ItemSet,
 }
 
-impl Front {
+impl KeptClosure {
     /// The empty set.
-    pub fn new() -> Front
+    pub fn new() -> KeptClosure
         ensures set { result.set ≡ empty }
-        ensures front { (n : ℕ) (f : List Items) → IsFront n f result }
+        ensures kept { (n : ℕ) (f : List Items) → IsKeptClosure n f result }
     {
-        Front {
+        KeptClosure {
             set: ItemSet::empty(),
             closed: ItemSet::empty(),
         }
     }
 }
 
-// The front of a set that is the front so far, or else has its closure among the first ones.
-fn front_of(first: &[ItemSet], blocks: Blocks, set: ItemSet, front: Front) -> Front
+// The closure of a set, where it is the one that is kept so far, or else is among the first ones.
+fn kept_closure_of(
+    first: &[ItemSet],
+    blocks: Blocks,
+    set: ItemSet,
+    kept: KeptClosure,
+) -> KeptClosure
     ensures set { (i : ℕ) → has result.set i ≡ true → result.set ≡ set }
     ensures kept { (f : List Items) → AreFirst blocks.item_count f blocks first.now →
-        IsFront blocks.item_count f front → IsFront blocks.item_count f result }
+        IsKeptClosure blocks.item_count f kept → IsKeptClosure blocks.item_count f result }
 {
-    if front.set == set {
-        return front;
+    if kept.set == set {
+        return kept;
     }
     let Some(place) = blocks.place_of(set) else {
-        return Front::new();
+        return KeptClosure::new();
     };
     match first.get(place as usize) {
-        Some(closed) => Front {
+        Some(closed) => KeptClosure {
             set,
             closed: *closed,
         },
-        None => Front::new(),
+        None => KeptClosure::new(),
     }
 }
 
@@ -74,7 +79,7 @@ fn close_with<I: Interior, L: Ledger>(
 }
 
 /// The closure of the set that the walk has come to, in a step at most. `first` has the closures of
-/// the first sets of the blocks. In front of the set is the set without its greatest item; where its
+/// the first sets of the blocks. The set without its greatest item comes before it; where its
 /// closure is among the first, or is kept from the set before, only what the item brings is looked
 /// for.
 pub fn close_block<I: Interior, L: Ledger>(
@@ -82,26 +87,26 @@ pub fn close_block<I: Interior, L: Ledger>(
     blocks: Blocks,
     walk: &BlockWalk,
     f: &I,
-    front: &mut Front,
+    kept: &mut KeptClosure,
     steps: &mut Steps<L>,
 ) -> ItemSet
     requires walk { walk.now.blocks ≡ blocks }
     requires items { I.item_count f.now ≡ blocks.item_count }
     ensures value { AreFirst blocks.item_count (I.members f.now) blocks first.now →
-        IsFront blocks.item_count (I.members f.now) front.old →
+        IsKeptClosure blocks.item_count (I.members f.now) kept.old →
         result ≡ closure (full (I.item_count f.now)) (I.members f.now) walk.now.set }
-    ensures front { AreFirst blocks.item_count (I.members f.now) blocks first.now →
-        IsFront blocks.item_count (I.members f.now) front.old →
-        IsFront blocks.item_count (I.members f.now) front.new }
+    ensures kept { AreFirst blocks.item_count (I.members f.now) blocks first.now →
+        IsKeptClosure blocks.item_count (I.members f.now) kept.old →
+        IsKeptClosure blocks.item_count (I.members f.now) kept.new }
     ensures within { IsWithin result (full (I.item_count f.now)) }
     ensures cost { steps.new ≤ steps.old + 1 }
 {
     let Some(item) = walk.greatest() else {
         return closure(f, walk.set(), steps);
     };
-    *front = front_of(first, blocks, walk.others(), *front);
-    if front.set.least().is_none() {
+    *kept = kept_closure_of(first, blocks, walk.others(), *kept);
+    if kept.set.least().is_none() {
         return closure(f, walk.set(), steps);
     }
-    close_with(f, front.closed, item, steps)
+    close_with(f, kept.closed, item, steps)
 }

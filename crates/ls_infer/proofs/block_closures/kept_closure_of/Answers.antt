@@ -1,12 +1,12 @@
 use Rattle.ls_infer.proofs.Vocabulary.{◌∙◌, ◌≡◌, Some, ap, closure, full, has, has-empty, length, position-get, block_sets, slice_get, slice_get-get_or, sym, true≢false}
 use Rattle.ls_infer.proofs.Closing.{mapped-at}
-use Rattle.ls_infer.proofs.fronts.front_of.Goals as goal
+use Rattle.ls_infer.proofs.block_closures.kept_closure_of.Goals as goal
 
 pub returns-in_default-clause-set : goal.returns-in_default-clause-set
 returns-in_default-clause-set c i h = absurd (true≢false (sym h ∙ ap (λ s. has s i) c.new.ensures.set ∙ has-empty i))
 
 pub returns-in-Some-get-clause-kept : goal.returns-in-Some-get-clause-kept
-returns-in-Some-get-clause-kept c f first front i h =
+returns-in-Some-get-clause-kept c f first kept i h =
     let b = c.args.blocks in
     let at : slice_get (block_sets b) c.in-Some.place ≡ Some c.args.set = position-get b.item_count b.largest c.args.set c.in-Some.place (sym c.place_of.ensures ∙ c.in-Some.is) in
     let found = c.in-Some-get.ensures.lookup.3 in
