@@ -1,7 +1,7 @@
 use Rattle.ls_enum.proofs.Vocabulary.{◌≤◌, length}
-use Rattle.ls_enum.proofs.fronts.Fronts.drop_above.Given as goal
+use Rattle.ls_enum.proofs.widest.WidestMembers.drop_above.Given as goal
 
--- so many fronts are looked at still
+-- so many widest members are looked at still
 abbrev pub invariant-loop-count : goal.invariant-loop-count
 invariant-loop-count l = l.count ≤ length l.held
 
