@@ -1,10 +1,13 @@
 // Bases.
-ghost use Rattle.std.specs.Prelude.{◌≡◌, ◌<◌, ◌≤◌, true, not, Ok, length, slice_index_or, IsTrue, IfOk, IfErr, OnOk};
+ghost use Rattle.std.specs.Prelude.{◌≡◌, ◌<◌, ◌≤◌, true, not, Ok, length, slice_index_or, IsTrue};
+ghost use Rattle.std.specs.Prelude.{IfOk, IfErr, OnOk};
 ghost use Rattle.ls_set.specs.{empty, is_good, subsets};
 ghost use Rattle.ls_theory.specs.Queries.{some_breaks};
-ghost use Rattle.ls_theory.specs.Bases.{base, atom_sets, based, is_atom_at, atoms_at, most_base_sets};
+ghost use Rattle.ls_theory.specs.Bases.{base, atom_sets, based, is_atom_at};
+ghost use Rattle.ls_theory.specs.Bases.{atoms_at, most_base_sets};
 ghost use Rattle.ls_laws.specs.Spans.{AreOn, left_by, spanned};
-ghost use Rattle.ls_base.specs.Bases.{family, single_sets, own_items, IsBaseFault, IsPastOf, IsOfMany};
+ghost use Rattle.ls_base.specs.Bases.{family, single_sets, own_items, IsBaseFault};
+ghost use Rattle.ls_base.specs.Bases.{IsPastOf, IsOfMany};
 
 use crate::atoms::is_atom_at;
 use crate::fault::PastFault;

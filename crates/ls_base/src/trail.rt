@@ -1,11 +1,14 @@
 // The base followed over the Yes answers when it is asked for, with those of some first answers
 // kept.
-ghost use Rattle.std.specs.Prelude.{◌≡◌, ◌+◌, ◌<◌, ℕ, List, [], true, map, length, take, slice_get, Some, IfSome, OnOk, OnErr};
+ghost use Rattle.std.specs.Prelude.{◌≡◌, ◌+◌, ◌<◌, ℕ, List, [], true, map, length, take, slice_get};
+ghost use Rattle.std.specs.Prelude.{Some, IfSome, OnOk, OnErr};
 ghost use Rattle.std.specs.Option.{option_copied};
 ghost use Rattle.ls_set.specs.declared.query.Query.{Query};
 ghost use Rattle.ls_theory.specs.{Start, base, compat};
 ghost use Rattle.ls_base.specs.Followed.{IsAskable};
-ghost use Rattle.ls_base.specs.Trail.{IsTrail, EndsAt, AreAskable, last_entry, last_followed, followed_count, is_begun, begins_at_none, begun_trail, cut, given_up, trail_sets};
+ghost use Rattle.ls_base.specs.Trail.{IsTrail, EndsAt, AreAskable, last_entry, last_followed};
+ghost use Rattle.ls_base.specs.Trail.{followed_count, is_begun, begins_at_none, begun_trail, cut};
+ghost use Rattle.ls_base.specs.Trail.{given_up, trail_sets};
 
 use crate::base::Base;
 use crate::followed::Followed;

@@ -3,7 +3,8 @@ ghost use Rattle.std.specs.Prelude.{◌≡◌, ◌<◌, ℕ, true, false, List, 
 ghost use Rattle.ls_set.specs.{IsInOrder, IsWithin, Items, full, is_among, without};
 ghost use Rattle.ls_set.specs.declared.query.Query.{Query};
 ghost use Rattle.ls_theory.specs.Starts.{Clauses, Sets, meets};
-ghost use Rattle.ls_theory.specs.{all_clauses, atoms_at, base, clauses_at, clauses_of, compat, flaw, has_clause_within, interior, is_space};
+ghost use Rattle.ls_theory.specs.{all_clauses, atoms_at, base, clauses_at, clauses_of, compat};
+ghost use Rattle.ls_theory.specs.{flaw, has_clause_within, interior, is_space};
 ghost use Rattle.ls_laws.specs.Spans.{AreOn, spanned};
 ghost use Rattle.ls_laws.specs.Families.{IsFamily};
 ghost use Rattle.ls_clauses.specs.Surmise.{IsSurmise, IsPutInOrder};

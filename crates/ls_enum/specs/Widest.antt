@@ -1,5 +1,6 @@
 -- Widest members: members from which the next ones are found by taking out one item.
---     IsWidest f place member      a member that has each member whose items before the place it has
+--     IsWidest f place member      a member that has each member
+--         whose items before the place it has
 --     AreWidest f members      each of them is one
 use Rattle.std.specs.Prelude.{ℕ, ◌≡◌, true, List}
 use Rattle.std.specs.List.{All}

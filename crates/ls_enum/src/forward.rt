@@ -12,9 +12,9 @@ use std::sync::ledger::Ledger;
 
 // Makes the widest members at the items of a word, where there are none yet: the items that the
 // word lacks are taken out of the greatest member, one after another, as long as the word's items
-// before them stay. The result is the place where one fell: no member first differs from the word at
-// an item of the word from there on. With a try at each item of the word before that place, it takes
-// at most one step more than there are items.
+// before them stay. The result is the place where one fell: no member first differs from the word
+// at an item of the word from there on. With a try at each item of the word before that place, it
+// takes at most one step more than there are items.
 pub(crate) fn fill<I: Interior, L: Ledger>(
     f: &I,
     word: ItemSet,

@@ -81,8 +81,8 @@ impl WidestMembers {
         self.held.truncate(count);
     }
 
-    // The newest widest member at a place that is not above `i`, where its items before `i` are those
-    // that are given. Those at places above `i` go.
+    // The newest widest member at a place that is not above `i`, where its items before `i` are
+    // those that are given. Those at places above `i` go.
     pub(crate) fn at(&mut self, i: u32, before: ItemSet) -> Option<ItemSet>
         requires { i ≤ PLACES }
         ensures widest { (f : List Items) → AreWidest f self.old.held.items →

@@ -27,7 +27,10 @@ impl Model for Family {
 
     ghost view = { λ f. record { item_count = f.items; sets = f.members.items } };
 
-    ghost invariant = { λ f. IsFamilyState (record { item_count = f.items; sets = f.members.items }) };
+    ghost invariant = { λ f. IsFamilyState (record {
+      item_count = f.items;
+      sets = f.members.items;
+    }) };
 }
 
 impl Family {

@@ -1,5 +1,6 @@
 // The lists that make up a table.
-ghost use Rattle.std.specs.Prelude.{◌≡◌, ◌+◌, ◌*◌, ◌<◌, ◌≤◌, ℕ, true, List, map, length, count_by, find, slice_get, IfOk};
+ghost use Rattle.std.specs.Prelude.{◌≡◌, ◌+◌, ◌*◌, ◌<◌, ◌≤◌, ℕ, true};
+ghost use Rattle.std.specs.Prelude.{List, map, length, count_by, find, slice_get, IfOk};
 ghost use Rattle.std.specs.List.{list_all, position};
 ghost use Rattle.ls_set.specs.{Items, full, is_good, is_within};
 ghost use Rattle.ls_theory.specs.{block_before, blocks, closure, most_sets};
@@ -100,8 +101,8 @@ fn walk_before(blocks: Blocks, place: usize) -> BlockWalk
     walk
 }
 
-/// Makes the closures of the sets of the blocks those after the change of a Yes to `r`, in a step at
-/// most for each that has the items of its A. `f` is the family after the change.
+/// Makes the closures of the sets of the blocks those after the change of a Yes to `r`, in a step
+/// at most for each that has the items of its A. `f` is the family after the change.
 pub fn close_again<I: Interior, L: Ledger>(
     closures: &mut [ItemSet],
     blocks: Blocks,

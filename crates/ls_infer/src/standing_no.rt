@@ -1,5 +1,6 @@
 // What is kept of a standing answer that is No.
-ghost use Rattle.std.specs.Prelude.{◌≡◌, ◌+◌, ◌<◌, ◌≤◌, ◌==◌, ◌&&◌, ◌||◌, ℕ, List, true, false, not, map, filter};
+ghost use Rattle.std.specs.Prelude.{◌≡◌, ◌+◌, ◌<◌, ◌≤◌, ◌==◌, ◌&&◌, ◌||◌, ℕ};
+ghost use Rattle.std.specs.Prelude.{List, true, false, not, map, filter};
 ghost use Rattle.ls_set.specs.{IsWithin, Items, full, has, is_among, is_good};
 ghost use Rattle.ls_set.specs.declared.query.Query.{Query};
 ghost use Rattle.ls_theory.specs.{blocks, breaks, closure};
@@ -171,8 +172,8 @@ impl StandingNo {
         StandingNo::from_enough(f, self.no, closed, enough, steps)
     }
 
-    // What is kept of it under a Yes to the good query `r` that comes. What was enough stays so, and
-    // where it was a state that does not break `r`, nothing more is.
+    // What is kept of it under a Yes to the good query `r` that comes. What was enough stays so,
+    // and where it was a state that does not break `r`, nothing more is.
     fn after_yes<I: Interior, L: Ledger>(
         &self,
         f: &I,

@@ -1,5 +1,6 @@
 // Tables of closures.
-ghost use Rattle.std.specs.Prelude.{◌≡◌, ◌+◌, ◌*◌, ◌<◌, ◌≤◌, ◌==◌, ◌++◌, ◌∷◌, true, not, List, [], length, map, filter, count_by, OnOk, IfOk};
+ghost use Rattle.std.specs.Prelude.{◌≡◌, ◌+◌, ◌*◌, ◌<◌, ◌≤◌, ◌==◌, ◌++◌, ◌∷◌, true, not};
+ghost use Rattle.std.specs.Prelude.{List, [], length, map, filter, count_by, OnOk, IfOk};
 ghost use Rattle.std.specs.List.{list_all};
 ghost use Rattle.ls_set.specs.{Items, is_good, is_within};
 ghost use Rattle.ls_theory.specs.{breaks};

@@ -2,7 +2,8 @@
 ghost use Rattle.std.specs.Prelude.{◌≡◌, ℕ, true, List, [], filter};
 ghost use Rattle.ls_set.specs.{IsInOrder, Items, full, is_among};
 ghost use Rattle.ls_set.specs.declared.query.Query.{Query};
-ghost use Rattle.ls_theory.specs.{Sets, base, breaks_none, compat, is_space, is_union_closed, unions};
+ghost use Rattle.ls_theory.specs.{Sets, base, breaks_none, compat, is_space, is_union_closed};
+ghost use Rattle.ls_theory.specs.{unions};
 ghost use Rattle.ls_laws.specs.Families.{IsFamily};
 ghost use Rattle.ls_laws.specs.Spans.{AreOn, IsPart, Spans, needed, spanned, left_by, after_yes};
 

@@ -2,7 +2,9 @@
 ghost use Rattle.std.specs.Prelude.{◌≡◌, ℕ, Bool, true, false, not, ◌&&◌, List, []};
 ghost use Rattle.ls_set.specs.{Items, full, has, is_good, is_within};
 ghost use Rattle.ls_set.specs.declared.query.Query.{Query};
-ghost use Rattle.ls_theory.specs.{Interview, Start, accepted, begun, closure, compat, compatible_sets, is_forced_no, is_forced_yes, is_space, retracted, spaces_of};
+ghost use Rattle.ls_theory.specs.{Interview, Start, accepted, begun, closure, compat};
+ghost use Rattle.ls_theory.specs.{compatible_sets, is_forced_no, is_forced_yes, is_space};
+ghost use Rattle.ls_theory.specs.{retracted, spaces_of};
 ghost use Rattle.ls_laws.specs.Spans.{AreOn, IsPart, left_by};
 ghost use Rattle.ls_laws.specs.Forced.{IsSound, IsNumbered};
 

@@ -1,7 +1,9 @@
 // Laws of fringes.
-ghost use Rattle.std.specs.Prelude.{◌≡◌, ℕ, true, false, not, ◌&&◌, if◌then◌else◌, List, Some, None};
+ghost use Rattle.std.specs.Prelude.{◌≡◌, ℕ, true, false, not, ◌&&◌, if◌then◌else◌};
+ghost use Rattle.std.specs.Prelude.{List, Some, None};
 ghost use Rattle.ls_set.specs.{Items, full, has, is_among, is_same, minus, with, without};
-ghost use Rattle.ls_theory.specs.{inner_fringe, interior, is_learning_space, outer_fringe, state_of};
+ghost use Rattle.ls_theory.specs.{inner_fringe, interior, is_learning_space, outer_fringe};
+ghost use Rattle.ls_theory.specs.{state_of};
 ghost use Rattle.ls_laws.specs.Spans.{AreOn};
 
 /// Which items the fringes of a set have.

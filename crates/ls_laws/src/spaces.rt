@@ -1,10 +1,12 @@
 // Laws of compatible sets and of projections: which are spaces.
 ghost use Rattle.std.specs.Prelude.{◌≡◌, ℕ, true, List, []};
 ghost use Rattle.std.specs.List.{list_all};
-ghost use Rattle.ls_set.specs.ItemSet.{Items, empty, full, meet, is_within, is_among, IsInOrder, IsWithin};
+ghost use Rattle.ls_set.specs.ItemSet.{Items, empty, full, meet, is_within, is_among};
+ghost use Rattle.ls_set.specs.ItemSet.{IsInOrder, IsWithin};
 ghost use Rattle.ls_set.specs.Query.{is_good};
 ghost use Rattle.ls_set.specs.declared.query.Query.{Query};
-ghost use Rattle.ls_theory.specs.{Free, Interview, Start, compat, compatible_sets, interior, is_space, is_union_closed, projection};
+ghost use Rattle.ls_theory.specs.{Free, Interview, Start, compat, compatible_sets, interior};
+ghost use Rattle.ls_theory.specs.{is_space, is_union_closed, projection};
 ghost use Rattle.ls_laws.specs.Spans.{AreOn, left_by};
 ghost use Rattle.ls_laws.specs.Forced.{SomeFits};
 

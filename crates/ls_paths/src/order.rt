@@ -1,5 +1,6 @@
 // An order of items.
-ghost use Rattle.std.specs.Prelude.{◌≡◌, ◌≤◌, true, None, Some, is_some, length, take, IfSome, MatchBool};
+ghost use Rattle.std.specs.Prelude.{◌≡◌, ◌≤◌, true, None, Some, is_some, length, take};
+ghost use Rattle.std.specs.Prelude.{IfSome, MatchBool};
 ghost use Rattle.ls_set.specs.{IsWithin, empty, full, set_of};
 ghost use Rattle.ls_theory.specs.{is_learning_space, is_order};
 ghost use Rattle.ls_growths.specs.Growths.{first_growth};

@@ -1,5 +1,6 @@
 // Steps of a walk through the learning paths, in place.
-ghost use Rattle.std.specs.Prelude.{◌≡◌, ◌<◌, ◌≤◌, true, None, Some, length, take, IfSome, MatchBool};
+ghost use Rattle.std.specs.Prelude.{◌≡◌, ◌<◌, ◌≤◌, true, None, Some, length, take};
+ghost use Rattle.std.specs.Prelude.{IfSome, MatchBool};
 ghost use Rattle.ls_set.specs.{IsWithin, empty, full, is_among, minus, most_items, with};
 ghost use Rattle.ls_theory.specs.{is_learning_space};
 ghost use Rattle.ls_growths.specs.Growths.{first_next, next_item_after, first_growth, next_growth};

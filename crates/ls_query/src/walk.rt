@@ -1,5 +1,6 @@
 // A walk through the sets of blocks.
-ghost use Rattle.std.specs.Prelude.{◌≡◌, ◌<◌, ◌≤◌, true, false, Some, None, find, IfSome, MatchOption, if◌then◌else◌};
+ghost use Rattle.std.specs.Prelude.{◌≡◌, ◌<◌, ◌≤◌, true, false, Some, None, find, IfSome};
+ghost use Rattle.std.specs.Prelude.{MatchOption, if◌then◌else◌};
 ghost use Rattle.ls_set.specs.{IsWithin, empty, full, len, with};
 ghost use Rattle.ls_theory.specs.{block_before};
 ghost use Rattle.ls_query.specs.Blocks.{AreBounded, block_sets};

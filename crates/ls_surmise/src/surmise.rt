@@ -6,7 +6,8 @@ ghost use Rattle.ls_theory.specs.{all_clauses, base, clauses_at, clauses_of};
 ghost use Rattle.ls_base.specs.Bases.{family};
 ghost use Rattle.ls_laws.specs.Spans.{AreOn};
 ghost use Rattle.ls_clauses.specs.Surmise.{IsSurmise};
-ghost use Rattle.ls_files.specs.SurmiseFiles.{surmise_from, surmise_of, surmise_items, IsSurmiseFaultOf};
+ghost use Rattle.ls_files.specs.SurmiseFiles.{surmise_from, surmise_of, surmise_items};
+ghost use Rattle.ls_files.specs.SurmiseFiles.{IsSurmiseFaultOf};
 ghost use Rattle.ls_surmise.specs.Surmises.{met_by, surmised, IsFromFaultOf};
 
 use crate::fault::FromFault;
@@ -118,10 +119,10 @@ impl Surmise {
     }
 
     /// The surmise function of the clauses of each of `n` items in turn. Those of an item may stand
-    /// in any order, and are put in order. The error is the first of these: an item has no clause; a
-    /// clause lacks its item; a clause has an item of which no clause lies within it; of two clauses
-    /// of an item one lies within the other; there are more distinct clauses than a base may have
-    /// sets; or memory ran out.
+    /// in any order, and are put in order. The error is the first of these: an item has no clause;
+    /// a clause lacks its item; a clause has an item of which no clause lies within it; of two
+    /// clauses of an item one lies within the other; there are more distinct clauses than a base
+    /// may have sets; or memory ran out.
     pub fn from_clauses(alloc: Global, n: u32, clauses: &[SetList]) -> Result<Surmise, SurmiseFault>
         requires few { n ≤ most_items }
         requires items { length clauses.now ≡ n }

@@ -1,5 +1,6 @@
 // The weights of listed states after replies.
-ghost use Rattle.std.specs.Prelude.{◌≡◌, ◌<◌, ◌≤◌, ◌++◌, ◌∷◌, ◌^◌, [], ℕ, length, slice_get, nat_lt, true, Some, None, Err, IfOk, OnOk};
+ghost use Rattle.std.specs.Prelude.{◌≡◌, ◌<◌, ◌≤◌, ◌++◌, ◌∷◌, ◌^◌, [], ℕ, length, slice_get};
+ghost use Rattle.std.specs.Prelude.{nat_lt, true, Some, None, Err, IfOk, OnOk};
 ghost use Rattle.std.specs.List.{list_all};
 ghost use Rattle.ls_set.specs.{Items};
 ghost use Rattle.ls_theory.specs.{heavy_after, leader, mass, total, weight};

@@ -1,9 +1,11 @@
 // What a table tells of queries.
-ghost use Rattle.std.specs.Prelude.{◌≡◌, ◌+◌, ◌<◌, ◌≤◌, ◌&&◌, ℕ, true, List, Some, length, filter, find, slice_get};
+ghost use Rattle.std.specs.Prelude.{◌≡◌, ◌+◌, ◌<◌, ◌≤◌, ◌&&◌, ℕ, true};
+ghost use Rattle.std.specs.Prelude.{List, Some, length, filter, find, slice_get};
 ghost use Rattle.std.specs.List.{position};
 ghost use Rattle.std.specs.Option.{ForSome, option_map, option_map_or};
 ghost use Rattle.ls_set.specs.{IsWithin, Items, full, has, is_good, is_same};
-ghost use Rattle.ls_theory.specs.{Interview, block_before, closure, comes_after, compatible_sets, known, next_question, nos, query_before};
+ghost use Rattle.ls_theory.specs.{Interview, block_before, closure, comes_after, compatible_sets};
+ghost use Rattle.ls_theory.specs.{known, next_question, nos, query_before};
 ghost use Rattle.ls_theory.specs.declared.no.No.{No};
 ghost use Rattle.ls_laws.specs.Forced.{IsSound, IsNumbered};
 ghost use Rattle.ls_query.specs.Blocks.{block_sets, block_queries};
@@ -70,8 +72,8 @@ impl Table {
         }
     }
 
-    // The items q for which the query (A, q) is open, where the walk has come to the block set A, at
-    // the place. The standing No at the hint is asked first.
+    // The items q for which the query (A, q) is open, where the walk has come to the block set A,
+    // at the place. The standing No at the hint is asked first.
     fn open_items(&self, place: u32, walk: &BlockWalk, hint: &mut usize) -> ItemSet
         requires { slice_get (block_sets self.now.table.blocks) place ≡ Some walk.now.set }
         ensures { (q : ℕ) → has result q
