@@ -34,7 +34,7 @@ fn has_share(w: &Weights) -> bool
 {
     let settings = w.settings();
     // Settings are in their ranges, so the products fit.
-    let _ = settings.count();
+    let _ = settings.count(); // for the proof
     u128::from(settings.share()) * w.total() <= 100 * w.weight(leader(w))
 }
 

@@ -269,7 +269,7 @@ impl Inquiry {
         ensures one { result ≡ true → self.now.block ≡ max 1 (self.now.count - 1) →
             spaces_of self.now ≡ compatible_sets self.now ∷ [] }
     {
-        let _ = self.standing();
+        let _ = self.standing(); // for the proof
         self.next_question(None).is_none()
     }
 

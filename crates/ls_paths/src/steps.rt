@@ -86,7 +86,7 @@ pub fn first_level<F: Inside>(f: &F, order: &[u32]) -> (usize, ItemSet)
     ensures leaves { next_growth (F.item_count f.now) (F.members f.now) order.now empty
         ≡ leaves_below (F.item_count f.now) (F.members f.now) empty order.now result.0 }
 {
-    let _ = f.items();
+    let _ = f.items(); // for the proof
     let mut reached = ItemSet::empty();
     for (place, item) in order.iter().enumerate() {
         reached = reached.with(*item);

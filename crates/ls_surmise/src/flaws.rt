@@ -68,7 +68,6 @@ fn has_clause_within(clauses: &[SetList], ordered: &[SetList], r: u32, set: Item
     requires { IsPutInOrder clauses.now ordered.now }
     ensures { result ≡ has_clause_within clauses.now r set }
 {
-    let _ = clauses;
     has_within(clauses_of(ordered, r), set)
 }
 

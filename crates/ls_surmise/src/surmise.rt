@@ -87,7 +87,7 @@ impl Surmise {
         ensures members { IfOk result (λ s. met_by s ≡ family base.now) }
         ensures fault { IfErr result (IsFromFaultOf (surmised base.now)) }
     {
-        let _ = base.sets();
+        let _ = base.sets(); // for the proof
         let all = ItemSet::full(base.items());
         if let Some(item) = all.minus(base.inside(all)).least() {
             return Err(FromFault::NotSpanning { item });
