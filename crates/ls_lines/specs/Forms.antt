@@ -98,9 +98,9 @@ number given place = unwrap_or (number_up_to greatest_number (one given place)) 
 abbrev pub is_right : List (List Text) → ℕ → Bool
 is_right given place = bytes_eq (one given place) (codes "right")
 
--- ---- Each topic has its forms; the parts of their lines; the commands that they make of the words
--- at the parts; and the way back, by which a command is printed: its form, and what stands at those
--- parts that are no fixed words.
+-- ---- the topics: of each its forms, the parts of their lines, the commands that they make of the
+-- words at the parts, and the way back: the form of a command, and what stands at those of its parts
+-- that are no fixed words
 
 -- ---- opening a session
 
@@ -305,6 +305,14 @@ pupil_spelled_as (pupils.Reply name item right) =
     (pupil.Reply, Word name ∷ Word item ∷ Right right ∷ [])
 pupil_spelled_as (pupils.Report name) = (pupil.Report, Word name ∷ [])
 pupil_spelled_as (pupils.Close name) = (pupil.Close, Word name ∷ [])
+
+-- the name of the pupil that the command is about
+abbrev pub pupil_name : PupilCommand → Text
+pupil_name (pupils.Pupil name) = name
+pupil_name (pupils.Question name) = name
+pupil_name (pupils.Reply name item right) = name
+pupil_name (pupils.Report name) = name
+pupil_name (pupils.Close name) = name
 
 -- ---- all commands
 

@@ -10,10 +10,10 @@ pub mod Grammar
 pub mod Reading
 pub mod Cutting
 pub mod CutterParts
-pub use Rattle.ls_lines.specs.Commands.{front, pupil_name}
+pub use Rattle.ls_lines.specs.Commands.{front}
 unfoldable pub use Rattle.ls_lines.specs.Commands.{command_of, cut, fault_place, is_begun}
 pub use Rattle.ls_lines.specs.Cutting.{Ends, Holds, IsTaken, ahead, ended_of, kept}
-pub use Rattle.ls_lines.specs.Forms.{one}
+pub use Rattle.ls_lines.specs.Forms.{one, pupil_name}
 unfoldable pub use Rattle.ls_lines.specs.Forms.{command, forms, parts, spelled_as, spelling}
 pub use Rattle.ls_lines.specs.Kinds.{greatest_number, is_file, is_from_to, is_name_byte}
 unfoldable pub use Rattle.ls_lines.specs.Kinds.{is_of}

@@ -1,9 +1,8 @@
 // Commands that assess pupils.
 ghost use Rattle.std.specs.Prelude.{◌≡◌, All, IfOk, map};
 ghost use Rattle.std.specs.Str.{IsAscii};
-ghost use Rattle.ls_lines.specs.Forms.{pupil_parts, pupil_command, pupil_spelled_as};
+ghost use Rattle.ls_lines.specs.Forms.{pupil_parts, pupil_command, pupil_spelled_as, pupil_name};
 ghost use Rattle.ls_lines.specs.Operands.{filling};
-ghost use Rattle.ls_lines.specs.Commands.{pupil_name};
 
 use crate::cut::Cut;
 use crate::operand::Operand::{One, Right};

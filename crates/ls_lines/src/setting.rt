@@ -14,21 +14,26 @@ use std::alloc::AllocError;
 /// A command that sets the odds, the ratios or the limits of an assessment.
 #[derive(Drop)]
 pub enum SettingCommand {
+    /// The odds of each item: the ratios `right` to 1 and `wrong` to 1.
     OddsAll {
         right: u64,
         wrong: u64,
     },
+    /// The odds of one item.
     OddsItem {
         item: Word,
         right: u64,
         wrong: u64,
     },
+    /// The ratios of each item: `right_a` to `right_b` for a right reply, and `wrong_a` to `wrong_b`
+    /// for a wrong one.
     RatioAll {
         right_a: u64,
         right_b: u64,
         wrong_a: u64,
         wrong_b: u64,
     },
+    /// The ratios of one item.
     RatioItem {
         item: Word,
         right_a: u64,
@@ -36,6 +41,7 @@ pub enum SettingCommand {
         wrong_a: u64,
         wrong_b: u64,
     },
+    /// The most replies, and the share of the total, in hundredths, that ends an assessment.
     Limits {
         budget: u64,
         share: u64,
