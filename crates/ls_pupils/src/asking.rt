@@ -68,8 +68,8 @@ pub fn reply(pupils: &mut PupilCases, name: &Word, item: u32, right: bool) -> Re
     match pupils.place(name) {
         None => Response::Refused(Refusal::NoPupil),
         Some(place) => match pupils.reply(place, item, right) {
-            Ok(()) => Response::Done {
-                number: pupils.as_slice()[place].pupil.replies().len() as u64,
+            Ok(replies) => Response::Done {
+                number: replies as u64,
             },
             Err(fault) => Response::Refused(Refusal::Reply(fault)),
         },

@@ -1,5 +1,5 @@
 // Pupils as a session keeps them.
-ghost use Rattle.std.specs.Prelude.{◌≡◌, ◌<◌, ◌++◌, ◌∷◌, [], ℕ, Some, None, Err, length, position, remove, set, slice_get, IfSome, IfErr, OnOk, OnErr};
+ghost use Rattle.std.specs.Prelude.{◌≡◌, ◌+◌, ◌<◌, ◌++◌, ◌∷◌, [], ℕ, Some, None, Err, length, position, remove, set, slice_get, IfSome, IfOk, IfErr, OnOk, OnErr};
 ghost use Rattle.ls_theory.specs.{asked, reply_fault};
 ghost use Rattle.ls_theory.specs.declared.reply_fault.ReplyFault.TheVariants.{WrongItem};
 ghost use Rattle.ls_pupils.specs.Own.{is_named};
@@ -105,9 +105,9 @@ impl PupilCases {
         self.closed.as_ref()
     }
 
-    /// The pupil of the case at a place replies on the item `q`. Where the reply is refused nothing
-    /// changes.
-    pub fn reply(&mut self, place: usize, q: u32, right: bool) -> Result<(), ReplyFault>
+    /// The pupil of the case at a place replies on the item `q`; how many replies it has then is
+    /// told. Where the reply is refused nothing changes.
+    pub fn reply(&mut self, place: usize, q: u32, right: bool) -> Result<usize, ReplyFault>
         requires { place < length self.old }
         ensures ok { (c : Case) → slice_get self.old place ≡ Some c →
             OnOk result (self.new ≡ set self.old place (record c {
@@ -115,6 +115,8 @@ impl PupilCases {
                 replies = c.pupil.replies ++ record { q = q; right = right } ∷ [];
               };
             })) }
+        ensures number { (c : Case) → slice_get self.old place ≡ Some c →
+            IfOk result (λ number. number ≡ length c.pupil.replies + 1) }
         ensures taken { (c : Case) → slice_get self.old place ≡ Some c → OnOk result
             (reply_fault (asked c.pupil.settings c.pupil.states c.pupil.replies) q ≡ None) }
         ensures fault { (c : Case) → slice_get self.old place ≡ Some c → IfErr result (λ e.
@@ -123,6 +125,8 @@ impl PupilCases {
             result ≡ Err (WrongItem asked) → asked < length c.pupil.settings.ratios }
         ensures err { OnErr result (self.new ≡ self.old) }
     {
-        self.cases[place].pupil.reply(q, right)
+        let pupil = &mut self.cases[place].pupil;
+        pupil.reply(q, right)?;
+        Ok(pupil.replies().len())
     }
 }

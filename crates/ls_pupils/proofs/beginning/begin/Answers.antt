@@ -1,5 +1,5 @@
-use Rattle.ls_pupils.proofs.Vocabulary.{◌<◌, ◌∙◌, ◌≡◌, ◌≤◌, IfOk-weaker, IsNewPupil, ap, false, is_named, is_some, length, length-map, most_pupils, on_ok_weaker, position, pupil_of, pupils_of, subst, sym}
-use Rattle.ls_pupils.proofs.Named.{IsNoName, name_of, stands, not_standing}
+use Rattle.ls_pupils.proofs.Vocabulary.{◌<◌, ◌∙◌, ◌≤◌, IfOk-weaker, IsNewPupil, ap, false, is_some, length, length-map, most_pupils, pupil_of, pupils_of, subst, sym}
+use Rattle.ls_pupils.proofs.Named.{stands, not_standing}
 use Rattle.ls_pupils.proofs.Rows.{begin-stands, begin-many, begin-refused, begin-begins}
 use Rattle.ls_pupils.proofs.beginning.begin.Given as given
 use Rattle.ls_pupils.proofs.beginning.begin.Goals as goal
