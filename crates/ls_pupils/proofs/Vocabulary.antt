@@ -26,6 +26,6 @@ pub use Rattle.ls_theory.specs.declared.reply_fault.ReplyFault.{ReplyFault}
 pub use Rattle.ls_weight.proofs.Weighable.{family-weighable}
 pub use Rattle.ls_weight.specs.Weighings.{Weighing}
 pub use Rattle.ls_pupils.specs.Beginning.{IsNewPupil, RefusesHeavy, begun_row}
-pub use Rattle.ls_pupils.specs.Cases.{ArePupils, IsCase, IsOwnCase, pupil_of, pupils_of, changed_to}
-pub use Rattle.ls_pupils.specs.Own.{have_own_names, is_named}
+pub use Rattle.ls_pupils.specs.Cases.{case_name, ArePupils, IsCase, IsOwnCase, pupil_of_case, pupils_of, changed_to}
+pub use Rattle.ls_pupils.specs.Own.{have_own_names, is_called}
 pub use Rattle.ls_pupils.specs.declared.cases.PupilCase.{PupilCase}

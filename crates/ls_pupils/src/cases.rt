@@ -2,8 +2,8 @@
 ghost use Rattle.std.specs.Prelude.{◌≡◌, ◌+◌, ◌<◌, ◌++◌, ◌∷◌, [], ℕ, Some, None, Err, length, position, remove, set, slice_get, IfSome, IfOk, IfErr, OnOk, OnErr};
 ghost use Rattle.ls_theory.specs.{asked, reply_fault};
 ghost use Rattle.ls_theory.specs.declared.reply_fault.ReplyFault.TheVariants.{WrongItem};
-ghost use Rattle.ls_pupils.specs.Own.{is_named};
-ghost use Rattle.ls_pupils.specs.Cases.{IsOwnCase};
+ghost use Rattle.ls_pupils.specs.Own.{is_called};
+ghost use Rattle.ls_pupils.specs.Cases.{IsOwnCase, case_name};
 ghost use Rattle.ls_pupils.specs.declared.cases.PupilCase.{PupilCase as Case};
 
 use ls_assess::{Pupil, ReplyFault, Settings};
@@ -74,7 +74,7 @@ impl PupilCases {
 
     /// The place of the first case of the name.
     pub fn place(&self, name: &Word) -> Option<usize>
-        ensures { result ≡ position (is_named (λ (c : Case). c.name) name.now) self.now }
+        ensures { result ≡ position (is_called case_name name.now) self.now }
     {
         self.cases
             .iter()
