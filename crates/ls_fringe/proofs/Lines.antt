@@ -1,11 +1,10 @@
 -- The line with the text of two fringes is read as the command that asks for the state with them.
-use Rattle.ls_fringe.proofs.Vocabulary.{◌++◌, ◌<◌, ◌∙◌, ◌∷◌, ◌≡◌, AllByRecursion, FringePair, IsWithin, Items, List, Text, ℕ, [], and_from, ap, append-nil, codes, command_of, full, is_of, is_plain, items, laid_out, length, list_all, map, name_of, names_of_set, parts, refl, spelled, spelled_as, spelling, sym, true, words, words_joined}
+use Rattle.ls_fringe.proofs.Vocabulary.{◌++◌, ◌<◌, ◌∙◌, ◌∷◌, ◌≡◌, AllByRecursion, FringePair, IsWithin, Items, List, Text, ℕ, [], and_from, ap, append-nil, codes, command_of, full, is_of, is_plain, items, laid_out, length, list_all, map, name_of, names_of_set, parts, refl, spelled, spelling, sym, true, words, words_joined, spelled_as}
 use Rattle.std.proofs.lemmas.List.Elements.{All-get_or}
 use Rattle.std.proofs.lemmas.List.Sums.{AllPass-from_list_all}
 use Rattle.ls_lines.specs.declared.kind.Kind.TheVariants.{Item}
-use Rattle.ls_lines.specs.declared.command.Command.{Command}
-use Rattle.ls_lines.specs.declared.command.Command.TheVariants as commands
-use Rattle.ls_lines.specs.declared.view.ViewCommand.TheVariants as views
+use Rattle.ls_lines.specs.declared.command.Command.TheVariants.{View}
+use Rattle.ls_lines.specs.declared.view.ViewCommand.TheVariants.{StateOf}
 use Rattle.ls_lines.proofs.ReadBack.{read_back}
 use Rattle.ls_domain.specs.Domains.{IsDomain, is_name}
 use Rattle.ls_domain.proofs.NamedSets.{items-below, names_of_set-within, set-back, set-all_named}
@@ -14,14 +13,11 @@ use Rattle.ls_fringe.proofs.Bars.{join-first}
 
 -- ---- the command
 
-abbrev StateOf : List Text → List Text → Command
-StateOf ws vs = commands.View (views.StateOf ws vs)
-
-plain : (ws vs : List Text) → list_all (is_of Item) ws ≡ true → list_all (is_of Item) vs ≡ true → is_plain (StateOf ws vs) ≡ true
+plain : (ws vs : List Text) → list_all (is_of Item) ws ≡ true → list_all (is_of Item) vs ≡ true → is_plain (View (StateOf ws vs)) ≡ true
 unfolding is_plain spelled_as parts
 plain ws vs a b = rw (a, b) refl
 
-as_line : (ws vs : List Text) → words_joined (spelled (StateOf ws vs)) ≡ codes "state-of " ++ words_joined (ws ++ (124 ∷ []) ∷ vs)
+as_line : (ws vs : List Text) → words_joined (spelled (View (StateOf ws vs))) ≡ codes "state-of " ++ words_joined (ws ++ (124 ∷ []) ∷ vs)
 unfolding spelled spelled_as parts laid_out spelling
 as_line ws vs = ap (λ l. words_joined (codes "state-of" ∷ (ws ++ (124 ∷ []) ∷ l))) (append-nil vs) ∙ join-first (codes "state-of") ws vs
 
@@ -52,7 +48,7 @@ asks names x domain inner outer =
     record {
       inner = ws;
       outer = vs;
-      command = ap (λ l. command_of (words l)) (sym (as_line ws vs)) ∙ read_back (StateOf ws vs) (plain ws vs (set-names names named x.inner inner) (set-names names named x.outer outer));
+      command = ap (λ l. command_of (words l)) (sym (as_line ws vs)) ∙ read_back (View (StateOf ws vs)) (plain ws vs (set-names names named x.inner inner) (set-names names named x.outer outer));
       inner_known = set-all_named names distinct x.inner inner;
       outer_known = set-all_named names distinct x.outer outer;
       inner_set = set-back names distinct x.inner inner;
