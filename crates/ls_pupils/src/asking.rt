@@ -1,9 +1,11 @@
 // What pupils are asked and reply, and how they are closed.
 ghost use Rattle.std.specs.Prelude.{◌≡◌, ◌≤◌, ℕ, IfSome, option_map};
 ghost use Rattle.std.specs.List.{All};
-ghost use Rattle.ls_meaning.specs.Pupils.{pupil_with, shown_of, question_shown, report_shown, reply_row, close_row};
+ghost use Rattle.ls_meaning.specs.Pupils.{pupil_with, shown_of, question_shown, report_shown};
+ghost use Rattle.ls_meaning.specs.Pupils.{reply_row, close_row};
 ghost use Rattle.ls_meaning.specs.declared.response.Response.TheVariants.{Shown as ShownAs};
-ghost use Rattle.ls_pupils.specs.Cases.{pupil_of_case, pupils_of, IsCase, IsOwnCase, ArePupils, changed_to};
+ghost use Rattle.ls_pupils.specs.Cases.{pupil_of_case, pupils_of, IsCase, IsOwnCase, ArePupils};
+ghost use Rattle.ls_pupils.specs.Cases.{changed_to};
 
 use crate::cases::{PupilCase, PupilCases};
 use ls_fringe::fringes;
@@ -14,7 +16,8 @@ use ls_set::PLACES;
 
 // The case of the name.
 fn case_of<'a>(pupils: &'a PupilCases, name: &Word) -> Option<&'a PupilCase>
-    ensures pupil { option_map (λ c. pupil_of_case c.now) result ≡ pupil_with (pupils_of pupils.now) name.now }
+    ensures pupil { option_map (λ c. pupil_of_case c.now) result
+        ≡ pupil_with (pupils_of pupils.now) name.now }
     ensures case { (n : ℕ) → ArePupils n pupils.now → IfSome result (λ c. IsCase n c.now) }
 {
     match pupils.place(name) {

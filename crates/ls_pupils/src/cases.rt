@@ -1,5 +1,7 @@
 // Pupils as a session keeps them.
-ghost use Rattle.std.specs.Prelude.{◌≡◌, ◌+◌, ◌<◌, ◌++◌, ◌∷◌, [], ℕ, Some, None, Err, length, position, remove, set, slice_get, IfSome, IfOk, IfErr, OnOk, OnErr};
+ghost use Rattle.std.specs.Prelude.{◌≡◌, ◌+◌, ◌<◌, ◌++◌, ◌∷◌, [], ℕ, Some, None, Err, length};
+ghost use Rattle.std.specs.Prelude.{position, remove, set, slice_get, IfSome, IfOk, IfErr, OnOk};
+ghost use Rattle.std.specs.Prelude.{OnErr};
 ghost use Rattle.ls_theory.specs.{asked, reply_fault};
 ghost use Rattle.ls_theory.specs.declared.reply_fault.ReplyFault.TheVariants.{WrongItem};
 ghost use Rattle.ls_pupils.specs.Own.{is_called};
@@ -89,7 +91,8 @@ impl PupilCases {
         let _ = self.cases.remove(place);
     }
 
-    /// Takes out the case at a place, as [`PupilCases::remove`] does, and keeps it beside the others.
+    /// Takes out the case at a place, as [`PupilCases::remove`] does, and keeps it beside the
+    /// others.
     pub fn close(&mut self, place: usize)
         requires place { place < length self.old }
         requires case { (c : Case) → slice_get self.old place ≡ Some c → IsOwnCase c }
