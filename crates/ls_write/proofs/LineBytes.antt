@@ -26,13 +26,13 @@ unfolding bytes_of
 lines-words [] = refl
 lines-words (l ∷ ls) = ap (λ bytes. line_bytes l ++ bytes) (lines-words ls)
 
-pub words-one : (ws : List Text) → line_of ws ≡ bytes_of (ws ∷ [])
+pub bytes_of-one : (ws : List Text) → bytes_of (ws ∷ []) ≡ line_of ws
 unfolding bytes_of
-words-one ws = sym (append-nil (line_of ws))
+bytes_of-one ws = append-nil (line_of ws)
 
-pub words-none : [] ≡ bytes_of []
+pub bytes_of-none : [] ≡ bytes_of []
 unfolding bytes_of
-words-none = refl
+bytes_of-none = refl
 
 -- ---- one line
 

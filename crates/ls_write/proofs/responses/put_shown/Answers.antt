@@ -12,7 +12,9 @@ put_surmise-requires g c =
     let i = c.args.inquiry.now in
     let can = subst (CanShow (length c.args.texts.now) i) c.in-Surmise.is c.requires.can in
     let sets = c.as_slice-in-Surmise.ensures in
-    c.as_slice-in-Surmise-2.ensures ∙ can.1 ∙ base-atoms i c.in-Surmise.base can.0 ∙ ap (λ (ks : List Items). map (λ k. set_of (atom_items ks k)) ks) (sym sets)
+    record {
+      atoms = c.as_slice-in-Surmise-2.ensures ∙ can.1 ∙ base-atoms i c.in-Surmise.base can.0 ∙ ap (λ (ks : List Items). map (λ k. set_of (atom_items ks k)) ks) (sym sets);
+    }
 
 pub returns-in-Surmise-clause-says : goal.returns-in-Surmise-clause-says
 returns-in-Surmise-clause-says g c =
