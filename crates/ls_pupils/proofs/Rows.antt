@@ -1,5 +1,5 @@
 -- What the rows of pupils come to.
-use Rattle.ls_pupils.proofs.Vocabulary.{◌++◌, ◌+◌, ◌<◌, ◌∷◌, ◌≡◌, ◌≤◌, All, Bool, CanTell, Done, Err, IfOk, Interview, IsCase, IsNewPupil, IsOn, IsWeighed, Items, List, None, Ok, OnOk, Pupil, PupilCase, Refused, ReplyFault, Result, Shown, Some, Weighing, ℕ, [], ap, arith, asked, asked_of, begin_row, changed, compatible_sets, fringes, get_or, is_among, le-leb, le-ltb, length, lt-leb, most_pupils, new_pupil, pupil_of, pupil_with, refl, replied, reply_fault, reply_row, slice_get, subst, suc, true, weighing_refusals, with_pupil, zero}
+use Rattle.ls_pupils.proofs.Vocabulary.{◌++◌, ◌+◌, ◌<◌, ◌∷◌, ◌≡◌, ◌≤◌, All, Bool, CanTell, Done, Err, IfOk, Interview, IsCase, IsNewPupil, AreOn, IsWeighed, Items, List, None, Ok, OnOk, Pupil, PupilCase, Refused, ReplyFault, Result, Shown, Some, Weighing, ℕ, [], ap, arith, asked, asked_of, begin_row, changed, compatible_sets, fringes, get_or, is_among, le-leb, le-ltb, length, lt-leb, most_pupils, new_pupil, pupil_of, pupil_with, refl, replied, reply_fault, reply_row, slice_get, subst, suc, true, weighing_refusals, with_pupil, zero}
 use Rattle.std.specs.declared.alloc.AllocError.{AllocError}
 use Rattle.ls_theory.specs.Settings.{Settings, most_states, heavy_after}
 use Rattle.ls_weight.specs.declared.fault.WeightFault.{WeightFault}
@@ -72,7 +72,7 @@ pub told-fault : (n : ℕ) (fault : ReplyFault) → ((q : ℕ) → fault ≡ Wro
 told-fault n (WrongItem q) h = All-one (λ i. i < n) q (h q refl)
 told-fault n (faults.Over reason) h = All-none_in (λ i. i < n)
 
-pub told-report : (n : ℕ) (f : List Items) (o : Outcome) (x : FringePair) → IsOn n f → is_among f o.state ≡ true → x ≡ fringes n f o.state → CanTell n (Shown (shown.Report o x))
+pub told-report : (n : ℕ) (f : List Items) (o : Outcome) (x : FringePair) → AreOn n f → is_among f o.state ≡ true → x ≡ fringes n f o.state → CanTell n (Shown (shown.Report o x))
 told-report n f o x on among is =
     let state = on o.state among in
     (state, λ i h. state i (inner-within f o.state i (rw (ap (λ (y : FringePair). y.inner) is) at h)), λ i h. outer-within n f o.state i (rw (ap (λ (y : FringePair). y.outer) is) at h))

@@ -11,7 +11,7 @@ pub use Rattle.std.specs.Prelude.{Decides, bytes_eq}
 pub use Rattle.ls_expert.specs.Starts.{IsStartOn, start_of}
 pub use Rattle.ls_laws.proofs.Families.{compat-IsFamily}
 pub use Rattle.ls_laws.specs.Families.{IsFamily}
-pub use Rattle.ls_laws.specs.Spans.{IsOn}
+pub use Rattle.ls_laws.specs.Spans.{AreOn}
 pub use Rattle.ls_lists.proofs.Every.{All-given, list_any-map}
 pub use Rattle.ls_lists.proofs.Places.{get-map, map-remove, position-here, position-later}
 pub use Rattle.ls_meaning.specs.{asked_of, begin_row, changed, close_row, has_name, most_pupils, new_pupil, pupil_with, replied, reply_row, weighing_refusals, with_pupil}

@@ -1,7 +1,7 @@
 // Classes: the pupils of a table, assessed by what it says of them.
 ghost use Rattle.std.specs.Prelude.{◌≡◌, [], length, Ok, IfOk};
 ghost use Rattle.ls_theory.specs.{compatible_sets};
-ghost use Rattle.ls_laws.specs.Spans.{IsOn};
+ghost use Rattle.ls_laws.specs.Spans.{AreOn};
 ghost use Rattle.ls_weight.specs.Weighings.{IsWeighable};
 ghost use Rattle.ls_files.specs.ClassTables.{class_of};
 ghost use Rattle.ls_meaning.specs.{classed_by};
@@ -76,7 +76,7 @@ fn replay_over<R: Threads + Sync>(
     table: &ClassTable,
 ) -> Result<Response, AllocError>
     requires weighable { IsWeighable n states.now settings.now }
-    requires small { IsOn n states.now }
+    requires small { AreOn n states.now }
     ensures response { IfOk result (λ r.
         r ≡ classed_by settings.now states.now [] (Ok table.now)) }
     ensures told { IfOk result (CanTell n) }

@@ -1,5 +1,5 @@
 -- What a fetch lets a command see, and a command that is carried out by it.
-use Rattle.ls_session.proofs.Vocabulary.{◌++◌, ◌==◌, ◌∙◌, ◌≡◌, AllocError, Answer, AnswersStand, Bool, Bytes, Calls, Decides, Effect, Err, Failed, FetchCause, Fetched, FetchedFrom, Fetches, FileFailed, Folder, GivesBytes, IsErrOf, IsFetched, List, Makes, MatchResult, Missing, NoFile, None, Ok, Option, Refused, Response, Result, Sees, Session, Some, Stays, Text, TooLarge, Unnamed, Vec, ℕ, [], answers, ap, bytes_fetched, calls_of, changes_interview, cond, false, fetched_from, file_effect, file_refusals, file_shown, has_domain, length, longest_file, ltb, not, refl, refuse, start_read, start_row, starts_by, subst, sym, true}
+use Rattle.ls_session.proofs.Vocabulary.{◌++◌, ◌==◌, ◌∙◌, ◌≡◌, AllocError, Answer, AnswersStand, Bool, Bytes, Calls, Decides, Effect, Err, Failed, FetchCause, Fetched, FetchedFrom, Fetches, FileFailed, Folder, GivesBytes, IsErrOf, IsFetched, List, Makes, MatchResult, Missing, NoFile, None, Ok, Option, Refused, Response, Result, Sees, Session, Some, FolderStays, Text, TooLarge, Unnamed, Vec, ℕ, [], answers, ap, bytes_fetched, calls_of, changes_interview, cond, false, fetched_from, file_effect, file_refusals, file_shown, has_domain, length, longest_file, ltb, not, refl, refuse, start_read, start_row, starts_by, subst, sym, true}
 use Rattle.std.specs.declared.alloc.Global.{Global}
 use Rattle.std.specs.FinMap as map
 use Rattle.std.proofs.lemmas.Result.{on_ok_weaker, on_err_weaker}
@@ -85,7 +85,7 @@ pub seen_is : (old new : Option Folder) (r : Result (Vec ℕ Global) FetchFault)
 seen_is None new r name h = fetched_is r
 seen_is (Some m) new r name h = seen_from (map.get m name) r h.1
 
-stays : (old new : Option Folder) → Stays old new → (m : Folder) → old ≡ Some m → new ≡ Some m
+stays : (old new : Option Folder) → FolderStays old new → (m : Folder) → old ≡ Some m → new ≡ Some m
 stays None new h m e = absurd (cc e)
 stays (Some k) new h m e = h ∙ e
 

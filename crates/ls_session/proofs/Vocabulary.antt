@@ -14,7 +14,7 @@ pub use Rattle.ls_views.specs.Views.{CanSay}
 pub use Rattle.ls_session.specs.States.{CanTell, CourseState, IsTrailOf}
 pub use Rattle.std.proofs.Common.{◌++◌, ◌<◌, ◌==◌, ◌∙◌, ◌∷◌, ◌≡◌, ◌≤◌, Bool, Err, IfOk, IsErrAnd, IsErrOf, List, MatchResult, None, Ok, OnErr, OnOk, Option, Result, Some, Vec, ℕ, [], ap, arith, cond, false, le-ltb, length, lt-ltb, ltb, ne_eqb, not, refl, subst, sym, true}
 pub use Rattle.std.specs.declared.alloc.AllocError.{AllocError}
-pub use Rattle.ls_edge.specs.Files.{FetchCause, FetchedFrom, Fetches, Folder, GivesBytes, Stays, Stores, longest_file}
+pub use Rattle.ls_edge.specs.Files.{FetchCause, FetchedFrom, Fetches, Folder, GivesBytes, FolderStays, Stores, longest_file}
 pub use Rattle.ls_meaning.proofs.Effects.{asked_effect-stored, command_effect-asked, has_domain-some}
 pub use Rattle.ls_meaning.specs.{Bytes, Calls, Change, Effect, Failed, Fetched, Missing, Session, TooLarge, answers, asked_effect, bytes_fetched, calls_of, changes_interview, class_row, fetched_from, file_effect, file_refusals, file_shown, file_stored, has_domain, refuse, request_of, save_row, start_read, start_row, started, starts_by, stores, test_row, unnamed_at}
 unfoldable pub use Rattle.ls_meaning.specs.{command_effect}

@@ -4,9 +4,9 @@ ghost use Rattle.ls_meaning.specs.{command_effect};
 ghost use Rattle.ls_session.specs.States.{CanTell};
 ghost use Rattle.ls_session.specs.Decides.{Decides, NeedsDomain};
 
+use crate::Course;
 use crate::loading::{load_class, load_start, load_test};
 use crate::saving::save;
-use crate::Course;
 use ls_edge::Shelf;
 use ls_interior::Steps;
 use ls_lines::Command;

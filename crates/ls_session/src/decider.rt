@@ -11,15 +11,13 @@ ghost use Rattle.ls_session.specs.Courses.{standing_session, HasNames, IsSayable
 
 mod opening;
 
-use crate::{carry_out, put_in_place, refusal_of};
-use crate::Course;
+use crate::{Course, carry_out, put_in_place, refusal_of};
 use ls_domain::{Domain, DomainFault};
 use ls_edge::{FetchFault, Shelf, Sink};
 use ls_interior::Steps;
 use ls_lines::{Command, LONGEST_LINE, LineFault, Word, WordList, read_command};
 use ls_meaning::{Refusal, Response};
-use ls_write::Room;
-use ls_write::{put_agreed, put_done, put_refusal};
+use ls_write::{Room, put_agreed, put_done, put_refusal};
 use std::alloc::{AllocError, Global};
 use std::sync::ledger::Ledger;
 use std::thread::Threads;

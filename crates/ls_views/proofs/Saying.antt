@@ -1,5 +1,5 @@
 -- What can be said of an interview.
-use Rattle.ls_views.proofs.Vocabulary.{◌otherwise◌, ◌∙◌, ◌≡◌, AreNamed, BaseVerdict, Bool, CanRefuse, CanSay, Err, IfSome, Interview, IsAfter, IsFollowed, IsOn, IsSound, IsWithin, Items, List, None, Ok, Option, Peak, Response, Some, Text, View, ℕ, [], and_from, arith, atom_items, atom_sets, base, base-member, base_verdict, based_row, cases_Bool, compat-IsUnionFamily, compatible_sets, double_atom, false, followed_sets, fringes, full, inl, inr, is_among, is_based, is_good, is_learning_space, is_order, is_space, is_well_graded, known, learned, learning_refusals, length, next_question, not, outer_fringe, past_refusal, paths_shown, peak_of, project_row, projection, refl, refusal_items, refuse, refuse_fault, slice_index, state_of, state_shown, states_row, subst, sym, true, view_row, yes_queries}
+use Rattle.ls_views.proofs.Vocabulary.{◌otherwise◌, ◌∙◌, ◌≡◌, AreNamed, BaseVerdict, Bool, CanRefuse, CanSay, Err, IfSome, Interview, IsAfter, IsFollowed, AreOn, IsSound, IsWithin, Items, List, None, Ok, Option, Peak, Response, Some, Text, View, ℕ, [], and_from, arith, atom_items, atom_sets, base, base-member, base_verdict, based_row, cases_Bool, compat-IsUnionFamily, compatible_sets, double_atom, false, followed_sets, fringes, full, inl, inr, is_among, is_based, is_good, is_learning_space, is_order, is_space, is_well_graded, known, learned, learning_refusals, length, next_question, not, outer_fringe, past_refusal, paths_shown, peak_of, project_row, projection, refl, refusal_items, refuse, refuse_fault, slice_index, state_of, state_shown, states_row, subst, sym, true, view_row, yes_queries}
 use Rattle.std.specs.Option.{ForSome}
 use Rattle.ls_set.specs.declared.cursor.CursorFault.{CursorFault}
 use Rattle.ls_set.proofs.Sets.{is_within-from}
@@ -37,7 +37,7 @@ asked P (Some q) h = λ x e. let same : q ≡ x = cc in subst P same h
 
 -- ---- what is told of a space
 
-module _ (n : ℕ) (f : List Items) (on : IsOn n f) where
+module _ (n : ℕ) (f : List Items) (on : AreOn n f) where
   -- the refusal of a space that is no learning space names its items
   told-double : (names : List Text) (k : Items) (i j : ℕ) → length names ≡ n → IsDoubleOn n k i j → CanRefuse names (refusal_of.NotLearning k i j)
   told-double names k i j e d = double-named names k i j (subst (λ m. IsDoubleOn m k i j) (sym e) d)
@@ -64,7 +64,7 @@ module _ (names : List Text) (i : Interview) (sets : List Items) (items : length
   abbrev f : List Items
   f = compatible_sets i
 
-  on : IsOn n f
+  on : AreOn n f
   on = λ k m. subst (λ c. IsWithin k (full c)) (sym items) ((compat-IsUnionFamily i.count i.start (yes_queries i.answers)).small k m)
 
   space : is_space (full n) f ≡ true
@@ -86,7 +86,7 @@ module _ (names : List Text) (i : Interview) (sets : List Items) (items : length
   can-projected part count (Ok after) h = h
   can-projected part count (Err fault) h = names_none names (refusal_of.Cursor fault) refl
 
-  pub can-view : (v : View) → asked_on.IsOn n v → (is_based v ≡ true → peak_of i ≡ None → sets ≡ base f) → CanSay names i sets (view_row i v)
+  pub can-view : (v : View) → asked_on.AreOn n v → (is_based v ≡ true → peak_of i ≡ None → sets ≡ base f) → CanSay names i sets (view_row i v)
   can-view (view.Known q) h same = can-known names i sets (is_good i.count q) (known i q)
   can-view view.Ask h same = subst (λ m. ForSome (next_question i None) (λ q. is_good m q ≡ true)) (sym items) (asked (λ q. is_good i.count q ≡ true) (next_question i None) (question-good i None))
   can-view (view.States count after) h same = can-after count after h
@@ -96,7 +96,7 @@ module _ (names : List Text) (i : Interview) (sets : List Items) (items : length
   can-view (view.Project part count after) h same = can-projected part count after h.1
   can-view (view.ProjectBase part) h same =
       let g = projection i.count part f in
-      can-based (Shown (shown.ProjectedBase (base g) (base_verdict g))) (λ e. subst (λ m. let g = projection m part f in IsOn n (base g) × IsBaseVerdictOn n (base_verdict g)) items
+      can-based (Shown (shown.ProjectedBase (base g) (base_verdict g))) (λ e. subst (λ m. let g = projection m part f in AreOn n (base g) × IsBaseVerdictOn n (base_verdict g)) items
       (λ k m. projection-within n part f h k (base-member (projection n part f) k m), base_verdict-on n (projection n part f) part (projection-within n part f h) (projection-space n part f (is_within-from part (full n) h) space)))
   can-view (view.Fringes k) h same = can-fringes (is_among f k)
     where

@@ -10,7 +10,7 @@ pub use Rattle.ls_domain.specs.Texts.{fringe_words, joined_names, name_of, set_t
 pub use Rattle.ls_laws.proofs.Atoms.{base-member, base-spans}
 pub use Rattle.ls_laws.proofs.Compat.{compat-IsUnionFamily, compat-in_order}
 pub use Rattle.ls_laws.specs.Forced.{IsSound}
-pub use Rattle.ls_laws.specs.Spans.{IsOn, spanned}
+pub use Rattle.ls_laws.specs.Spans.{AreOn, spanned}
 pub use Rattle.ls_lines.specs.{Text}
 pub use Rattle.ls_resolve.specs.Asked.{IsAfter, IsAskedOn}
 pub use Rattle.ls_paths.specs.Left.{paths_left}

@@ -5,7 +5,7 @@ use Rattle.std.specs.Option.{ForSome}
 use Rattle.ls_set.specs.{IsWithin, Items, full, is_good}
 use Rattle.ls_theory.specs.{Interview, atom_sets, base, base_verdict, compatible_sets, is_learning_space, is_order, projection, state_of}
 use Rattle.ls_theory.specs.declared.fringe_pair.FringePair.{FringePair}
-use Rattle.ls_laws.specs.Spans.{IsOn}
+use Rattle.ls_laws.specs.Spans.{AreOn}
 use Rattle.ls_spans.specs.Speaking.{IsBaseVerdictOn, IsVerdictOn}
 use Rattle.ls_meaning.specs.{learned, paths_shown, state_shown}
 use Rattle.ls_lines.specs.{Text}
@@ -71,7 +71,7 @@ CanShow names i sets shown.Base = sets ≡ base (compatible_sets i)
 CanShow names i sets (shown.Surmise atoms) = (sets ≡ base (compatible_sets i)) × (atoms ≡ atom_sets (compatible_sets i))
 CanShow names i sets (shown.Learning verdict) = IsBaseVerdictOn (length names) verdict
 CanShow names i sets (shown.Projected part count after) = ForSome after (λ k. IsWithin k (full (length names)))
-CanShow names i sets (shown.ProjectedBase found verdict) = IsOn (length names) found × IsBaseVerdictOn (length names) verdict
+CanShow names i sets (shown.ProjectedBase found verdict) = AreOn (length names) found × IsBaseVerdictOn (length names) verdict
 CanShow names i sets (shown.Fringes fringes) = AreWithin (length names) fringes
 CanShow names i sets (shown.State k) = IsWithin k (full (length names))
 CanShow names i sets (shown.Paths count after) = (is_learning_space (full (length names)) (compatible_sets i) ≡ true) × ForSome after (λ order. is_order (length names) order ≡ true)

@@ -18,11 +18,10 @@ use ls_edge::{Sink, SinkFault};
 use ls_expert::{Inquiry, Interview};
 use ls_interior::Steps;
 use ls_lines::Command;
-use ls_resolve::{ResolveFault, resolve};
 use ls_meaning::{Request, Response, View};
+use ls_resolve::{ResolveFault, resolve};
 use ls_set::ItemSet;
-use ls_write::{Room, SetTexts};
-use ls_write::{put_agreed, put_done, put_refusal};
+use ls_write::{Room, SetTexts, put_agreed, put_done, put_refusal};
 use std::alloc::{AllocError, Global};
 use std::sync::ledger::Ledger;
 

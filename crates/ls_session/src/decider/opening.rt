@@ -7,8 +7,7 @@ ghost use Rattle.ls_session.specs.Decides.{Decides, Makes, IsFetched};
 ghost use Rattle.ls_session.specs.Courses.{standing_session, IsSayable};
 
 use crate::decider::Decider;
-use crate::{put_in_place, refusal_of};
-use crate::Course;
+use crate::{Course, put_in_place, refusal_of};
 use ls_edge::{FetchFault, Shelf};
 use ls_interior::Steps;
 use ls_lines::Word;

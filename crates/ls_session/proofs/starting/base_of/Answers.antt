@@ -2,7 +2,7 @@ use Rattle.ls_session.proofs.Vocabulary.{◌<◌, ◌∙◌, ◌∷◌, ◌≡�
 use Rattle.std.specs.declared.alloc.AllocError.{AllocError}
 use Rattle.ls_theory.specs.declared.base_fault.BaseFault.{BaseFault}
 use Rattle.ls_theory.specs.declared.base_fault.BaseFault.TheVariants.{NotSpanning, Past, Memory}
-use Rattle.ls_base.specs.Bases.{IsFaultOf}
+use Rattle.ls_base.specs.Bases.{IsBaseFault}
 use Rattle.ls_clauses.proofs.BaseCovers.{based-cover, missing-lt}
 use Rattle.ls_meaning.specs.declared.refusal.Refusal.TheVariants.{StartBase}
 use Rattle.ls_write.specs.Names.{AreNamed}
@@ -14,13 +14,13 @@ one-named names q l zero d m = l
 one-named names q l (suc k) d m = absurd (omega arith)
 
 -- why there is no base can be told
-fault-named : (names : List Text) (sets : List Items) (fault : BaseFault) → IsFaultOf (based (length names) sets) fault → CanRefuse names (StartBase fault)
+fault-named : (names : List Text) (sets : List Items) (fault : BaseFault) → IsBaseFault (based (length names) sets) fault → CanRefuse names (StartBase fault)
 fault-named names sets (NotSpanning q) e = one-named names q (missing-lt (length names) sets q e)
 fault-named names sets (Past count) e = λ k d m. absurd (omega arith)
 fault-named names sets (Memory x) e = λ k d m. absurd (omega arith)
 
 -- and it is that of the definition, where memory did not run out
-fault-read : (n : ℕ) (sets : List Items) (fault : BaseFault) → ((e : AllocError) → fault ≡ Memory e → ⊥) → IsFaultOf (based n sets) fault → based n sets ≡ Err fault
+fault-read : (n : ℕ) (sets : List Items) (fault : BaseFault) → ((e : AllocError) → fault ≡ Memory e → ⊥) → IsBaseFault (based n sets) fault → based n sets ≡ Err fault
 fault-read n sets (NotSpanning q) other e = e
 fault-read n sets (Past count) other e = e
 fault-read n sets (Memory x) other e = absurd (other x refl)
@@ -36,5 +36,5 @@ pub returns-in-Err : goal.returns-in-Err
 returns-in-Err c =
     let names = c.args.domain.now in
     let sets = c.args.sets.now in
-    let fault : IsFaultOf (based (length names) sets) c.in-Err.fault = subst (λ m. IsFaultOf (based m sets) c.in-Err.fault) c.count.ensures.value c.in-Err.ensures.fault in
+    let fault : IsBaseFault (based (length names) sets) c.in-Err.fault = subst (λ m. IsBaseFault (based m sets) c.in-Err.fault) c.count.ensures.value c.in-Err.ensures.fault in
     (ap start_of_base (fault-read (length names) sets c.in-Err.fault (λ e is. search rules) fault), fault-named names sets c.in-Err.fault fault)
