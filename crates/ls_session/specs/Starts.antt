@@ -4,10 +4,10 @@ use Rattle.ls_theory.specs.Starts as theory
 use Rattle.ls_lines.specs.{Text}
 use Rattle.ls_expert.specs.Starts.{start_of, IsStartOn}
 use Rattle.ls_expert.specs.declared.start.Start.{Start}
-use Rattle.ls_meaning.specs.declared.refusal.Refusal.{Refusal}
-use Rattle.ls_write.specs.Names.{CanRefuse}
+use Rattle.ls_meaning.specs.declared.response.Refusal.{Refusal}
 
--- what was read is what the definition reads: a start on the named items, or a refusal that can be told
+-- what was read is what the definition reads: a start on the named items, or a refusal
 abbrev pub IsStartRead : List Text → Result theory.Start Refusal → Result Start Refusal → Type 0
-IsStartRead names reading (Ok start) = (reading ≡ Ok (start_of start)) × IsStartOn (length names) start
-IsStartRead names reading (Err refusal) = (reading ≡ Err refusal) × CanRefuse names refusal
+IsStartRead names reading (Ok start) =
+    (reading ≡ Ok (start_of start)) × IsStartOn (length names) start
+IsStartRead names reading (Err refusal) = reading ≡ Err refusal

@@ -14,8 +14,7 @@ use ls_edge::{Shelf, Sink, SinkFault};
 use ls_interior::Steps;
 use ls_lines::{LONGEST_LINE, is_note};
 use ls_meaning::Refusal;
-use ls_write::Room;
-use ls_write::put_refusal;
+use ls_write::{Room, put_refusal};
 use std::alloc::{AllocError, Global};
 use std::marker::{Brand, Model};
 use std::sync::ledger::{Blank, Ledger};
@@ -40,11 +39,11 @@ fn is_passed(line: &[u8]) -> bool
 
 impl Model for Session {
     ghost use Rattle.ls_meaning.specs.{Session as State};
-    ghost use Rattle.ls_session.specs.Courses.{standing_session, IsIdle};
+    ghost use Rattle.ls_session.specs.Standing.{standing_session, IsIdle};
 
     ghost Value = { State };
 
-    ghost view = { λ s. standing_session s.decider.course };
+    ghost view = { λ s. standing_session s.decider.state };
 
     ghost invariant = { λ s. IsIdle s.room };
 }
