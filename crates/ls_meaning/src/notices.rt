@@ -18,6 +18,12 @@ pub enum Detail {
     Set(ItemSet),
 }
 
+impl Default for Detail {
+    fn default() -> Detail {
+        Detail::Number(0)
+    }
+}
+
 /// What a refusal tells: its code, and its details.
 #[derive(Drop)]
 pub struct Notice {

@@ -1,14 +1,18 @@
 // Replies as values.
-use crate::faults::{answer_notice, base_notice, block_notice, cause_word, cursor_notice};
-use crate::faults::{domain_notice, reply_notice, sets_notice, surmise_notice};
+use crate::faults::{
+    answer_notice, base_notice, block_notice, cause_word, cursor_notice, domain_notice,
+    reply_notice, sets_notice, surmise_notice,
+};
 use crate::notices::{Detail, Notice};
 use ls_class::Results;
 use ls_domain::DomainFault;
 use ls_files::FamilyFault;
 use ls_saved::Cause;
 use ls_set::{CursorFault, ItemList, ItemSet, Query, SetList};
-use ls_theory::{AnswerFault, Asked, BaseFault, BaseVerdict, BlockFault, FringePair, Known, Outcome};
-use ls_theory::{ReplyFault, SurmiseFault, Verdict};
+use ls_theory::{
+    AnswerFault, Asked, BaseFault, BaseVerdict, BlockFault, FringePair, Known, Outcome, ReplyFault,
+    SurmiseFault, Verdict,
+};
 
 /// What a line is answered. The lines of the reply follow from it and from the session.
 #[derive(Drop)]
@@ -208,7 +212,13 @@ impl Refusal {
             Refusal::NotStanding => Notice::bare(23),
             Refusal::Cursor(fault) => cursor_notice(fault),
             Refusal::Past { position, count } => {
-                Notice::new(25, &[Detail::Number(position as u64), Detail::Number(count as u64)])
+                Notice::new(
+                    25,
+                    &[
+                        Detail::Number(position as u64),
+                        Detail::Number(count as u64),
+                    ],
+                )
             }
             Refusal::NoFile => Notice::bare(26),
             Refusal::FileFailed => Notice::bare(27),
@@ -216,7 +226,10 @@ impl Refusal {
             Refusal::TestedSets(fault) => sets_notice(29, fault),
             Refusal::NotState => Notice::bare(30),
             Refusal::NotLearning { set, first, second } => {
-                Notice::new(31, &[Detail::Set(set), Detail::Item(first), Detail::Item(second)])
+                Notice::new(
+                    31,
+                    &[Detail::Set(set), Detail::Item(first), Detail::Item(second)],
+                )
             }
             Refusal::NoState => Notice::bare(32),
             Refusal::NotOrder => Notice::bare(33),

@@ -7,18 +7,20 @@ use Rattle.ls_weight.specs.Weighings.{Weighing}
 use Rattle.ls_weight.specs.declared.fault.WeightFault.{WeightFault}
 use Rattle.ls_weight.specs.declared.fault.WeightFault.TheVariants.{Heavy, Memory}
 use Rattle.ls_meaning.specs.{weighing_refusals}
-use Rattle.ls_meaning.specs.declared.refusal.Refusal.{Refusal}
-use Rattle.ls_meaning.specs.declared.refusal.Refusal.TheVariants as refusal
+use Rattle.ls_meaning.specs.declared.response.Refusal.{Refusal}
+use Rattle.ls_meaning.specs.declared.response.Refusal.TheVariants as refusal
 
--- a pupil over the states of the interview with no replies, where these can be weighed; or the first refusal
+-- a pupil over the states of the interview with no replies, where these can be weighed; or the
+-- first refusal
 abbrev pub IsNewPupil : Interview → Settings → Result Weighing Refusal → Type 0
 IsNewPupil i s (Ok p) =
     (p ≡ record { settings = s; states = compatible_sets i; replies = [] })
     × (weighing_refusals s (length (compatible_sets i)) ≡ [])
 IsNewPupil i s (Err r) = slice_get (weighing_refusals s (length (compatible_sets i))) 0 ≡ Some r
 
--- the same pupil; or the refusal of one that is too heavy; or want of memory
-abbrev pub IsWeighed : Result Weighing WeightFault → Result (Result Weighing Refusal) AllocError → Type 0
-IsWeighed (Ok p) result = result ≡ Ok (Ok p)
-IsWeighed (Err (Heavy replies)) result = result ≡ Ok (Err (refusal.Heavy replies))
-IsWeighed (Err (Memory e)) result = result ≡ Err e
+-- the pupil that begins; or the refusal of one that is too heavy; or want of memory
+abbrev pub RefusesHeavy :
+    Result Weighing WeightFault → Result (Result Weighing Refusal) AllocError → Type 0
+RefusesHeavy (Ok p) result = result ≡ Ok (Ok p)
+RefusesHeavy (Err (Heavy replies)) result = result ≡ Ok (Err (refusal.Heavy replies))
+RefusesHeavy (Err (Memory e)) result = result ≡ Err e

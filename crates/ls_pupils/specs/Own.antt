@@ -8,4 +8,5 @@ is_named name_of name x = bytes_eq (name_of x) name
 -- no two have the same name
 abbrev pub have_own_names : {X : Type 0} → (X → List ℕ) → List X → Bool
 have_own_names name_of [] = true
-have_own_names name_of (x ∷ xs) = not (list_any (is_named name_of (name_of x)) xs) && have_own_names name_of xs
+have_own_names name_of (x ∷ xs) =
+    not (list_any (is_named name_of (name_of x)) xs) && have_own_names name_of xs

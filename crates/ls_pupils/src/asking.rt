@@ -2,7 +2,7 @@
 ghost use Rattle.std.specs.Prelude.{◌≡◌, ◌≤◌, ℕ, IfSome, option_map};
 ghost use Rattle.ls_meaning.specs.Pupils.{pupil_with, shown_of, question_shown, report_shown, reply_row, close_row};
 ghost use Rattle.ls_meaning.specs.declared.response.Response.TheVariants.{Shown as ShownAs};
-ghost use Rattle.ls_pupils.specs.Cases.{pupil_of, pupils_of, IsCase, ArePupils, CanTell};
+ghost use Rattle.ls_pupils.specs.Cases.{pupil_of, pupils_of, IsCase, ArePupils};
 
 use crate::cases::{PupilCase, PupilCases};
 use ls_fringe::fringes;
@@ -23,13 +23,10 @@ fn case_of<'a>(pupils: &'a PupilCases, name: &Word) -> Option<&'a PupilCase>
 }
 
 /// `question NAME`
-pub fn question(n: u32, pupils: &PupilCases, name: &Word) -> Response
-    requires { ArePupils n pupils.now }
-    ensures response { result
-        ≡ shown_of (question_shown n) (pupil_with (pupils_of pupils.now) name.now) }
-    ensures told { CanTell n result }
+pub fn question(pupils: &PupilCases, name: &Word) -> Response
+    ensures { (n : ℕ) → ArePupils n pupils.now →
+        result ≡ shown_of (question_shown n) (pupil_with (pupils_of pupils.now) name.now) }
 {
-    let _ = n;
     match case_of(pupils, name) {
         None => Response::Refused(Refusal::NoPupil),
         Some(case) => Response::Shown(Shown::Asked(case.pupil.question())),
@@ -39,9 +36,7 @@ pub fn question(n: u32, pupils: &PupilCases, name: &Word) -> Response
 /// `report NAME`
 pub fn report(n: u32, pupils: &PupilCases, name: &Word) -> Response
     requires { ArePupils n pupils.now }
-    ensures response { result
-        ≡ shown_of (report_shown n) (pupil_with (pupils_of pupils.now) name.now) }
-    ensures told { CanTell n result }
+    ensures { result ≡ shown_of (report_shown n) (pupil_with (pupils_of pupils.now) name.now) }
 {
     match case_of(pupils, name) {
         None => Response::Refused(Refusal::NoPupil),
@@ -53,8 +48,7 @@ pub fn report(n: u32, pupils: &PupilCases, name: &Word) -> Response
 fn report_of(n: u32, case: &PupilCase) -> Shown
     requires few { n ≤ PLACES }
     requires case { IsCase n case.now }
-    ensures shown { ShownAs result ≡ report_shown n (pupil_of case.now) }
-    ensures told { CanTell n (ShownAs result) }
+    ensures { ShownAs result ≡ report_shown n (pupil_of case.now) }
 {
     let outcome = case.pupil.result();
     let states = Listed::new(n, case.pupil.states());
@@ -65,16 +59,13 @@ fn report_of(n: u32, case: &PupilCase) -> Shown
 }
 
 /// `reply NAME ITEM right` and `reply NAME ITEM wrong`
-pub fn reply(n: u32, pupils: &mut PupilCases, name: &Word, item: u32, right: bool) -> Response
-    requires { ArePupils n pupils.old }
-    ensures response { let ps = pupils_of pupils.old in
+pub fn reply(pupils: &mut PupilCases, name: &Word, item: u32, right: bool) -> Response
+    ensures response { (n : ℕ) → ArePupils n pupils.old → let ps = pupils_of pupils.old in
         result ≡ (reply_row n ps item right (pupil_with ps name.now)).response }
-    ensures next { let ps = pupils_of pupils.old in
+    ensures next { (n : ℕ) → ArePupils n pupils.old → let ps = pupils_of pupils.old in
         pupils_of pupils.new ≡ (reply_row n ps item right (pupil_with ps name.now)).next }
-    ensures pupils { ArePupils n pupils.new }
-    ensures told { CanTell n result }
+    ensures pupils { (n : ℕ) → ArePupils n pupils.old → ArePupils n pupils.new }
 {
-    let _ = n;
     match pupils.place(name) {
         None => Response::Refused(Refusal::NoPupil),
         Some(place) => match pupils.reply(place, item, right) {

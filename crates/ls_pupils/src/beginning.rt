@@ -7,7 +7,7 @@ ghost use Rattle.ls_meaning.specs.{begin_row, most_pupils, new_pupil};
 ghost use Rattle.ls_meaning.specs.declared.response.Response.TheVariants.{Done};
 ghost use Rattle.ls_pupils.specs.Own.{is_named};
 ghost use Rattle.ls_pupils.specs.Cases.{pupils_of, IsCase, IsOwnCase, ArePupils};
-ghost use Rattle.ls_pupils.specs.Beginning.{IsNewPupil, IsWeighed};
+ghost use Rattle.ls_pupils.specs.Beginning.{IsNewPupil, RefusesHeavy};
 ghost use Rattle.ls_pupils.specs.declared.cases.PupilCase.{PupilCase as Case};
 
 use crate::cases::{PupilCase, PupilCases};
@@ -32,7 +32,7 @@ pub const MOST_STATES: u32 = 65_536;
 pub fn begin<L: Ledger>(
     alloc: Global,
     pupils: &mut PupilCases,
-    name: Word,
+    name: &Word,
     inquiry: &Inquiry,
     settings: &Settings,
     steps: &mut Steps<L>,
@@ -40,13 +40,13 @@ pub fn begin<L: Ledger>(
     requires pupils { ArePupils inquiry.now.count pupils.old }
     requires items { length settings.now.ratios ≡ inquiry.now.count }
     ensures response { IfOk result (λ r. r ≡ (begin_row inquiry.now settings.now
-        (pupils_of pupils.old) name).response) }
+        (pupils_of pupils.old) name.now).response) }
     ensures next { OnOk result (pupils_of pupils.new ≡ (begin_row inquiry.now settings.now
-        (pupils_of pupils.old) name).next) }
+        (pupils_of pupils.old) name.now).next) }
     ensures pupils { ArePupils inquiry.now.count pupils.new }
     ensures err { OnErr result (pupils.new ≡ pupils.old) }
 {
-    if pupils.place(&name).is_some() {
+    if pupils.place(name).is_some() {
         return Ok(Response::Refused(Refusal::PupilStands));
     }
     if pupils.as_slice().len() >= MOST_PUPILS {
@@ -72,7 +72,7 @@ fn new_pupil<L: Ledger>(
     ensures { IfOk result (IsNewPupil inquiry.now settings.now) }
 {
     match like(pupils, inquiry) {
-        Some(case) => weighed(case.pupil.again(settings)),
+        Some(case) => unless_heavy(case.pupil.again(settings)),
         None => listed(alloc, inquiry, settings, steps),
     }
 }
@@ -165,15 +165,15 @@ fn listed<L: Ledger>(
 {
     let states = Counted::new(inquiry.family());
     match list_all(alloc, &states, MOST_STATES, steps) {
-        Ok(sets) => weighed(Pupil::begin(alloc, inquiry.items(), sets, settings)),
+        Ok(sets) => unless_heavy(Pupil::begin(alloc, inquiry.items(), sets, settings)),
         Err(ListFault::More) => Ok(Err(Refusal::ManyStates)),
         Err(ListFault::Memory(e)) => Err(e),
     }
 }
 
 // The pupil, or the refusal of one that is too heavy.
-fn weighed(begun: Result<Pupil, WeightFault>) -> Result<Result<Pupil, Refusal>, AllocError>
-    ensures { IsWeighed begun result }
+fn unless_heavy(begun: Result<Pupil, WeightFault>) -> Result<Result<Pupil, Refusal>, AllocError>
+    ensures { RefusesHeavy begun result }
 {
     match begun {
         Ok(pupil) => Ok(Ok(pupil)),
@@ -182,11 +182,11 @@ fn weighed(begun: Result<Pupil, WeightFault>) -> Result<Result<Pupil, Refusal>, 
     }
 }
 
-// Puts the pupil last. The number of its states is told.
+// Puts the pupil last, with a copy of the name. The number of its states is told.
 fn keep(
     alloc: Global,
     pupils: &mut PupilCases,
-    name: Word,
+    name: &Word,
     inquiry: &Inquiry,
     settings: &Settings,
     pupil: Pupil,
@@ -194,16 +194,16 @@ fn keep(
     requires pupil { IsNewPupil inquiry.now settings.now (Ok pupil) }
     ensures response { IfOk result (λ r. r ≡ Done (length (compatible_sets inquiry.now))) }
     ensures next { OnOk result (pupils_of pupils.new
-        ≡ pupils_of pupils.old ++ new_pupil name inquiry.now settings.now ∷ []) }
+        ≡ pupils_of pupils.old ++ new_pupil name.now inquiry.now settings.now ∷ []) }
     ensures pupils { ArePupils inquiry.now.count pupils.old → length pupils.old < most_pupils →
-        list_any (is_named (λ (c : Case). c.name) name) pupils.old ≡ false →
+        list_any (is_named (λ (c : Case). c.name) name.now) pupils.old ≡ false →
         length settings.now.ratios ≡ inquiry.now.count →
         ArePupils inquiry.now.count pupils.new }
     ensures err { OnErr result (pupils.new ≡ pupils.old) }
 {
     let number = pupil.states().len() as u64;
     pupils.push(PupilCase {
-        name,
+        name: name.copy()?,
         start: inquiry.start().copy()?,
         yes: QueryList::from_slice(alloc, inquiry.yes_queries())?,
         settings: settings.copy()?,

@@ -1,8 +1,6 @@
 // How settings change.
-ghost use Rattle.std.specs.Prelude.{◌≡◌, ℕ, length};
-ghost use Rattle.ls_meaning.specs.{setting_row};
-ghost use Rattle.ls_resolve.specs.Asked.{IsSettingOn};
-ghost use Rattle.ls_pupils.specs.Cases.{CanTell};
+ghost use Rattle.std.specs.Prelude.{◌≡◌, length};
+ghost use Rattle.ls_meaning.specs.{IsSettingOn, setting_row};
 
 use ls_assess::Settings;
 use ls_meaning::{Refusal, Response, Setting};
@@ -12,7 +10,6 @@ pub fn set(settings: &mut Settings, setting: Setting) -> Response
     requires { IsSettingOn (length settings.old.ratios) setting }
     ensures response { result ≡ (setting_row settings.old setting).response }
     ensures next { settings.new ≡ (setting_row settings.old setting).next }
-    ensures told { (n : ℕ) → CanTell n result }
     ensures items { length settings.new.ratios ≡ length settings.old.ratios }
 {
     let changed = match setting {

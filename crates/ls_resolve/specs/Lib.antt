@@ -1,1 +1,2 @@
-pub mod Asked
+pub mod Resolving
+pub use Rattle.ls_resolve.specs.Resolving.{Resolves, ResolvesInMemory}

@@ -2,10 +2,15 @@
 //! it out speaks of items.
 #![tactic(auto)]
 
+mod edits;
 mod names;
 mod pupils;
-mod request;
+mod settings;
 mod unnamed;
+mod views;
 
-pub use request::resolve;
-pub use unnamed::ResolveFault;
+pub use edits::resolve_edit;
+pub use pupils::resolve_pupil;
+pub use settings::resolve_setting;
+pub use unnamed::{ResolveFault, Unnamed};
+pub use views::resolve_view;

@@ -1,9 +1,9 @@
 // Names of commands.
-ghost use Rattle.std.specs.Prelude.{◌≡◌, ◌+◌, ◌<◌, ◌^◌, [], ◌∷◌, Some, map, length, slice_get, IfOk, IfErr, OnOk};
+ghost use Rattle.std.specs.Prelude.{◌≡◌, ◌+◌, ◌<◌, ◌^◌, [], ◌∷◌, map, length, IfOk};
 ghost use Rattle.ls_set.specs.{IsWithin, full};
 ghost use Rattle.ls_domain.specs.Meanings.{item_of, items_of};
 ghost use Rattle.ls_meaning.specs.{placed, query_of, query_words, unnamed};
-ghost use Rattle.ls_resolve.specs.Asked.{IsResolveFault};
+ghost use Rattle.ls_resolve.specs.Resolving.{Resolves, ResolvesInMemory};
 
 use crate::unnamed::{ResolveFault, Unnamed};
 use ls_domain::{Domain, UnknownAt};
@@ -16,10 +16,8 @@ pub const FIRST_NAME: usize = 2;
 
 /// The query `NAMES : ITEM`, where its names stand from the second place of the line on.
 pub fn read_query(domain: &Domain, names: &WordList, item: &Word) -> Result<Query, Unnamed>
-    ensures query { IfOk result (λ r. r ≡ query_of domain.now names.now item.now) }
-    ensures named { OnOk result (unnamed domain.now (query_words names.now item.now) ≡ []) }
-    ensures unnamed { IfErr result (λ u.
-        slice_get (unnamed domain.now (query_words names.now item.now)) 0 ≡ Some u.place) }
+    ensures { Resolves (unnamed domain.now (query_words names.now item.now))
+        (query_of domain.now names.now item.now) result }
 {
     let place = names.as_slice().len() + 3;
     let a = match read_names(domain, names, FIRST_NAME) {
@@ -32,11 +30,9 @@ pub fn read_query(domain: &Domain, names: &WordList, item: &Word) -> Result<Quer
 
 /// The item that the word names, which stands at a place of the line.
 pub fn read_item(domain: &Domain, item: &Word, place: usize) -> Result<u32, Unnamed>
-    ensures item { IfOk result (λ q. q ≡ item_of domain.now item.now) }
+    ensures resolves { Resolves (unnamed domain.now ((place, item.now) ∷ []))
+        (item_of domain.now item.now) result }
     ensures on { IfOk result (λ q. q < length domain.now) }
-    ensures named { OnOk result (unnamed domain.now ((place, item.now) ∷ []) ≡ []) }
-    ensures unnamed { IfErr result (λ u.
-        slice_get (unnamed domain.now ((place, item.now) ∷ [])) 0 ≡ Some u.place) }
 {
     match domain.number(item.as_str()) {
         Some(q) => Ok(q),
@@ -47,11 +43,9 @@ pub fn read_item(domain: &Domain, item: &Word, place: usize) -> Result<u32, Unna
 /// The set of the names, which stand from a place of the line on.
 pub fn read_names(domain: &Domain, names: &WordList, first: usize) -> Result<ItemSet, Unnamed>
     requires { first < 2 ^ 63 }
-    ensures set { IfOk result (λ s. s ≡ items_of domain.now names.now) }
+    ensures resolves { Resolves (unnamed domain.now (placed first names.now))
+        (items_of domain.now names.now) result }
     ensures on { IfOk result (λ s. IsWithin s (full (length domain.now))) }
-    ensures named { OnOk result (unnamed domain.now (placed first names.now) ≡ []) }
-    ensures unnamed { IfErr result (λ u.
-        slice_get (unnamed domain.now (placed first names.now)) 0 ≡ Some u.place) }
 {
     let _ = names.as_slice();
     match domain.read_set(names) {
@@ -70,10 +64,8 @@ pub fn read_order(
     first: usize,
 ) -> Result<ItemList, ResolveFault>
     requires { first < 2 ^ 63 }
-    ensures order { IfOk result (λ o. o ≡ map (item_of domain.now) names.now) }
-    ensures named { OnOk result (unnamed domain.now (placed first names.now) ≡ []) }
-    ensures unnamed { IfErr result (IsResolveFault (unnamed domain.now
-        (placed first names.now))) }
+    ensures { ResolvesInMemory (unnamed domain.now (placed first names.now))
+        (map (item_of domain.now) names.now) result }
 {
     let _ = read_names(domain, names, first)?;
     Ok(items_of(alloc, domain, names)?)

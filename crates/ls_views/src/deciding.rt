@@ -1,8 +1,7 @@
 // What is shown of an interview, decided.
 ghost use Rattle.std.specs.Prelude.{◌≡◌, ◌≤◌, ◌+◌, false};
 ghost use Rattle.ls_set.specs.{IsWithin, full};
-ghost use Rattle.ls_resolve.specs.Asked.{IsOn};
-ghost use Rattle.ls_meaning.specs.{fringes_row, known_row, project_row, states_row, view_row};
+ghost use Rattle.ls_meaning.specs.{IsViewOn, fringes_row, known_row, project_row, states_row, view_row};
 ghost use Rattle.ls_views.specs.Views.{is_based, view_steps};
 
 use ls_expert::{AnswerFault, BadQuery, Inquiry};
@@ -31,7 +30,7 @@ pub fn is_based(view: &View) -> bool
 /// at most one counted interior for a query, and none for the others.
 pub fn decide<L: Ledger>(inquiry: &Inquiry, view: &View, steps: &mut Steps<L>) -> Response
     requires other { is_based view.now ≡ false }
-    requires on { IsOn inquiry.now.count view.now }
+    requires on { IsViewOn inquiry.now.count view.now }
     ensures response { result ≡ view_row inquiry.now view.now }
     ensures cost { steps.new ≤ steps.old + view_steps view.now }
 {
