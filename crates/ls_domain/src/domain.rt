@@ -92,9 +92,8 @@ impl Domain {
         self.names.number(name)
     }
 
-    /// The name of item `i`.
+    /// The name of item `i`, which is empty where there is no such item.
     pub fn name(&self, i: u32) -> &str
-        requires { i < length self.now }
         ensures { result.now ≡ name_of self.now i }
     {
         self.names.name(i)
@@ -126,10 +125,9 @@ impl Domain {
         Ok(set)
     }
 
-    /// Appends the names of the set's items, in the order of items, joined by single spaces. Where
-    /// memory runs out the bytes are as they were.
+    /// Appends the names of those items that the set has, in the order of items, joined by single
+    /// spaces. Where memory runs out the bytes are as they were.
     pub fn push_names(&self, s: ItemSet, out: &mut Vec<u8>) -> Result<(), AllocError>
-        requires { IsWithin s (full (length self.now)) }
         ensures ok { OnOk result (out.new.items ≡ out.old.items ++ joined_names self.now s) }
         ensures err { OnErr result (out.new.items ≡ out.old.items) }
     {
@@ -141,10 +139,9 @@ impl Domain {
         pushed
     }
 
-    /// Appends the set: the names of its items within braces, as `push_names` does. Where memory
+    /// Appends the set: its names within braces, as `push_names` does. Where memory
     /// runs out the bytes are as they were.
     pub fn print_set(&self, s: ItemSet, out: &mut Vec<u8>) -> Result<(), AllocError>
-        requires { IsWithin s (full (length self.now)) }
         ensures ok { OnOk result (out.new.items ≡ out.old.items ++ set_text self.now s) }
         ensures err { OnErr result (out.new.items ≡ out.old.items) }
     {
@@ -158,12 +155,11 @@ impl Domain {
 
     // Appends the names; where memory runs out, those that there was room for.
     fn append_names(&self, s: ItemSet, out: &mut Vec<u8>) -> Result<(), AllocError>
-        requires { IsWithin s (full (length self.now)) }
         ensures ok { OnOk result (out.new.items ≡ out.old.items ++ joined_names self.now s) }
         ensures kept { StartsWith out.new.items out.old.items }
     {
         let mut gap: &[u8] = b"";
-        for item in s.items() {
+        for item in s.meet(ItemSet::full(self.count())).items() {
             out.extend_from_slice(gap)?;
             out.extend_from_slice(self.name(item).as_bytes())?;
             gap = b" ";
@@ -173,7 +169,6 @@ impl Domain {
 
     // Appends the set; where memory runs out, what there was room for.
     fn append_set(&self, s: ItemSet, out: &mut Vec<u8>) -> Result<(), AllocError>
-        requires { IsWithin s (full (length self.now)) }
         ensures ok { OnOk result (out.new.items ≡ out.old.items ++ set_text self.now s) }
         ensures kept { StartsWith out.new.items out.old.items }
     {

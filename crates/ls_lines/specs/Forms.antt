@@ -140,11 +140,11 @@ file_command file.Class given = files.Class (one given 1)
 file_command file.Save given = files.Save (one given 1)
 
 abbrev pub file_spelled_as : FileCommand → FileForm × List Filling
-file_spelled_as (files.StartSurmise file) = (file.StartSurmise, Word file ∷ [])
-file_spelled_as (files.StartBase file) = (file.StartBase, Word file ∷ [])
-file_spelled_as (files.Test file) = (file.Test, Word file ∷ [])
-file_spelled_as (files.Class file) = (file.Class, Word file ∷ [])
-file_spelled_as (files.Save file) = (file.Save, Word file ∷ [])
+file_spelled_as (files.StartSurmise name) = (file.StartSurmise, Word name ∷ [])
+file_spelled_as (files.StartBase name) = (file.StartBase, Word name ∷ [])
+file_spelled_as (files.Test name) = (file.Test, Word name ∷ [])
+file_spelled_as (files.Class name) = (file.Class, Word name ∷ [])
+file_spelled_as (files.Save name) = (file.Save, Word name ∷ [])
 
 -- ---- changing the interview
 

@@ -8,8 +8,8 @@ use Rattle.ls_files.specs.SurmiseFiles.{surmise_text, members_from, surmise_from
 use Rattle.std.specs.Str.{is_utf8, chars}
 use Rattle.serde_json.proofs.OnLiterals.{serde_json_on_literals}
 use Rattle.csv.proofs.OnLiterals.{csv_on_literals}
-use Rattle.ls_class.specs.Tables.{columns_of, next_row, rows_from, class_in, class_of}
-use Rattle.ls_saved.specs.{is_pupil, session_from, session_of, session_text, stands}
+use Rattle.ls_files.specs.ClassTables.{columns_of, next_row, rows_from, class_in, class_of}
+use Rattle.ls_files.specs.{is_pupil, session_from, session_of, session_text, stands}
 use Rattle.std.specs.FinMap as map
 use Rattle.json.specs.Print.{escape_byte}
 

@@ -6,9 +6,9 @@ use Rattle.ls_theory.specs.Settings.{Settings, are_ratios, are_limits, with_all,
 use Rattle.ls_theory.specs.declared.asked.Asked.{Asked}
 use Rattle.ls_theory.specs.declared.outcome.Outcome.{Outcome}
 use Rattle.ls_lines.specs.{Text}
-pub use Rattle.ls_saved.specs.Sessions.{most_pupils}
+pub use Rattle.ls_files.specs.Sessions.{most_pupils}
 use Rattle.ls_meaning.specs.Sessions.{Pupil, pupil_states}
-use Rattle.ls_class.specs.Tables.{class_of}
+use Rattle.ls_files.specs.ClassTables.{class_of}
 use Rattle.ls_meaning.specs.Scenes.{Fetched}
 use Rattle.ls_meaning.specs.Rows.{file_refusals, bytes_fetched}
 use Rattle.ls_meaning.specs.Effects.{Change, changed, refuse, refuse_fault, ◌otherwise◌}

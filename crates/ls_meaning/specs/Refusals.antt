@@ -22,8 +22,8 @@ use Rattle.ls_domain.specs.declared.domain_fault.DomainFault.TheVariants as doma
 use Rattle.ls_domain.specs.Texts.{name_of, set_text}
 use Rattle.ls_files.specs.declared.family_fault.FamilyFault.{FamilyFault}
 use Rattle.ls_files.specs.declared.family_fault.FamilyFault.TheVariants as sets
-use Rattle.ls_saved.specs.declared.cause.Cause.{Cause}
-use Rattle.ls_saved.specs.declared.cause.Cause.TheVariants as cause
+use Rattle.ls_files.specs.declared.cause.Cause.{Cause}
+use Rattle.ls_files.specs.declared.cause.Cause.TheVariants as cause
 use Rattle.ls_meaning.specs.declared.response.Refusal.{Refusal}
 use Rattle.ls_meaning.specs.declared.response.Refusal.TheVariants.{NoCommand, LongLine, DomainStands, Domain, AnswersStand, StartSurmise, StartSets, StartBase, Unnamed, Block, Answer, NotStanding, Cursor, Past, NoFile, FileFailed, LargeFile, TestedSets, NotState, NotLearning, NoState, NotOrder, ManyStates, Heavy, ManyPupils, PupilStands, NoPupil, Reply, BadSetting, BadClass, BadSession}
 

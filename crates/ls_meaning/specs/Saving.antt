@@ -2,8 +2,8 @@
 use Rattle.std.specs.Prelude.{ℕ, Bool, nat_lt, List, [], ◌∷◌, ◌++◌, length, Result, Ok, Err}
 use Rattle.ls_edge.specs.Files.{longest_file}
 use Rattle.ls_lines.specs.{Text}
-use Rattle.ls_saved.specs.{session_of, session_text}
-use Rattle.ls_saved.specs.declared.cause.Cause.{Cause}
+use Rattle.ls_files.specs.{session_of, session_text}
+use Rattle.ls_files.specs.declared.cause.Cause.{Cause}
 use Rattle.ls_meaning.specs.Scenes.{Fetched}
 use Rattle.ls_meaning.specs.Sessions.{Session}
 use Rattle.ls_meaning.specs.Effects.{Effect, Change, changed, refuse, stores}

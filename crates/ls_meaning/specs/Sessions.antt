@@ -2,7 +2,7 @@
 use Rattle.std.specs.Prelude.{Bool, not, ◌==◌, List, [], length}
 use Rattle.ls_theory.specs.{Free, begun, standard}
 use Rattle.ls_lines.specs.{Text}
-pub use Rattle.ls_saved.specs.Sessions.{Pupil, pupil_states, Session}
+pub use Rattle.ls_files.specs.Sessions.{Pupil, pupil_states, Session}
 
 -- the session that begins with the names
 abbrev pub started : List Text → Session

@@ -6,7 +6,7 @@ ghost use Rattle.ls_meaning.specs.Refusals.{answer_notice, base_notice, block_no
 use crate::notices::{Detail, Notice};
 use ls_domain::DomainFault;
 use ls_files::FamilyFault;
-use ls_saved::Cause;
+use ls_files::Cause;
 use ls_set::CursorFault;
 use ls_theory::{AnswerFault, BaseFault, BlockFault, Reason, ReplyFault, SurmiseFault};
 

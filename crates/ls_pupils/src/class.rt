@@ -2,12 +2,12 @@
 ghost use Rattle.std.specs.Prelude.{◌≡◌, [], length, Ok, IfOk};
 ghost use Rattle.ls_theory.specs.{compatible_sets};
 ghost use Rattle.ls_weight.specs.Weighings.{IsWeighable};
-ghost use Rattle.ls_class.specs.Tables.{class_of};
+ghost use Rattle.ls_files.specs.ClassTables.{class_of};
 ghost use Rattle.ls_meaning.specs.{classed_by};
 
 use crate::beginning::MOST_STATES;
 use ls_assess::{Settings, WeightFault};
-use ls_class::{ClassFault, ClassTable};
+use ls_class::{ClassFault, ClassTable, OpenGate, run_class};
 use ls_domain::Domain;
 use ls_enum::{ListFault, list_all};
 use ls_expert::Inquiry;

@@ -21,7 +21,7 @@ unfoldable pub use Rattle.ls_meaning.specs.{command_effect}
 pub use Rattle.ls_meaning.specs.declared.refusal.Refusal.TheVariants.{AnswersStand, FileFailed, LargeFile, NoFile, Unnamed}
 pub use Rattle.ls_meaning.specs.declared.response.Response.{Response}
 pub use Rattle.ls_meaning.specs.declared.response.Response.TheVariants.{Done, Refused}
-pub use Rattle.ls_saved.specs.{session_text}
+pub use Rattle.ls_files.specs.{session_text}
 pub use Rattle.ls_theory.specs.declared.answer.Answer.{Answer}
 pub use Rattle.ls_session.specs.Decides.{Decides, IsDecided, IsFetched, Makes, NeedsDomain, Sees}
 pub use Rattle.std.proofs.Common.{◌<◌, ◌∙◌, ◌∷◌, ◌≡◌, Bool, Err, IsErrAnd, IsErrOf, List, None, Ok, Option, Result, Some, Vec, ℕ, [], ap, ap₂, arith, codes, decimal, false, inl, inr, is_some, length, ltb-true, refl, subst, sym, true}

@@ -67,7 +67,7 @@ pub fn lspace<R: Threads + Sync, S: Source, K: Sink, H: Shelf>(
     shelf: &mut H,
 ) -> Status
     // Every script is answered by the transcript that it has over the folder's files, unless memory
-    // runs out.
+    // runs out. It follows from `complete`, where no call on the folder failed.
     ensures headline { words.now ≡ [] → (script : List ℕ) (folder : Folder)
         → S.left src.old ≡ Some script → H.files shelf.old ≡ Some folder
         → TakesFew script (S.left src.new)
@@ -86,7 +86,8 @@ pub fn lspace<R: Threads + Sync, S: Source, K: Sink, H: Shelf>(
         → MarksScript folder script (H.files shelf.new) (H.faults shelf.old) (H.faults shelf.new)
         (K.written out.old) (K.written out.new) result }
 
-    // The script of a named file is answered in the same way.
+    // The script of a named file is answered in the same way. It follows from `named_status`, where
+    // no call on the folder failed.
     ensures named { (name : Text) → mode_of (map (λ w. w.now) words.now) ≡ Some (File name)
         → (script : List ℕ) (folder : Folder) → H.files shelf.old ≡ Some folder
         → map.get folder name ≡ Some script → length script ≤ longest_file

@@ -1,8 +1,9 @@
 -- Lists of pupils: which are read, and in which a name comes twice or which are too long.
-use Rattle.ls_store.proofs.Vocabulary.{◌&&◌, ◌++◌, ◌+◌, ◌<◌, ◌||◌, ◌∙◌, ◌∷◌, ◌≡◌, ◌≤◌, ArePupils, Bool, Data, IsRead, List, None, Option, Pupil, PupilCase, Some, ℕ, [], and_from, and_parts, ap, append_assoc, ap₂, are_apart, are_pupils, as_array, bytes_eq, cases_Bool, cond, drop, false, get_or, have_own_names, inl, inr, is_named, items_view, le-leb, leb, length, length-map, list_any, lt-leb, map, map_push, most_pupils, name_of, not, only_if, option_and_then, option_map, pupil_of, pupils_of, read-last, read-next, read-none, read_each, read_list, refl, subst, suc, sym, true, view}
+use Rattle.ls_store.proofs.Vocabulary.{◌&&◌, ◌++◌, ◌+◌, ◌<◌, ◌||◌, ◌∙◌, ◌∷◌, ◌≡◌, ◌≤◌, ArePupils, Bool, Data, List, None, Option, Pupil, PupilCase, Some, ℕ, [], and_from, and_parts, ap, append_assoc, ap₂, are_apart, are_pupils, as_array, bytes_eq, cases_Bool, cond, drop, false, get_or, have_own_names, inl, inr, is_named, items_view, le-leb, leb, length, length-map, list_any, lt-leb, map, map_push, most_pupils, name_of, not, only_if, option_and_then, option_map, pupil_of, pupils_of, read_each, read_list, refl, subst, suc, sym, true, view}
 use Rattle.std.proofs.lemmas.Slice.Eq.{bytes_eq-Decides}
 use Rattle.serde_json.specs.declared.value.Value.{Value}
 use Rattle.ls_set.proofs.Sets.{and-false}
+use Rattle.ls_store.proofs.Walks.{IsRead, read-last, read-next, read-none}
 
 abbrev names_of : List Pupil → List (List ℕ)
 names_of ps = map (λ p. p.name) ps

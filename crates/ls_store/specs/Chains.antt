@@ -5,10 +5,10 @@ use Rattle.std.specs.Prelude.{ℕ, ◌≡◌, Result, Ok, Err, codes, ⊤}
 use Rattle.serde_json.specs.Data.{Data}
 use Rattle.ls_theory.specs.Settings.{Settings}
 use Rattle.ls_theory.specs.{Interview}
-use Rattle.ls_saved.specs.declared.cause.Cause.{Cause}
-use Rattle.ls_saved.specs.declared.cause.Cause.TheVariants as cause
-use Rattle.ls_saved.specs.declared.version.Version.{Version}
-use Rattle.ls_saved.specs.{Session, at_key, or_cause, read_block, read_interview, read_limits, read_odds, read_start, settings_from}
+use Rattle.ls_files.specs.declared.cause.Cause.{Cause}
+use Rattle.ls_files.specs.declared.cause.Cause.TheVariants as cause
+use Rattle.ls_files.specs.declared.version.Version.{Version}
+use Rattle.ls_files.specs.{Session, at_key, or_cause, read_block, read_interview, read_limits, read_odds, read_start, settings_from}
 use Rattle.ls_store.specs.declared.fault.SessionFault.{SessionFault}
 use Rattle.ls_store.specs.declared.fault.SessionFault.TheVariants.{BadSession, Memory}
 

@@ -1,5 +1,5 @@
 -- What is stored: the session of parts, and that of a saved session.
-use Rattle.ls_saved.specs.{Session}
+use Rattle.ls_files.specs.{Session}
 use Rattle.ls_pupils.specs.Cases.{pupils_of}
 use Rattle.ls_store.specs.declared.parts.Parts.{Parts}
 use Rattle.ls_store.specs.declared.saved.Saved.{Saved}

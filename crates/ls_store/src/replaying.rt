@@ -5,7 +5,7 @@ ghost use Rattle.ls_set.specs.{is_good};
 ghost use Rattle.ls_theory.specs.{compat, heavy_after, most_states};
 ghost use Rattle.ls_weight.specs.Weighings.{IsWeighable};
 ghost use Rattle.ls_expert.specs.Starts.{start_of, IsStartOn};
-ghost use Rattle.ls_saved.specs.{follow, only_if};
+ghost use Rattle.ls_files.specs.{follow, only_if};
 
 use ls_assess::{Pupil, Reply, Settings, WeightFault};
 use ls_enum::{ListFault, list_all};

@@ -37,8 +37,8 @@ unfoldable pub use Rattle.ls_write.specs.SurmiseTexts.{by_name, rows_text}
 pub use Rattle.std.proofs.Common.{◌*◌, ◌++◌, ◌+◌, ◌-◌, ◌<◌, ◌∙◌, ◌∷◌, ◌≡◌, ◌≤◌, Bool, List, MatchOption, ℕ, [], ap, append-nil, append_assoc, ap₂, arith, codes, decimal, false, filter, get_or, is_some, length, length-append, ltb, map, option_copied, refl, subst, sym, take}
 pub use Rattle.std.proofs.lemmas.List.{length-map, map-append, map-id, take_all, take_more}
 pub use Rattle.std.specs.List.{All, join_with_byte}
-pub use Rattle.ls_class.specs.Results.{result_of}
-pub use Rattle.ls_class.specs.declared.results.ClassResult.{ClassResult}
+pub use Rattle.ls_files.specs.ClassResults.{result_of}
+pub use Rattle.ls_files.specs.declared.class_results.ClassResult.{ClassResult}
 pub use Rattle.ls_domain.specs.Texts.{name_of, set_text}
 pub use Rattle.ls_enum.proofs.Left.{more-ended, more-full, more-left, more_steps, take-ended, take-full, take-left}
 pub use Rattle.ls_enum.specs.Listings.{left_after}

@@ -1,6 +1,5 @@
 pub mod Rooms
 pub mod SetTexts
-pub mod Names
 pub mod SurmiseTexts
-pub mod PathTexts
-pub mod PathPages
+pub mod Paths
+pub mod Showing

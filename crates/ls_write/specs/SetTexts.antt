@@ -1,10 +1,17 @@
--- The names of a set's items, joined beforehand for each eight items: the groups. Group g has the items 8 * g up to 8 * g + 7.
-use Rattle.std.specs.Prelude.{ℕ, ◌+◌, ◌-◌, ◌*◌, ◌/◌, ◌%◌, Bool, ◌==◌, min, List, ◌∷◌, map, filter, length}
+-- The names of a set's items, joined beforehand for each eight items: the groups. Group g has the
+-- items 8 * g up to 8 * g + 7.
+use Rattle.std.specs.Prelude.{ℕ, ◌+◌, ◌-◌, ◌*◌, ◌/◌, ◌%◌, Bool, ◌==◌, min}
+use Rattle.std.specs.Prelude.{List, [], ◌∷◌, map, filter, length, Option, Some, None}
 use Rattle.std.specs.Int.{bit_at}
 use Rattle.std.specs.List.{flat_map}
 use Rattle.ls_set.specs.{numbers_from}
 use Rattle.ls_lines.specs.{Text}
 use Rattle.ls_domain.specs.Texts.{name_of}
+
+-- the names of the items, none where no domain stands
+abbrev pub names_in : Option (List Text) → List Text
+names_in None = []
+names_in (Some names) = names
 
 -- how many groups n items have
 abbrev pub group_count : ℕ → ℕ
@@ -20,8 +27,11 @@ spaced_names names p is = flat_map (λ i. 32 ∷ name_of names i) (filter p is)
 
 -- the text of a pattern of group g: item 8 * g + j is in it where digit j is 1
 abbrev pub group_text : List Text → ℕ → ℕ → Text
-group_text names g pattern = spaced_names names (λ i. bit_at pattern (i % 8) == 1) (group_items (length names) g)
+group_text names g pattern =
+    spaced_names names (λ i. bit_at pattern (i % 8) == 1) (group_items (length names) g)
 
 -- the texts of all patterns of all groups
 unfoldable pub group_texts : List Text → List Text
-group_texts names = map (λ k. group_text names (k / 256) (k % 256)) (numbers_from 0 (256 * group_count (length names)))
+group_texts names =
+    map (λ k. group_text names (k / 256) (k % 256))
+    (numbers_from 0 (256 * group_count (length names)))

@@ -1,13 +1,14 @@
--- The text of a surmise function, piece by piece. Its items stand in the order of the bytes of their names.
+-- The text of a surmise function, piece by piece. Its items stand in the order of the bytes of their
+-- names.
 use Rattle.std.specs.Prelude.{ℕ, Bool, false, true, if◌then◌else◌, List, [], ◌∷◌, ◌++◌, length}
 use Rattle.std.specs.Ordering.{nat_cmp, is_lt}
 use Rattle.std.specs.Cmp.Lexicographic.{slice_cmp}
 use Rattle.json.specs.Print.{quoted}
 use Rattle.serde_json.specs.Written.{comma_if}
-use Rattle.ls_set.specs.{Items, items, numbers_from}
+use Rattle.ls_set.specs.{Items, numbers_from}
 use Rattle.ls_theory.specs.{atoms_at}
 use Rattle.ls_lines.specs.{Text}
-use Rattle.ls_domain.specs.Texts.{name_of}
+use Rattle.ls_domain.specs.Texts.{name_of, names_of_set}
 
 -- ---- the order of names
 
@@ -39,7 +40,7 @@ quoted_name names i = quoted (name_of names i)
 
 -- a clause: the names of its items in brackets
 abbrev pub clause_text : List Text → Items → Text
-clause_text names c = 91 ∷ listed (quoted_name names) false (items c) ++ 93 ∷ []
+clause_text names c = 91 ∷ listed quoted false (names_of_set names c) ++ 93 ∷ []
 
 -- clauses in brackets
 abbrev pub clauses_text : List Text → List Items → Text

@@ -1,21 +1,20 @@
 // The lines of a class.
-ghost use Rattle.std.specs.Prelude.{length, map};
-ghost use Rattle.std.specs.List.{All};
-ghost use Rattle.ls_set.specs.{IsWithin, full};
-ghost use Rattle.ls_class.specs.Results.{result_of};
-ghost use Rattle.ls_meaning.specs.{bytes_of, class_lines, line_of, result_words};
+ghost use Rattle.std.specs.Prelude.{map};
+ghost use Rattle.ls_files.specs.ClassResults.{result_of};
+ghost use Rattle.ls_meaning.specs.{class_lines, line_bytes, lines_bytes, result_line};
 ghost use Rattle.ls_write.specs.Rooms.{Says};
 
-use crate::pupil_refusals::reason_word;
-use ls_class::{ClassResult, Results};
+use crate::lines::put_numbered;
+use crate::{Room, SetTexts};
 use ls_edge::Sink;
-use crate::{Room, SetTexts, put_numbered};
+use ls_files::{ClassResult, Results};
+use ls_meaning::reason_word;
 
 /// Says what is known of the pupils of a class, and how many they are.
 pub fn put_class<K: Sink>(texts: &SetTexts, results: &Results, room: &mut Room, out: &mut K)
-    requires { All (λ r. IsWithin r.state (full (length texts.now))) results.now }
-    ensures { Says (K.written out.old) (K.faults out.old) room.old (K.written out.new)
-        (K.faults out.new) room.new (bytes_of (class_lines texts.now results.now)) }
+    ensures { Says (K.written out.old) (K.faults out.old) room.old
+        (K.written out.new) (K.faults out.new) room.new
+        (lines_bytes (class_lines texts.now results.now)) }
 {
     let list = results.as_slice();
     put_results(texts, list, room, out);
@@ -24,10 +23,9 @@ pub fn put_class<K: Sink>(texts: &SetTexts, results: &Results, room: &mut Room, 
 
 // Says what is known of each pupil.
 fn put_results<K: Sink>(texts: &SetTexts, list: &[ClassResult], room: &mut Room, out: &mut K)
-    requires { All (λ r. IsWithin r.state (full (length texts.now))) list.now }
-    ensures { Says (K.written out.old) (K.faults out.old) room.old (K.written out.new)
-        (K.faults out.new) room.new
-        (bytes_of (map (λ r. result_words texts.now (result_of r)) list.now)) }
+    ensures { Says (K.written out.old) (K.faults out.old) room.old
+        (K.written out.new) (K.faults out.new) room.new
+        (lines_bytes (map (λ r. result_line texts.now (result_of r)) list.now)) }
 {
     for known in list {
         put_result(texts, known, room, out);
@@ -37,16 +35,16 @@ fn put_results<K: Sink>(texts: &SetTexts, list: &[ClassResult], room: &mut Room,
 // Says what is known of a pupil: its name, the number of replies, why its assessment is over, and
 // the leading state.
 fn put_result<K: Sink>(texts: &SetTexts, known: &ClassResult, room: &mut Room, out: &mut K)
-    requires { IsWithin known.now.state (full (length texts.now)) }
-    ensures { Says (K.written out.old) (K.faults out.old) room.old (K.written out.new)
-        (K.faults out.new) room.new (line_of (result_words texts.now (result_of known.now))) }
+    ensures { Says (K.written out.old) (K.faults out.old) room.old
+        (K.written out.new) (K.faults out.new) room.new
+        (line_bytes (result_line texts.now (result_of known.now))) }
 {
     room.put(b"result ", out);
     room.put(known.name.as_str().as_bytes(), out);
     room.space(out);
     room.put_number(known.replies, out);
     room.space(out);
-    room.put(reason_word(known.reason), out);
+    room.put(reason_word(known.reason).as_bytes(), out);
     texts.put_set(known.state, room, out);
     room.end_line(out);
 }

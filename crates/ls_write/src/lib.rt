@@ -3,6 +3,7 @@
 
 mod assessing;
 mod classes;
+mod done;
 mod judging;
 mod lines;
 mod listing;
@@ -15,7 +16,8 @@ mod surmise;
 mod text_list;
 mod walking;
 
-pub use refusals::{put_agreed, put_done, put_refusal};
+pub use done::{put_agreed, put_done};
+pub use refusals::put_refusal;
 pub use room::{ROOM, Room};
 pub use set_texts::SetTexts;
-pub use showing::put_shown;
+pub use showing::{put_bare, put_response, put_shown};

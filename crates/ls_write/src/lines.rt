@@ -1,7 +1,8 @@
 // Lines that are said into a room.
 ghost use Rattle.std.specs.Prelude.{◌<◌, ◌++◌, ◌∷◌, [], length, map, decimal, if◌then◌else◌};
-ghost use Rattle.std.specs.List.{join_with_byte, flat_map};
-ghost use Rattle.ls_meaning.specs.{line_of, more_words};
+ghost use Rattle.std.specs.List.{join_with_byte};
+ghost use Rattle.ls_lists.specs.Lists.{spaced};
+ghost use Rattle.ls_meaning.specs.{line_bytes, line_of, more_line};
 ghost use Rattle.ls_write.specs.Rooms.{Says};
 
 use crate::Room;
@@ -9,8 +10,9 @@ use ls_edge::Sink;
 
 /// Says a line: the words joined by single spaces, and a line feed.
 pub fn put_line<K: Sink>(words: &[&[u8]], room: &mut Room, out: &mut K)
-    ensures { Says (K.written out.old) (K.faults out.old) room.old (K.written out.new)
-        (K.faults out.new) room.new (line_of (map (λ w. w.now) words.now)) }
+    ensures { Says (K.written out.old) (K.faults out.old) room.old
+        (K.written out.new) (K.faults out.new) room.new
+        (line_of (map (λ w. w.now) words.now)) }
 {
     put_joined(words, room, out);
     room.end_line(out);
@@ -20,34 +22,19 @@ pub fn put_line<K: Sink>(words: &[&[u8]], room: &mut Room, out: &mut K)
 /// in decimal digits, joined by single spaces, and a line feed.
 pub fn put_numbered<K: Sink>(words: &[&[u8]], numbers: &[u64], room: &mut Room, out: &mut K)
     requires { 0 < length words.now }
-    ensures { Says (K.written out.old) (K.faults out.old) room.old (K.written out.new)
-        (K.faults out.new) room.new (line_of (map (λ w. w.now) words.now ++ map decimal
-        numbers.now)) }
+    ensures { Says (K.written out.old) (K.faults out.old) room.old
+        (K.written out.new) (K.faults out.new) room.new
+        (line_of (map (λ w. w.now) words.now ++ map decimal numbers.now)) }
 {
     put_joined(words, room, out);
     put_numbers(numbers, room, out);
     room.end_line(out);
 }
 
-/// Says a line that has a number before its last word: the words, of which there is at least one,
-/// the number in decimal digits and the last word, joined by single spaces, and a line feed.
-pub fn put_between<K: Sink>(words: &[&[u8]], number: u64, last: &[u8], room: &mut Room, out: &mut K)
-    requires { 0 < length words.now }
-    ensures { Says (K.written out.old) (K.faults out.old) room.old (K.written out.new)
-        (K.faults out.new) room.new (line_of (map (λ w. w.now) words.now ++
-        decimal number ∷ last.now ∷ [])) }
-{
-    put_joined(words, room, out);
-    room.space(out);
-    room.put_number(number, out);
-    put_word(false, last, room, out);
-    room.end_line(out);
-}
-
 /// Says whether more follows.
 pub fn put_more<K: Sink>(is_more: bool, room: &mut Room, out: &mut K)
-    ensures { Says (K.written out.old) (K.faults out.old) room.old (K.written out.new)
-        (K.faults out.new) room.new (line_of (more_words is_more)) }
+    ensures { Says (K.written out.old) (K.faults out.old) room.old
+        (K.written out.new) (K.faults out.new) room.new (line_bytes (more_line is_more)) }
 {
     let answer: &[u8] = if is_more { b"yes" } else { b"no" };
     put_line(&[b"more", answer], room, out);
@@ -55,8 +42,9 @@ pub fn put_more<K: Sink>(is_more: bool, room: &mut Room, out: &mut K)
 
 // Says words joined by single spaces.
 fn put_joined<K: Sink>(words: &[&[u8]], room: &mut Room, out: &mut K)
-    ensures { Says (K.written out.old) (K.faults out.old) room.old (K.written out.new)
-        (K.faults out.new) room.new (join_with_byte 32 (map (λ w. w.now) words.now)) }
+    ensures { Says (K.written out.old) (K.faults out.old) room.old
+        (K.written out.new) (K.faults out.new) room.new
+        (join_with_byte 32 (map (λ w. w.now) words.now)) }
 {
     for (i, word) in words.iter().enumerate() {
         put_word(i == 0, word, room, out);
@@ -64,9 +52,10 @@ fn put_joined<K: Sink>(words: &[&[u8]], room: &mut Room, out: &mut K)
 }
 
 // Says a word, behind a space unless it is the first.
-pub(crate) fn put_word<K: Sink>(is_first: bool, word: &[u8], room: &mut Room, out: &mut K)
-    ensures { Says (K.written out.old) (K.faults out.old) room.old (K.written out.new)
-        (K.faults out.new) room.new ((if is_first then [] else 32 ∷ []) ++ word.now) }
+fn put_word<K: Sink>(is_first: bool, word: &[u8], room: &mut Room, out: &mut K)
+    ensures { Says (K.written out.old) (K.faults out.old) room.old
+        (K.written out.new) (K.faults out.new) room.new
+        ((if is_first then [] else 32 ∷ []) ++ word.now) }
 {
     if !is_first {
         room.space(out);
@@ -76,8 +65,8 @@ pub(crate) fn put_word<K: Sink>(is_first: bool, word: &[u8], room: &mut Room, ou
 
 // Says numbers, each behind a space.
 fn put_numbers<K: Sink>(numbers: &[u64], room: &mut Room, out: &mut K)
-    ensures { Says (K.written out.old) (K.faults out.old) room.old (K.written out.new)
-        (K.faults out.new) room.new (flat_map (λ n. 32 ∷ decimal n) numbers.now) }
+    ensures { Says (K.written out.old) (K.faults out.old) room.old
+        (K.written out.new) (K.faults out.new) room.new (spaced decimal numbers.now) }
 {
     for number in numbers {
         room.space(out);

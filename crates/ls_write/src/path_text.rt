@@ -1,9 +1,10 @@
 // The line of a learning path, and the front that successive paths share, with its text.
-ghost use Rattle.std.specs.Prelude.{◌≡◌, ◌<◌, ◌≤◌, ◌++◌, ◌∷◌, [], true, false, length, take, IfSome};
+ghost use Rattle.std.specs.Prelude.{◌≡◌, ◌<◌, ◌≤◌, ◌++◌, ◌∷◌, [], true, false, length, take};
+ghost use Rattle.std.specs.Prelude.{IfSome};
 ghost use Rattle.std.specs.List.{All};
-ghost use Rattle.ls_meaning.specs.{line_of, path_words};
+ghost use Rattle.ls_meaning.specs.{line_bytes, path_line};
 ghost use Rattle.ls_write.specs.Rooms.{Says};
-ghost use Rattle.ls_write.specs.PathTexts.{IsTextOf, no_front};
+ghost use Rattle.ls_write.specs.Paths.{IsTextOf, no_front};
 
 use crate::{Room, SetTexts};
 use arrayvec::ArrayVec;
@@ -30,7 +31,7 @@ pub struct PathText {
 }
 
 impl Model for PathText {
-    ghost use Rattle.ls_write.specs.PathTexts.{PathFront};
+    ghost use Rattle.ls_write.specs.Paths.{PathFront};
 
     ghost Value = { PathFront };
 
@@ -121,14 +122,14 @@ pub fn put_path<K: Sink>(
     requires order { All (λ i. i < length texts.now) order.now }
     requires shared { IsTextOf texts.now shared.old }
     ensures says { Says (K.written out.old) (K.faults out.old) room.old (K.written out.new)
-        (K.faults out.new) room.new (line_of (path_words texts.now order.now)) }
+        (K.faults out.new) room.new (line_bytes (path_line texts.now order.now)) }
     ensures shared { IsTextOf texts.now shared.new }
 {
     let rest = share(texts, order, shared);
     room.put(b"path", out);
     room.put(shared.text(), out);
     for item in rest {
-        texts.put_name(*item, room, out);
+        room.put(texts.name_text(*item), out);
     }
     room.end_line(out);
 }

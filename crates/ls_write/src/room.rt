@@ -1,5 +1,6 @@
 // The room of a reply.
-ghost use Rattle.std.specs.Prelude.{◌≡◌, ◌≤◌, ◌↔◌, ◌+◌, ◌++◌, ◌∷◌, [], None, Some, true, length, is_some, IfOk};
+ghost use Rattle.std.specs.Prelude.{◌≡◌, ◌≤◌, ◌↔◌, ◌+◌, ◌++◌, ◌∷◌, [], None, Some, true};
+ghost use Rattle.std.specs.Prelude.{length, is_some, IfOk};
 ghost use Rattle.ls_write.specs.Rooms.{Says, Sends, Ends, no_reply};
 
 use itoa::{Buffer, Integer};

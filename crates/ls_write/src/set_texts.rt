@@ -1,11 +1,12 @@
 // The names of sets, joined beforehand.
-ghost use Rattle.std.specs.Prelude.{◌≡◌, ◌+◌, ◌-◌, ◌*◌, ◌<◌, ◌≤◌, ◌++◌, ◌∷◌, length, drop, IfOk, OnOk};
+ghost use Rattle.std.specs.Prelude.{◌≡◌, ◌+◌, ◌-◌, ◌*◌, ◌<◌, ◌≤◌, ◌++◌, ◌∷◌, length, drop};
+ghost use Rattle.std.specs.Prelude.{IfOk, OnOk};
 ghost use Rattle.std.specs.List.{All, insert};
 ghost use Rattle.ls_lists.specs.Lists.{spaced};
-ghost use Rattle.ls_set.specs.{IsWithin, full, has, items};
+ghost use Rattle.ls_set.specs.{full, has, meet};
 ghost use Rattle.ls_domain.specs.Domains.{IsDomain};
-ghost use Rattle.ls_domain.specs.Texts.{name_of, joined_names, set_text};
-ghost use Rattle.ls_meaning.specs.{line_of, set_words};
+ghost use Rattle.ls_domain.specs.Texts.{joined_names, name_of, names_of_set, set_text};
+ghost use Rattle.ls_meaning.specs.{line_bytes, set_line};
 ghost use Rattle.ls_write.specs.Rooms.{Says};
 ghost use Rattle.ls_write.specs.SetTexts.{group_items, group_text, group_texts, spaced_names};
 ghost use Rattle.ls_write.specs.SurmiseTexts.{items_by_name, insert_by_name, quoted_name};
@@ -76,9 +77,15 @@ impl SetTexts {
         &self.by_name
     }
 
+    // Those of the items that the set has.
+    pub(crate) fn items_of(&self, s: ItemSet) -> ItemSet
+        ensures { result ≡ meet s (full (length self.now)) }
+    {
+        s.meet(ItemSet::full(self.domain.count()))
+    }
+
     // Says the name of an item in quotes.
     pub(crate) fn put_quoted<K: Sink>(&self, item: u32, room: &mut Room, out: &mut K)
-        requires { item < length self.now }
         ensures { Says (K.written out.old) (K.faults out.old) room.old (K.written out.new)
             (K.faults out.new) room.new (quoted_name self.now item) }
     {
@@ -89,7 +96,6 @@ impl SetTexts {
 
     /// Says the names of the set's items, in the order of items, joined by single spaces.
     pub fn put_names<K: Sink>(&self, s: ItemSet, room: &mut Room, out: &mut K)
-        requires { IsWithin s (full (length self.now)) }
         ensures { Says (K.written out.old) (K.faults out.old) room.old (K.written out.new)
             (K.faults out.new) room.new (joined_names self.now s) }
     {
@@ -98,7 +104,6 @@ impl SetTexts {
 
     /// Says a set, its names within braces, behind a space.
     pub fn put_set<K: Sink>(&self, s: ItemSet, room: &mut Room, out: &mut K)
-        requires { IsWithin s (full (length self.now)) }
         ensures { Says (K.written out.old) (K.faults out.old) room.old (K.written out.new)
             (K.faults out.new) room.new (32 ∷ set_text self.now s) }
     {
@@ -110,9 +115,8 @@ impl SetTexts {
     /// Says the names of the set's items, in the order of items, each behind a space, but for as
     /// many bytes as are to be skipped.
     pub fn put_spaced<K: Sink>(&self, s: ItemSet, skipped: usize, room: &mut Room, out: &mut K)
-        requires { IsWithin s (full (length self.now)) }
         ensures { Says (K.written out.old) (K.faults out.old) room.old (K.written out.new)
-            (K.faults out.new) room.new (drop skipped (spaced (name_of self.now) (items s))) }
+            (K.faults out.new) room.new (drop skipped (spaced (λ w. w) (names_of_set self.now s))) }
     {
         let mut left = skipped;
         for group in 0..self.domain.count().div_ceil(8) {
@@ -122,14 +126,14 @@ impl SetTexts {
 
     /// Says the name of an item behind a space.
     pub fn put_name<K: Sink>(&self, item: u32, room: &mut Room, out: &mut K)
-        requires { item < length self.now }
         ensures { Says (K.written out.old) (K.faults out.old) room.old (K.written out.new)
             (K.faults out.new) room.new (32 ∷ name_of self.now item) }
     {
-        room.put(self.name_text(item), out);
+        room.space(out);
+        room.put(self.domain.name(item).as_bytes(), out);
     }
 
-    // The name of an item behind a space.
+    // The name of an item, which has one, behind a space.
     pub(crate) fn name_text(&self, item: u32) -> &[u8]
         requires { item < length self.now }
         ensures { result.now ≡ 32 ∷ name_of self.now item }
@@ -139,9 +143,8 @@ impl SetTexts {
 
     /// Says the line of a set: its cursor and its names.
     pub fn put_set_line<K: Sink>(&self, s: ItemSet, room: &mut Room, out: &mut K)
-        requires { IsWithin s (full (length self.now)) }
         ensures { Says (K.written out.old) (K.faults out.old) room.old (K.written out.new)
-            (K.faults out.new) room.new (line_of (set_words self.now s)) }
+            (K.faults out.new) room.new (line_bytes (set_line self.now s)) }
     {
         let n = self.domain.count();
         let mut digits = [0u8; MOST_DIGITS];

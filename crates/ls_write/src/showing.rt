@@ -1,42 +1,97 @@
-// What is shown of an interview, said.
-ghost use Rattle.std.specs.Prelude.{◌≡◌, ◌≤◌, ◌+◌, ◌*◌, true, length, Some};
+// What is shown of an interview, and whole responses.
+ghost use Rattle.std.specs.Prelude.{◌≡◌, ◌≤◌, ◌+◌, ◌*◌, [], false, length, option_copied};
 ghost use Rattle.std.specs.Option.{ForSome};
-ghost use Rattle.ls_set.specs.{IsWithin, comes_before, full, is_good};
-ghost use Rattle.ls_theory.specs.{page};
-ghost use Rattle.ls_meaning.specs.Texts.{line_of, bytes_of};
-ghost use Rattle.ls_meaning.specs.Lines.{known_words, question_words, page_lines, shown_lines};
+ghost use Rattle.ls_set.specs.{IsWithin, comes_before, full};
+ghost use Rattle.ls_theory.specs.{Interview, page};
+ghost use Rattle.ls_meaning.specs.{Session, bytes_of, known_line, line_bytes, lines_bytes, lines_of};
+ghost use Rattle.ls_meaning.specs.{page_lines, question_line, shown_lines, started};
 ghost use Rattle.ls_write.specs.Rooms.{Says};
-ghost use Rattle.ls_views.specs.Views.{CanShow, shown_steps};
+ghost use Rattle.ls_write.specs.SetTexts.{names_in};
+ghost use Rattle.ls_write.specs.Showing.{CanSay, CanShow, is_shown, session_with};
+ghost use Rattle.ls_write.specs.Showing.{response_steps, shown_steps};
 
+use crate::assessing::{put_asked, put_report};
+use crate::classes::put_class;
+use crate::done::{put_agreed, put_done};
+use crate::judging::{put_fringes, put_learning, put_state, put_verdict};
+use crate::lines::{put_line, put_numbered};
+use crate::listing::{put_base, put_listing};
+use crate::refusals::put_refusal;
+use crate::surmise::put_surmise;
 use crate::walking::put_paths;
+use crate::{Room, SetTexts};
 use ls_edge::Sink;
 use ls_expert::{Inquiry, Known};
 use ls_interior::{Counted, Inside, Steps};
+use ls_meaning::{Response, Shown};
 use ls_project::Trace;
-use ls_meaning::Shown;
 use ls_set::{ItemSet, Query};
-use crate::{Room, SetTexts, put_line, put_numbered, put_surmise};
-use crate::{
-    put_asked, put_base, put_class, put_fringes, put_learning, put_listing, put_report, put_state,
-    put_verdict,
-};
 use std::sync::ledger::Ledger;
 
-/// Says what is shown of the interview on named items. `sets` are those of its base, where that is
-/// shown.
+/// Says a response.
+pub fn put_response<K: Sink, L: Ledger>(
+    texts: &SetTexts,
+    inquiry: &Inquiry,
+    response: &Response,
+    room: &mut Room,
+    out: &mut K,
+    steps: &mut Steps<L>,
+)
+    requires items { length texts.now ≡ inquiry.now.count }
+    requires can { CanSay (length texts.now) inquiry.now response.now }
+    ensures says { (s : Session) → Says (K.written out.old) (K.faults out.old) room.old
+        (K.written out.new) (K.faults out.new) room.new
+        (bytes_of (lines_of (session_with s texts.now inquiry.now) response.now)) }
+    ensures cost { steps.new ≤ steps.old + response_steps response.now inquiry.now.count }
+{
+    match response {
+        Response::Shown(shown) => put_shown(texts, inquiry, shown, room, out, steps),
+        other => put_unshown(Some(texts), other, room, out),
+    }
+}
+
+/// Says a response that shows nothing, where no domain stands.
+pub fn put_bare<K: Sink>(response: &Response, room: &mut Room, out: &mut K)
+    requires { is_shown response.now ≡ false }
+    ensures { Says (K.written out.old) (K.faults out.old) room.old
+        (K.written out.new) (K.faults out.new) room.new
+        (bytes_of (lines_of (started []) response.now)) }
+{
+    put_unshown(None, response, room, out);
+}
+
+// Says a response that shows nothing. `texts` has the names of the items, where a domain stands.
+fn put_unshown<K: Sink>(texts: Option<&SetTexts>, response: &Response, room: &mut Room, out: &mut K)
+    requires { is_shown response.now ≡ false }
+    ensures { (s : Session) (i : Interview) →
+        let names = names_in (option_copied texts.entry) in
+        Says (K.written out.old) (K.faults out.old) room.old
+        (K.written out.new) (K.faults out.new) room.new
+        (bytes_of (lines_of (session_with s names i) response.now)) }
+{
+    match response {
+        Response::Silence => (),
+        Response::Refused(refusal) => put_refusal(texts, refusal, room, out),
+        Response::Done { number } => put_done(*number, room, out),
+        Response::Agreed => put_agreed(room, out),
+        Response::Shown(_) => unreachable!(),
+    }
+}
+
+/// Says what is shown of the interview on named items.
 pub fn put_shown<K: Sink, L: Ledger>(
     texts: &SetTexts,
     inquiry: &Inquiry,
-    sets: &[ItemSet],
     shown: &Shown,
     room: &mut Room,
     out: &mut K,
     steps: &mut Steps<L>,
 )
     requires items { length texts.now ≡ inquiry.now.count }
-    requires can { CanShow texts.now inquiry.now sets.now shown.now }
-    ensures says { Says (K.written out.old) (K.faults out.old) room.old (K.written out.new)
-        (K.faults out.new) room.new (bytes_of (shown_lines texts.now inquiry.now shown.now)) }
+    requires can { CanShow (length texts.now) inquiry.now shown.now }
+    ensures says { Says (K.written out.old) (K.faults out.old) room.old
+        (K.written out.new) (K.faults out.new) room.new
+        (lines_bytes (shown_lines texts.now inquiry.now shown.now)) }
     ensures cost { steps.new ≤ steps.old + shown_steps shown.now inquiry.now.count }
 {
     let family = inquiry.family();
@@ -44,8 +99,10 @@ pub fn put_shown<K: Sink, L: Ledger>(
         Shown::Known(known) => put_known(*known, room, out),
         Shown::Question(next) => put_question(texts, next, room, out),
         Shown::States { count, after } => put_page(family, texts, *after, *count, room, out, steps),
-        Shown::Base => put_base(texts, sets, room, out),
-        Shown::Surmise { atoms } => put_surmise(texts, sets, atoms.as_slice(), room, out),
+        Shown::Base { sets } => put_base(texts, sets.as_slice(), room, out),
+        Shown::Surmise { base, atoms } => {
+            put_surmise(texts, base.as_slice(), atoms.as_slice(), room, out);
+        }
         Shown::Learning(verdict) => put_learning(texts, *verdict, room, out),
         Shown::Projected { part, count, after } => {
             let projection = Trace::new(family, *part);
@@ -77,8 +134,8 @@ fn put_page<F: Inside, K: Sink, L: Ledger>(
 )
     requires items { F.item_count family.now ≡ length texts.now }
     requires after { ForSome after (λ w. IsWithin w (full (length texts.now))) }
-    ensures says { Says (K.written out.old) (K.faults out.old) room.old (K.written out.new)
-        (K.faults out.new) room.new (bytes_of (page_lines texts.now
+    ensures says { Says (K.written out.old) (K.faults out.old) room.old
+        (K.written out.new) (K.faults out.new) room.new (lines_bytes (page_lines texts.now
         (page comes_before (F.members family.now) after count))) }
     ensures cost { steps.new ≤ steps.old + (count + 1) * (F.item_count family.now + 1) }
 {
@@ -87,9 +144,8 @@ fn put_page<F: Inside, K: Sink, L: Ledger>(
 
 // Says what is known of a query.
 fn put_known<K: Sink>(known: Known, room: &mut Room, out: &mut K)
-    ensures { Says (K.written out.old) (K.faults out.old) room.old (K.written out.new)
-        (K.faults out.new) room.new
-        (line_of (known_words known)) }
+    ensures { Says (K.written out.old) (K.faults out.old) room.old
+        (K.written out.new) (K.faults out.new) room.new (line_bytes (known_line known)) }
 {
     match known {
         Known::Yes => put_line(&[b"known", b"yes"], room, out),
@@ -100,27 +156,18 @@ fn put_known<K: Sink>(known: Known, room: &mut Room, out: &mut K)
 
 // Says the next question, or that none is open.
 fn put_question<K: Sink>(texts: &SetTexts, next: &Option<Query>, room: &mut Room, out: &mut K)
-    requires { ForSome next.now (λ r. is_good (length texts.now) r ≡ true) }
-    ensures { Says (K.written out.old) (K.faults out.old) room.old (K.written out.new)
-        (K.faults out.new) room.new
-        (line_of (question_words texts.now next.now)) }
+    ensures { Says (K.written out.old) (K.faults out.old) room.old
+        (K.written out.new) (K.faults out.new) room.new
+        (line_bytes (question_line texts.now next.now)) }
 {
     match next {
-        Some(query) => put_query(texts, query, room, out),
+        Some(query) => {
+            room.put(b"ask ", out);
+            texts.put_names(query.a, room, out);
+            room.put(b" :", out);
+            texts.put_name(query.q, room, out);
+            room.end_line(out);
+        }
         None => put_line(&[b"settled"], room, out),
     }
-}
-
-// Says a question.
-fn put_query<K: Sink>(texts: &SetTexts, query: &Query, room: &mut Room, out: &mut K)
-    requires { is_good (length texts.now) query.now ≡ true }
-    ensures { Says (K.written out.old) (K.faults out.old) room.old (K.written out.new)
-        (K.faults out.new) room.new
-        (line_of (question_words texts.now (Some query.now))) }
-{
-    room.put(b"ask ", out);
-    texts.put_names(query.a, room, out);
-    room.put(b" : ", out);
-    room.put(texts.domain().name(query.q).as_bytes(), out);
-    room.end_line(out);
 }

@@ -1,13 +1,14 @@
 // The line of a surmise function. Its text may be larger than memory, so it is said piece by piece.
-ghost use Rattle.std.specs.Prelude.{◌≡◌, ◌<◌, ◌≤◌, false, length, map};
+ghost use Rattle.std.specs.Prelude.{◌≡◌, ◌<◌, false, length, map};
 ghost use Rattle.std.specs.List.{All};
 ghost use Rattle.serde_json.specs.Written.{comma_if};
-ghost use Rattle.ls_set.specs.{IsWithin, full, items, set_of};
+ghost use Rattle.json.specs.Print.{quoted};
+ghost use Rattle.ls_set.specs.{set_of};
+ghost use Rattle.ls_domain.specs.Texts.{names_of_set};
 ghost use Rattle.ls_theory.specs.{atom_items, atoms_at, clauses_at};
-ghost use Rattle.ls_meaning.specs.{line_of};
-ghost use Rattle.ls_meaning.specs.Lines.{surmise_words};
+ghost use Rattle.ls_meaning.specs.{line_bytes, surmise_line};
 ghost use Rattle.ls_write.specs.Rooms.{Says};
-ghost use Rattle.ls_write.specs.SurmiseTexts.{listed, quoted_name, clause_text, row_text};
+ghost use Rattle.ls_write.specs.SurmiseTexts.{listed, clause_text, row_text};
 
 use crate::{Room, SetTexts};
 use ls_edge::Sink;
@@ -25,11 +26,10 @@ pub fn put_surmise<K: Sink>(
     room: &mut Room,
     out: &mut K,
 )
-    requires sets { All (λ s. IsWithin s (full (length texts.now))) sets.now }
     requires atoms { atoms.now ≡ map (λ k. set_of (atom_items sets.now k)) sets.now }
     ensures { Says (K.written out.old) (K.faults out.old) room.old (K.written out.new)
-        (K.faults out.new) room.new (line_of (surmise_words texts.now (clauses_at (length
-        texts.now) sets.now))) }
+        (K.faults out.new) room.new (line_bytes (surmise_line texts.now
+        (clauses_at (length texts.now) sets.now))) }
 {
     room.put(b"surmise {", out);
     put_rows(texts, texts.by_name(), sets, atoms, room, out);
@@ -45,9 +45,7 @@ fn put_rows<K: Sink>(
     room: &mut Room,
     out: &mut K,
 )
-    requires items { All (λ i. i < length texts.now) items.now }
-    requires few { length texts.now ≤ PLACES }
-    requires sets { All (λ s. IsWithin s (full (length texts.now))) sets.now }
+    requires items { All (λ i. i < PLACES) items.now }
     requires atoms { atoms.now ≡ map (λ k. set_of (atom_items sets.now k)) sets.now }
     ensures { Says (K.written out.old) (K.faults out.old) room.old (K.written out.new)
         (K.faults out.new) room.new (listed (row_text texts.now sets.now) false items.now) }
@@ -72,9 +70,7 @@ fn put_row<K: Sink>(
     room: &mut Room,
     out: &mut K,
 )
-    requires item { item < length texts.now }
     requires place { item < PLACES }
-    requires sets { All (λ s. IsWithin s (full (length texts.now))) sets.now }
     requires atoms { atoms.now ≡ map (λ k. set_of (atom_items sets.now k)) sets.now }
     ensures { Says (K.written out.old) (K.faults out.old) room.old (K.written out.new)
         (K.faults out.new) room.new (row_text texts.now sets.now item) }
@@ -95,7 +91,6 @@ fn put_atoms<K: Sink>(
     out: &mut K,
 )
     requires place { item < PLACES }
-    requires sets { All (λ s. IsWithin s (full (length texts.now))) sets.now }
     requires atoms { atoms.now ≡ map (λ k. set_of (atom_items sets.now k)) sets.now }
     ensures { Says (K.written out.old) (K.faults out.old) room.old (K.written out.new)
         (K.faults out.new) room.new (listed (clause_text texts.now) false (atoms_at sets.now
@@ -116,7 +111,6 @@ fn put_atoms<K: Sink>(
 
 // Says a clause.
 fn put_clause<K: Sink>(texts: &SetTexts, set: ItemSet, room: &mut Room, out: &mut K)
-    requires { IsWithin set (full (length texts.now)) }
     ensures { Says (K.written out.old) (K.faults out.old) room.old (K.written out.new)
         (K.faults out.new) room.new (clause_text texts.now set) }
 {
@@ -127,12 +121,11 @@ fn put_clause<K: Sink>(texts: &SetTexts, set: ItemSet, room: &mut Room, out: &mu
 
 // Says the names of a set's items, each in quotes.
 fn put_quoted_names<K: Sink>(texts: &SetTexts, set: ItemSet, room: &mut Room, out: &mut K)
-    requires { IsWithin set (full (length texts.now)) }
     ensures { Says (K.written out.old) (K.faults out.old) room.old (K.written out.new)
-        (K.faults out.new) room.new (listed (quoted_name texts.now) false (items set)) }
+        (K.faults out.new) room.new (listed quoted false (names_of_set texts.now set)) }
 {
     let mut later = false;
-    for item in set.items() {
+    for item in texts.items_of(set).items() {
         put_comma(later, room, out);
         texts.put_quoted(item, room, out);
         later = true;

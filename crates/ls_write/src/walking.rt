@@ -4,15 +4,17 @@ ghost use Rattle.std.specs.Option.{ForSome};
 ghost use Rattle.ls_set.specs.{full};
 ghost use Rattle.ls_theory.specs.{is_learning_space, is_lex_before, is_order, page, paths};
 ghost use Rattle.ls_paths.specs.Left.{paths_left};
-ghost use Rattle.ls_meaning.specs.{bytes_of, path_lines};
+ghost use Rattle.ls_meaning.specs.{lines_bytes, path_lines};
 ghost use Rattle.ls_write.specs.Rooms.{Says};
-ghost use Rattle.ls_write.specs.PathPages.{paths_after};
+ghost use Rattle.ls_write.specs.Paths.{paths_after};
 
+use crate::lines::put_more;
+use crate::path_text::{PathText, put_path};
+use crate::{Room, SetTexts};
 use ls_edge::Sink;
 use ls_interior::Inside;
 use ls_paths::{Order, Walk};
 use ls_set::{ItemList, PLACES};
-use crate::{PathText, Room, SetTexts, put_more, put_path};
 
 // The walk over the paths after an order of all items, or over all of them.
 fn walk_after<'a, F: Inside>(f: &'a F, after: &Option<ItemList>) -> Walk<'a, F>
@@ -47,7 +49,7 @@ pub fn put_paths<F: Inside, K: Sink>(
     requires learning { is_learning_space (full (F.item_count f.now)) (F.members f.now) ≡ true }
     requires after { ForSome after.now (λ o. is_order (F.item_count f.now) o ≡ true) }
     ensures { Says (K.written out.old) (K.faults out.old) room.old (K.written out.new)
-        (K.faults out.new) room.new (bytes_of (path_lines texts.now
+        (K.faults out.new) room.new (lines_bytes (path_lines texts.now
         (page is_lex_before (paths (F.item_count f.now) (F.members f.now)) after.now count))) }
 {
     let mut walk = walk_after(f, after);

@@ -1,5 +1,5 @@
 use Rattle.ls_session.proofs.Vocabulary.{◌∙◌, ◌≡◌, Bytes, Fetched, IsFetched, ap, bytes_fetched, changes, file_refusals, makes_as, opened_by, standing_session, subst, sym}
-use Rattle.ls_saved.specs.{session_of}
+use Rattle.ls_files.specs.{session_of}
 use Rattle.ls_session.proofs.decider.Decider.open_fetched.Goals as goal
 
 pub returns-in-Ok-clause-makes : goal.returns-in-Ok-clause-makes
