@@ -1,22 +1,12 @@
-<<<<<<< HEAD
 // Commands that open a session, decided.
 ghost use Rattle.std.specs.Prelude.{◌≡◌, [], List, Result, Ok, length};
 ghost use Rattle.ls_domain.specs.Domains.{names_of_table};
 ghost use Rattle.ls_domain.specs.declared.domain_fault.DomainFault.{DomainFault as Fault};
 ghost use Rattle.ls_lines.specs.{Text};
-ghost use Rattle.ls_saved.specs.{session_of};
+ghost use Rattle.ls_files.specs.{session_of};
 ghost use Rattle.ls_meaning.specs.{changes, has_domain, items_row, load_items_row, open_row, opened_by, opening_row, started_by};
 ghost use Rattle.ls_session.specs.Decides.{Decides, Makes, shelf_state};
 ghost use Rattle.ls_session.specs.Standing.{IsRead, standing_session};
-=======
-// The line that takes up a session that was kept in a file.
-ghost use Rattle.std.specs.Prelude.{◌≡◌, [], length, IfOk};
-ghost use Rattle.ls_files.specs.{session_of};
-ghost use Rattle.ls_meaning.specs.{Fetched, bytes_fetched, changes, file_refusals, open_row, opened_by};
-ghost use Rattle.ls_meaning.specs.declared.response.Response.TheVariants.{Done};
-ghost use Rattle.ls_session.specs.Decides.{Decides, Makes, IsFetched};
-ghost use Rattle.ls_session.specs.Courses.{standing_session, IsSayable};
->>>>>>> b7d390f06e19b40fa5c8e0d8c79f992dcd915b34
 
 use crate::decider::Decider;
 use crate::fetching::fetch;
