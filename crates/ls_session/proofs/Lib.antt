@@ -1,0 +1,9 @@
+mod Vocabulary
+pub mod Decided
+pub mod Resolved
+pub mod Fetched
+pub mod Stored
+mod Meant
+pub mod Sayable
+pub mod Steps
+mod Trailed
