@@ -32,7 +32,7 @@ pub names_of_set-met : (names : List Text) (s : Items)
 unfolding names_of_set
 names_of_set-met names s =
     let n = length names in
-    let small : IsWithin (meet s (full n)) (full n) = λ i h. grind (members, h) in
+    let small : IsWithin (meet s (full n)) (full n) = λ i h. grind (arith, members, h) in
     ap (map (name_of names))
     (items-within (meet s (full n)) n small ∙ kept-met n s 0 n (omega arith))
 

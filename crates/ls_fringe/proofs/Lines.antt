@@ -6,7 +6,7 @@ use Rattle.ls_lines.specs.declared.kind.Kind.TheVariants.{Item}
 use Rattle.ls_lines.specs.declared.command.Command.TheVariants.{StateOf}
 use Rattle.ls_lines.proofs.ReadBack.{read_back}
 use Rattle.ls_domain.specs.Domains.{IsDomain, is_name}
-use Rattle.ls_domain.proofs.NamedSets.{items-below, set-back, set-all_named}
+use Rattle.ls_domain.proofs.NamedSets.{items-below, names_of_set-within, set-back, set-all_named}
 use Rattle.ls_fringe.specs.FringeTexts.{state_of_line, AsksFor}
 use Rattle.ls_fringe.proofs.Bars.{join-first}
 
@@ -32,8 +32,9 @@ numbers-names names h (i ∷ is) below =
     and_from (is_of Item (name_of names i)) (list_all (is_of Item) (map (name_of names) is)) (item_name (name_of names i) (All-get_or (λ w. is_name w ≡ true) names i [] below.0 (AllPass-from_list_all is_name names h))) (numbers-names names h is below.1)
 
 set-names : (names : List Text) → list_all is_name names ≡ true → (s : Items) → IsWithin s (full (length names)) → list_all (is_of Item) (names_of_set names s) ≡ true
-unfolding names_of_set
-set-names names h s within = numbers-names names h (items s) (items-below (length names) s within)
+set-names names h s within =
+    ap (list_all (is_of Item)) (names_of_set-within names s within)
+    ∙ numbers-names names h (items s) (items-below (length names) s within)
 
 -- ---- the line
 

@@ -2,8 +2,7 @@
 pub use Rattle.std.proofs.Common.{◌&&◌, ◌++◌, ◌+◌, ◌<◌, ◌||◌, ◌∙◌, ◌∷◌, ◌≡◌, Bool, List, None, Some, ℕ, [], ap, append-nil, append_assoc, ap₂, arith, codes, cond, eqb, false, length, ltb, map, not, refl, sym, true}
 pub use Rattle.std.proofs.lemmas.Bool.{and_from, and_parts}
 pub use Rattle.std.specs.List.{AllByRecursion, join_with_byte, list_all}
-pub use Rattle.ls_domain.specs.Texts.{fringe_words, joined_names, name_of}
-unfoldable pub use Rattle.ls_domain.specs.Texts.{names_of_set}
+pub use Rattle.ls_domain.specs.Texts.{fringe_words, joined_names, name_of, names_of_set}
 pub use Rattle.ls_laws.proofs.ReadBack.{has-chosen, has-inner_fringe, has-outer_fringe, state_of-is, state_of-own}
 pub use Rattle.ls_laws.proofs.WellGraded.{learning-parts}
 pub use Rattle.ls_lines.specs.{Text, command_of, words, words_joined}

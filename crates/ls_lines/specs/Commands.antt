@@ -12,8 +12,6 @@ use Rattle.ls_lines.specs.declared.part.Part.TheVariants.{Fixed, One, Many}
 use Rattle.ls_lines.specs.declared.command.Command.{Command}
 use Rattle.ls_lines.specs.declared.command.Command.TheVariants.{View}
 use Rattle.ls_lines.specs.declared.view.ViewCommand.TheVariants.{States, Project, Paths}
-use Rattle.ls_lines.specs.declared.pupil.PupilCommand.{PupilCommand}
-use Rattle.ls_lines.specs.declared.pupil.PupilCommand.TheVariants as pupils
 
 -- whether the word can stand at the part
 abbrev pub fits : Part → Text → Bool
@@ -51,14 +49,6 @@ count_of (View (States count after)) = Some count
 count_of (View (Project count after names)) = Some count
 count_of (View (Paths count after)) = Some count
 count_of c = None
-
--- the name of the pupil that the command is about
-abbrev pub pupil_name : PupilCommand → Text
-pupil_name (pupils.Pupil name) = name
-pupil_name (pupils.Question name) = name
-pupil_name (pupils.Reply name item right) = name
-pupil_name (pupils.Report name) = name
-pupil_name (pupils.Close name) = name
 
 -- whether some command begins with the words
 abbrev pub begins_command : List Text → Bool

@@ -98,7 +98,9 @@ number given place = unwrap_or (number_up_to greatest_number (one given place)) 
 abbrev pub is_right : List (List Text) → ℕ → Bool
 is_right given place = bytes_eq (one given place) (codes "right")
 
--- ---- each topic: its forms, their parts, their commands, and how a command is spelled
+-- ---- the topics: of each its forms, the parts of their lines, the commands that they make of the
+-- words at the parts, and the way back: the form of a command, and what stands at those of its parts
+-- that are no fixed words
 
 -- ---- opening a session
 
@@ -304,6 +306,14 @@ pupil_spelled_as (pupils.Reply name item right) =
 pupil_spelled_as (pupils.Report name) = (pupil.Report, Word name ∷ [])
 pupil_spelled_as (pupils.Close name) = (pupil.Close, Word name ∷ [])
 
+-- the name of the pupil that the command is about
+abbrev pub pupil_name : PupilCommand → Text
+pupil_name (pupils.Pupil name) = name
+pupil_name (pupils.Question name) = name
+pupil_name (pupils.Reply name item right) = name
+pupil_name (pupils.Report name) = name
+pupil_name (pupils.Close name) = name
+
 -- ---- all commands
 
 -- all forms; the order is of no account, since no line has two of them (the law
@@ -334,8 +344,8 @@ command (form.View f) given = commands.View (view_command f given)
 command (form.Setting f) given = commands.Setting (setting_command f given)
 command (form.Pupil f) given = commands.Pupil (pupil_command f given)
 
--- the form by which a command is printed, and what stands at its parts that are no fixed words;
--- `states` has its count
+-- the form by which a command is printed, and what stands at those of its parts that are no fixed
+-- words; `states` has its count
 unfoldable pub spelled_as : Command → Form × List Filling
 spelled_as commands.Nothing = (form.Nothing, [])
 spelled_as (commands.Opening c) = let s = opening_spelled_as c in (form.Opening s.0, s.1)

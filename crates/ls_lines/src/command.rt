@@ -3,7 +3,7 @@ ghost use Rattle.std.specs.Prelude.{◌≡◌, map};
 ghost use Rattle.ls_lines.specs.Forms.{spelled_as};
 ghost use Rattle.ls_lines.specs.Operands.{filling};
 
-use crate::operand::{Operands, operands};
+use crate::operand::{Operands, spell};
 use crate::{
     EditCommand, FileCommand, Form, OpeningCommand, PupilCommand, SettingCommand, ViewCommand,
 };
@@ -22,13 +22,14 @@ pub enum Command {
 }
 
 impl Command {
-    // The form by which the command is printed, and what stands at its parts that are no fixed words.
+    // The form by which the command is printed, and what stands at those of its parts that are no
+    // fixed words.
     #[tactic(auto, unfolding(crate::specs::Forms::spelled_as))]
     pub(crate) fn spelled_as(&self) -> (Form, Operands<'_>)
         ensures { (result.0, map filling result.1.items) ≡ spelled_as self.now }
     {
         match self {
-            Command::Nothing => (Form::Nothing, operands(&[])),
+            Command::Nothing => spell(Form::Nothing, &[]),
             Command::Opening(command) => {
                 let (form, operands) = command.spelled_as();
                 (Form::Opening(form), operands)

@@ -6,7 +6,7 @@ ghost use Rattle.ls_lines.specs.Operands.{filling};
 
 use crate::cut::Cut;
 use crate::operand::Operand::{Count, Many, Number, One};
-use crate::operand::{Operands, operands};
+use crate::operand::{Operands, spell};
 use crate::part::{COLON, ITEM, ITEMS, NUMBER};
 use crate::{Keyword, Part, Word, WordList};
 use std::alloc::AllocError;
@@ -67,15 +67,15 @@ impl EditForm {
 }
 
 impl EditCommand {
-    // The form of the command, and what stands at its parts that are no fixed words.
+    // The form of the command, and what stands at those of its parts that are no fixed words.
     pub(crate) fn spelled_as(&self) -> (EditForm, Operands<'_>)
         ensures { (result.0, map filling result.1.items) ≡ edit_spelled_as self.now }
     {
         match self {
-            Self::Blocks { size } => (EditForm::Blocks, operands(&[Count(*size)])),
-            Self::Yes { names, item } => (EditForm::Yes, operands(&[Many(names), One(item)])),
-            Self::No { names, item } => (EditForm::No, operands(&[Many(names), One(item)])),
-            Self::Retract { number } => (EditForm::Retract, operands(&[Number(*number)])),
+            Self::Blocks { size } => spell(EditForm::Blocks, &[Count(*size)]),
+            Self::Yes { names, item } => spell(EditForm::Yes, &[Many(names), One(item)]),
+            Self::No { names, item } => spell(EditForm::No, &[Many(names), One(item)]),
+            Self::Retract { number } => spell(EditForm::Retract, &[Number(*number)]),
         }
     }
 }

@@ -6,7 +6,7 @@ ghost use Rattle.ls_lines.specs.Operands.{filling};
 
 use crate::cut::Cut;
 use crate::operand::Operand::One;
-use crate::operand::{Operands, operands};
+use crate::operand::{Operands, spell};
 use crate::part::FILE;
 use crate::{Keyword, Part, Word};
 use std::alloc::AllocError;
@@ -69,16 +69,16 @@ impl FileForm {
 }
 
 impl FileCommand {
-    // The form of the command, and what stands at its parts that are no fixed words.
+    // The form of the command, and what stands at those of its parts that are no fixed words.
     pub(crate) fn spelled_as(&self) -> (FileForm, Operands<'_>)
         ensures { (result.0, map filling result.1.items) ≡ file_spelled_as self.now }
     {
         match self {
-            Self::StartSurmise { file } => (FileForm::StartSurmise, operands(&[One(file)])),
-            Self::StartBase { file } => (FileForm::StartBase, operands(&[One(file)])),
-            Self::Test { file } => (FileForm::Test, operands(&[One(file)])),
-            Self::Class { file } => (FileForm::Class, operands(&[One(file)])),
-            Self::Save { file } => (FileForm::Save, operands(&[One(file)])),
+            Self::StartSurmise { file } => spell(FileForm::StartSurmise, &[One(file)]),
+            Self::StartBase { file } => spell(FileForm::StartBase, &[One(file)]),
+            Self::Test { file } => spell(FileForm::Test, &[One(file)]),
+            Self::Class { file } => spell(FileForm::Class, &[One(file)]),
+            Self::Save { file } => spell(FileForm::Save, &[One(file)]),
         }
     }
 }

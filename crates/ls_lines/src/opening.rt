@@ -6,12 +6,13 @@ ghost use Rattle.ls_lines.specs.Operands.{filling};
 
 use crate::cut::Cut;
 use crate::operand::Operand::{Many, One};
-use crate::operand::{Operands, operands};
+use crate::operand::{Operands, spell};
 use crate::part::{FILE, NAMES};
 use crate::{Keyword, Part, Word, WordList};
 use std::alloc::AllocError;
 
-/// A command that opens a session: it begins one with items, or takes one up from a file. It needs no domain.
+/// A command that opens a session: it begins one with items, or takes one up from a file. It needs
+/// no domain.
 #[derive(Drop)]
 pub enum OpeningCommand {
     Items { names: WordList },
@@ -53,14 +54,14 @@ impl OpeningForm {
 }
 
 impl OpeningCommand {
-    // The form of the command, and what stands at its parts that are no fixed words.
+    // The form of the command, and what stands at those of its parts that are no fixed words.
     pub(crate) fn spelled_as(&self) -> (OpeningForm, Operands<'_>)
         ensures { (result.0, map filling result.1.items) ≡ opening_spelled_as self.now }
     {
         match self {
-            Self::Items { names } => (OpeningForm::Items, operands(&[Many(names)])),
-            Self::LoadItems { file } => (OpeningForm::LoadItems, operands(&[One(file)])),
-            Self::Reopen { file } => (OpeningForm::Reopen, operands(&[One(file)])),
+            Self::Items { names } => spell(OpeningForm::Items, &[Many(names)]),
+            Self::LoadItems { file } => spell(OpeningForm::LoadItems, &[One(file)]),
+            Self::Reopen { file } => spell(OpeningForm::Reopen, &[One(file)]),
         }
     }
 }

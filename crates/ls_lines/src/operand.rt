@@ -22,19 +22,20 @@ const MOST_OPERANDS: usize = 5;
 // What a command has at those parts, in order. It takes no memory.
 pub(crate) type Operands<'a> = ArrayVec<Operand<'a>, MOST_OPERANDS>;
 
-// An operand at each place that holds none yet.
+// What an array has at the places that are free.
 impl Default for Operand<'_> {
     fn default() -> Self {
         Operand::Right(false)
     }
 }
 
-// The operands, in order.
-pub(crate) fn operands<'a>(list: &[Operand<'a>]) -> Operands<'a>
-    requires { length list.now ≤ MOST_OPERANDS }
-    ensures { result.items ≡ list.now }
+// The form with the operands, which are put into an array.
+pub(crate) fn spell<'a, F>(form: F, operands: &[Operand<'a>]) -> (F, Operands<'a>)
+    requires { length operands.now ≤ MOST_OPERANDS }
+    ensures form { result.0 ≡ form }
+    ensures operands { result.1.items ≡ operands.now }
 {
-    ArrayVec::try_from(list).unwrap()
+    (form, ArrayVec::try_from(operands).unwrap())
 }
 
 impl<'a> Operand<'a> {

@@ -1,13 +1,12 @@
 // Commands that assess pupils.
 ghost use Rattle.std.specs.Prelude.{◌≡◌, All, IfOk, map};
 ghost use Rattle.std.specs.Str.{IsAscii};
-ghost use Rattle.ls_lines.specs.Forms.{pupil_parts, pupil_command, pupil_spelled_as};
+ghost use Rattle.ls_lines.specs.Forms.{pupil_parts, pupil_command, pupil_spelled_as, pupil_name};
 ghost use Rattle.ls_lines.specs.Operands.{filling};
-ghost use Rattle.ls_lines.specs.Commands.{pupil_name};
 
 use crate::cut::Cut;
 use crate::operand::Operand::{One, Right};
-use crate::operand::{Operands, operands};
+use crate::operand::{Operands, spell};
 use crate::part::{ITEM, NAME, RIGHT};
 use crate::{Keyword, Part, Word};
 use std::alloc::AllocError;
@@ -66,19 +65,19 @@ impl PupilForm {
 }
 
 impl PupilCommand {
-    // The form of the command, and what stands at its parts that are no fixed words.
+    // The form of the command, and what stands at those of its parts that are no fixed words.
     pub(crate) fn spelled_as(&self) -> (PupilForm, Operands<'_>)
         ensures { (result.0, map filling result.1.items) ≡ pupil_spelled_as self.now }
     {
         match self {
-            Self::Pupil { name } => (PupilForm::Pupil, operands(&[One(name)])),
-            Self::Question { name } => (PupilForm::Question, operands(&[One(name)])),
-            Self::Reply { name, item, right } => (
+            Self::Pupil { name } => spell(PupilForm::Pupil, &[One(name)]),
+            Self::Question { name } => spell(PupilForm::Question, &[One(name)]),
+            Self::Reply { name, item, right } => spell(
                 PupilForm::Reply,
-                operands(&[One(name), One(item), Right(*right)]),
+                &[One(name), One(item), Right(*right)],
             ),
-            Self::Report { name } => (PupilForm::Report, operands(&[One(name)])),
-            Self::Close { name } => (PupilForm::Close, operands(&[One(name)])),
+            Self::Report { name } => spell(PupilForm::Report, &[One(name)]),
+            Self::Close { name } => spell(PupilForm::Close, &[One(name)]),
         }
     }
 

@@ -6,7 +6,7 @@ ghost use Rattle.ls_lines.specs.Operands.{filling};
 
 use crate::cut::Cut;
 use crate::operand::Operand::{Number, One};
-use crate::operand::{Operands, operands};
+use crate::operand::{Operands, spell};
 use crate::part::{ITEM, NUMBER};
 use crate::{Keyword, Part, Word};
 use std::alloc::AllocError;
@@ -14,21 +14,26 @@ use std::alloc::AllocError;
 /// A command that sets the odds, the ratios or the limits of an assessment.
 #[derive(Drop)]
 pub enum SettingCommand {
+    /// The odds of each item: the ratios `right` to 1 and `wrong` to 1.
     OddsAll {
         right: u64,
         wrong: u64,
     },
+    /// The odds of one item.
     OddsItem {
         item: Word,
         right: u64,
         wrong: u64,
     },
+    /// The ratios of each item: `right_a` to `right_b` for a right reply, and `wrong_a` to `wrong_b`
+    /// for a wrong one.
     RatioAll {
         right_a: u64,
         right_b: u64,
         wrong_a: u64,
         wrong_b: u64,
     },
+    /// The ratios of one item.
     RatioItem {
         item: Word,
         right_a: u64,
@@ -36,6 +41,7 @@ pub enum SettingCommand {
         wrong_a: u64,
         wrong_b: u64,
     },
+    /// The most replies, and the share of the total, in hundredths, that ends an assessment.
     Limits {
         budget: u64,
         share: u64,
@@ -110,32 +116,32 @@ impl SettingForm {
 }
 
 impl SettingCommand {
-    // The form of the command, and what stands at its parts that are no fixed words.
+    // The form of the command, and what stands at those of its parts that are no fixed words.
     pub(crate) fn spelled_as(&self) -> (SettingForm, Operands<'_>)
         ensures { (result.0, map filling result.1.items) ≡ setting_spelled_as self.now }
     {
         match self {
-            Self::OddsAll { right, wrong } => (
+            Self::OddsAll { right, wrong } => spell(
                 SettingForm::OddsAll,
-                operands(&[Number(*right), Number(*wrong)]),
+                &[Number(*right), Number(*wrong)],
             ),
-            Self::OddsItem { item, right, wrong } => (
+            Self::OddsItem { item, right, wrong } => spell(
                 SettingForm::OddsItem,
-                operands(&[One(item), Number(*right), Number(*wrong)]),
+                &[One(item), Number(*right), Number(*wrong)],
             ),
             Self::RatioAll {
                 right_a,
                 right_b,
                 wrong_a,
                 wrong_b,
-            } => (
+            } => spell(
                 SettingForm::RatioAll,
-                operands(&[
+                &[
                     Number(*right_a),
                     Number(*right_b),
                     Number(*wrong_a),
                     Number(*wrong_b),
-                ]),
+                ],
             ),
             Self::RatioItem {
                 item,
@@ -143,19 +149,19 @@ impl SettingCommand {
                 right_b,
                 wrong_a,
                 wrong_b,
-            } => (
+            } => spell(
                 SettingForm::RatioItem,
-                operands(&[
+                &[
                     One(item),
                     Number(*right_a),
                     Number(*right_b),
                     Number(*wrong_a),
                     Number(*wrong_b),
-                ]),
+                ],
             ),
-            Self::Limits { budget, share } => (
+            Self::Limits { budget, share } => spell(
                 SettingForm::Limits,
-                operands(&[Number(*budget), Number(*share)]),
+                &[Number(*budget), Number(*share)],
             ),
         }
     }

@@ -6,7 +6,7 @@ ghost use Rattle.ls_lines.specs.Operands.{filling};
 
 use crate::cut::Cut;
 use crate::operand::Operand::{Count, Many, One};
-use crate::operand::{Operands, operands};
+use crate::operand::{Operands, spell};
 use crate::part::{AFTER, BAR, COLON, COUNT, CURSOR, ITEM, ITEMS};
 use crate::{Keyword, MOST_COUNTED, Part, Word, WordList};
 use std::alloc::AllocError;
@@ -133,51 +133,42 @@ impl ViewForm {
 }
 
 impl ViewCommand {
-    // The form of the command, and what stands at its parts that are no fixed words.
+    // The form of the command, and what stands at those of its parts that are no fixed words.
     pub(crate) fn spelled_as(&self) -> (ViewForm, Operands<'_>)
         ensures { (result.0, map filling result.1.items) ≡ view_spelled_as self.now }
     {
         match self {
-            Self::Known { names, item } => (ViewForm::Known, operands(&[Many(names), One(item)])),
-            Self::Ask => (ViewForm::Ask, operands(&[])),
-            Self::States { count, after: None } => (
-                ViewForm::StatesUpTo,
-                operands(&[Count(*count)]),
-            ),
+            Self::Known { names, item } => spell(ViewForm::Known, &[Many(names), One(item)]),
+            Self::Ask => spell(ViewForm::Ask, &[]),
+            Self::States { count, after: None } => spell(ViewForm::StatesUpTo, &[Count(*count)]),
             Self::States {
                 count,
                 after: Some(cursor),
-            } => (
-                ViewForm::StatesAfter,
-                operands(&[Count(*count), One(cursor)]),
-            ),
-            Self::Base => (ViewForm::Base, operands(&[])),
-            Self::Surmise => (ViewForm::Surmise, operands(&[])),
-            Self::Learning => (ViewForm::Learning, operands(&[])),
+            } => spell(ViewForm::StatesAfter, &[Count(*count), One(cursor)]),
+            Self::Base => spell(ViewForm::Base, &[]),
+            Self::Surmise => spell(ViewForm::Surmise, &[]),
+            Self::Learning => spell(ViewForm::Learning, &[]),
             Self::Project {
                 count,
                 after: None,
                 names,
-            } => (ViewForm::Project, operands(&[Count(*count), Many(names)])),
+            } => spell(ViewForm::Project, &[Count(*count), Many(names)]),
             Self::Project {
                 count,
                 after: Some(cursor),
                 names,
-            } => (
+            } => spell(
                 ViewForm::ProjectAfter,
-                operands(&[Count(*count), One(cursor), Many(names)]),
+                &[Count(*count), One(cursor), Many(names)],
             ),
-            Self::ProjectBase { names } => (ViewForm::ProjectBase, operands(&[Many(names)])),
-            Self::Fringes { names } => (ViewForm::Fringes, operands(&[Many(names)])),
-            Self::StateOf { inner, outer } => (
-                ViewForm::StateOf,
-                operands(&[Many(inner), Many(outer)]),
-            ),
-            Self::Paths { count, after: None } => (ViewForm::Paths, operands(&[Count(*count)])),
+            Self::ProjectBase { names } => spell(ViewForm::ProjectBase, &[Many(names)]),
+            Self::Fringes { names } => spell(ViewForm::Fringes, &[Many(names)]),
+            Self::StateOf { inner, outer } => spell(ViewForm::StateOf, &[Many(inner), Many(outer)]),
+            Self::Paths { count, after: None } => spell(ViewForm::Paths, &[Count(*count)]),
             Self::Paths {
                 count,
                 after: Some(path),
-            } => (ViewForm::PathsAfter, operands(&[Count(*count), Many(path)])),
+            } => spell(ViewForm::PathsAfter, &[Count(*count), Many(path)]),
         }
     }
 }

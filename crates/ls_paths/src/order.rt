@@ -2,8 +2,8 @@
 ghost use Rattle.std.specs.Prelude.{◌≡◌, ◌≤◌, true, None, Some, is_some, length, take, IfSome, MatchBool};
 ghost use Rattle.ls_set.specs.{IsWithin, empty, full, set_of};
 ghost use Rattle.ls_theory.specs.{is_learning_space, is_order};
-ghost use Rattle.ls_growths.specs.Growths.{first_growth};
-ghost use Rattle.ls_growths.specs.Levels.{reached, is_fresh, leaves_below};
+ghost use Rattle.ls_paths.specs.Growths.{first_growth};
+ghost use Rattle.ls_paths.specs.Levels.{reached, is_fresh, leaves_below};
 
 use crate::steps::{grow, leave};
 use ls_interior::Inside;

@@ -2,8 +2,8 @@
 ghost use Rattle.std.specs.Prelude.{◌≡◌, ◌<◌, ◌≤◌, true, None, Some, length, take, IfSome, MatchBool};
 ghost use Rattle.ls_set.specs.{IsWithin, empty, full, is_among, minus, most_items, with};
 ghost use Rattle.ls_theory.specs.{is_learning_space};
-ghost use Rattle.ls_growths.specs.Growths.{first_next, next_after, first_growth, next_growth};
-ghost use Rattle.ls_growths.specs.Levels.{reached, is_fresh, leaves_below};
+ghost use Rattle.ls_paths.specs.Growths.{first_next, next_after, first_growth, next_growth};
+ghost use Rattle.ls_paths.specs.Levels.{reached, is_fresh, leaves_below};
 
 use ls_interior::{Inside, is_member};
 use ls_set::ItemSet;

@@ -22,7 +22,7 @@ pub use Rattle.ls_clauses.proofs.Clauses.{all-small, among-all, base-clauses, ba
 pub use Rattle.ls_clauses.proofs.Flaws.{flawless-ordered, none-comparable, surmise-flawless}
 pub use Rattle.ls_clauses.proofs.Places.{among-at, in_order-at, place-of}
 pub use Rattle.ls_clauses.specs.Surmise.{IsPutInOrder, IsSurmise}
-pub use Rattle.ls_domain.proofs.Numbers.{is_name-utf8, is_named-none, is_named-some, item_of-some, listed-below, with-within}
+pub use Rattle.ls_domain.proofs.Numbers.{is_name-utf8, is_named-none, is_named-some, item_of-some, with-within}
 pub use Rattle.ls_domain.specs.Domains.{IsDomain, is_name}
 pub use Rattle.ls_domain.specs.Texts.{name_of}
 unfoldable pub use Rattle.ls_domain.specs.Texts.{names_of_set}

@@ -37,15 +37,15 @@ fn put_details<K: Sink>(texts: Option<&SetTexts>, details: &[Detail], room: &mut
         (spaced (λ d. detail_word names (detail_of d)) details.now) }
 {
     for detail in details {
-        put_detail(texts, *detail, room, out);
+        put_detail(texts, detail, room, out);
     }
 }
 
 // Says a detail behind a space.
-fn put_detail<K: Sink>(texts: Option<&SetTexts>, detail: Detail, room: &mut Room, out: &mut K)
+fn put_detail<K: Sink>(texts: Option<&SetTexts>, detail: &Detail, room: &mut Room, out: &mut K)
     ensures { Says (K.written out.old) (K.faults out.old) room.old
         (K.written out.new) (K.faults out.new) room.new
-        (32 ∷ detail_word (names_in (option_copied texts.entry)) (detail_of detail)) }
+        (32 ∷ detail_word (names_in (option_copied texts.entry)) (detail_of detail.now)) }
 {
     match detail {
         Detail::Word(word) => {
@@ -54,14 +54,14 @@ fn put_detail<K: Sink>(texts: Option<&SetTexts>, detail: Detail, room: &mut Room
         }
         Detail::Number(number) => {
             room.space(out);
-            room.put_number(number, out);
+            room.put_number(*number, out);
         }
         Detail::Item(item) => match texts {
-            Some(texts) => texts.put_name(item, room, out),
+            Some(texts) => texts.put_name(*item, room, out),
             None => room.space(out),
         },
         Detail::Set(set) => match texts {
-            Some(texts) => texts.put_set(set, room, out),
+            Some(texts) => texts.put_set(*set, room, out),
             None => room.put(b" {}", out),
         },
     }

@@ -1,9 +1,9 @@
 -- The items that can be added to a set, looked for among those outside it.
-use Rattle.ls_growths.proofs.Vocabulary.{◌&&◌, ◌+◌, ◌-◌, ◌<◌, ◌||◌, ◌∙◌, ◌≡◌, ◌≤◌, Bool, IsOn, Items, List, None, Some, ℕ, and-false, and_from, and_parts, ap, arith, cases_order, eq-eqb, eqb, false, false_from_ne_true, find, find_none, first_next, full, has, has-full, has-minus, has-with, inl, inr, is_among, is_next, least, least-cases, lt-ltb, ltb-true, minus, next_after, next_item, not, not_from_false, numbers_from, or_right, refl, suc, sym, true, true≢false, unwrap_or, with, zero}
+use Rattle.ls_paths.proofs.Vocabulary.{◌&&◌, ◌+◌, ◌-◌, ◌<◌, ◌||◌, ◌∙◌, ◌≡◌, ◌≤◌, Bool, IsOn, Items, List, None, Some, ℕ, and-false, and_from, and_parts, ap, arith, cases_order, eq-eqb, eqb, false, false_from_ne_true, find, find_none, first_next, full, has, has-full, has-minus, has-with, inl, inr, is_among, is_next, least, least-cases, lt-ltb, ltb-true, minus, next_after, next_item, not, not_from_false, numbers_from, or_right, refl, suc, sym, true, true≢false, unwrap_or, with, zero}
 use Rattle.ls_theory.proofs.Numbers.{numbers_first}
 use Rattle.ls_query.proofs.QuerySets.{next_item-cases, next_item-none_left, least-none_left}
-use Rattle.ls_growths.proofs.Growths.{IsLearning, begins, some-next-outside}
-use Rattle.ls_growths.proofs.Levels.{already}
+use Rattle.ls_paths.proofs.Growths.{IsLearning, begins, some-next-outside}
+use Rattle.ls_paths.proofs.Levels.{already}
 
 -- ---- searches that pass numbers
 

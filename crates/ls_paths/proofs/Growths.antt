@@ -1,5 +1,5 @@
 -- The learning paths are the growths of the empty set: the first of them, and the next after a list.
-use Rattle.ls_growths.proofs.Vocabulary.{◌&&◌, ◌++◌, ◌+◌, ◌-◌, ◌<◌, ◌||◌, ◌∙◌, ◌∷◌, ◌≡◌, ◌≤◌, All-given, Bool, IsOn, Items, List, None, Option, Some, ℕ, [], and-false, and-true, and_from, and_parts, ap, ap₂, arith, both_ways, bound, cases_Bool, cases_eq, cases_lt, cases_order, cond, empty, eq-eqb, eqb, eqb-true, false, filter, filter-agree, filter-both, filter-map, find, find-filter, first_growth, first_next, flat_map, full, growths, has, has-full, has-minus, has-with, inl, inr, is_among, is_learning_space, is_lex_before, is_next, is_path, is_space, items, le-ltb, len, len-empty, len-parts, len-single, length, list_all, list_any, lt-ltb, ltb, ltb-true, map, max, members, minus, nat_tests, ne_eqb, next_after, next_growth, not, not_from_false, numbers_from, option_map, option_or, or_cases, or_left, or_right, orders_of, paths, refl, same_set, set_of, single, some_item, suc, sym, take, true, true≢false, union, union-empty_left, union-empty_right, unwrap_or, with, without, zero}
+use Rattle.ls_paths.proofs.Vocabulary.{◌&&◌, ◌++◌, ◌+◌, ◌-◌, ◌<◌, ◌||◌, ◌∙◌, ◌∷◌, ◌≡◌, ◌≤◌, All-given, Bool, IsOn, Items, List, None, Option, Some, ℕ, [], and-false, and-true, and_from, and_parts, ap, ap₂, arith, both_ways, bound, cases_Bool, cases_eq, cases_lt, cases_order, cond, empty, eq-eqb, eqb, eqb-true, false, filter, filter-agree, filter-both, filter-map, find, find-filter, first_growth, first_next, flat_map, full, growths, has, has-full, has-minus, has-with, inl, inr, is_among, is_learning_space, is_lex_before, is_next, is_path, is_space, items, le-ltb, len, len-empty, len-parts, len-single, length, list_all, list_any, lt-ltb, ltb, ltb-true, map, max, members, minus, nat_tests, ne_eqb, next_after, next_growth, not, not_from_false, numbers_from, option_map, option_or, or_cases, or_left, or_right, orders_of, paths, refl, same_set, set_of, single, some_item, suc, sym, take, true, true≢false, union, union-empty_left, union-empty_right, unwrap_or, with, without, zero}
 use Rattle.std.proofs.lemmas.List.Elements.{filter-append}
 use Rattle.std.proofs.lemmas.List.Folds.{find-append}
 use Rattle.ls_set.proofs.Sizes.{items-below}

@@ -1,8 +1,8 @@
 -- The next growth by the places at which it can leave a list, and what growths and orders reach.
-use Rattle.ls_growths.proofs.Vocabulary.{◌&&◌, ◌++◌, ◌+◌, ◌<◌, ◌∙◌, ◌∷◌, ◌≡◌, ◌≤◌, Bool, Decides-is_same, IsOn, Items, List, None, Option, Some, ℕ, [], and_from, and_parts, ap, ap₂, arith, cases_Bool, cases_eq, cond, drop, empty, eq-eqb, eqb, eqb-true, false, false_from_ne_true, first_growth, first_next, found-passes, full, get_or, has, has-empty, has-minus, has-with, inl, inr, is_among, is_next, is_order, is_same, len, len-empty, len-full, len-with, len-zero, length, members, minus, nat_tests, next_after, next_growth, not, not_from_false, numbers_from, option_map, option_or, or_right, refl, same_set, set_of, subst, suc, sym, take, true, true≢false, union, union-empty_left, union-empty_right, unwrap_or, with, without, zero}
-use Rattle.ls_growths.specs.Levels.{reached, is_grown, is_fresh, is_whole, leaves_at, leaves_below}
-use Rattle.ls_growths.proofs.Growths.{IsLearning, begins, some-next, next-left, with-union}
-use Rattle.ls_growths.proofs.PathOrder.{all-left}
+use Rattle.ls_paths.proofs.Vocabulary.{◌&&◌, ◌++◌, ◌+◌, ◌<◌, ◌∙◌, ◌∷◌, ◌≡◌, ◌≤◌, Bool, Decides-is_same, IsOn, Items, List, None, Option, Some, ℕ, [], and_from, and_parts, ap, ap₂, arith, cases_Bool, cases_eq, cond, drop, empty, eq-eqb, eqb, eqb-true, false, false_from_ne_true, first_growth, first_next, found-passes, full, get_or, has, has-empty, has-minus, has-with, inl, inr, is_among, is_next, is_order, is_same, len, len-empty, len-full, len-with, len-zero, length, members, minus, nat_tests, next_after, next_growth, not, not_from_false, numbers_from, option_map, option_or, or_right, refl, same_set, set_of, subst, suc, sym, take, true, true≢false, union, union-empty_left, union-empty_right, unwrap_or, with, without, zero}
+use Rattle.ls_paths.specs.Levels.{reached, is_grown, is_fresh, is_whole, leaves_at, leaves_below}
+use Rattle.ls_paths.proofs.Growths.{IsLearning, begins, some-next, next-left, with-union}
+use Rattle.ls_paths.proofs.PathOrder.{all-left}
 
 -- ---- options
 

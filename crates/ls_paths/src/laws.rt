@@ -1,9 +1,9 @@
-// Laws of learning paths.
+// Laws of learning paths. Each is a clause of a function that does nothing when it runs.
 ghost use Rattle.std.specs.Prelude.{◌≡◌, ℕ, true, List, [], ◌∷◌, filter, find, length, Some, None};
 ghost use Rattle.ls_set.specs.{Items, empty, full, is_among};
 ghost use Rattle.ls_theory.specs.{is_learning_space, is_lex_before, paths};
 ghost use Rattle.ls_laws.specs.Spans.{IsOn};
-ghost use Rattle.ls_growths.specs.Growths.{growths, first_growth, next_growth, IsInLexOrder};
+ghost use Rattle.ls_paths.specs.Growths.{growths, first_growth, next_growth, IsInLexOrder};
 
 /// The learning paths are the lists by which the empty set grows through members, and stand in
 /// lexicographic order, each once. Those after a list are the first of them and those after it.

@@ -1,6 +1,6 @@
 -- The learning paths in lexicographic order: the first, and those after a list.
-use Rattle.ls_growths.proofs.Vocabulary.{◌&&◌, ◌++◌, ◌<◌, ◌∙◌, ◌∷◌, ◌≡◌, All-append, All-given, All-map, AllByRecursion, Bool, IsInLexOrder, IsOn, Items, List, None, Some, ℕ, [], and_from, and_parts, ap, ap₂, arith, cases_Bool, cond, each, empty, eq-eqb, eqb, eqb-true, false, false_from_ne_true, filter, filter-all, find, first_growth, flat_map, found-holds, full, growths, inl, inr, is_among, is_learning_space, is_lex_before, is_next, le-ltb, len, len-full, length, lt-ltb, ltb, ltb-true, map, members, minus, next_growth, numbers_from, or_cases, or_left, or_right, paths, refl, same_set, subst, suc, sym, true, true≢false, with, zero}
-use Rattle.ls_growths.proofs.Growths.{IsLearning, learning-from, growths-first, growths-next, paths-are}
+use Rattle.ls_paths.proofs.Vocabulary.{◌&&◌, ◌++◌, ◌<◌, ◌∙◌, ◌∷◌, ◌≡◌, All-append, All-given, All-map, AllByRecursion, Bool, IsInLexOrder, IsOn, Items, List, None, Some, ℕ, [], and_from, and_parts, ap, ap₂, arith, cases_Bool, cond, each, empty, eq-eqb, eqb, eqb-true, false, false_from_ne_true, filter, filter-all, find, first_growth, flat_map, found-holds, full, growths, inl, inr, is_among, is_learning_space, is_lex_before, is_next, le-ltb, len, len-full, length, lt-ltb, ltb, ltb-true, map, members, minus, next_growth, numbers_from, or_cases, or_left, or_right, paths, refl, same_set, subst, suc, sym, true, true≢false, with, zero}
+use Rattle.ls_paths.proofs.Growths.{IsLearning, learning-from, growths-first, growths-next, paths-are}
 
 -- ---- in order
 
