@@ -1,5 +1,5 @@
 -- The words that the proofs of this crate cite, passed on from one place.
-pub use Rattle.std.proofs.Common.{◌&&◌, ◌++◌, ◌+◌, ◌-◌, ◌<◌, ◌==◌, ◌||◌, ◌∙◌, ◌∷◌, ◌≡◌, ◌≤◌, Bool, Equal, Err, Global, Greater, IfOk, IsUtf8, Less, List, None, Ok, Option, Ordering, Result, Some, String, ℕ, [], ap, append-nil, append_assoc, ap₂, arith, bytes_eq, codes, cond, drop, drop-cons, false, find, get_or, inl, inr, is_eq, is_some, le-ltb, length, length-drop, lt-ltb, ltb, ltb-true, map, max, nat_cmp, not, option_and_then, option_map, refl, rules, string_bytes, subst, suc, sym, take, true, true≢false, unwrap_or, zero}
+pub use Rattle.std.proofs.Common.{◌&&◌, ◌++◌, ◌+◌, ◌-◌, ◌<◌, ◌==◌, ◌||◌, ◌∙◌, ◌∷◌, ◌≡◌, ◌≤◌, Bool, Equal, Err, Global, Greater, IfOk, IsUtf8, Less, List, None, Ok, Option, Ordering, Result, Some, String, ℕ, [], ap, append-nil, append_assoc, ap₂, arith, bytes_eq, codes, cond, drop, drop-cons, false, filter, find, get_or, inl, inr, is_eq, is_some, le-ltb, length, length-drop, lt-ltb, ltb, ltb-true, map, max, nat_cmp, not, option_and_then, option_map, refl, rules, string_bytes, subst, suc, sym, take, true, true≢false, unwrap_or, zero}
 pub use Rattle.std.proofs.lemmas.Bool.{and_from, and_parts, cases_eq, cases_order, false_from_ne_true, not-true, or_cases, or_right}
 pub use Rattle.std.proofs.lemmas.Bool.Decides.{nat_tests}
 pub use Rattle.std.proofs.lemmas.Cmp.{nat_list_cmp_total, nat_list_eq_equiv}

@@ -1,20 +1,15 @@
 -- The text of a surmise function is that of its pieces.
-use Rattle.ls_write.proofs.Vocabulary.{◌++◌, ◌+◌, ◌<◌, ◌∙◌, ◌∷◌, ◌≡◌, ◌≢◌, All, All-head, All-tail, Bool, Equal, Greater, IsDistinct, IsDomain, Items, Less, List, Text, ℕ, [], ap, append_assoc, ap₂, arith, atoms_at, by_name, bytes_eq-Decides, clause_text, clauses_at, clauses_text, codes, comma_if, compact_text, cond, false, get_or, insert_by_name, items, items_by_name, items_text, join_with_byte, length, line_of, listed, map, members_text, name_of, names_of_set, numbers_from, quoted, quoted_name, refl, row_text, rows_text, slice_cmp, suc, sym, true, zero}
+use Rattle.ls_write.proofs.Vocabulary.{◌++◌, ◌+◌, ◌<◌, ◌∙◌, ◌∷◌, ◌≡◌, ◌≢◌, All, All-head, All-tail, Bool, Equal, Greater, IsDistinct, IsDomain, Items, Less, List, Text, ℕ, [], ap, append_assoc, ap₂, arith, atoms_at, by_name, bytes_eq-Decides, clause_text, clauses_at, clauses_text, codes, comma_if, compact_text, cond, false, get_or, insert_by_name, items_by_name, items_text, join_with_byte, length, line_bytes, line_of, listed, map, members_text, name_of, names_of_set, numbers_from, quoted_name, refl, row_text, rows_text, slice_cmp, suc, surmise_line, sym, true, zero}
 use Rattle.std.specs.Ordering.{nat_cmp, is_lt, is_eq, match_ordering}
 use Rattle.std.specs.Str.{bytes_eq}
 use Rattle.std.proofs.lemmas.Map.Made.{AllPairs-from_IsDistinct}
 use Rattle.std.proofs.lemmas.Map.Text.{is_eq-slice_cmp}
 use Rattle.serde_json.specs.Data.{Data, string, Members, no_members, member, put}
 use Rattle.serde_json.specs.View.{items_of as values_of}
-use Rattle.ls_meaning.specs.Lines.{surmise_words}
 use Rattle.ls_files.specs.SurmiseFiles.{list_value, clause_value, members_from, surmise_text}
-use Rattle.ls_write.proofs.Names.{numbers-All, by_name-All}
+use Rattle.ls_write.proofs.NameOrder.{numbers-All, by_name-All}
 
 -- ---- arrays
-
-listed-map : {X Y : Type 0} (text : Y → Text) (f : X → Y) (later : Bool) (xs : List X) → listed text later (map f xs) ≡ listed (λ x. text (f x)) later xs
-listed-map text f later [] = refl
-listed-map text f later (x ∷ xs) = ap (λ l. comma_if later ++ (text (f x) ++ l)) (listed-map text f true xs)
 
 listed-same : {X : Type 0} (text other : X → Text) (later : Bool) (xs : List X) → ((x : X) → text x ≡ other x) → listed text later xs ≡ listed other later xs
 listed-same text other later [] same = refl
@@ -31,9 +26,7 @@ array-listed value later (x ∷ xs) =
     ∙ behind (comma_if later) (compact_text (value x)) (listed (λ y. compact_text (value y)) true xs) (93 ∷ [])
 
 clause-is : (names : List Text) (c : Items) → compact_text (clause_value names c) ≡ clause_text names c
-unfolding names_of_set
-clause-is names c =
-    ap (λ l. 91 ∷ l) (array-listed string false (names_of_set names c) ∙ ap (λ l. l ++ 93 ∷ []) (listed-map quoted (name_of names) false (items c)))
+clause-is names c = ap (λ l. 91 ∷ l) (array-listed string false (names_of_set names c))
 
 clauses-are : (names : List Text) (own : List Items) → compact_text (list_value (clause_value names) own) ≡ clauses_text names own
 clauses-are names own =
@@ -112,12 +105,12 @@ module _ (names : List Text) (distinct : IsDistinct bytes_eq names) where
 
 -- ---- the line
 
-line : (rows : Text) → (codes "surmise {" ++ rows) ++ codes "}\n" ≡ join_with_byte 32 (codes "surmise" ∷ (123 ∷ rows ++ 125 ∷ []) ∷ []) ++ 10 ∷ []
-line rows = simp append_assoc
+pieces : (rows : Text) → (codes "surmise {" ++ rows) ++ codes "}\n" ≡ join_with_byte 32 (codes "surmise" ∷ (123 ∷ rows ++ 125 ∷ []) ∷ []) ++ 10 ∷ []
+pieces rows = simp append_assoc
 
-pub surmise-line : (names : List Text) (sets : List Items) → IsDomain names
-    → (codes "surmise {" ++ listed (row_text names sets) false (items_by_name names)) ++ codes "}\n" ≡ line_of (surmise_words names (clauses_at (length names) sets))
+pub line-surmise : (names : List Text) (sets : List Items) → IsDomain names
+    → (codes "surmise {" ++ listed (row_text names sets) false (items_by_name names)) ++ codes "}\n" ≡ line_bytes (surmise_line names (clauses_at (length names) sets))
 unfolding line_of rows_text
-surmise-line names sets is =
-    line (listed (row_text names sets) false (items_by_name names))
+line-surmise names sets is =
+    pieces (listed (row_text names sets) false (items_by_name names))
     ∙ ap (λ t. join_with_byte 32 (codes "surmise" ∷ t ∷ []) ++ 10 ∷ []) (sym (surmise-rows names is.are_names.distinct sets))

@@ -1,8 +1,8 @@
 -- The names of a set's items, group by group.
-use Rattle.ls_write.proofs.Vocabulary.{◌%◌, ◌*◌, ◌++◌, ◌+◌, ◌-◌, ◌/◌, ◌<◌, ◌^◌, ◌∙◌, ◌∷◌, ◌≡◌, ◌≢◌, ◌≤◌, Bool, IsWithin, Items, List, Text, ℕ, [], agree_below_at, ap, append-nil, ap₂, arith, bit_at, cases_lt, cond, drop, drop_of_length-le, eq-eqb, eqb, eqb-true, false, filter, filter-append, flat_map, flat_map-append, full, get_or, group_count, group_items, group_text, group_texts, has, inl, inr, items, join-spaced-one, join_with_byte, joined_names, length, map, map-append, min, name_of, names_of_set, nat_tests, ne_eqb, numbers_from, refl, single, spaced, spaced_names, suc, sym, true, zero}
+use Rattle.ls_write.proofs.Vocabulary.{◌%◌, ◌*◌, ◌++◌, ◌+◌, ◌-◌, ◌/◌, ◌<◌, ◌^◌, ◌∙◌, ◌∷◌, ◌≡◌, ◌≢◌, ◌≤◌, Bool, Items, List, Text, ℕ, [], agree_below_at, ap, append-nil, ap₂, arith, bit_at, cases_lt, cond, drop, drop_of_length-le, eq-eqb, eqb, eqb-true, false, filter, filter-append, flat_map, flat_map-append, get_or, group_count, group_items, group_text, group_texts, has, inl, inr, join-spaced-one, join_with_byte, length, map, map-append, map-id, min, name_of, names_of_set, nat_tests, ne_eqb, numbers_from, refl, single, spaced, spaced_names, suc, sym, true, zero}
 use Rattle.std.proofs.lemmas.Nat.Bits.{bit_at-zero}
 use Rattle.ls_set.proofs.Sets.{has-single}
-use Rattle.ls_set.proofs.Sizes.{numbers_from-add, filter-none, items-within}
+use Rattle.ls_set.proofs.Sizes.{numbers_from-add, filter-none}
 
 -- ---- numbers in a row
 
@@ -51,9 +51,15 @@ single-digit i j h =
 
 -- ---- names, each behind a space
 
-drop-spaced : (f : ℕ → Text) (is : List ℕ) → drop 1 (flat_map (λ i. 32 ∷ f i) is) ≡ join_with_byte 32 (map f is)
-drop-spaced f [] = refl
-drop-spaced f (i ∷ is) = join-spaced-one (f i) f is
+-- the images of a list, and the list of the images
+spaced-map : {X : Type 0} (f : X → Text) (xs : List X) → spaced f xs ≡ spaced (λ w. w) (map f xs)
+spaced-map f [] = refl
+spaced-map f (x ∷ xs) = ap (λ l. 32 ∷ (f x ++ l)) (spaced-map f xs)
+
+-- without the space before the first
+pub joined-spaced : (ws : List Text) → drop 1 (spaced (λ w. w) ws) ≡ join_with_byte 32 ws
+joined-spaced [] = refl
+joined-spaced (w ∷ ws) = join-spaced-one w (λ v. v) ws ∙ ap (λ vs. join_with_byte 32 (w ∷ vs)) (map-id ws)
 
 module _ (names : List Text) where
   spaced-append : (p : ℕ → Bool) (is js : List ℕ) → spaced_names names p (is ++ js) ≡ spaced_names names p is ++ spaced_names names p js
@@ -78,14 +84,10 @@ module _ (names : List Text) where
       let none : spaced_names names p (item ∷ []) ≡ [] = rw fails refl in
       sym (spaced-next p first item h ∙ ap (λ l. spaced_names names p (numbers_from first (item - first)) ++ l) none ∙ append-nil (spaced_names names p (numbers_from first (item - first))))
 
-  -- the names of a set's items
-  pub all-spaced : (s : Items) → IsWithin s (full (length names)) → spaced_names names (has s) (numbers_from 0 (length names)) ≡ spaced (name_of names) (items s)
-  all-spaced s h = ap (spaced (name_of names)) (sym (items-within s (length names) h))
-
-  -- without the space before the first
-  pub joined-spaced : (s : Items) → drop 1 (spaced (name_of names) (items s)) ≡ joined_names names s
+  -- the names of a set
+  pub all-spaced : (s : Items) → spaced_names names (has s) (numbers_from 0 (length names)) ≡ spaced (λ w. w) (names_of_set names s)
   unfolding names_of_set
-  joined-spaced s = drop-spaced (name_of names) (items s)
+  all-spaced s = spaced-map (name_of names) (filter (has s) (numbers_from 0 (length names)))
 
   -- ---- groups
 

@@ -1,12 +1,13 @@
 mod Vocabulary
 pub mod Saying
-pub mod Joins
-mod LineJoins
-mod Kept
-mod Groups
-mod ClauseTexts
-mod Names
-mod Listed
-mod Atoms
-mod PathTexts
+mod LineBytes
 mod Pages
+mod Parts
+mod Groups
+mod Quotes
+mod NameOrder
+mod Listed
+mod ClauseTexts
+mod Atoms
+mod Fronts
+pub mod Showing

@@ -1,9 +1,14 @@
 -- Texts that are listed with commas: what was said, and what is left to say.
-use Rattle.ls_write.proofs.Vocabulary.{◌++◌, ◌+◌, ◌<◌, ◌∙◌, ◌∷◌, ◌≡◌, ◌≤◌, Bool, List, Text, ℕ, [], ap, append-nil, append_assoc, comma_if, drop, drop-next, drop_all, drop_more, false, filter, get_or, length, listed, refl, sym, true}
+use Rattle.ls_write.proofs.Vocabulary.{◌++◌, ◌+◌, ◌<◌, ◌∙◌, ◌∷◌, ◌≡◌, ◌≤◌, Bool, List, Text, ℕ, [], ap, append-nil, append_assoc, comma_if, drop, drop-next, drop_all, drop_more, false, filter, get_or, length, listed, map, refl, sym, true}
 
 -- the list that is left is said behind what was given, and that is the whole
 abbrev pub Completes : {X : Type 0} → (X → Text) → Text → Bool → List X → Text → Type 0
 Completes text given later left whole = given ++ listed text later left ≡ whole
+
+-- images in the list
+pub listed-map : {X Y : Type 0} (text : Y → Text) (f : X → Y) (later : Bool) (xs : List X) → listed text later (map f xs) ≡ listed (λ x. text (f x)) later xs
+listed-map text f later [] = refl
+listed-map text f later (x ∷ xs) = ap (λ l. comma_if later ++ (text (f x) ++ l)) (listed-map text f true xs)
 
 module _ {X : Type 0} (text : X → Text) (given whole : Text) (later : Bool) where
   pub listed-next : (x : X) (left : List X) → Completes text given later (x ∷ left) whole → Completes text (given ++ (comma_if later ++ text x)) true left whole

@@ -1,46 +1,50 @@
--- The bytes of a page, line by line.
-use Rattle.ls_write.proofs.Vocabulary.{◌++◌, ◌+◌, ◌-◌, ◌<◌, ◌∙◌, ◌∷◌, ◌≡◌, ◌≤◌, Bool, Items, List, MatchOption, Page, Text, ℕ, [], ap, ap₂, bytes_of, comes_before, false, is_some, left_after, length, line_of, ltb, map, more-ended, more-full, more-left, more_words, page, page_lines, set_words, sym, take, take-ended, take-full, take-left}
-use Rattle.std.specs.declared.option.Option.{Option}
-use Rattle.ls_write.proofs.Joins.{bytes_of-one, bytes_of-append}
+-- The bytes of a page, line by line, by what is left of a listing.
+use Rattle.ls_write.proofs.Vocabulary.{◌++◌, ◌+◌, ◌-◌, ◌<◌, ◌∙◌, ◌∷◌, ◌≡◌, ◌≤◌, Bool, Line, List, MatchOption, None, Option, Some, ℕ, [], ap, ap₂, arith, false, filter_true, is_some, length, line_bytes, line_of, lines_bytes, lt-ltb, ltb, map, more_line, nat_tests, paths, paths_after, suc, sym, take, zero}
+use Rattle.ls_write.proofs.LineBytes.{lines-one}
+use Rattle.ls_set.specs.{Items}
 
--- ---- pages
+module _ {X : Type 0} (line_of : X → Line) where
+  -- the page of k of those that are left
+  abbrev pub page_bytes : List X → ℕ → List ℕ
+  page_bytes left k = lines_bytes (map line_of (take k left) ++ more_line (ltb k (length left)) ∷ [])
 
-module _ (names : List Text) where
-  -- the bytes of the page of k sets after a cursor
-  abbrev pub page_bytes : List Items → Option Items → ℕ → List ℕ
-  page_bytes f cursor k = bytes_of (page_lines names (page comes_before f cursor k))
+  next : (x : X) (rest : List X) (k : ℕ) → page_bytes (x ∷ rest) (suc k) ≡ line_bytes (line_of x) ++ page_bytes rest k
+  next x rest k = ap (λ more. line_bytes (line_of x) ++ lines_bytes (map line_of (take k rest) ++ more_line more ∷ [])) (later k (length rest))
+    where
+      later : (k l : ℕ) → ltb (suc k) (suc l) ≡ ltb k l
+      later k l = grind (arith, nat_tests)
 
-  abbrev page_of : List Items → Bool → List ℕ
-  page_of sets more = bytes_of (page_lines names (let p : Page Items = record { members = sets; more = more } in p))
+  none : (k : ℕ) → page_bytes [] k ≡ line_bytes (more_line false)
+  none zero = sym (lines-one (more_line false))
+  none (suc k) = ap (λ more. lines_bytes (more_line more ∷ [])) (never (suc k)) ∙ sym (lines-one (more_line false))
+    where
+      never : (k : ℕ) → ltb k 0 ≡ false
+      never k = grind (arith, nat_tests)
 
-  page_of-last : (more : Bool) → page_of [] more ≡ line_of (more_words more)
-  page_of-last more = bytes_of-one (more_words more)
+  module _ (given whole : List ℕ) (left : List X) (count done : ℕ) (so_far : given ++ page_bytes left (count - done) ≡ whole) where
+    -- one of the page was said
+    pub page-next : (x : X) (rest : List X) → left ≡ x ∷ rest → done < count
+        → given ++ (line_bytes (line_of x) ++ page_bytes rest (count - (done + 1))) ≡ whole
+    page-next x rest e l =
+        let k : count - done ≡ suc (count - (done + 1)) = omega arith in
+        ap (λ bytes. given ++ bytes) (sym (ap₂ page_bytes e k ∙ next x rest (count - (done + 1)))) ∙ so_far
 
-  page_of-next : (k : Items) (sets : List Items) (more : Bool) → page_of (k ∷ sets) more ≡ line_of (set_words names k) ++ page_of sets more
-  page_of-next k sets more =
-      bytes_of-append (set_words names k ∷ []) (map (set_words names) sets ++ more_words more ∷ [])
-      ∙ ap (λ l. l ++ page_of sets more) (bytes_of-one (set_words names k))
+    -- none is left
+    pub page-ended : left ≡ [] → given ++ line_bytes (more_line false) ≡ whole
+    page-ended e = ap (λ bytes. given ++ bytes) (sym (ap (λ xs. page_bytes xs (count - done)) e ∙ none (count - done))) ∙ so_far
 
-  -- a set of the page, and what follows it
-  page-next : (f g : List Items) (cursor later : Option Items) (k : Items) (count done : ℕ) → left_after cursor f ≡ k ∷ left_after later g → done < count
-      → page_bytes f cursor (count - done) ≡ line_of (set_words names k) ++ page_bytes g later (count - (done + 1))
-  page-next f g cursor later k count done first l =
-      ap₂ page_of (take-left (left_after cursor f) (left_after later g) k count done first l) (more-left (left_after cursor f) (left_after later g) k count done first l)
-      ∙ page_of-next k (take (count - (done + 1)) (left_after later g)) (ltb (count - (done + 1)) (length (left_after later g)))
+    -- the page is full
+    pub page-full : (more : Bool) → more ≡ ltb 0 (length left) → count ≤ done → given ++ line_bytes (more_line more) ≡ whole
+    page-full more e l =
+        let k : count - done ≡ 0 = omega arith in
+        ap (λ bytes. given ++ bytes) (lines-one (more_line more) ∙ ap (λ m. lines_bytes (more_line m ∷ [])) e ∙ sym (ap (page_bytes left) k)) ∙ so_far
 
-  -- the same behind what was written
-  pub page-left : (f g : List Items) (given whole : List ℕ) (cursor later : Option Items) (k : Items) (count done : ℕ) → left_after cursor f ≡ k ∷ left_after later g → done < count → given ++ page_bytes f cursor (count - done) ≡ whole
-      → given ++ (line_of (set_words names k) ++ page_bytes g later (count - (done + 1))) ≡ whole
-  page-left f g given whole cursor later k count done first l h = ap (λ p. given ++ p) (sym (page-next f g cursor later k count done first l)) ∙ h
+-- whether one is left
+pub some-left : {X Y : Type 0} {N : Type 0} (o : Option Y) (left : List X) (first : Y → X) (rest : Y → List X)
+    → (N → left ≡ []) → MatchOption o N (λ y. left ≡ first y ∷ rest y) → is_some o ≡ ltb 0 (length left)
+some-left None left first rest none h = sym (ap (λ l. ltb 0 (length l)) (none h))
+some-left (Some y) left first rest none e = sym (ap (λ l. ltb 0 (length l)) e ∙ lt-ltb 0 (length (first y ∷ rest y)) (omega arith))
 
-  -- no set is left
-  pub page-ended : (f : List Items) (given whole : List ℕ) (cursor : Option Items) (k : ℕ) → left_after cursor f ≡ [] → given ++ page_bytes f cursor k ≡ whole → given ++ line_of (more_words false) ≡ whole
-  page-ended f given whole cursor k none h =
-      ap (λ p. given ++ p) (sym (ap₂ page_of (take-ended (left_after cursor f) k none) (more-ended (left_after cursor f) k none) ∙ page_of-last false)) ∙ h
-
-  -- the page is full, and a further set follows where one is found
-  pub page-full : (f : List Items) (given whole : List ℕ) (cursor : Option Items) (r : Option Items) (rest : List Items) (count done : ℕ) → MatchOption r ((left_after cursor f ≡ []) × (rest ≡ [])) (λ k. left_after cursor f ≡ k ∷ rest) → count ≤ done
-      → given ++ page_bytes f cursor (count - done) ≡ whole → given ++ line_of (more_words (is_some r)) ≡ whole
-  page-full f given whole cursor r rest count done found l h =
-      let last = ap₂ page_of (take-full (left_after cursor f) count done l) (sym (more-full r (left_after cursor f) rest count done found l)) ∙ page_of-last (is_some r) in
-      ap (λ p. given ++ p) (sym last) ∙ h
+-- all learning paths come after none
+pub all_after : (n : ℕ) (f : List Items) → paths_after n f None ≡ paths n f
+all_after n f = filter_true (paths n f)

@@ -9,15 +9,15 @@ mod lines;
 mod listing;
 mod path_text;
 mod refusals;
+mod responses;
 mod room;
 mod set_texts;
-mod showing;
 mod surmise;
 mod text_list;
 mod walking;
 
 pub use done::{put_agreed, put_done};
 pub use refusals::put_refusal;
+pub use responses::{put_bare, put_response, put_shown};
 pub use room::{ROOM, Room};
 pub use set_texts::SetTexts;
-pub use showing::{put_bare, put_response, put_shown};

@@ -1,5 +1,5 @@
 use Rattle.ls_write.proofs.Vocabulary.{◌<◌, ◌≤◌, ap, arith, join_next, join_with_byte, length, map, take_all}
-use Rattle.ls_write.proofs.Saying.{says_then, says_as, says_nothing}
+use Rattle.ls_write.proofs.Saying.{says_as, says_nothing, says_then}
 use Rattle.ls_write.proofs.lines.put_joined.Goals as goal
 
 pub loop-i-init : goal.loop-i-init

@@ -1,5 +1,5 @@
 use Rattle.ls_write.proofs.Vocabulary.{◌++◌, ◌∷◌, [], ap, decimal, join-spaced, length-map, line_of, map}
-use Rattle.ls_write.proofs.Saying.{says_then, says_as}
+use Rattle.ls_write.proofs.Saying.{says_as, says_then}
 use Rattle.ls_write.proofs.lines.put_numbered.Goals as goal
 
 pub returns : goal.returns

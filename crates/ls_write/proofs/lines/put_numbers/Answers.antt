@@ -1,5 +1,5 @@
 use Rattle.ls_write.proofs.Vocabulary.{◌<◌, ◌∷◌, ◌≤◌, ap, arith, decimal, flat_map, length, spaced-next, take_all}
-use Rattle.ls_write.proofs.Saying.{says_then, says_as, says_nothing}
+use Rattle.ls_write.proofs.Saying.{says_as, says_nothing, says_then}
 use Rattle.ls_write.proofs.lines.put_numbers.Goals as goal
 
 pub loop-number-init : goal.loop-number-init

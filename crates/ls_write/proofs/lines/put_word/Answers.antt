@@ -1,5 +1,5 @@
 use Rattle.ls_write.proofs.Vocabulary.{◌∷◌, Says, [], if◌then◌else◌}
-use Rattle.ls_write.proofs.Saying.{says_then, says_nothing}
+use Rattle.ls_write.proofs.Saying.{says_nothing, says_then}
 use Rattle.ls_write.proofs.lines.put_word.Goals as goal
 use Rattle.ls_write.proofs.lines.put_word.Goals.{then-not-is_first, else-not-is_first}
 

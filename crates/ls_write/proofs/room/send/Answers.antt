@@ -1,5 +1,5 @@
 use Rattle.ls_write.proofs.Vocabulary.{◌≡◌, None, arith, common_steps}
-use Rattle.ls_write.proofs.Saying.{sends_whole, sends_front}
+use Rattle.ls_write.proofs.Saying.{sends_front, sends_whole}
 use Rattle.ls_write.proofs.room.send.Goals as goal
 
 pub returns-in-Ok-clause-sends : goal.returns-in-Ok-clause-sends

@@ -1,5 +1,5 @@
 use Rattle.ls_write.proofs.Vocabulary.{◌-◌, ◌<◌, ◌∙◌, ◌≡◌, All, ap, arith, by_name, insert, insert_by_name, length, numbers_from, subst, suc, sym}
-use Rattle.ls_write.proofs.Names.{by_name-below, by_name-next, by_name-none}
+use Rattle.ls_write.proofs.NameOrder.{by_name-below, by_name-next, by_name-none}
 use Rattle.ls_write.proofs.set_texts.items_by_name.Goals as goal
 
 pub loop-item-init : goal.loop-item-init

@@ -1,5 +1,5 @@
 use Rattle.ls_write.proofs.Vocabulary.{◌<◌, ◌∙◌, ◌≡◌, ◌≤◌, ap₂, arith, below_more, false, get_or, is_lt, length, nat_cmp, slice_cmp, sym, true}
-use Rattle.ls_write.proofs.Names.{comes_first, insert-place}
+use Rattle.ls_write.proofs.NameOrder.{comes_first, insert-place}
 use Rattle.ls_write.proofs.set_texts.place_by_name.Goals as goal
 
 pub loop-place-init : goal.loop-place-init

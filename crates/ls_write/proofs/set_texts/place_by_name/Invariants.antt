@@ -1,5 +1,5 @@
 use Rattle.ls_write.proofs.Vocabulary.{◌<◌, ◌≡◌, ℕ, false, get_or}
-use Rattle.ls_write.proofs.Names.{comes_first}
+use Rattle.ls_write.proofs.NameOrder.{comes_first}
 use Rattle.ls_write.proofs.set_texts.place_by_name.Given as goal
 
 -- the item comes before none of those that were passed

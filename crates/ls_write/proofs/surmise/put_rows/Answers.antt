@@ -1,5 +1,5 @@
-use Rattle.ls_write.proofs.Vocabulary.{◌++◌, ◌<◌, ◌∙◌, ◌≤◌, [], arith, comma_if, drop, false, get_or, length, listed, refl, row_text, sym}
-use Rattle.ls_write.proofs.Saying.{says_then, says_as, says_nothing, says_void}
+use Rattle.ls_write.proofs.Vocabulary.{◌++◌, ◌<◌, ◌∙◌, ◌≤◌, [], arith, comma_if, drop, false, get_or, items, length, listed, refl, row_text, sym}
+use Rattle.ls_write.proofs.Saying.{says_as, says_nothing, says_then, says_void}
 use Rattle.ls_write.proofs.Listed.{place-next, place-end}
 use Rattle.ls_write.proofs.surmise.put_rows.Goals as goal
 
@@ -15,7 +15,7 @@ returns-then-has_failed g c =
 pub put_row-requires-clause-place : goal.put_row-requires-clause-place
 put_row-requires-clause-place g c =
     let test : c.loop-item.item-index < length c.args.items.now = omega arith in
-    omega (arith, c.requires.items c.loop-item.item-index 0 test, c.requires.few)
+    c.requires.items c.loop-item.item-index 0 test
 
 pub loop-item-preserved : goal.loop-item-preserved
 loop-item-preserved g c =

@@ -1,5 +1,5 @@
-use Rattle.ls_views.proofs.Vocabulary.{◌∙◌, ap, paths_after, sym}
-use Rattle.ls_views.proofs.Listing.{all_after}
+use Rattle.ls_write.proofs.Vocabulary.{◌∙◌, ap, paths_after, sym}
+use Rattle.ls_write.proofs.Pages.{all_after}
 use Rattle.ls_write.proofs.walking.walk_after.Goals as goal
 
 pub returns-in_default-clause-left : goal.returns-in_default-clause-left

@@ -1,5 +1,5 @@
 use Rattle.ls_write.proofs.Vocabulary.{◌≡◌, rules}
-use Rattle.ls_write.proofs.PathTexts.{behind}
+use Rattle.ls_write.proofs.Fronts.{behind}
 use Rattle.ls_write.proofs.path_text.PathText.rest.Goals as goal
 
 pub returns : goal.returns

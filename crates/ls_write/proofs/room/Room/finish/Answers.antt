@@ -1,5 +1,5 @@
 use Rattle.ls_write.proofs.Vocabulary.{◌∙◌, sym}
-use Rattle.ls_write.proofs.Saying.{ends_fine, ends_fault}
+use Rattle.ls_write.proofs.Saying.{ends_fault, ends_fine}
 use Rattle.ls_write.proofs.room.Room.finish.Goals as goal
 
 pub returns-in-None-clause-ends : goal.returns-in-None-clause-ends

@@ -1,5 +1,5 @@
 use Rattle.ls_write.proofs.Vocabulary.{RoomState, ap}
-use Rattle.ls_write.proofs.Saying.{says_then, says_pending}
+use Rattle.ls_write.proofs.Saying.{says_pending, says_then}
 use Rattle.ls_write.proofs.room.Room.put_long.Goals as goal
 
 pub returns-then-bytes-le-ROOM-clause-says : goal.returns-then-bytes-le-ROOM-clause-says

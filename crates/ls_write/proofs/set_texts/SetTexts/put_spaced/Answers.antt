@@ -1,5 +1,5 @@
 use Rattle.ls_write.proofs.Vocabulary.{◌*◌, ◌++◌, ◌+◌, ◌∙◌, ◌≡◌, ap, arith, drop, drop-parts, group_items, has, length, length-append, min, numbers_from, spaced_names}
-use Rattle.ls_write.proofs.Saying.{says_then, says_as, says_nothing}
+use Rattle.ls_write.proofs.Saying.{says_as, says_nothing, says_then}
 use Rattle.ls_write.proofs.Groups.{names_before, names_before-none, names_before-dropped, names_before-next, all-spaced}
 use Rattle.ls_write.proofs.set_texts.SetTexts.put_spaced.Goals as goal
 
@@ -24,4 +24,4 @@ pub returns : goal.returns
 returns g c =
     let names = c.args.self.now in
     let all : min (length names) (8 * c.loop-group.group) ≡ length names = omega (arith, ap length c.self.view_is, c.count.ensures.value) in
-    says_as (ap (λ n. drop c.args.skipped (spaced_names names (has c.args.s) (numbers_from 0 n))) all ∙ ap (drop c.args.skipped) (all-spaced names c.args.s c.requires)) c.loop-group.invariant.said
+    says_as (ap (λ n. drop c.args.skipped (spaced_names names (has c.args.s) (numbers_from 0 n))) all ∙ ap (drop c.args.skipped) (all-spaced names c.args.s)) c.loop-group.invariant.said

@@ -1,6 +1,6 @@
 use Rattle.ls_write.proofs.Vocabulary.{◌++◌, ◌∙◌, ◌∷◌, ◌≡◌, [], ap, ap₂, arith, common_steps, length}
 use Rattle.ls_write.specs.declared.text_list.Place.{Place}
-use Rattle.ls_write.proofs.Kept.{parts, parts-next}
+use Rattle.ls_write.proofs.Parts.{parts, parts-next}
 use Rattle.ls_write.proofs.text_list.TextList.push.Goals as goal
 
 pub returns : goal.returns

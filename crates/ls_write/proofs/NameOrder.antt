@@ -1,31 +1,6 @@
--- Names in quotes, and items in the order of their names.
-use Rattle.ls_write.proofs.Vocabulary.{◌++◌, ◌+◌, ◌-◌, ◌<◌, ◌∙◌, ◌∷◌, ◌≡◌, ◌≤◌, All, All-cons, All-head, All-nil, All-same, All-tail, Bool, IsDomain, List, Text, ℕ, [], and_parts, ap, ap₂, arith, by_name, cases_Bool, cond, escape, escape_byte, false, get_or, inl, inr, insert, insert_by_name, is_name, is_name_byte, is_of, items_by_name, length, list_all, name_of, nat_tests, numbers_from, quoted_name, refl, slice_cmp, suc, sym, true, zero}
+-- Items in the order of their names.
+use Rattle.ls_write.proofs.Vocabulary.{◌+◌, ◌-◌, ◌<◌, ◌∙◌, ◌∷◌, ◌≡◌, ◌≤◌, All, All-cons, All-head, All-nil, All-tail, Bool, List, Text, ℕ, [], ap, arith, by_name, cond, false, get_or, insert, insert_by_name, items_by_name, length, name_of, numbers_from, refl, slice_cmp, suc, true, zero}
 use Rattle.std.specs.Ordering.{nat_cmp, is_lt}
-use Rattle.std.proofs.lemmas.List.Folds.{list_all_at}
-
--- ---- quotes
-
--- a byte of a name stands for itself
-plain-byte : (b : ℕ) → is_name_byte b ≡ true → escape_byte b ≡ b ∷ []
-unfolding escape_byte
-plain-byte b h = grind (arith, nat_tests)
-
-plain : (w : Text) → list_all is_name_byte w ≡ true → escape w ≡ w
-plain [] h = refl
-plain (b ∷ w) h =
-    let both = and_parts (is_name_byte b) (list_all is_name_byte w) h in
-    ap₂ (λ x y. x ++ y) (plain-byte b both.0) (plain w both.1)
-
-plain-name : (w : Text) → is_name w ≡ true → escape w ≡ w
-unfolding is_of
-plain-name w h = plain w (and_parts _ _ h).1
-
-is_name-at : (names : List Text) (i : ℕ) → list_all is_name names ≡ true → i < length names → is_name (name_of names i) ≡ true
-is_name-at names i all lt = elim (cases_Bool (is_name (name_of names i))) [ inl e ↦ e | inr e ↦ absurd (cc (all, list_all_at is_name names i [] lt e)) ]
-
-pub quotes : (names : List Text) (i : ℕ) (w : Text) → IsDomain names → i < length names → w ≡ name_of names i → ((34 ∷ []) ++ w) ++ 34 ∷ [] ≡ quoted_name names i
-quotes names i w is lt e =
-    ap (λ v. 34 ∷ (v ++ 34 ∷ [])) (e ∙ sym (plain-name (name_of names i) (is_name-at names i is.are_names.named lt)))
 
 -- ---- numbers in a row
 
@@ -76,15 +51,6 @@ module _ (names : List Text) where
   unfolding by_name
   by_name-none n = let none : 0 ≡ n - n = omega arith in ap (λ m. by_name names (numbers_from n m)) none
 
-  -- all items
-  pub items-below : All (λ j. j < length names) (items_by_name names)
-  items-below = by_name-All (λ j. j < length names) (numbers_from 0 (length names)) (numbers-All (λ j. j < length names) 0 (length names) (λ j l h. omega arith))
-
--- ---- named items
-
--- an item of a list of named items has a name
-pub listed-named : (n : ℕ) (before : List ℕ) (i : ℕ) (rest is : List ℕ) → All (λ j. j < n) is → before ++ i ∷ rest ≡ is → i < n
-listed-named n before i rest is all e = parted before (All-same (λ j. j < n) (before ++ i ∷ rest) is e all) where
-  parted : (bs : List ℕ) → All (λ j. j < n) (bs ++ i ∷ rest) → i < n
-  parted [] h = All-head (λ j. j < n) i rest h
-  parted (b ∷ bs) h = parted bs (All-tail (λ j. j < n) b (bs ++ i ∷ rest) h)
+  -- all items, of which there are few
+  pub items-few : (n : ℕ) → length names ≤ n → All (λ j. j < n) (items_by_name names)
+  items-few n few = by_name-All (λ j. j < n) (numbers_from 0 (length names)) (numbers-All (λ j. j < n) 0 (length names) (λ j l h. omega arith))

@@ -1,6 +1,6 @@
 -- Fronts of paths and their texts.
-use Rattle.ls_write.proofs.Vocabulary.{◌++◌, ◌+◌, ◌<◌, ◌∙◌, ◌∷◌, ◌≡◌, All, Bor, Decides-eqb, IfSome, IsTextOf, List, MatchOption, None, Option, PathFront, Some, Text, ℕ, [], ap, append_assoc, arith, codes, drop, eqb, false, flat_map-append, get_or, get_or-append-add, length, length-append, line_of, name_of, path_words, pointwise, spaced, strip_prefix_is, subst, sym, take, true}
-use Rattle.ls_write.proofs.Joins.{line-images}
+use Rattle.ls_write.proofs.Vocabulary.{◌++◌, ◌+◌, ◌<◌, ◌∙◌, ◌∷◌, ◌≡◌, All, Bor, Decides-eqb, IfSome, IsTextOf, List, MatchOption, None, Option, PathFront, Some, Text, ℕ, [], ap, append_assoc, arith, codes, drop, eqb, false, flat_map-append, get_or, get_or-append-add, length, length-append, line_bytes, name_of, path_line, pointwise, spaced, strip_prefix_is, subst, sym, take, true}
+use Rattle.ls_write.proofs.LineBytes.{line-images}
 
 -- what stands behind a front
 pub behind : (s p q : List ℕ) (r : Option (Bor (List ℕ))) → q ≡ p
@@ -16,9 +16,9 @@ All-behind P front rest order k d parts all h =
     (all (length front + k) d (omega (arith, length-append front rest, ap length parts)))
 
 -- the line of a path, from the text of a front and the names behind it
-pub path-line : (names : List Text) (p : PathFront) (rest order : List ℕ) → IsTextOf names p → p.front ++ rest ≡ order
-    → ((codes "path" ++ p.text) ++ spaced (name_of names) rest) ++ 10 ∷ [] ≡ line_of (path_words names order)
-path-line names p rest order is parts =
+pub line-path : (names : List Text) (p : PathFront) (rest order : List ℕ) → IsTextOf names p → p.front ++ rest ≡ order
+    → ((codes "path" ++ p.text) ++ spaced (name_of names) rest) ++ 10 ∷ [] ≡ line_bytes (path_line names order)
+line-path names p rest order is parts =
     let f = name_of names in
     ap (λ l. l ++ 10 ∷ [])
     (append_assoc (codes "path") p.text (spaced f rest)
