@@ -21,12 +21,12 @@ pub use Rattle.ls_lists.proofs.Every.{All-given, All-kept, list_any-map}
 pub use Rattle.ls_lists.proofs.Joins.{gap-snoc, join_more}
 pub use Rattle.ls_lists.proofs.Options.{nothing, ok-err, same_Ok}
 pub use Rattle.ls_lists.proofs.Places.{begun-some, is_some-position, moved-here, moved-next, moved-none, moved-zero, position-map}
-pub use Rattle.ls_lists.specs.Lists.{gap, moved}
+pub use Rattle.ls_lists.specs.Lists.{gap, shifted}
 pub use Rattle.ls_set.proofs.Sets.{empty-within, has-full, members, same_set}
 pub use Rattle.ls_set.specs.{IsWithin, Items, bound, full, has, meet, numbers_from, set_of, with}
 unfoldable pub use Rattle.ls_set.specs.{items}
 pub use Rattle.ls_set.specs.declared.item_set.TheConstants.{PLACES}
-pub use Rattle.ls_domain.specs.Domains.{AreNames, FirstField, IsDomain, IsFaultOf, IsNameFault, even_field, first_field, first_fields, is_name, name_fault, names_of, names_of_table, names_of_words, table_records, width_of}
+pub use Rattle.ls_domain.specs.Domains.{AreNames, FirstField, IsDomain, IsDomainFault, IsNameFault, even_field, field_count, first_field, first_fields, is_name, name_fault, names_of, names_of_table, names_of_words, table_records}
 unfoldable pub use Rattle.ls_domain.specs.Domains.{names_from}
 pub use Rattle.ls_domain.specs.Meanings.{first_unnamed, is_named, item_of, items_of, number_of}
 pub use Rattle.ls_domain.specs.Texts.{name_of}

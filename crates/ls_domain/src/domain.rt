@@ -1,10 +1,11 @@
 // Domains.
-ghost use Rattle.std.specs.Prelude.{◌≡◌, ◌<◌, ◌≤◌, ◌++◌, None, Some, Ok, length, IfOk, IfErr, IfSome, OnOk, OnErr};
+ghost use Rattle.std.specs.Prelude.{◌≡◌, ◌<◌, ◌≤◌, ◌++◌, None, Some, Ok, length, IfOk, IfErr};
+ghost use Rattle.std.specs.Prelude.{IfSome, OnOk, OnErr};
 ghost use Rattle.std.specs.Io.{StartsWith};
 ghost use Rattle.ls_set.specs.{IsWithin, full};
 ghost use Rattle.ls_domain.specs.Texts.{name_of, joined_names, set_text};
 ghost use Rattle.ls_domain.specs.Meanings.{number_of, items_of, first_unnamed};
-ghost use Rattle.ls_domain.specs.Domains.{IsDomain, IsFaultOf, names_of_words, names_of_table};
+ghost use Rattle.ls_domain.specs.Domains.{IsDomain, IsDomainFault, names_of_words, names_of_table};
 
 use crate::names::Names;
 use crate::table::{first_field, first_records};
@@ -37,7 +38,7 @@ impl Domain {
     /// too many; or memory ran out.
     pub fn from_names(alloc: Global, names: &WordList) -> Result<Domain, DomainFault>
         ensures read { IfOk result (λ d. names_of_words names.now ≡ Ok d) }
-        ensures fault { IfErr result (IsFaultOf (names_of_words names.now)) }
+        ensures fault { IfErr result (IsDomainFault (names_of_words names.now)) }
     {
         if names.is_empty() {
             return Err(DomainFault::NoItems);
@@ -55,7 +56,7 @@ impl Domain {
     /// field is no name, or is that of an earlier record, or there are too many; or memory ran out.
     pub fn from_csv(alloc: Global, bytes: &[u8]) -> Result<Domain, DomainFault>
         ensures read { IfOk result (λ d. names_of_table bytes.now ≡ Ok d) }
-        ensures fault { IfErr result (IsFaultOf (names_of_table bytes.now)) }
+        ensures fault { IfErr result (IsDomainFault (names_of_table bytes.now)) }
     {
         let records = first_records(alloc, bytes, PLACES as usize).map_err(DomainFault::Memory)?;
         let Some(first) = records.first() else {

@@ -1,5 +1,6 @@
 // Names with numbers, put one after another.
-ghost use Rattle.std.specs.Prelude.{◌≡◌, ◌<◌, ◌++◌, ◌∷◌, [], None, true, false, length, IfOk, IfErr, IfSome, OnOk, OnErr};
+ghost use Rattle.std.specs.Prelude.{◌≡◌, ◌<◌, ◌++◌, ◌∷◌, [], None, true, false, length, IfOk};
+ghost use Rattle.std.specs.Prelude.{IfErr, IfSome, OnOk, OnErr};
 ghost use Rattle.ls_domain.specs.Texts.{name_of};
 ghost use Rattle.ls_domain.specs.Meanings.{is_named, number_of};
 ghost use Rattle.ls_domain.specs.Domains.{AreNames, IsNameFault, is_name, name_fault};

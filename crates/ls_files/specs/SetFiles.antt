@@ -98,6 +98,6 @@ unfoldable pub sets_of : List Text → List ℕ → Result (List Items) FamilyFa
 sets_of names text = after_ok (λ found. Ok (keys_of found)) (found_from names [] 1 (lines text))
 
 -- the fault is that of the reading, unless memory ran out
-abbrev pub IsFaultOf : {X : Type 0} → Result X FamilyFault → FamilyFault → Type 0
-IsFaultOf reading (Memory e) = ⊤
-IsFaultOf reading fault = reading ≡ Err fault
+abbrev pub IsFamilyFault : {X : Type 0} → Result X FamilyFault → FamilyFault → Type 0
+IsFamilyFault reading (Memory e) = ⊤
+IsFamilyFault reading fault = reading ≡ Err fault

@@ -31,7 +31,7 @@ cut [] [] = Some []
 cut [] (w ∷ ws) = None
 cut (part ∷ ps) ws =
     option_and_then (λ m. option_map (λ given. take m ws ∷ given) (cut ps (drop m ws)))
-        (front part ws)
+    (front part ws)
 
 -- whether some line of the form begins with the words
 unfoldable pub is_begun : List Part → List Text → Bool

@@ -263,7 +263,7 @@ setting_command setting.RatioAll given =
     settings.RatioAll (number given 1) (number given 2) (number given 3) (number given 4)
 setting_command setting.RatioItem given =
     settings.RatioItem (one given 1) (number given 2) (number given 3)
-        (number given 4) (number given 5)
+    (number given 4) (number given 5)
 setting_command setting.Limits given = settings.Limits (number given 1) (number given 2)
 
 abbrev pub setting_spelled_as : SettingCommand → SettingForm × List Filling
@@ -273,9 +273,10 @@ setting_spelled_as (settings.OddsItem item right wrong) =
     (setting.OddsItem, Word item ∷ Number right ∷ Number wrong ∷ [])
 setting_spelled_as (settings.RatioAll right_a right_b wrong_a wrong_b) =
     (setting.RatioAll, Number right_a ∷ Number right_b ∷ Number wrong_a ∷ Number wrong_b ∷ [])
-setting_spelled_as (settings.RatioItem item right_a right_b wrong_a wrong_b) =
-    (setting.RatioItem,
-        Word item ∷ Number right_a ∷ Number right_b ∷ Number wrong_a ∷ Number wrong_b ∷ [])
+setting_spelled_as (settings.RatioItem item right_a right_b wrong_a wrong_b) = (
+  setting.RatioItem,
+  Word item ∷ Number right_a ∷ Number right_b ∷ Number wrong_a ∷ Number wrong_b ∷ [],
+)
 setting_spelled_as (settings.Limits budget share) =
     (setting.Limits, Number budget ∷ Number share ∷ [])
 

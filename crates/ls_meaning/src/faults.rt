@@ -5,8 +5,7 @@ ghost use Rattle.ls_meaning.specs.Refusals.{answer_notice, base_notice, block_no
 
 use crate::notices::{Detail, Notice};
 use ls_domain::DomainFault;
-use ls_files::FamilyFault;
-use ls_files::Cause;
+use ls_files::{Cause, FamilyFault};
 use ls_set::CursorFault;
 use ls_theory::{AnswerFault, BaseFault, BlockFault, Reason, ReplyFault, SurmiseFault};
 

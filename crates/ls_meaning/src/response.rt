@@ -4,10 +4,8 @@ use crate::faults::{
     reply_notice, sets_notice, surmise_notice,
 };
 use crate::notices::{Detail, Notice};
-use ls_files::Results;
 use ls_domain::DomainFault;
-use ls_files::FamilyFault;
-use ls_files::Cause;
+use ls_files::{Cause, FamilyFault, Results};
 use ls_set::{CursorFault, ItemList, ItemSet, Query, SetList};
 use ls_theory::{
     AnswerFault, Asked, BaseFault, BaseVerdict, BlockFault, FringePair, Known, Outcome, ReplyFault,

@@ -1,5 +1,5 @@
 -- The items that can be added to a set, looked for among those outside it.
-use Rattle.ls_paths.proofs.Vocabulary.{◌&&◌, ◌+◌, ◌-◌, ◌<◌, ◌||◌, ◌∙◌, ◌≡◌, ◌≤◌, Bool, IsOn, Items, List, None, Some, ℕ, and-false, and_from, and_parts, ap, arith, cases_order, eq-eqb, eqb, false, false_from_ne_true, find, find_none, first_next, full, has, has-full, has-minus, has-with, inl, inr, is_among, is_next, least, least-cases, lt-ltb, ltb-true, minus, next_after, next_item, not, not_from_false, numbers_from, or_right, refl, suc, sym, true, true≢false, unwrap_or, with, zero}
+use Rattle.ls_paths.proofs.Vocabulary.{◌&&◌, ◌+◌, ◌-◌, ◌<◌, ◌||◌, ◌∙◌, ◌≡◌, ◌≤◌, Bool, AreOn, Items, List, None, Some, ℕ, and-false, and_from, and_parts, ap, arith, cases_order, eq-eqb, eqb, false, false_from_ne_true, find, find_none, first_next, full, has, has-full, has-minus, has-with, inl, inr, is_among, is_next, least, least-cases, lt-ltb, ltb-true, minus, next_item_after, next_item, not, not_from_false, numbers_from, or_right, refl, suc, sym, true, true≢false, unwrap_or, with, zero}
 use Rattle.ls_theory.proofs.Numbers.{numbers_first}
 use Rattle.ls_query.proofs.QuerySets.{next_item-cases, next_item-none_left, least-none_left}
 use Rattle.ls_paths.proofs.Growths.{IsLearning, begins, some-next-outside}
@@ -28,7 +28,7 @@ outside-small n k i h =
     (ltb-true i n (sym (has-full n i) ∙ p.0), false_from_ne_true (has k i) (λ a. true≢false (sym p.1 ∙ ap not a)))
 
 -- what can be added is outside
-next-outside : (n : ℕ) (f : List Items) (k : Items) (i : ℕ) → IsOn n f → is_next f k i ≡ true → has (minus (full n) k) i ≡ true
+next-outside : (n : ℕ) (f : List Items) (k : Items) (i : ℕ) → AreOn n f → is_next f k i ≡ true → has (minus (full n) k) i ≡ true
 next-outside n f k i small h =
     let p = and_parts (not (has k i)) (is_among f (with k i)) h in
     let e : has (with k i) i ≡ true = has-with k i i ∙ self (has k i) in
@@ -37,7 +37,7 @@ next-outside n f k i small h =
     self : (b : Bool) → (b || eqb i i) ≡ true
     self b = or_right b (eqb i i) (eq-eqb i i refl)
 
-not-next : (n : ℕ) (f : List Items) (k : Items) (i : ℕ) → IsOn n f → has (minus (full n) k) i ≡ false → is_next f k i ≡ false
+not-next : (n : ℕ) (f : List Items) (k : Items) (i : ℕ) → AreOn n f → has (minus (full n) k) i ≡ false → is_next f k i ≡ false
 not-next n f k i small h = false_from_ne_true (is_next f k i) (λ a. true≢false (sym (next-outside n f k i small a) ∙ h))
 
 pub is-next : (n : ℕ) (f : List Items) (k : Items) (i : ℕ) → has (minus (full n) k) i ≡ true → is_among f (with k i) ≡ true → is_next f k i ≡ true
@@ -49,24 +49,24 @@ no-next f k i a = ap (λ b. not (has k i) && b) a ∙ and-false (not (has k i))
 -- ---- the least that can be added above an item
 
 -- the next item outside the set is the first of those above that may be
-above : (n : ℕ) (f : List Items) (k : Items) (item next : ℕ) → IsOn n f → next_item (minus (full n) k) item ≡ Some next → next_after n f k item ≡ find (is_next f k) (numbers_from next (n - next))
+above : (n : ℕ) (f : List Items) (k : Items) (item next : ℕ) → AreOn n f → next_item (minus (full n) k) item ≡ Some next → next_item_after n f k item ≡ find (is_next f k) (numbers_from next (n - next))
 above n f k item next small e =
     let p = next_item-cases (minus (full n) k) item next e in
     let l = (outside-small n k next p.1).0 in
     let less = p.0 in
     find-from (is_next f k) n (next - suc item) (suc item) next (omega arith) (omega arith) (λ j g h. not-next n f k j small (p.2 j (omega arith) h))
 
-pub above-found : (n : ℕ) (f : List Items) (k : Items) (item next : ℕ) → IsOn n f → next_item (minus (full n) k) item ≡ Some next → is_among f (with k next) ≡ true → next_after n f k item ≡ Some next
+pub above-found : (n : ℕ) (f : List Items) (k : Items) (item next : ℕ) → AreOn n f → next_item (minus (full n) k) item ≡ Some next → is_among f (with k next) ≡ true → next_item_after n f k item ≡ Some next
 above-found n f k item next small e a =
     let p = next_item-cases (minus (full n) k) item next e in
     above n f k item next small e ∙ find-here (is_next f k) n next (outside-small n k next p.1).0 (is-next n f k next p.1 a)
 
-pub above-passed : (n : ℕ) (f : List Items) (k : Items) (item next : ℕ) → IsOn n f → next_item (minus (full n) k) item ≡ Some next → is_among f (with k next) ≡ false → next_after n f k item ≡ next_after n f k next
+pub above-passed : (n : ℕ) (f : List Items) (k : Items) (item next : ℕ) → AreOn n f → next_item (minus (full n) k) item ≡ Some next → is_among f (with k next) ≡ false → next_item_after n f k item ≡ next_item_after n f k next
 above-passed n f k item next small e a =
     let p = next_item-cases (minus (full n) k) item next e in
     above n f k item next small e ∙ find-past (is_next f k) n next (outside-small n k next p.1).0 (no-next f k next a)
 
-pub above-none : (n : ℕ) (f : List Items) (k : Items) (item : ℕ) → IsOn n f → next_item (minus (full n) k) item ≡ None → next_after n f k item ≡ None
+pub above-none : (n : ℕ) (f : List Items) (k : Items) (item : ℕ) → AreOn n f → next_item (minus (full n) k) item ≡ None → next_item_after n f k item ≡ None
 above-none n f k item small e =
     find_none (is_next f k) (suc item) (n - suc item) (λ j g h. not-next n f k j small (next_item-none_left (minus (full n) k) item j e (omega arith)))
 
@@ -83,12 +83,12 @@ pub record Least (n : ℕ) (f : List Items) (k : Items) (item : ℕ) : Type 0 wh
   pub outside : has (minus (full n) k) item ≡ true
   pub none_below : (j : ℕ) → j < item → is_next f k j ≡ false
 
-pub least-begin : (n : ℕ) (f : List Items) (k : Items) (item : ℕ) → IsOn n f → least (minus (full n) k) ≡ Some item → Least n f k item
+pub least-begin : (n : ℕ) (f : List Items) (k : Items) (item : ℕ) → AreOn n f → least (minus (full n) k) ≡ Some item → Least n f k item
 least-begin n f k item small e =
     let p = least-cases (minus (full n) k) item e in
     record { outside = p.0; none_below = λ j l. not-next n f k j small (p.1 j l) }
 
-pub least-passed : (n : ℕ) (f : List Items) (k : Items) (item next : ℕ) → IsOn n f → Least n f k item → is_among f (with k item) ≡ false → next_item (minus (full n) k) item ≡ Some next → Least n f k next
+pub least-passed : (n : ℕ) (f : List Items) (k : Items) (item next : ℕ) → AreOn n f → Least n f k item → is_among f (with k item) ≡ false → next_item (minus (full n) k) item ≡ Some next → Least n f k next
 least-passed n f k item next small h a e =
     let p = next_item-cases (minus (full n) k) item next e in
     record {
@@ -130,7 +130,7 @@ least-last n f k item learning c h e =
     ])) ∙ b.passes)
 
 -- where no item is outside, 0 is written and nothing is added
-pub least-none : (n : ℕ) (f : List Items) (k : Items) → IsOn n f → is_among f k ≡ true → 0 < n → least (minus (full n) k) ≡ None → IsFirst n f k 0
+pub least-none : (n : ℕ) (f : List Items) (k : Items) → AreOn n f → is_among f k ≡ true → 0 < n → least (minus (full n) k) ≡ None → IsFirst n f k 0
 least-none n f k small c l e =
     let none : find (is_next f k) (numbers_from 0 n) ≡ None = find_none (is_next f k) 0 n (λ j _ h. not-next n f k j small (least-none_left (minus (full n) k) j e)) in
     let in_k : has k 0 ≡ true = inside (has k 0) (sym (ap (λ b. b && not (has k 0)) (has-full n 0 ∙ lt-ltb 0 n l)) ∙ sym (has-minus (full n) k 0) ∙ least-none_left (minus (full n) k) 0 e) in

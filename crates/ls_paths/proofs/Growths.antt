@@ -1,5 +1,5 @@
 -- The learning paths are the growths of the empty set: the first of them, and the next after a list.
-use Rattle.ls_paths.proofs.Vocabulary.{◌&&◌, ◌++◌, ◌+◌, ◌-◌, ◌<◌, ◌||◌, ◌∙◌, ◌∷◌, ◌≡◌, ◌≤◌, All-given, Bool, IsOn, Items, List, None, Option, Some, ℕ, [], and-false, and-true, and_from, and_parts, ap, ap₂, arith, both_ways, bound, cases_Bool, cases_eq, cases_lt, cases_order, cond, empty, eq-eqb, eqb, eqb-true, false, filter, filter-agree, filter-both, filter-map, find, find-filter, first_growth, first_next, flat_map, full, growths, has, has-full, has-minus, has-with, inl, inr, is_among, is_learning_space, is_lex_before, is_next, is_path, is_space, items, le-ltb, len, len-empty, len-parts, len-single, length, list_all, list_any, lt-ltb, ltb, ltb-true, map, max, members, minus, nat_tests, ne_eqb, next_after, next_growth, not, not_from_false, numbers_from, option_map, option_or, or_cases, or_left, or_right, orders_of, paths, refl, same_set, set_of, single, some_item, suc, sym, take, true, true≢false, union, union-empty_left, union-empty_right, unwrap_or, with, without, zero}
+use Rattle.ls_paths.proofs.Vocabulary.{◌&&◌, ◌++◌, ◌+◌, ◌-◌, ◌<◌, ◌||◌, ◌∙◌, ◌∷◌, ◌≡◌, ◌≤◌, All-given, Bool, AreOn, Items, List, None, Option, Some, ℕ, [], and-false, and-true, and_from, and_parts, ap, ap₂, arith, both_ways, bound, cases_Bool, cases_eq, cases_lt, cases_order, cond, empty, eq-eqb, eqb, eqb-true, false, filter, filter-agree, filter-both, filter-map, find, find-filter, first_growth, first_next, flat_map, full, growths, has, has-full, has-minus, has-with, inl, inr, is_among, is_learning_space, is_lex_before, is_next, is_path, is_space, items, le-ltb, len, len-empty, len-parts, len-single, length, list_all, list_any, lt-ltb, ltb, ltb-true, map, max, members, minus, nat_tests, ne_eqb, next_item_after, next_growth, not, not_from_false, numbers_from, option_map, option_or, or_cases, or_left, or_right, orders_of, paths, refl, same_set, set_of, single, some_item, suc, sym, take, true, true≢false, union, union-empty_left, union-empty_right, unwrap_or, with, without, zero}
 use Rattle.std.proofs.lemmas.List.Elements.{filter-append}
 use Rattle.std.proofs.lemmas.List.Folds.{find-append}
 use Rattle.ls_set.proofs.Sizes.{items-below}
@@ -117,7 +117,7 @@ pub record IsLearning (n : ℕ) (f : List Items) : Type 0 where
   pub graded : IsWellGraded f
   pub holds_full : is_among f (full n) ≡ true
 
-pub learning-from : (n : ℕ) (f : List Items) → IsOn n f → is_learning_space (full n) f ≡ true → IsLearning n f
+pub learning-from : (n : ℕ) (f : List Items) → AreOn n f → is_learning_space (full n) f ≡ true → IsLearning n f
 learning-from n f small h =
     let p = learning-parts n f small h in
     let s = space-from (full n) f (and_parts (is_space (full n) f) _ h).0 in
@@ -179,7 +179,7 @@ begins p (x ∷ xs) h = elim (cases_Bool (p x)) [
 ]
 
 -- what is left once an item that can be added is
-pub next-left : (n m : ℕ) (f : List Items) (k : Items) (i : ℕ) → IsOn n f → is_next f k i ≡ true → len (minus (full n) k) ≡ suc m → (is_among f (with k i) ≡ true) × (len (minus (full n) (with k i)) ≡ m)
+pub next-left : (n m : ℕ) (f : List Items) (k : Items) (i : ℕ) → AreOn n f → is_next f k i ≡ true → len (minus (full n) k) ≡ suc m → (is_among f (with k i) ≡ true) × (len (minus (full n) (with k i)) ≡ m)
 next-left n m f k i small h e =
     let p = and_parts (not (has k i)) (is_among f (with k i)) h in
     let in_full : has (full n) i ≡ true = small (with k i) p.1 i (has-with k i i ∙ or_right (has k i) (eqb i i) (eq-eqb i i refl)) in
@@ -304,11 +304,11 @@ find-after p o i (suc m) l = elim (cases_lt o i) [
     all-after i zero g = refl
     all-after i (suc m) g = rw (lt-ltb o i g, and-true (p i)) (ap (λ r. cond (p i) (Some i) r) (all-after (suc i) m (omega arith)))
 
-next-after : (n : ℕ) (f : List Items) (k : Items) (o : ℕ) → find (λ j. ltb o j) (filter (is_next f k) (numbers_from 0 n)) ≡ next_after n f k o
+next-after : (n : ℕ) (f : List Items) (k : Items) (o : ℕ) → find (λ j. ltb o j) (filter (is_next f k) (numbers_from 0 n)) ≡ next_item_after n f k o
 next-after n f k o =
     find-filter (is_next f k) (λ j. ltb o j) (numbers_from 0 n) ∙ find-after (is_next f k) o 0 n (omega arith) ∙ ap (λ d. find (is_next f k) (numbers_from (suc o) d)) (let e : 0 + n - suc o ≡ n - suc o = omega arith in e)
 
-next-listed : (n : ℕ) (f : List Items) (k : Items) (o : ℕ) → IsOn n f → list_any (λ j. eqb o j) (filter (is_next f k) (numbers_from 0 n)) ≡ is_next f k o
+next-listed : (n : ℕ) (f : List Items) (k : Items) (o : ℕ) → AreOn n f → list_any (λ j. eqb o j) (filter (is_next f k) (numbers_from 0 n)) ≡ is_next f k o
 next-listed n f k o small = both_ways (list_any (λ j. eqb o j) (filter (is_next f k) (numbers_from 0 n))) (is_next f k o)
     (λ h. let r = from-chosen (λ j. eqb o j) (is_next f k) (numbers_from 0 n) h in ap (is_next f k) (eqb-true o r.0 r.2) ∙ r.1)
     (λ h.

@@ -1,6 +1,6 @@
 -- The next growth by the places at which it can leave a list, and what growths and orders reach.
-use Rattle.ls_paths.proofs.Vocabulary.{◌&&◌, ◌++◌, ◌+◌, ◌<◌, ◌∙◌, ◌∷◌, ◌≡◌, ◌≤◌, Bool, Decides-is_same, IsOn, Items, List, None, Option, Some, ℕ, [], and_from, and_parts, ap, ap₂, arith, cases_Bool, cases_eq, cond, drop, empty, eq-eqb, eqb, eqb-true, false, false_from_ne_true, first_growth, first_next, found-passes, full, get_or, has, has-empty, has-minus, has-with, inl, inr, is_among, is_next, is_order, is_same, len, len-empty, len-full, len-with, len-zero, length, members, minus, nat_tests, next_after, next_growth, not, not_from_false, numbers_from, option_map, option_or, or_right, refl, same_set, set_of, subst, suc, sym, take, true, true≢false, union, union-empty_left, union-empty_right, unwrap_or, with, without, zero}
-use Rattle.ls_paths.specs.Levels.{reached, is_grown, is_fresh, is_whole, leaves_at, leaves_below}
+use Rattle.ls_paths.proofs.Vocabulary.{◌&&◌, ◌++◌, ◌+◌, ◌<◌, ◌∙◌, ◌∷◌, ◌≡◌, ◌≤◌, Bool, Decides-is_same, AreOn, Items, List, None, Option, Some, ℕ, [], and_from, and_parts, ap, ap₂, arith, cases_Bool, cases_eq, cond, drop, empty, eq-eqb, eqb, eqb-true, false, false_from_ne_true, first_growth, first_next, found-passes, full, get_or, has, has-empty, has-minus, has-with, inl, inr, is_among, is_next, is_order, is_same, len, len-empty, len-full, len-with, len-zero, length, members, minus, nat_tests, next_item_after, next_growth, not, not_from_false, numbers_from, option_map, option_or, or_right, refl, same_set, set_of, subst, suc, sym, take, true, true≢false, union, union-empty_left, union-empty_right, unwrap_or, with, without, zero}
+use Rattle.ls_paths.specs.Levels.{grown_to, is_grown, is_fresh, is_whole, leaves_at, leaves_below}
 use Rattle.ls_paths.proofs.Growths.{IsLearning, begins, some-next, next-left, with-union}
 use Rattle.ls_paths.proofs.PathOrder.{all-left}
 
@@ -22,9 +22,9 @@ map-or h (Some x) b = refl
 
 leaves-deeper : (n : ℕ) (f : List Items) (k : Items) (o : ℕ) (os : List ℕ) (j : ℕ) → leaves_at n f k (o ∷ os) (suc j) ≡ option_map (λ rest. o ∷ rest) (leaves_at n f (with k o) os j)
 leaves-deeper n f k o os j =
-    let here = reached (with k o) (take j os) in
+    let here = grown_to (with k o) (take j os) in
     let first = λ (i : ℕ). first_growth n f (length (drop (suc j) os)) (with here i) in
-    elim (next_after n f here (get_or os j 0)) as (λ r. option_map (λ i. (o ∷ take j os) ++ i ∷ first i) r ≡ option_map (λ rest. o ∷ rest) (option_map (λ i. take j os ++ i ∷ first i) r)) [
+    elim (next_item_after n f here (get_or os j 0)) as (λ r. option_map (λ i. (o ∷ take j os) ++ i ∷ first i) r ≡ option_map (λ rest. o ∷ rest) (option_map (λ i. take j os ++ i ∷ first i) r)) [
       | None ↦ refl
       | Some i ↦ refl
     ]
@@ -53,7 +53,7 @@ next-whole n f k (o ∷ os) h =
     next-behind n f k o os (length os) p.0 (next-whole n f (with k o) os p.1)
 
 -- that of a list whose first m items are a growth, and whose next item cannot be added
-pub next-broken : (n : ℕ) (f : List Items) (k : Items) (order : List ℕ) (m : ℕ) → m < length order → is_grown f k (take m order) ≡ true → is_next f (reached k (take m order)) (get_or order m 0) ≡ false → next_growth n f order k ≡ leaves_below n f k order (suc m)
+pub next-broken : (n : ℕ) (f : List Items) (k : Items) (order : List ℕ) (m : ℕ) → m < length order → is_grown f k (take m order) ≡ true → is_next f (grown_to k (take m order)) (get_or order m 0) ≡ false → next_growth n f order k ≡ leaves_below n f k order (suc m)
 next-broken n f k [] m l h out = absurd (omega arith)
 next-broken n f k (o ∷ os) zero l h out =
     ap (λ b. option_or (cond b (option_map (λ rest. o ∷ rest) (next_growth n f os (with k o))) None) (leaves_at n f k (o ∷ os) 0)) out ∙ sym (or-none (leaves_at n f k (o ∷ os) 0))
@@ -96,21 +96,21 @@ next-cases : (n : ℕ) (f : List Items) (o : ℕ) (os : List ℕ) (k : Items) (n
     → next_growth n f (o ∷ os) k ≡ Some new → P new
 next-cases n f o os k new P kept left is =
     elim (cases_Bool (is_next f k o)) [
-      | inr a ↦ past (next_after n f k o) refl (sym (at_test a) ∙ is)
+      | inr a ↦ past (next_item_after n f k o) refl (sym (at_test a) ∙ is)
       | inl a ↦
           elim (next_growth n f os (with k o)) as (λ r. next_growth n f os (with k o) ≡ r → option_or (option_map (λ rest. o ∷ rest) r) later ≡ Some new → P new) [
-            | None ↦ λ _ e. past (next_after n f k o) refl e
+            | None ↦ λ _ e. past (next_item_after n f k o) refl e
             | Some rest ↦ λ found e. subst P (some-same (o ∷ rest) new e) (kept a rest found)
           ] refl (sym (at_test a) ∙ is)
     ]
   where
     later : Option (List ℕ)
-    later = option_map (λ i. i ∷ first_growth n f (length os) (with k i)) (next_after n f k o)
+    later = option_map (λ i. i ∷ first_growth n f (length os) (with k i)) (next_item_after n f k o)
 
     at_test : {b : Bool} → is_next f k o ≡ b → next_growth n f (o ∷ os) k ≡ option_or (cond b (option_map (λ rest. o ∷ rest) (next_growth n f os (with k o))) None) later
     at_test e = ap (λ b. option_or (cond b (option_map (λ rest. o ∷ rest) (next_growth n f os (with k o))) None) later) e
 
-    past : (r : Option ℕ) → next_after n f k o ≡ r → option_map (λ i. i ∷ first_growth n f (length os) (with k i)) r ≡ Some new → P new
+    past : (r : Option ℕ) → next_item_after n f k o ≡ r → option_map (λ i. i ∷ first_growth n f (length os) (with k i)) r ≡ Some new → P new
     past None _ e = absurd (let z : None ≡ Some new = e in cc)
     past (Some i) found e = subst P (some-same (i ∷ first_growth n f (length os) (with k i)) new e) (left i (found-passes (is_next f k) _ i found))
 
@@ -127,7 +127,7 @@ next-grown n f (o ∷ os) k new learning c e is =
 
 -- ---- what a growth to the end reaches
 
-pub reaches-full : (n : ℕ) (f : List Items) (k : Items) (order : List ℕ) → IsOn n f → is_among f k ≡ true → is_grown f k order ≡ true → len (minus (full n) k) ≡ length order → reached k order ≡ full n
+pub reaches-full : (n : ℕ) (f : List Items) (k : Items) (order : List ℕ) → AreOn n f → is_among f k ≡ true → is_grown f k order ≡ true → len (minus (full n) k) ≡ length order → grown_to k order ≡ full n
 reaches-full n f k [] small c h e =
     let none : minus (full n) k ≡ empty = len-zero (minus (full n) k) e in
     same_set k (full n) (λ i.
@@ -144,36 +144,36 @@ reaches-full n f k (o ∷ os) small c h e =
     let q = next-left n (length os) f k o small p.0 e in
     reaches-full n f (with k o) os small q.0 p.1 q.1
 
-pub reached-is : (k : Items) (order : List ℕ) → reached k order ≡ union k (set_of order)
+pub reached-is : (k : Items) (order : List ℕ) → grown_to k order ≡ union k (set_of order)
 reached-is k [] = sym (union-empty_right k)
 reached-is k (o ∷ os) = reached-is (with k o) os ∙ sym (with-union k (set_of os) o)
 
-pub reached-all : (order : List ℕ) → reached empty order ≡ set_of order
+pub reached-all : (order : List ℕ) → grown_to empty order ≡ set_of order
 reached-all order = reached-is empty order ∙ union-empty_left (set_of order)
 
 -- one item more
 one-more : (j : ℕ) → j + 1 ≡ suc j
 one-more j = omega arith
 
-reached-suc : (k : Items) (order : List ℕ) (j : ℕ) → j < length order → reached k (take (suc j) order) ≡ with (reached k (take j order)) (get_or order j 0)
+reached-suc : (k : Items) (order : List ℕ) (j : ℕ) → j < length order → grown_to k (take (suc j) order) ≡ with (grown_to k (take j order)) (get_or order j 0)
 reached-suc k [] j l = absurd (omega arith)
 reached-suc k (o ∷ os) zero l = refl
 reached-suc k (o ∷ os) (suc j) l = reached-suc (with k o) os j (omega arith)
 
-pub reached-next : (k : Items) (order : List ℕ) (j : ℕ) → j < length order → reached k (take (j + 1) order) ≡ with (reached k (take j order)) (get_or order j 0)
-reached-next k order j l = ap (λ m. reached k (take m order)) (one-more j) ∙ reached-suc k order j l
+pub reached-next : (k : Items) (order : List ℕ) (j : ℕ) → j < length order → grown_to k (take (j + 1) order) ≡ with (grown_to k (take j order)) (get_or order j 0)
+reached-next k order j l = ap (λ m. grown_to k (take m order)) (one-more j) ∙ reached-suc k order j l
 
-grown-suc : (f : List Items) (k : Items) (order : List ℕ) (j : ℕ) → j < length order → is_grown f k (take j order) ≡ true → is_next f (reached k (take j order)) (get_or order j 0) ≡ true → is_grown f k (take (suc j) order) ≡ true
+grown-suc : (f : List Items) (k : Items) (order : List ℕ) (j : ℕ) → j < length order → is_grown f k (take j order) ≡ true → is_next f (grown_to k (take j order)) (get_or order j 0) ≡ true → is_grown f k (take (suc j) order) ≡ true
 grown-suc f k [] j l h a = absurd (omega arith)
 grown-suc f k (o ∷ os) zero l h a = and_from (is_next f k o) true a refl
 grown-suc f k (o ∷ os) (suc j) l h a =
     let p = and_parts (is_next f k o) (is_grown f (with k o) (take j os)) h in
     and_from (is_next f k o) (is_grown f (with k o) (take (suc j) os)) p.0 (grown-suc f (with k o) os j (omega arith) p.1 a)
 
-pub grown-next : (f : List Items) (k : Items) (order : List ℕ) (j : ℕ) → j < length order → is_grown f k (take j order) ≡ true → is_next f (reached k (take j order)) (get_or order j 0) ≡ true → is_grown f k (take (j + 1) order) ≡ true
+pub grown-next : (f : List Items) (k : Items) (order : List ℕ) (j : ℕ) → j < length order → is_grown f k (take j order) ≡ true → is_next f (grown_to k (take j order)) (get_or order j 0) ≡ true → is_grown f k (take (j + 1) order) ≡ true
 grown-next f k order j l h a = ap (λ m. is_grown f k (take m order)) (one-more j) ∙ grown-suc f k order j l h a
 
-pub fresh-at : (k : Items) (order : List ℕ) (j : ℕ) → is_fresh k order ≡ true → j < length order → has (reached k (take j order)) (get_or order j 0) ≡ false
+pub fresh-at : (k : Items) (order : List ℕ) (j : ℕ) → is_fresh k order ≡ true → j < length order → has (grown_to k (take j order)) (get_or order j 0) ≡ false
 fresh-at k [] j h l = absurd (omega arith)
 fresh-at k (o ∷ os) zero h l = false_from_ne_true (has k o) (λ a. true≢false (sym (and_parts (not (has k o)) (is_fresh (with k o) os) h).0 ∙ ap not a))
 fresh-at k (o ∷ os) (suc j) h l = fresh-at (with k o) os j (and_parts (not (has k o)) (is_fresh (with k o) os) h).1 (omega arith)
@@ -186,14 +186,14 @@ already k o a = same_set (with k o) k (λ i. elim (cases_eq i o) [
   | inr e ↦ grind (arith, members, nat_tests)
 ])
 
-reached-few : (k : Items) (order : List ℕ) → len (reached k order) ≤ len k + length order
+reached-few : (k : Items) (order : List ℕ) → len (grown_to k order) ≤ len k + length order
 reached-few k [] = omega arith
 reached-few k (o ∷ os) = elim (cases_Bool (has k o)) [
   | inl a ↦ let e : len (with k o) ≡ len k = ap len (already k o a) in let r = reached-few (with k o) os in omega arith
   | inr a ↦ let e = len-with k o a in let r = reached-few (with k o) os in omega arith
 ]
 
-fresh-from : (k : Items) (order : List ℕ) → len k + length order ≤ len (reached k order) → is_fresh k order ≡ true
+fresh-from : (k : Items) (order : List ℕ) → len k + length order ≤ len (grown_to k order) → is_fresh k order ≡ true
 fresh-from k [] l = refl
 fresh-from k (o ∷ os) l = elim (cases_Bool (has k o)) [
   | inl a ↦ let e : len (with k o) ≡ len k = ap len (already k o a) in let r = reached-few (with k o) os in absurd (omega arith)
@@ -215,27 +215,27 @@ order-parts n order h =
 pub order-fresh : (n : ℕ) (order : List ℕ) → is_order n order ≡ true → is_fresh empty order ≡ true
 order-fresh n order h =
     let p = order-parts n order h in
-    let e : len (reached empty order) ≡ n = ap len (reached-all order ∙ p.all) ∙ len-full n in
+    let e : len (grown_to empty order) ≡ n = ap len (reached-all order ∙ p.all) ∙ len-full n in
     let z = len-empty in
     let l = p.long in
     fresh-from empty order (omega arith)
 
 -- ---- the places at which a list can be left
 
-pub leaves-found : (n : ℕ) (f : List Items) (k : Items) (order : List ℕ) (j i : ℕ) → next_after n f (reached k (take j order)) (get_or order j 0) ≡ Some i → leaves_below n f k order (suc j) ≡ Some (take j order ++ i ∷ first_growth n f (length (drop (suc j) order)) (with (reached k (take j order)) i))
+pub leaves-found : (n : ℕ) (f : List Items) (k : Items) (order : List ℕ) (j i : ℕ) → next_item_after n f (grown_to k (take j order)) (get_or order j 0) ≡ Some i → leaves_below n f k order (suc j) ≡ Some (take j order ++ i ∷ first_growth n f (length (drop (suc j) order)) (with (grown_to k (take j order)) i))
 leaves-found n f k order j i e =
-    let here = reached k (take j order) in
+    let here = grown_to k (take j order) in
     ap (λ r. option_or (option_map (λ i. take j order ++ i ∷ first_growth n f (length (drop (suc j) order)) (with here i)) r) (leaves_below n f k order j)) e
 
-pub leaves-passed : (n : ℕ) (f : List Items) (k : Items) (order : List ℕ) (j : ℕ) → next_after n f (reached k (take j order)) (get_or order j 0) ≡ None → leaves_below n f k order (suc j) ≡ leaves_below n f k order j
+pub leaves-passed : (n : ℕ) (f : List Items) (k : Items) (order : List ℕ) (j : ℕ) → next_item_after n f (grown_to k (take j order)) (get_or order j 0) ≡ None → leaves_below n f k order (suc j) ≡ leaves_below n f k order j
 leaves-passed n f k order j e =
-    let here = reached k (take j order) in
+    let here = grown_to k (take j order) in
     ap (λ r. option_or (option_map (λ i. take j order ++ i ∷ first_growth n f (length (drop (suc j) order)) (with here i)) r) (leaves_below n f k order j)) e
 
 -- the last of the items is taken back
-pub taken-back : (k : Items) (order : List ℕ) (j : ℕ) → is_fresh k order ≡ true → j < length order → without (reached k (take (j + 1) order)) (get_or order j 0) ≡ reached k (take j order)
+pub taken-back : (k : Items) (order : List ℕ) (j : ℕ) → is_fresh k order ≡ true → j < length order → without (grown_to k (take (j + 1) order)) (get_or order j 0) ≡ grown_to k (take j order)
 taken-back k order j h l =
-    let here = reached k (take j order) in
+    let here = grown_to k (take j order) in
     let o = get_or order j 0 in
     let out : has here o ≡ false = fresh-at k order j h l in
     ap (λ s. without s o) (reached-next k order j l) ∙ same_set (without (with here o) o) here (λ i. elim (cases_eq i o) [
@@ -243,8 +243,8 @@ taken-back k order j h l =
       | inr e ↦ grind (arith, members, nat_tests)
     ])
 
-pub reached-has : (k : Items) (order : List ℕ) (j : ℕ) → j < length order → has (reached k (take (j + 1) order)) (get_or order j 0) ≡ true
-reached-has k order j l = ap (λ s. has s (get_or order j 0)) (reached-next k order j l) ∙ has-with (reached k (take j order)) (get_or order j 0) (get_or order j 0) ∙ or_right (has (reached k (take j order)) (get_or order j 0)) (eqb (get_or order j 0) (get_or order j 0)) (eq-eqb (get_or order j 0) (get_or order j 0) refl)
+pub reached-has : (k : Items) (order : List ℕ) (j : ℕ) → j < length order → has (grown_to k (take (j + 1) order)) (get_or order j 0) ≡ true
+reached-has k order j l = ap (λ s. has s (get_or order j 0)) (reached-next k order j l) ∙ has-with (grown_to k (take j order)) (get_or order j 0) (get_or order j 0) ∙ or_right (has (grown_to k (take j order)) (get_or order j 0)) (eqb (get_or order j 0) (get_or order j 0)) (eq-eqb (get_or order j 0) (get_or order j 0) refl)
 
 -- ---- what holds of a path
 
@@ -263,7 +263,7 @@ pub whole-from : (n : ℕ) (f : List Items) (order : List ℕ) → Grows f empty
 whole-from n f order g = and_from (eqb (length order) n) (is_grown f empty order) (eq-eqb (length order) n g.long) g.grown
 
 -- its items are all items
-pub whole-reaches : (n : ℕ) (f : List Items) (order : List ℕ) → IsLearning n f → is_whole n f order ≡ true → reached empty order ≡ full n
+pub whole-reaches : (n : ℕ) (f : List Items) (order : List ℕ) → IsLearning n f → is_whole n f order ≡ true → grown_to empty order ≡ full n
 whole-reaches n f order learning h =
     let g = whole-parts n f order h in
     reaches-full n f empty order learning.family.small learning.family.holds_empty g.grown (all-left n ∙ sym g.long)

@@ -1,5 +1,5 @@
 -- The learning paths in lexicographic order: the first, and those after a list.
-use Rattle.ls_paths.proofs.Vocabulary.{◌&&◌, ◌++◌, ◌<◌, ◌∙◌, ◌∷◌, ◌≡◌, All-append, All-given, All-map, AllByRecursion, Bool, IsInLexOrder, IsOn, Items, List, None, Some, ℕ, [], and_from, and_parts, ap, ap₂, arith, cases_Bool, cond, each, empty, eq-eqb, eqb, eqb-true, false, false_from_ne_true, filter, filter-all, find, first_growth, flat_map, found-holds, full, growths, inl, inr, is_among, is_learning_space, is_lex_before, is_next, le-ltb, len, len-full, length, lt-ltb, ltb, ltb-true, map, members, minus, next_growth, numbers_from, or_cases, or_left, or_right, paths, refl, same_set, subst, suc, sym, true, true≢false, with, zero}
+use Rattle.ls_paths.proofs.Vocabulary.{◌&&◌, ◌++◌, ◌<◌, ◌∙◌, ◌∷◌, ◌≡◌, All-append, All-given, All-map, AllByRecursion, Bool, IsInLexOrder, AreOn, Items, List, None, Some, ℕ, [], and_from, and_parts, ap, ap₂, arith, cases_Bool, cond, each, empty, eq-eqb, eqb, eqb-true, false, false_from_ne_true, filter, filter-all, find, first_growth, flat_map, found-holds, full, growths, inl, inr, is_among, is_learning_space, is_lex_before, is_next, le-ltb, len, len-full, length, lt-ltb, ltb, ltb-true, map, members, minus, next_growth, numbers_from, or_cases, or_left, or_right, paths, refl, same_set, subst, suc, sym, true, true≢false, with, zero}
 use Rattle.ls_paths.proofs.Growths.{IsLearning, learning-from, growths-first, growths-next, paths-are}
 
 -- ---- in order
@@ -119,7 +119,7 @@ paths-next n f order learning e =
     ap (find (is_lex_before order)) (paths-are n f family.holds_empty ∙ ap (λ m. growths n f m empty) (sym e)) ∙ growths-next n f order empty learning family.holds_empty (all-left n ∙ sym e)
 
 -- the first, and those after it
-pub paths-begin : (n : ℕ) (f : List Items) → IsOn n f → is_learning_space (full n) f ≡ true
+pub paths-begin : (n : ℕ) (f : List Items) → AreOn n f → is_learning_space (full n) f ≡ true
     → paths n f ≡ first_growth n f n empty ∷ filter (is_lex_before (first_growth n f n empty)) (paths n f)
 paths-begin n f small h =
     let learning = learning-from n f small h in

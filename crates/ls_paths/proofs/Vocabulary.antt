@@ -6,7 +6,7 @@ pub use Rattle.std.proofs.lemmas.List.{drop-replicate, drop_all, length-append, 
 pub use Rattle.std.specs.List.{AllByRecursion, flat_map, list_all, list_any}
 pub use Rattle.std.specs.Option.{option_or}
 pub use Rattle.ls_laws.proofs.Counts.{len-empty, len-parts, len-single, len-zero, some_item}
-pub use Rattle.ls_laws.specs.Spans.{IsOn}
+pub use Rattle.ls_laws.specs.Spans.{AreOn}
 pub use Rattle.ls_lists.proofs.Every.{All-append, All-given, All-map, each}
 pub use Rattle.ls_lists.proofs.Filters.{filter-agree, filter-all, filter-both, filter-map}
 pub use Rattle.ls_lists.proofs.Finds.{found-holds, found-passes, slice_get-filter}
@@ -17,6 +17,6 @@ pub use Rattle.ls_set.specs.{IsWithin, Items, bound, empty, full, has, is_among,
 pub use Rattle.ls_set.specs.declared.item_set.TheConstants.{PLACES}
 pub use Rattle.ls_theory.specs.{is_learning_space, is_lex_before, is_order, is_path, is_space}
 unfoldable pub use Rattle.ls_theory.specs.{orders_of, paths}
-pub use Rattle.ls_paths.specs.Growths.{IsInLexOrder, first_growth, first_next, growths, is_next, next_after, next_growth}
+pub use Rattle.ls_paths.specs.Growths.{IsInLexOrder, first_growth, first_next, growths, is_next, next_item_after, next_growth}
 pub use Rattle.ls_paths.specs.Left.{paths_left}
-pub use Rattle.ls_paths.specs.Levels.{is_fresh, is_grown, is_whole, leaves_below, reached}
+pub use Rattle.ls_paths.specs.Levels.{is_fresh, is_grown, is_whole, leaves_below, grown_to}

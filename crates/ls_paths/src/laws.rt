@@ -2,7 +2,7 @@
 ghost use Rattle.std.specs.Prelude.{◌≡◌, ℕ, true, List, [], ◌∷◌, filter, find, length, Some, None};
 ghost use Rattle.ls_set.specs.{Items, empty, full, is_among};
 ghost use Rattle.ls_theory.specs.{is_learning_space, is_lex_before, paths};
-ghost use Rattle.ls_laws.specs.Spans.{IsOn};
+ghost use Rattle.ls_laws.specs.Spans.{AreOn};
 ghost use Rattle.ls_paths.specs.Growths.{growths, first_growth, next_growth, IsInLexOrder};
 
 /// The learning paths are the lists by which the empty set grows through members, and stand in
@@ -24,10 +24,10 @@ pub fn paths_are_growths()
 /// In a learning space the first path adds the least item that can be added, at each step. The path
 /// after a list of all items, path or not, is told step by step.
 pub fn paths_are_found()
-    ensures first { (n : ℕ) (f : List Items) → IsOn n f → is_learning_space (full n) f ≡ true →
+    ensures first { (n : ℕ) (f : List Items) → AreOn n f → is_learning_space (full n) f ≡ true →
         let first = first_growth n f n empty in
         paths n f ≡ first ∷ filter (is_lex_before first) (paths n f) }
-    ensures next { (n : ℕ) (f : List Items) (order : List ℕ) → IsOn n f →
+    ensures next { (n : ℕ) (f : List Items) (order : List ℕ) → AreOn n f →
         is_learning_space (full n) f ≡ true → length order ≡ n →
         find (is_lex_before order) (paths n f) ≡ next_growth n f order empty }
 {}

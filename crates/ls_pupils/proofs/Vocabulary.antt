@@ -11,10 +11,10 @@ pub use Rattle.std.specs.Prelude.{Decides, bytes_eq}
 pub use Rattle.ls_expert.specs.Starts.{IsStartOn, start_of}
 pub use Rattle.ls_laws.proofs.Families.{compat-IsFamily}
 pub use Rattle.ls_laws.specs.Families.{IsFamily}
-pub use Rattle.ls_laws.specs.Spans.{IsOn}
+pub use Rattle.ls_laws.specs.Spans.{AreOn}
 pub use Rattle.ls_lists.proofs.Every.{All-given, list_any-map}
 pub use Rattle.ls_lists.proofs.Places.{get-map, map-remove, position-here, position-later}
-pub use Rattle.ls_meaning.specs.{asked_of, begin_row, changed, close_row, has_name, most_pupils, new_pupil, pupil_with, replied, reply_row, weighing_refusals, with_pupil}
+pub use Rattle.ls_meaning.specs.{asked_of, begin_row, changed, close_row, has_name, most_pupils, new_pupil, pupil_with, replied, reply_row, weighing_refusals, with_pupil, question_shown, shown_of}
 pub use Rattle.ls_meaning.specs.Sessions.{Pupil}
 pub use Rattle.ls_meaning.specs.declared.response.Response.TheVariants.{Agreed, Done, Refused, Shown}
 pub use Rattle.ls_set.proofs.Sets.{Decides-is_same, empty-within}
@@ -27,7 +27,8 @@ pub use Rattle.ls_theory.specs.Settings.{Settings}
 pub use Rattle.ls_theory.specs.declared.reply_fault.ReplyFault.{ReplyFault}
 pub use Rattle.ls_weight.proofs.Weighable.{family-weighable}
 pub use Rattle.ls_weight.specs.Weighings.{Weighing}
-pub use Rattle.ls_pupils.specs.Beginning.{IsNewPupil, IsWeighed}
-pub use Rattle.ls_pupils.specs.Cases.{ArePupils, CanTell, IsCase, IsOwnCase, pupil_of, pupils_of}
+pub use Rattle.ls_pupils.specs.Beginning.{IsNewPupil, RefusesHeavy, begun_row}
+pub use Rattle.ls_pupils.specs.Cases.{ArePupils, IsCase, IsOwnCase, pupil_of, pupils_of, changed_to}
 pub use Rattle.ls_pupils.specs.Own.{have_own_names, is_named}
 pub use Rattle.ls_pupils.specs.declared.cases.PupilCase.{PupilCase}
+pub use Rattle.ls_meaning.specs.declared.response.Response.{Response}

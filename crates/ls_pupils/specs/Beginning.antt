@@ -1,14 +1,17 @@
 -- Pupils that begin.
-use Rattle.std.specs.Prelude.{◌≡◌, [], length, slice_get, Some, Result, Ok, Err}
+use Rattle.std.specs.Prelude.{◌≡◌, List, [], ◌∷◌, ◌++◌, length, slice_get, Some, Result, Ok, Err}
 use Rattle.std.specs.declared.alloc.AllocError.{AllocError}
 use Rattle.ls_theory.specs.{Interview, compatible_sets}
 use Rattle.ls_theory.specs.Settings.{Settings}
 use Rattle.ls_weight.specs.Weighings.{Weighing}
 use Rattle.ls_weight.specs.declared.fault.WeightFault.{WeightFault}
 use Rattle.ls_weight.specs.declared.fault.WeightFault.TheVariants.{Heavy, Memory}
-use Rattle.ls_meaning.specs.{weighing_refusals}
+use Rattle.ls_lines.specs.{Text}
+use Rattle.ls_meaning.specs.{Change, new_pupil, weighing_refusals}
+use Rattle.ls_meaning.specs.Sessions.{Pupil}
 use Rattle.ls_meaning.specs.declared.response.Refusal.{Refusal}
 use Rattle.ls_meaning.specs.declared.response.Refusal.TheVariants as refusal
+use Rattle.ls_meaning.specs.declared.response.Response.TheVariants.{Done}
 
 -- a pupil over the states of the interview with no replies, where these can be weighed; or the
 -- first refusal
@@ -24,3 +27,10 @@ abbrev pub RefusesHeavy :
 RefusesHeavy (Ok p) result = result ≡ Ok (Ok p)
 RefusesHeavy (Err (Heavy replies)) result = result ≡ Ok (Err (refusal.Heavy replies))
 RefusesHeavy (Err (Memory e)) result = result ≡ Err e
+
+-- the pupil stands last, and the number of its states is told
+abbrev pub begun_row : Interview → Settings → List Pupil → Text → Change (List Pupil)
+begun_row i s pupils name = record {
+  response = Done (length (compatible_sets i));
+  next = pupils ++ new_pupil name i s ∷ [];
+}

@@ -1,13 +1,15 @@
 -- Pupils as the program keeps them.
 --     pupil_of c, pupils_of cs      the pupils of the definitions
 --     ArePupils n cs      pupils among n items, each with a name of its own
+--     changed_to cs r      the response, and what the pupils became
 use Rattle.std.specs.Prelude.{ℕ, ◌≡◌, ◌≤◌, true, List, map, length}
 use Rattle.std.specs.List.{All, list_all}
 use Rattle.ls_set.specs.{is_good, most_items}
 use Rattle.ls_theory.specs.{compat, most_states}
-use Rattle.ls_meaning.specs.{most_pupils}
+use Rattle.ls_meaning.specs.{Change, most_pupils}
 use Rattle.ls_expert.specs.Starts.{start_of, IsStartOn}
 use Rattle.ls_meaning.specs.Sessions.{Pupil}
+use Rattle.ls_meaning.specs.declared.response.Response.{Response}
 use Rattle.ls_pupils.specs.Own.{have_own_names}
 use Rattle.ls_pupils.specs.declared.cases.PupilCase.{PupilCase}
 
@@ -43,3 +45,7 @@ pub record ArePupils (n : ℕ) (cases : List PupilCase) : Type 0 where
   pub each : All (IsCase n) cases
   pub own : have_own_names (λ c. c.name) cases ≡ true
   pub few : length cases ≤ most_pupils
+
+-- the response, and what the pupils became
+abbrev pub changed_to : List PupilCase → Response → Change (List Pupil)
+changed_to cases response = record { response = response; next = pupils_of cases }

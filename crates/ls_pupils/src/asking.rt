@@ -1,8 +1,9 @@
 // What pupils are asked and reply, and how they are closed.
 ghost use Rattle.std.specs.Prelude.{◌≡◌, ◌≤◌, ℕ, IfSome, option_map};
+ghost use Rattle.std.specs.List.{All};
 ghost use Rattle.ls_meaning.specs.Pupils.{pupil_with, shown_of, question_shown, report_shown, reply_row, close_row};
 ghost use Rattle.ls_meaning.specs.declared.response.Response.TheVariants.{Shown as ShownAs};
-ghost use Rattle.ls_pupils.specs.Cases.{pupil_of, pupils_of, IsCase, ArePupils};
+ghost use Rattle.ls_pupils.specs.Cases.{pupil_of, pupils_of, IsCase, IsOwnCase, ArePupils, changed_to};
 
 use crate::cases::{PupilCase, PupilCases};
 use ls_fringe::fringes;
@@ -60,10 +61,8 @@ fn report_of(n: u32, case: &PupilCase) -> Shown
 
 /// `reply NAME ITEM right` and `reply NAME ITEM wrong`
 pub fn reply(pupils: &mut PupilCases, name: &Word, item: u32, right: bool) -> Response
-    ensures response { (n : ℕ) → ArePupils n pupils.old → let ps = pupils_of pupils.old in
-        result ≡ (reply_row n ps item right (pupil_with ps name.now)).response }
-    ensures next { (n : ℕ) → ArePupils n pupils.old → let ps = pupils_of pupils.old in
-        pupils_of pupils.new ≡ (reply_row n ps item right (pupil_with ps name.now)).next }
+    ensures row { (n : ℕ) → ArePupils n pupils.old → let ps = pupils_of pupils.old in
+        reply_row n ps item right (pupil_with ps name.now) ≡ changed_to pupils.new result }
     ensures pupils { (n : ℕ) → ArePupils n pupils.old → ArePupils n pupils.new }
 {
     match pupils.place(name) {
@@ -78,13 +77,12 @@ pub fn reply(pupils: &mut PupilCases, name: &Word, item: u32, right: bool) -> Re
 }
 
 /// `close NAME`
-pub fn close(n: u32, pupils: &mut PupilCases, name: &Word) -> Response
-    requires { ArePupils n pupils.old }
-    ensures response { result ≡ (close_row (pupils_of pupils.old) name.now).response }
-    ensures next { pupils_of pupils.new ≡ (close_row (pupils_of pupils.old) name.now).next }
-    ensures pupils { ArePupils n pupils.new }
+pub fn close(pupils: &mut PupilCases, name: &Word) -> Response
+    requires { All IsOwnCase pupils.old }
+    ensures row { (n : ℕ) → ArePupils n pupils.old →
+        close_row (pupils_of pupils.old) name.now ≡ changed_to pupils.new result }
+    ensures pupils { (n : ℕ) → ArePupils n pupils.old → ArePupils n pupils.new }
 {
-    let _ = n;
     match pupils.place(name) {
         None => Response::Refused(Refusal::NoPupil),
         Some(place) => {

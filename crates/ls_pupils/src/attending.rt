@@ -40,6 +40,6 @@ pub fn attend<L: Ledger>(
         PupilRequest::Question => Ok(question(pupils, name)),
         PupilRequest::Reply { item, right } => Ok(reply(pupils, name, item, right)),
         PupilRequest::Report => Ok(report(n, pupils, name)),
-        PupilRequest::Close => Ok(close(n, pupils, name)),
+        PupilRequest::Close => Ok(close(pupils, name)),
     }
 }

@@ -1,13 +1,12 @@
 // How a pupil begins.
-ghost use Rattle.std.specs.Prelude.{◌≡◌, ◌<◌, ◌++◌, ◌∷◌, [], true, false, Ok, length, IfSome, IfOk, OnOk, OnErr};
+ghost use Rattle.std.specs.Prelude.{◌≡◌, ◌<◌, true, false, Ok, length, IfSome, IfOk, OnErr};
 ghost use Rattle.std.specs.List.{list_any};
 ghost use Rattle.ls_theory.specs.{compatible_sets, yes_queries};
 ghost use Rattle.ls_expert.specs.Starts.{start_of};
-ghost use Rattle.ls_meaning.specs.{begin_row, most_pupils, new_pupil};
-ghost use Rattle.ls_meaning.specs.declared.response.Response.TheVariants.{Done};
+ghost use Rattle.ls_meaning.specs.{begin_row, most_pupils};
 ghost use Rattle.ls_pupils.specs.Own.{is_named};
-ghost use Rattle.ls_pupils.specs.Cases.{pupils_of, IsCase, IsOwnCase, ArePupils};
-ghost use Rattle.ls_pupils.specs.Beginning.{IsNewPupil, RefusesHeavy};
+ghost use Rattle.ls_pupils.specs.Cases.{pupils_of, IsCase, IsOwnCase, ArePupils, changed_to};
+ghost use Rattle.ls_pupils.specs.Beginning.{IsNewPupil, RefusesHeavy, begun_row};
 ghost use Rattle.ls_pupils.specs.declared.cases.PupilCase.{PupilCase as Case};
 
 use crate::cases::{PupilCase, PupilCases};
@@ -39,10 +38,9 @@ pub fn begin<L: Ledger>(
 ) -> Result<Response, AllocError>
     requires pupils { ArePupils inquiry.now.count pupils.old }
     requires items { length settings.now.ratios ≡ inquiry.now.count }
-    ensures response { IfOk result (λ r. r ≡ (begin_row inquiry.now settings.now
-        (pupils_of pupils.old) name.now).response) }
-    ensures next { OnOk result (pupils_of pupils.new ≡ (begin_row inquiry.now settings.now
-        (pupils_of pupils.old) name.now).next) }
+    ensures row { IfOk result (λ r.
+        begin_row inquiry.now settings.now (pupils_of pupils.old) name.now
+        ≡ changed_to pupils.new r) }
     ensures pupils { ArePupils inquiry.now.count pupils.new }
     ensures err { OnErr result (pupils.new ≡ pupils.old) }
 {
@@ -192,9 +190,9 @@ fn keep(
     pupil: Pupil,
 ) -> Result<Response, AllocError>
     requires pupil { IsNewPupil inquiry.now settings.now (Ok pupil) }
-    ensures response { IfOk result (λ r. r ≡ Done (length (compatible_sets inquiry.now))) }
-    ensures next { OnOk result (pupils_of pupils.new
-        ≡ pupils_of pupils.old ++ new_pupil name.now inquiry.now settings.now ∷ []) }
+    ensures row { IfOk result (λ r.
+        begun_row inquiry.now settings.now (pupils_of pupils.old) name.now
+        ≡ changed_to pupils.new r) }
     ensures pupils { ArePupils inquiry.now.count pupils.old → length pupils.old < most_pupils →
         list_any (is_named (λ (c : Case). c.name) name.now) pupils.old ≡ false →
         length settings.now.ratios ≡ inquiry.now.count →

@@ -13,7 +13,6 @@ use ls_enum::{ListFault, list_all};
 use ls_expert::Inquiry;
 use ls_interior::{Counted, Steps};
 use ls_meaning::{Refusal, Response, Shown};
-use ls_replay::{OpenGate, run_class};
 use ls_set::SetList;
 use std::alloc::{AllocError, Global};
 use std::sync::ledger::Ledger;
@@ -72,7 +71,7 @@ fn replay_over<R: Threads + Sync>(
     settings: &Settings,
     table: &ClassTable,
 ) -> Result<Response, AllocError>
-    requires { IsWeighable n states.now settings.now }
+    requires weighable { IsWeighable n states.now settings.now }
     ensures { IfOk result (λ r. r ≡ classed_by settings.now states.now [] (Ok table.now)) }
 {
     match run_class(rt, alloc, &OpenGate, n, states, settings, table) {

@@ -47,7 +47,7 @@ pub fn read_names(domain: &Domain, names: &WordList, first: usize) -> Result<Ite
         (items_of domain.now names.now) result }
     ensures on { IfOk result (λ s. IsWithin s (full (length domain.now))) }
 {
-    let _ = names.as_slice();
+    let _ = names.as_slice(); // bounds the places
     match domain.read_set(names) {
         Ok(set) => Ok(set),
         Err(UnknownAt { index }) => Err(Unnamed {

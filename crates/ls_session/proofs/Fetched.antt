@@ -1,5 +1,5 @@
 -- What a fetch lets a command see, and a command that is carried out by it.
-use Rattle.ls_session.proofs.Vocabulary.{AllocError, Answer, AnswersStand, Bool, Bytes, Calls, Decides, Effect, Err, Failed, FetchCause, Fetched, FetchedFrom, Fetches, FileFailed, Folder, GivesBytes, IsErrOf, IsFetched, LargeFile, List, Makes, MatchResult, Missing, NoFile, None, Ok, Option, Refusal, Refused, Response, Result, SeesFile, Session, ShelfState, Some, Stays, Text, TooLarge, Vec, [], answers, ap, arith, bytes_fetched, changes_interview, cond, false, fetched_from, file_refusals, length, longest_file, ltb, ne_eqb, not, refl, refuse, start_read, start_row, starts_by, subst, sym, true, true≢false, ℕ, ◌++◌, ◌==◌, ◌∙◌, ◌∷◌, ◌≡◌}
+use Rattle.ls_session.proofs.Vocabulary.{AllocError, Answer, AnswersStand, Bool, Bytes, Calls, Decides, Effect, Err, Failed, FetchCause, Fetched, FetchedFrom, Fetches, FileFailed, Folder, GivesBytes, IsErrOf, IsFetched, LargeFile, List, Makes, MatchResult, Missing, NoFile, None, Ok, Option, Refusal, Refused, Response, Result, SeesFile, Session, ShelfState, Some, FolderStays, Text, TooLarge, Vec, [], answers, ap, arith, bytes_fetched, changes_interview, cond, false, fetched_from, file_refusals, length, longest_file, ltb, ne_eqb, not, refl, refuse, start_read, start_row, starts_by, subst, sym, true, true≢false, ℕ, ◌++◌, ◌==◌, ◌∙◌, ◌∷◌, ◌≡◌}
 use Rattle.ls_session.proofs.Decided.{calls_told, makes_as, makes_nothing, sees_told}
 use Rattle.std.specs.declared.alloc.Global.{Global}
 use Rattle.std.specs.FinMap as map
@@ -70,7 +70,7 @@ seen_is : (folder left : Option Folder) (name : Text) (r : Result (Vec ℕ Globa
 seen_is None left name r h = fetched_is r
 seen_is (Some m) left name r h = told_is (map.get m name) r h.1
 
-stays : (folder left : Option Folder) → Stays folder left → (m : Folder) → folder ≡ Some m → left ≡ Some m
+stays : (folder left : Option Folder) → FolderStays folder left → (m : Folder) → folder ≡ Some m → left ≡ Some m
 stays None left h m e = absurd (cc e)
 stays (Some k) left h m e = h ∙ e
 

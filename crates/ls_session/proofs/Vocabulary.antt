@@ -10,7 +10,7 @@ pub use Rattle.ls_domain.proofs.Numbers.{is_named-none, item_of-some, with-withi
 pub use Rattle.ls_domain.specs.Domains.{names_of_table, names_of_words}
 pub use Rattle.ls_domain.specs.Meanings.{is_named, item_of, items_of, number_of}
 pub use Rattle.ls_edge.specs.Causes.{Rose}
-pub use Rattle.ls_edge.specs.Files.{FetchCause, FetchedFrom, Fetches, Folder, GivesBytes, StoreCause, Stays, Stores, longest_file}
+pub use Rattle.ls_edge.specs.Files.{FetchCause, FetchedFrom, Fetches, Folder, GivesBytes, StoreCause, FolderStays, Stores, longest_file}
 pub use Rattle.ls_expert.specs.Held.{rules_before}
 unfoldable pub use Rattle.ls_files.specs.{session_of, session_text}
 pub use Rattle.ls_laws.specs.Forced.{IsSound}

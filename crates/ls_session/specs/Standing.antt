@@ -2,7 +2,7 @@
 use Rattle.std.specs.Prelude.{◌≡◌, ℕ, List, [], Option, Some, None, Result, Ok, IfOk, IfErr}
 use Rattle.std.specs.Option.{ForSome}
 use Rattle.ls_lines.specs.{Text}
-use Rattle.ls_domain.specs.Domains.{IsFaultOf}
+use Rattle.ls_domain.specs.Domains.{IsDomainFault}
 use Rattle.ls_domain.specs.declared.domain_fault.DomainFault.{DomainFault}
 use Rattle.ls_meaning.specs.{Calls, Session, line_effect, started}
 use Rattle.ls_meaning.specs.declared.response.Response.{Response}
@@ -28,4 +28,4 @@ IsIdle room = ForSome room (λ r. r ≡ no_reply)
 -- names that were read are those of the reading, unless memory ran out
 pub record IsRead (reading read : Result (List Text) DomainFault) : Type 0 where
   pub names : IfOk read (λ names. reading ≡ Ok names)
-  pub fault : IfErr read (IsFaultOf reading)
+  pub fault : IfErr read (IsDomainFault reading)

@@ -1,7 +1,7 @@
 // Interviews that begin with the start that a file gives.
 ghost use Rattle.std.specs.Prelude.{◌≡◌, [], Ok, length, IfOk};
 ghost use Rattle.ls_theory.specs.{based};
-ghost use Rattle.ls_laws.specs.Spans.{IsOn};
+ghost use Rattle.ls_laws.specs.Spans.{AreOn};
 ghost use Rattle.ls_files.specs.SetFiles.{sets_of};
 ghost use Rattle.ls_files.specs.SurmiseFiles.{surmise_of};
 ghost use Rattle.ls_expert.specs.Starts.{start_of, IsStartOn};
@@ -103,7 +103,7 @@ fn base_of(
     domain: &Domain,
     sets: &[ItemSet],
 ) -> Result<Result<Start, Refusal>, AllocError>
-    requires { IsOn (length domain.now) sets.now }
+    requires { AreOn (length domain.now) sets.now }
     ensures { IfOk result (IsStartRead domain.now
         (start_of_base (based (length domain.now) sets.now))) }
 {

@@ -9,7 +9,7 @@ pub use Rattle.std.specs.Prelude.{⊤}
 pub use Rattle.std.specs.declared.alloc.AllocError.{AllocError}
 pub use Rattle.ls_edge.proofs.Known.{appends_keep, appends_more, appends_none}
 pub use Rattle.ls_edge.specs.Causes.{AppendsFront, Rose}
-pub use Rattle.ls_edge.specs.Files.{FetchedFrom, Fetches, Folder, GivesBytes, Stays, given, longest_file}
+pub use Rattle.ls_edge.specs.Files.{FetchedFrom, Fetches, Folder, FolderStays, GivesBytes, given, longest_file}
 pub use Rattle.ls_edge.specs.declared.traits.FetchFault.{FetchFault}
 pub use Rattle.ls_lines.proofs.Cuts.{ahead-lines, goes_on}
 pub use Rattle.ls_lines.specs.{Ends, Holds, IsTaken, Text, ahead, ended_of, is_file, is_from_to, is_long, kept}

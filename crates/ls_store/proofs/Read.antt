@@ -1,5 +1,5 @@
 -- What is read of a session is a whole session.
-use Rattle.ls_store.proofs.Vocabulary.{◌≡◌, AllByRecursion, Cause, Clauses, Data, Each-among, Err, Free, Interview, IsDomain, IsNarrow, IsOn, IsPupil, IsStart, IsWhole, List, None, Ok, Option, Pupil, Result, Session, Sets, Some, Start, Text, Version, ℕ, ap, are_made, are_pupils, as_str, at_key, bytes_eq, codes, eqb, eqb-true, get, interview_from, is_pupil, length, names_of_words, names_of_words-read, only, only_if, option_map, option_zip, pupil_from, read_answer, read_base, read_block, read_course, read_interview, read_limits, read_list, read_names, read_number, read_object, read_odds, read_pupil, read_pupils, read_set, read_settings, read_start, read_surmise, read_version, result_ok, session_from, session_of, settings_from, stands, start_from, start_within, subst, surmise_from, sym, true}
+use Rattle.ls_store.proofs.Vocabulary.{◌≡◌, AllByRecursion, Cause, Clauses, Data, Each-among, Err, Free, Interview, IsDomain, IsNarrow, AreOn, IsPupil, IsStart, IsWhole, List, None, Ok, Option, Pupil, Result, Session, Sets, Some, Start, Text, Version, ℕ, ap, are_made, are_pupils, as_str, at_key, bytes_eq, codes, eqb, eqb-true, get, interview_from, is_pupil, length, names_of_words, names_of_words-read, only, only_if, option_map, option_zip, pupil_from, read_answer, read_base, read_block, read_course, read_interview, read_limits, read_list, read_names, read_number, read_object, read_odds, read_pupil, read_pupils, read_set, read_settings, read_start, read_surmise, read_version, result_ok, session_from, session_of, settings_from, stands, start_from, start_within, subst, surmise_from, sym, true}
 use Rattle.ls_set.specs.{IsWithin, Items, full, read_cursor}
 use Rattle.ls_theory.specs.Settings.{Settings, are_settings}
 use Rattle.ls_files.specs.declared.cause.Cause.TheVariants as cause
@@ -16,7 +16,7 @@ ok-some (Err f) x e = absurd (let no : ⊥ = cc in no)
 set-sound : (n : ℕ) (d : Data) (s : Items) → read_set n d ≡ Some s → IsWithin s (full n)
 set-sound n d s e = let text = then-some (λ w. result_ok (read_cursor n w)) (as_str d) s e in (only n text.0 s (ok-some (read_cursor n text.0) s text.2)).0
 
-pub on-from : (n : ℕ) (d : Data) (ss : List Items) → read_list (read_set n) d ≡ Some ss → IsOn n ss
+pub on-from : (n : ℕ) (d : Data) (ss : List Items) → read_list (read_set n) d ≡ Some ss → AreOn n ss
 on-from n d ss e k h = Each-among (λ s. IsWithin s (full n)) ss k (list-some (read_set n) (λ s. IsWithin s (full n)) (set-sound n) d ss e) h
 
 surmise-sound : (n : ℕ) (d : Data) (cs : List (List Items)) → read_surmise n d ≡ Some cs → IsNarrow n cs
@@ -24,7 +24,7 @@ surmise-sound n d cs e =
     let lists = read_list (read_list (read_set n)) d in
     let made = then-some (λ cs. result_ok (surmise_from n cs)) (only_if (λ cs. eqb (length cs) n) lists) cs e in
     let read = only_if-some (λ cs. eqb (length cs) n) lists made.0 made.1 in
-    narrow-read n made.0 cs (list-some (read_list (read_set n)) (IsOn n) (on-from n) d made.0 read.0) (eqb-true (length made.0) n read.1) made.2
+    narrow-read n made.0 cs (list-some (read_list (read_set n)) (AreOn n) (on-from n) d made.0 read.0) (eqb-true (length made.0) n read.1) made.2
 
 within-sound : (n : ℕ) (base surmise : Option Data) (s : Start) → start_within n base surmise ≡ Some s → IsStart n s
 within-sound n (Some d) surmise s e = let made = map-some Sets (read_base n d) s e in subst (IsStart n) made.2 (base-sound n d made.0 made.1)

@@ -1,5 +1,5 @@
 -- Surmise functions, written and read: the clauses of each item are put in order.
-use Rattle.ls_store.proofs.Vocabulary.{◌||◌, ◌∙◌, ◌∷◌, ◌≡◌, All-given, AllByRecursion, Err, IsNarrow, IsOn, List, None, Ok, Option, Result, Some, ℕ, [], all_clauses, among-append, among-filter, among-subsets, and_from, and_parts, ap, ap₂, clauses_of, flaw, in_order, is_within-from, length, map, option_map_or, option_or, refl, result_ok, subsets_from-in_order, suc, surmise_from, sym, true≢false, wide, zero}
+use Rattle.ls_store.proofs.Vocabulary.{◌||◌, ◌∙◌, ◌∷◌, ◌≡◌, All-given, AllByRecursion, Err, IsNarrow, AreOn, List, None, Ok, Option, Result, Some, ℕ, [], all_clauses, among-append, among-filter, among-subsets, and_from, and_parts, ap, ap₂, clauses_of, flaw, in_order, is_within-from, length, map, option_map_or, option_or, refl, result_ok, subsets_from-in_order, suc, surmise_from, sym, true≢false, wide, zero}
 use Rattle.ls_lists.proofs.Bools.{same_truth}
 use Rattle.ls_lists.proofs.Filters.{filter-agree}
 use Rattle.ls_set.specs.{IsInOrder, Items, full, is_among, subsets}
@@ -10,7 +10,7 @@ use Rattle.ls_clauses.proofs.Flaws.{flawless-ordered, surmise-flawless}
 
 -- ---- the clauses of one item
 
-among-in_order : (n : ℕ) (own : List Items) → IsOn n own → (k : Items) → is_among (in_order n own) k ≡ is_among own k
+among-in_order : (n : ℕ) (own : List Items) → AreOn n own → (k : Items) → is_among (in_order n own) k ≡ is_among own k
 among-in_order n own small k =
     same_truth (is_among (in_order n own) k) (is_among own k)
     (λ h. (and_parts (is_among (subsets n) k) (is_among own k) (sym (among-filter (is_among own) (subsets n) k) ∙ h)).1)
@@ -20,12 +20,12 @@ ordered : (n : ℕ) (own : List Items) → IsInOrder (in_order n own)
 ordered n own = IsInOrder-filter (is_among own) (subsets n) (subsets_from-in_order 0 n)
 
 -- sets in order stay as they are
-in_order-again : (n : ℕ) (own : List Items) → IsOn n own → IsInOrder own → in_order n own ≡ own
+in_order-again : (n : ℕ) (own : List Items) → AreOn n own → IsInOrder own → in_order n own ≡ own
 in_order-again n own small order = same_members (in_order n own) own (ordered n own) order (λ k h. sym (among-in_order n own small k) ∙ h) (λ k h. among-in_order n own small k ∙ h)
 
 -- ---- the clauses of all items
 
-all-again : (n : ℕ) (clauses : List (List Items)) → AllByRecursion (IsOn n) clauses → AllByRecursion IsInOrder clauses → map (in_order n) clauses ≡ clauses
+all-again : (n : ℕ) (clauses : List (List Items)) → AllByRecursion (AreOn n) clauses → AllByRecursion IsInOrder clauses → map (in_order n) clauses ≡ clauses
 all-again n [] small order = refl
 all-again n (own ∷ clauses) small order = ap₂ (λ x xs. x ∷ xs) (in_order-again n own small.0 order.0) (all-again n clauses small.1 order.1)
 
@@ -34,7 +34,7 @@ each-clauses : (P : List Items → Type 0) (clauses : List (List Items)) → ((q
 each-clauses P [] h = tt
 each-clauses P (own ∷ clauses) h = (h 0, each-clauses P clauses (λ q. h (suc q)))
 
-own-on : (n : ℕ) (clauses : List (List Items)) → AllByRecursion (IsOn n) clauses → (q : ℕ) → IsOn n (clauses_of clauses q)
+own-on : (n : ℕ) (clauses : List (List Items)) → AllByRecursion (AreOn n) clauses → (q : ℕ) → AreOn n (clauses_of clauses q)
 own-on n [] small q = λ k h. absurd (true≢false (sym h))
 own-on n (own ∷ clauses) small zero = small.0
 own-on n (own ∷ clauses) small (suc q) = own-on n clauses small.1 q
@@ -48,23 +48,23 @@ put-ordered n [] q = tt
 put-ordered n (own ∷ clauses) zero = ordered n own
 put-ordered n (own ∷ clauses) (suc q) = put-ordered n clauses q
 
-put-same : (n : ℕ) (clauses : List (List Items)) → AllByRecursion (IsOn n) clauses → (q : ℕ) (c : Items) → is_among (clauses_of (map (in_order n) clauses) q) c ≡ is_among (clauses_of clauses q) c
+put-same : (n : ℕ) (clauses : List (List Items)) → AllByRecursion (AreOn n) clauses → (q : ℕ) (c : Items) → is_among (clauses_of (map (in_order n) clauses) q) c ≡ is_among (clauses_of clauses q) c
 put-same n [] small q c = refl
 put-same n (own ∷ clauses) small zero c = among-in_order n own small.0 c
 put-same n (own ∷ clauses) small (suc q) c = put-same n clauses small.1 q c
 
-put-order : (n : ℕ) (clauses : List (List Items)) → AllByRecursion (IsOn n) clauses → IsPutInOrder clauses (map (in_order n) clauses)
+put-order : (n : ℕ) (clauses : List (List Items)) → AllByRecursion (AreOn n) clauses → IsPutInOrder clauses (map (in_order n) clauses)
 put-order n clauses small = record { as_many = put-length n clauses; in_order = put-ordered n clauses; same = put-same n clauses small }
 
 -- they are as many
-all-same : (n : ℕ) (clauses : List (List Items)) → AllByRecursion (IsOn n) clauses → (k : Items) → is_among (all_clauses (map (in_order n) clauses)) k ≡ is_among (all_clauses clauses) k
+all-same : (n : ℕ) (clauses : List (List Items)) → AllByRecursion (AreOn n) clauses → (k : Items) → is_among (all_clauses (map (in_order n) clauses)) k ≡ is_among (all_clauses clauses) k
 all-same n [] small k = refl
 all-same n (own ∷ clauses) small k =
     among-append (in_order n own) (all_clauses (map (in_order n) clauses)) k
     ∙ ap₂ (λ a b. a || b) (among-in_order n own small.0 k) (all-same n clauses small.1 k)
     ∙ sym (among-append own (all_clauses clauses) k)
 
-wide-same : (n : ℕ) (clauses : List (List Items)) → AllByRecursion (IsOn n) clauses → wide n (map (in_order n) clauses) ≡ wide n clauses
+wide-same : (n : ℕ) (clauses : List (List Items)) → AllByRecursion (AreOn n) clauses → wide n (map (in_order n) clauses) ≡ wide n clauses
 wide-same n clauses small =
     let put = is_among (all_clauses (map (in_order n) clauses)) in
     let had = is_among (all_clauses clauses) in
@@ -83,7 +83,7 @@ answered None None put clauses e = record { flawless = refl; few = refl; same = 
 answered None (Some m) put clauses e = absurd (let no : ⊥ = cc in no)
 answered (Some f) many put clauses e = absurd (let no : ⊥ = cc in no)
 
-pub narrow-read : (n : ℕ) (read clauses : List (List Items)) → AllByRecursion (IsOn n) read → length read ≡ n → result_ok (surmise_from n read) ≡ Some clauses → IsNarrow n clauses
+pub narrow-read : (n : ℕ) (read clauses : List (List Items)) → AllByRecursion (AreOn n) read → length read ≡ n → result_ok (surmise_from n read) ≡ Some clauses → IsNarrow n clauses
 unfolding surmise_from
 narrow-read n read clauses small each e =
     let a = answered (flaw n read) (wide n read) (map (in_order n) read) clauses e in
@@ -93,8 +93,8 @@ narrow-read n read clauses small each e =
     } in
     rw a.same at made
 
-pub narrow-small : (n : ℕ) (clauses : List (List Items)) → IsNarrow n clauses → AllByRecursion (IsOn n) clauses
-narrow-small n clauses h = each-clauses (IsOn n) clauses h.surmise.small
+pub narrow-small : (n : ℕ) (clauses : List (List Items)) → IsNarrow n clauses → AllByRecursion (AreOn n) clauses
+narrow-small n clauses h = each-clauses (AreOn n) clauses h.surmise.small
 
 pub narrow-again : (n : ℕ) (clauses : List (List Items)) → IsNarrow n clauses → surmise_from n clauses ≡ Ok clauses
 unfolding surmise_from

@@ -38,7 +38,7 @@ unfoldable pub use Rattle.ls_files.specs.Values.{session_text}
 pub use Rattle.ls_files.specs.declared.cause.Cause.{Cause}
 pub use Rattle.ls_files.specs.declared.version.Version.{Version}
 pub use Rattle.ls_laws.proofs.Breaks.{good-from}
-pub use Rattle.ls_laws.specs.Spans.{IsOn}
+pub use Rattle.ls_laws.specs.Spans.{AreOn}
 pub use Rattle.ls_lines.specs.{Text}
 unfoldable pub use Rattle.ls_lines.specs.{is_of}
 pub use Rattle.ls_lists.proofs.Every.{All-given, All-list_all, each, list_all-All}

@@ -1,5 +1,5 @@
 -- Sets and starts, written and read.
-use Rattle.ls_store.proofs.Vocabulary.{◌<◌, ◌∙◌, ◌∷◌, ◌≡◌, AllByRecursion, BaseFault, Bool, Clauses, Decides-is_same, Err, Free, IsNarrow, IsOn, IsStart, IsWithin-from, List, None, Ok, Option, Query, Result, Sets, Some, Start, ℕ, [], among-filter, among-here, among-subsets, among-there, and_from, and_parts, ap, base, based, compat, cond, each, eq-eqb, eqb, false, first_missing, good-from, is_base, is_compatible, length, list_value, lt-ltb, ltb, number_value, option_and_then, option_map, option_map_or, pointwise, query_from, query_value, read_back, read_base, read_item, read_list, read_query, read_set, read_start, read_surmise, refl, result_ok, set_value, start_value, surmise_from, sym, true}
+use Rattle.ls_store.proofs.Vocabulary.{◌<◌, ◌∙◌, ◌∷◌, ◌≡◌, AllByRecursion, BaseFault, Bool, Clauses, Decides-is_same, Err, Free, IsNarrow, AreOn, IsStart, IsWithin-from, List, None, Ok, Option, Query, Result, Sets, Some, Start, ℕ, [], among-filter, among-here, among-subsets, among-there, and_from, and_parts, ap, base, based, compat, cond, each, eq-eqb, eqb, false, first_missing, good-from, is_base, is_compatible, length, list_value, lt-ltb, ltb, number_value, option_and_then, option_map, option_map_or, pointwise, query_from, query_value, read_back, read_base, read_item, read_list, read_query, read_set, read_start, read_surmise, refl, result_ok, set_value, start_value, surmise_from, sym, true}
 use Rattle.ls_set.specs.{IsWithin, Items, full, is_among, is_good, is_same, subsets}
 use Rattle.ls_theory.specs.declared.base_fault.BaseFault.TheVariants.{NotSpanning, Past}
 use Rattle.ls_laws.proofs.Atoms.{base-member}
@@ -11,11 +11,11 @@ use Rattle.ls_store.proofs.Lists.{read_list-list_value, read_pair-pair_value, ke
 pub set-back : (n : ℕ) (s : Items) → IsWithin s (full n) → read_set n (set_value n s) ≡ Some s
 set-back n s within = ap result_ok (read_back n s within)
 
-pub Each-within : (n : ℕ) (ss : List Items) → IsOn n ss → AllByRecursion (λ s. IsWithin s (full n)) ss
+pub Each-within : (n : ℕ) (ss : List Items) → AreOn n ss → AllByRecursion (λ s. IsWithin s (full n)) ss
 Each-within n [] h = tt
 Each-within n (s ∷ ss) h = (h s (among-here s s ss refl), Each-within n ss (λ k a. h k (among-there k s ss a)))
 
-pub sets-back : (n : ℕ) (ss : List Items) → IsOn n ss → read_list (read_set n) (list_value (set_value n) ss) ≡ Some ss
+pub sets-back : (n : ℕ) (ss : List Items) → AreOn n ss → read_list (read_set n) (list_value (set_value n) ss) ≡ Some ss
 sets-back n ss h = read_list-list_value (set_value n) (read_set n) ss (each (set-back n) ss (Each-within n ss h))
 
 pub item-back : (n q : ℕ) → q < n → read_item n (number_value q) ≡ Some q
@@ -27,7 +27,7 @@ query-back n r h = ap (option_map query_from) (read_pair-pair_value (read_set n)
 -- ---- bases
 
 -- a base is a part of its family
-base-on : (n : ℕ) (f sets : List Items) → ((k : Items) → is_among f k ≡ true → IsWithin k (full n)) → base f ≡ sets → IsOn n sets
+base-on : (n : ℕ) (f sets : List Items) → ((k : Items) → is_among f k ≡ true → IsWithin k (full n)) → base f ≡ sets → AreOn n sets
 base-on n f sets small e k h = small k (base-member f k (ap (λ g. is_among g k) e ∙ h))
 
 compat-small : (n : ℕ) (start : Start) (k : Items) → is_among (compat n start []) k ≡ true → IsWithin k (full n)
@@ -42,7 +42,7 @@ based-ok (Some q) many found sets e = absurd (cc e)
 based-ok None true found sets e = absurd (cc e)
 based-ok None false found sets e = cc e
 
-pub base-small : (n : ℕ) (sets : List Items) → based n sets ≡ Ok sets → IsOn n sets
+pub base-small : (n : ℕ) (sets : List Items) → based n sets ≡ Ok sets → AreOn n sets
 base-small n sets e =
     let f = compat n (Sets sets) [] in
     base-on n f sets (compat-small n (Sets sets)) (based-ok (first_missing n sets) _ (base f) sets e)

@@ -4,7 +4,7 @@ ghost use Rattle.std.specs.Cmp.Lexicographic.{pointwise};
 ghost use Rattle.serde_json.specs.View.{view};
 ghost use Rattle.ls_set.specs.{is_same, most_items};
 ghost use Rattle.ls_theory.specs.Starts as theory;
-ghost use Rattle.ls_laws.specs.Spans.{IsOn};
+ghost use Rattle.ls_laws.specs.Spans.{AreOn};
 ghost use Rattle.ls_expert.specs.Starts.{start_of, IsStartOn};
 ghost use Rattle.ls_files.specs.{is_base, only_if, read_base, read_start, read_surmise};
 
@@ -41,7 +41,7 @@ fn are_same(left: &[ItemSet], right: &[ItemSet]) -> bool
 // The start by a base that has the very sets, in their order.
 fn base_of(alloc: Global, n: u32, sets: &[ItemSet]) -> Result<Option<Start>, AllocError>
     requires few { n ≤ most_items }
-    requires within { IsOn n sets.now }
+    requires within { AreOn n sets.now }
     ensures value { IfOk result (λ found. option_map start_of found
         ≡ option_map theory.Sets (only_if (is_base n) (Some sets.now))) }
     ensures on { IfOk result (λ found. IfSome found (IsStartOn n)) }

@@ -4,7 +4,7 @@ ghost use Rattle.std.specs.List.{list_all};
 ghost use Rattle.serde_json.specs.Data.{object, member, no_members, put};
 ghost use Rattle.serde_json.specs.View.{view, members_view};
 ghost use Rattle.ls_set.specs.{IsWithin, full, is_good, most_items};
-ghost use Rattle.ls_laws.specs.Spans.{IsOn};
+ghost use Rattle.ls_laws.specs.Spans.{AreOn};
 ghost use Rattle.ls_files.specs.SurmiseFiles.{list_value};
 ghost use Rattle.ls_files.specs.Values.{answer_value, pair_value, query_value, ratio_value, ratios_value, reply_value, set_value, number_value};
 
@@ -97,7 +97,7 @@ pub fn limits_value(alloc: Global, budget: u64, share: u64) -> Result<Value, All
 /// The cursors of sets.
 pub fn sets_value(alloc: Global, n: u32, sets: &[ItemSet]) -> Result<Value, AllocError>
     requires few { n ≤ most_items }
-    requires small { IsOn n sets.now }
+    requires small { AreOn n sets.now }
     ensures { IfOk result (λ v. view v ≡ list_value (set_value n) sets.now) }
 {
     let mut values = Vec::new(alloc);

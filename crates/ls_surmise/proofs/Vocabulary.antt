@@ -29,7 +29,7 @@ unfoldable pub use Rattle.ls_domain.specs.Texts.{names_of_set}
 pub use Rattle.ls_files.specs.SurmiseFiles.{IsSurmiseFaultOf, Table, are_named, clause_value, in_order, list_value, read_clauses, read_each, read_list, read_members, read_table, row_under, surmise_in, surmise_items, surmise_value, value_of, wide}
 unfoldable pub use Rattle.ls_files.specs.SurmiseFiles.{clauses_in, is_table_named, members_from, surmise_from, surmise_of, surmise_text, table_of}
 pub use Rattle.ls_laws.proofs.Lists.{IsInOrder-filter, same_members, some-among}
-pub use Rattle.ls_laws.specs.Spans.{IsOn}
+pub use Rattle.ls_laws.specs.Spans.{AreOn}
 unfoldable pub use Rattle.ls_laws.specs.Spans.{spanned}
 pub use Rattle.ls_lines.specs.{Text}
 pub use Rattle.ls_lists.proofs.Bools.{back_in, same_truth}

@@ -2,7 +2,7 @@ use Rattle.ls_views.proofs.Vocabulary.{◌∙◌, ◌≡◌, List, Text, [], ap,
 use Rattle.std.specs.Io.KnownBytes.{Appends}
 use Rattle.ls_edge.specs.Causes.{AppendsFront}
 use Rattle.ls_meaning.proofs.Refusing.{is_refusal-lines_of}
-use Rattle.ls_views.proofs.Replying.{reply_is}
+use Rattle.ls_views.proofs.Viewing.{reply_is}
 use Rattle.ls_views.proofs.reading.view.Goals as goal
 
 pub returns-clause-told : goal.returns-clause-told
