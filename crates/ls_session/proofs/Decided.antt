@@ -1,5 +1,5 @@
 -- What is decided, by what is made.
-use Rattle.ls_session.proofs.Vocabulary.{AllocError, Bool, Bytes, Calls, Change, Command, Decides, Effect, Err, Failed, Fetched, Folder, IfOk, Interview, IsAfterLine, IsDecided, List, Makes, MakesChange, Missing, None, Ok, OnOk, Option, Refused, Response, Result, Rose, Sees, Session, ShelfState, Some, TooLarge, Unnamed, answers, ap, arith, calls_of, changes_interview, command_effect, cond, false, fetched_from, length, line_effect, longest_file, ltb, refl, standing_session, started, subst, sym, true, ℕ, ◌∙◌, ◌≡◌}
+use Rattle.ls_session.proofs.Vocabulary.{[], ◌∙◌, ◌∷◌, ◌≡◌, AllocError, Bool, Bytes, Calls, Change, Command, Decides, EditCommand, Effect, Err, Failed, Fetched, Folder, FolderStays, IfOk, Interview, IsAfterLine, IsDecided, IsErrAnd, List, Makes, MakesChange, Missing, None, Ok, OnOk, Option, PupilCommand, Refused, Response, Result, Rose, Sees, Session, SettingCommand, ShelfState, Some, TooLarge, Unnamed, ViewCommand, ℕ, answers, ap, arith, calls_of, changes_interview, changes_pupils, changes_settings, command_effect, cond, edit_effect, edit_item_words, edit_of, edit_row, false, fetched_from, has_domain, in_domain, length, line_effect, longest_file, ltb, pupil_effect, pupil_item_words, pupil_name, pupil_of, pupil_row, refl, setting_effect, setting_item_words, setting_of, setting_row, standing_session, started, subst, sym, true, unless_unnamed, unnamed, view_effect, view_item_words, view_of, view_row}
 use Rattle.std.specs.FinMap as map
 use Rattle.std.proofs.lemmas.Result.{on_ok_weaker, on_err_weaker}
 
@@ -27,6 +27,15 @@ sees_told (Some m) given failed before now is cause = record {
   failed = λ name e. failed_from failed (map.get m name) e;
   cause = cause;
 }
+
+-- told files stay as they were
+same_folder : (folder : Option Folder) → FolderStays folder folder
+same_folder None = tt
+same_folder (Some m) = refl
+
+pub files_stay : (folder left : Option Folder) → FolderStays folder left → (m : Folder) → folder ≡ Some m → left ≡ Some m
+files_stay None left h m e = absurd (cc e)
+files_stay (Some k) left h m e = h ∙ e
 
 -- where no call is made
 abbrev calls_none : Option Folder → Calls
@@ -72,7 +81,7 @@ decides_made {effect} {e} {old} {new} {shelf} {r} same none h =
         session = at ∙ sym (ap (λ (y : Effect). y.session) is);
         files = λ m told. rw (ap (λ (y : Effect). y.stored) is ∙ none) told;
       }) h.session;
-      undone = on_err_weaker r (λ at. (at, λ m told. told)) h.undone;
+      undone = on_err_weaker r (λ at. (at, same_folder shelf.files)) h.undone;
       alone = λ _. refl;
       later = omega arith;
     }
@@ -96,10 +105,41 @@ decides_nothing {effect} {s} {shelf} {e} = record {
   sees = sees_none shelf.files shelf.faults;
   response = tt;
   decided = tt;
-  undone = (refl, λ m told. told);
+  undone = (refl, same_folder shelf.files);
   alone = λ _. refl;
   later = omega arith;
 }
+
+-- the same of an error that is passed on
+pub decides_err : {effect : Calls → Effect} {s : Session} {shelf : ShelfState} (P : AllocError → Type 0) (r : Result Response AllocError) → IsErrAnd r P → Decides effect s s shelf shelf r
+decides_err P (Ok x) h = absurd h
+decides_err P (Err e) h = decides_nothing
+
+-- the command by another name
+pub decides_at : {C : Type 0} (effect : C → Calls → Effect) {c d : C} {old new : Session} {before after : ShelfState} {r : Result Response AllocError} → c ≡ d → Decides (effect d) old new before after r → Decides (effect c) old new before after r
+decides_at effect {c} {d} {old} {new} {before} {after} {r} is h = subst (λ x. Decides (effect x) old new before after r) (sym is) h
+
+-- ---- commands whose words must name items, which store nothing
+
+asked-stored : (s : Session) (places : List ℕ) (e : Effect) → e.stored ≡ None → (in_domain s (unless_unnamed s places e)).stored ≡ None
+asked-stored s places e none = go (has_domain s) places
+  where
+    go : (stands : Bool) (ps : List ℕ) → (cond stands (unless_unnamed s ps e) (answers s (Refused (Unnamed 0)))).stored ≡ None
+    go true [] = none
+    go true (p ∷ ps) = refl
+    go false ps = refl
+
+pub edit-stored : (s : Session) (c : EditCommand) → (in_domain s (edit_effect s c)).stored ≡ None
+edit-stored s c = asked-stored s (unnamed s.names (edit_item_words c)) (changes_interview s (edit_row s.interview (edit_of s.names c))) refl
+
+pub view-stored : (s : Session) (c : ViewCommand) → (in_domain s (view_effect s c)).stored ≡ None
+view-stored s c = asked-stored s (unnamed s.names (view_item_words c)) (answers s (view_row s.interview (view_of s.names c))) refl
+
+pub setting-stored : (s : Session) (c : SettingCommand) → (in_domain s (setting_effect s c)).stored ≡ None
+setting-stored s c = asked-stored s (unnamed s.names (setting_item_words c)) (changes_settings s (setting_row s.settings (setting_of s.names c))) refl
+
+pub pupil-stored : (s : Session) (c : PupilCommand) → (in_domain s (pupil_effect s c)).stored ≡ None
+pupil-stored s c = asked-stored s (unnamed s.names (pupil_item_words c)) (changes_pupils s (pupil_row s.interview s.settings s.pupils (pupil_name c) (pupil_of s.names c))) refl
 
 -- ---- a command, by whether a domain stands
 
@@ -119,7 +159,7 @@ module _ {o : Option Session} {c d : Command} (is : c ≡ d) where
 -- ---- a line
 
 -- what was decided of a line is the response to it, and the session after it
-pub after_line : {s new : Session} {line : List ℕ} {before after : ShelfState} {decided : Result Response AllocError} {response : Response} → decided ≡ Ok response → Decides (λ calls. line_effect s calls line) s new before after decided → IsAfterLine new response
-after_line {s} {new} {line} {before} {after} {decided} {response} is h =
+pub after_line : {s new : Session} (line : List ℕ) {before after : ShelfState} {decided : Result Response AllocError} {response : Response} → decided ≡ Ok response → Decides (λ calls. line_effect s calls line) s new before after decided → IsAfterLine new response
+after_line {s} {new} line {before} {after} {decided} {response} is h =
     let d = subst (Decides (λ calls. line_effect s calls line) s new before after) is h in
     record { old = s; calls = d.calls; line = line; session = d.decided.session; responded = d.response }

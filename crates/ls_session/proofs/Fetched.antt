@@ -1,6 +1,6 @@
 -- What a fetch lets a command see, and a command that is carried out by it.
-use Rattle.ls_session.proofs.Vocabulary.{AllocError, Answer, AnswersStand, Bool, Bytes, Calls, Decides, Effect, Err, Failed, FetchCause, Fetched, FetchedFrom, Fetches, FileFailed, Folder, GivesBytes, IsErrOf, IsFetched, LargeFile, List, Makes, MatchResult, Missing, NoFile, None, Ok, Option, Refusal, Refused, Response, Result, SeesFile, Session, ShelfState, Some, FolderStays, Text, TooLarge, Vec, [], answers, ap, arith, bytes_fetched, changes_interview, cond, false, fetched_from, file_refusals, length, longest_file, ltb, ne_eqb, not, refl, refuse, start_read, start_row, starts_by, subst, sym, true, true≢false, ℕ, ◌++◌, ◌==◌, ◌∙◌, ◌∷◌, ◌≡◌}
-use Rattle.ls_session.proofs.Decided.{calls_told, makes_as, makes_nothing, sees_told}
+use Rattle.ls_session.proofs.Vocabulary.{[], ◌++◌, ◌<◌, ◌==◌, ◌∙◌, ◌∷◌, ◌≡◌, AllocError, Answer, AnswersStand, Bool, Bytes, Calls, Decides, Effect, Err, Failed, FetchCause, Fetched, FetchedFrom, Fetches, FileFailed, Folder, GivesBytes, IsErrAnd, IsErrOf, IsFetched, LargeFile, List, Makes, MatchResult, Missing, NoFile, None, Ok, Option, Refusal, Refused, Response, Result, SeesFile, Session, ShelfState, Some, Text, TooLarge, Vec, ℕ, answers, ap, arith, bytes_fetched, changes_interview, cond, false, fetched_from, file_refusals, in_domain, in_domain-some, length, longest_file, ltb, ne_eqb, not, refl, refuse, start_read, start_row, starts_by, subst, sym, true, true≢false}
+use Rattle.ls_session.proofs.Decided.{calls_told, files_stay, makes_as, makes_nothing, sees_told}
 use Rattle.std.specs.declared.alloc.Global.{Global}
 use Rattle.std.specs.FinMap as map
 use Rattle.std.proofs.lemmas.Result.{on_ok_weaker, on_err_weaker}
@@ -70,45 +70,42 @@ seen_is : (folder left : Option Folder) (name : Text) (r : Result (Vec ℕ Globa
 seen_is None left name r h = fetched_is r
 seen_is (Some m) left name r h = told_is (map.get m name) r h.1
 
-stays : (folder left : Option Folder) → FolderStays folder left → (m : Folder) → folder ≡ Some m → left ≡ Some m
-stays None left h m e = absurd (cc e)
-stays (Some k) left h m e = h ∙ e
-
-pub sees_file : {before after : ShelfState} {name : Text} (r : Result (Vec ℕ Global) FetchFault) → Fetches before.files after.files name r → FetchCause before.faults after.faults r → SeesFile name before after (answer_of r)
-sees_file {before} {after} {name} r fetches cause = record {
-  calls = calls_told before.files (given_by r) (is_failed r);
-  sees = sees_told before.files (given_by r) (is_failed r) before.faults after.faults (given_failed r) (λ f. cause.failed (failed_only r f));
-  given = seen_is before.files after.files name r fetches;
-  kept = stays before.files after.files fetches.0;
-  later = cause.later;
-}
+-- what was answered of the file of a name, by the name that was passed
+pub sees_file : {before after : ShelfState} {name passed : Text} {r answered : Result (Vec ℕ Global) FetchFault} → passed ≡ name → Fetches before.files after.files passed r → FetchCause before.faults after.faults r → r ≡ answered → SeesFile name before after (answer_of answered)
+sees_file {before} {after} {name} {passed} {r} {answered} same fetches cause is =
+    subst (λ x. SeesFile name before after (answer_of x)) is (subst (λ (n : Text). SeesFile n before after (answer_of r)) same (record {
+      calls = calls_told before.files (given_by r) (is_failed r);
+      sees = sees_told before.files (given_by r) (is_failed r) before.faults after.faults (given_failed r) (λ f. cause.failed (failed_only r f));
+      given = seen_is before.files after.files passed r fetches;
+      kept = fetches.0;
+      later = cause.later;
+    }))
 
 -- ---- what a command does by the file that it fetches
 
 -- A refusal of the file is all that is told of it; one that is missing and one that could not be fetched are refused by different ones.
-module _ (s : Session) (effect : List Refusal → List ℕ → Effect) (refuses : (refusal : Refusal) (bytes : List ℕ) → effect (refusal ∷ []) bytes ≡ answers s (Refused refusal))
-    (stores_none : (refusals : List Refusal) (bytes : List ℕ) → (effect refusals bytes).stored ≡ None) where
-  abbrev by_file : Fetched → Effect
-  by_file given = effect (file_refusals given) (bytes_fetched given)
-
-  depends : (name : Text) → ((a b : Calls) → by_file (a.file name) ≡ by_file (b.file name)) → ⊥
+module _ {s : Session} (whole : Fetched → Effect) (effect : List Refusal → List ℕ → Effect) (same : (given : Fetched) → whole given ≡ effect (file_refusals given) (bytes_fetched given))
+    (refuses : (refusal : Refusal) (bytes : List ℕ) → effect (refusal ∷ []) bytes ≡ answers s (Refused refusal)) (stores_none : (refusals : List Refusal) (bytes : List ℕ) → (effect refusals bytes).stored ≡ None) where
+  depends : (name : Text) → ((a b : Calls) → whole (a.file name) ≡ whole (b.file name)) → ⊥
   depends name one =
       let missing : Calls = record { file = λ _. Missing; failed = false } in
       let failed : Calls = record { file = λ _. Failed; failed = true } in
-      let same : Refused NoFile ≡ Refused FileFailed = ap (λ (e : Effect). e.response) (sym (refuses NoFile []) ∙ one missing failed ∙ refuses FileFailed []) in
-      cc same
+      let both : answers s (Refused NoFile) ≡ answers s (Refused FileFailed) = sym (same Missing ∙ refuses NoFile []) ∙ one missing failed ∙ same Failed ∙ refuses FileFailed [] in
+      let told : Refused NoFile ≡ Refused FileFailed = ap (λ (e : Effect). e.response) both in
+      cc told
 
   decides_by : {name : Text} {before after : ShelfState} {fetched : Result (Result (Vec ℕ Global) Refusal) AllocError} {new : Session} {r : Result Response AllocError} (seen : SeesFile name before after fetched)
-      → Makes (by_file (seen.calls.file name)) s new r → Decides (λ calls. by_file (calls.file name)) s new before after r
+      → Makes (whole (seen.calls.file name)) s new r → Decides (λ calls. whole (calls.file name)) s new before after r
   decides_by {name} {before} {after} {fetched} {new} {r} seen h =
       let given = seen.calls.file name in
+      let none : (whole given).stored ≡ None = ap (λ (e : Effect). e.stored) (same given) ∙ stores_none (file_refusals given) (bytes_fetched given) in
       record {
         calls = seen.calls;
         sees = seen.sees;
         response = h.response;
         decided = on_ok_weaker r (λ at. record {
           session = at;
-          files = λ m told. rw (stores_none (file_refusals given) (bytes_fetched given)) (seen.kept m told);
+          files = λ m told. rw none (files_stay before.files after.files seen.kept m told);
         }) h.session;
         undone = on_err_weaker r (λ at. (at, seen.kept)) h.undone;
         alone = λ one. absurd (depends name one);
@@ -117,32 +114,44 @@ module _ (s : Session) (effect : List Refusal → List ℕ → Effect) (refuses 
 
   module _ {name : Text} {before after : ShelfState} {fetched : Result (Result (Vec ℕ Global) Refusal) AllocError} (seen : SeesFile name before after fetched) where
     -- the bytes were fetched
-    pub decides_read : {bytes : Vec ℕ Global} {new : Session} {r : Result Response AllocError} → fetched ≡ Ok (Ok bytes) → Makes (effect [] bytes.items) s new r → Decides (λ calls. by_file (calls.file name)) s new before after r
+    pub decides_read : {bytes : Vec ℕ Global} {new : Session} {r : Result Response AllocError} → fetched ≡ Ok (Ok bytes) → Makes (effect [] bytes.items) s new r → Decides (λ calls. whole (calls.file name)) s new before after r
     decides_read {bytes} {new} {r} is h =
         let given : seen.calls.file name ≡ Bytes bytes.items = subst (IsFetched (seen.calls.file name)) is seen.given in
-        decides_by seen (makes_as (ap by_file given) h)
+        decides_by seen (makes_as (ap whole given ∙ same (Bytes bytes.items)) h)
 
     -- or refused
-    pub decides_unread : {refusal : Refusal} → fetched ≡ Ok (Err refusal) → Decides (λ calls. by_file (calls.file name)) s s before after (Ok (Refused refusal))
+    pub decides_unread : {refusal : Refusal} → fetched ≡ Ok (Err refusal) → Decides (λ calls. whole (calls.file name)) s s before after (Ok (Refused refusal))
     decides_unread {refusal} is =
-        let refused : file_refusals (seen.calls.file name) ≡ refusal ∷ [] = subst (IsFetched (seen.calls.file name)) is seen.given in
+        let given = seen.calls.file name in
+        let refused : file_refusals given ≡ refusal ∷ [] = subst (IsFetched given) is seen.given in
         decides_by seen
-        (makes_as (ap (λ (rs : List Refusal). effect rs (bytes_fetched (seen.calls.file name))) refused ∙ refuses refusal _)
+        (makes_as (same given ∙ ap (λ (rs : List Refusal). effect rs (bytes_fetched given)) refused ∙ refuses refusal (bytes_fetched given))
         (record { response = refl; session = refl; undone = tt }))
 
     -- or memory ran out
-    pub decides_unfetched : {e : AllocError} → Decides (λ calls. by_file (calls.file name)) s s before after (Err e)
-    decides_unfetched = decides_by seen makes_nothing
+    pub decides_unfetched : (P : AllocError → Type 0) (r : Result Response AllocError) → IsErrAnd r P → Decides (λ calls. whole (calls.file name)) s s before after r
+    decides_unfetched P (Ok x) e = absurd e
+    decides_unfetched P (Err x) e = decides_by seen makes_nothing
 
 -- ---- a start from a file
 
--- an answer stands, or none does
-pub start_row-stands : (kind : StartFile) (s : Session) → not (length s.interview.answers == 0) ≡ true → (given : Fetched) → changes_interview s (start_row kind s given) ≡ answers s (Refused AnswersStand)
-start_row-stands kind s some given = ap (λ b. changes_interview s (starts_by s.interview (refuse AnswersStand b ++ file_refusals given) (start_read kind s.names (bytes_fetched given)))) some
+abbrev pub loads : StartFile → Session → Fetched → Effect
+loads kind s given = in_domain s (changes_interview s (start_row kind s given))
 
-pub start_row-none : (kind : StartFile) (s : Session) → s.interview.answers ≡ [] → (given : Fetched) → changes_interview s (start_row kind s given) ≡ changes_interview s (starts_by s.interview (file_refusals given) (start_read kind s.names (bytes_fetched given)))
-start_row-none kind s none given = ap (λ (l : List Answer). changes_interview s (starts_by s.interview (refuse AnswersStand (not (length l == 0)) ++ file_refusals given) (start_read kind s.names (bytes_fetched given)))) none
+abbrev pub starts : StartFile → Session → List Refusal → List ℕ → Effect
+starts kind s refusals bytes = changes_interview s (starts_by s.interview refusals (start_read kind s.names bytes))
 
-pub no_answers : (answers : List Answer) → not (length answers == 0) ≡ false → answers ≡ []
+module _ (kind : StartFile) (s : Session) (some : 0 < length s.names) where
+  -- an answer stands
+  pub loads-stands : (length s.interview.answers == 0) ≡ false → (given : Fetched) → loads kind s given ≡ answers s (Refused AnswersStand)
+  loads-stands stands given =
+      in_domain-some s _ some ∙ ap (λ b. changes_interview s (starts_by s.interview (refuse AnswersStand (not b) ++ file_refusals given) (start_read kind s.names (bytes_fetched given)))) stands
+
+  -- or none does
+  pub loads-starts : (length s.interview.answers == 0) ≡ true → (given : Fetched) → loads kind s given ≡ starts kind s (file_refusals given) (bytes_fetched given)
+  loads-starts none given =
+      in_domain-some s _ some ∙ ap (λ b. changes_interview s (starts_by s.interview (refuse AnswersStand (not b) ++ file_refusals given) (start_read kind s.names (bytes_fetched given)))) none
+
+pub no_answers : (answers : List Answer) → (length answers == 0) ≡ true → answers ≡ []
 no_answers [] e = refl
-no_answers (a ∷ answers) e = absurd (true≢false (sym (ap not (ne_eqb (length (a ∷ answers)) 0 (λ e. omega arith))) ∙ e))
+no_answers (a ∷ answers) e = absurd (true≢false (sym e ∙ ne_eqb (length (a ∷ answers)) 0 (λ e. omega arith)))

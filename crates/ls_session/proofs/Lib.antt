@@ -1,6 +1,5 @@
 mod Vocabulary
 pub mod Decided
-pub mod Resolved
 pub mod Fetched
 pub mod Stored
 mod Meant

@@ -1,5 +1,5 @@
 -- What is meant by words that name items is of these items.
-use Rattle.ls_session.proofs.Vocabulary.{CursorFault, Err, IsAfterOn, IsViewOn, IsWithin, Items, List, None, Ok, Option, Result, Some, Text, ViewCommand, [], after_of, bytes_eq, cases_Bool, full, has-empty, inl, inr, is_named, is_named-none, item_of, item_of-some, items_of, length, number_of, placed, position-Some, projected_place, read_cursor, refl, some_read, subst, suc, sym, true, true≢false, unnamed, view_item_words, view_of, with-within, ℕ, ◌++◌, ◌+◌, ◌<◌, ◌∙◌, ◌∷◌, ◌≡◌}
+use Rattle.ls_session.proofs.Vocabulary.{[], ◌++◌, ◌+◌, ◌<◌, ◌∙◌, ◌∷◌, ◌≡◌, CursorFault, Err, IsAfterOn, IsViewOn, IsWithin, Items, List, None, Ok, Option, Result, Some, Text, ViewCommand, ℕ, after_of, bytes_eq, cases_Bool, full, has-empty, inl, inr, is_named, is_named-none, item_of, item_of-some, items_of, length, number_of, placed, position-Some, projected_place, read_cursor, refl, some_read, subst, suc, sym, true, true≢false, unnamed, view_item_words, view_of, with-within, words}
 use Rattle.ls_lines.specs.declared.view.ViewCommand.TheVariants as views
 use Rattle.ls_set.proofs.Cursors.{only}
 

@@ -1,5 +1,5 @@
 -- What a line is answered can be said of the session after it.
-use Rattle.ls_session.proofs.Vocabulary.{Agreed, Bool, Calls, CanSay, Command, Done, Edit, Effect, FileCommand, Interview, IsAfterLine, IsSound, List, LongLine, None, OpeningCommand, Option, Pupil, PupilRequest, Refusal, Refused, Response, Session, Setting, Settings, Shown, Silence, Some, Text, Unnamed, ViewCommand, [], answers, ap, can-view, changed, changes, command_effect, command_of, cond, edit_of, edit_row, false, file_effect, has_domain, in_domain, is_long, is_shown, length, line_effect, not, opening_row, pupil_name, pupil_of, pupil_row, pupil_with, question_shown, refl, reply_row, report_shown, setting_of, setting_row, shown_of, started, stores, subst, sym, true, unless_unnamed, unnamed, view_item_words, view_of, view_row, words, words_effect, ℕ, ◌==◌, ◌otherwise◌, ◌∙◌, ◌∷◌, ◌≡◌}
+use Rattle.ls_session.proofs.Vocabulary.{[], ◌==◌, ◌otherwise◌, ◌∙◌, ◌∷◌, ◌≡◌, Agreed, Bool, Calls, CanSay, Command, Done, Edit, Effect, FileCommand, Interview, IsAfterLine, IsSound, List, LongLine, None, OpeningCommand, Option, Pupil, PupilRequest, Refusal, Refused, Response, Session, Setting, Settings, Shown, Silence, Some, Text, Unnamed, ViewCommand, ℕ, answers, ap, can-view, changed, changes, changes_interview, changes_pupils, changes_settings, command_effect, command_of, cond, edit_item_words, edit_of, edit_row, false, file_effect, has_domain, in_domain, is_long, is_shown, length, line_effect, not, opening_row, pupil_item_words, pupil_name, pupil_of, pupil_row, pupil_with, question_shown, refl, reply_row, report_shown, setting_item_words, setting_of, setting_row, shown_of, started, stores, subst, sym, true, unless_unnamed, unnamed, view_item_words, view_of, view_row, words, words_effect}
 use Rattle.ls_lines.specs.declared.command.Command.TheVariants as command
 use Rattle.ls_lines.specs.declared.opening.OpeningCommand.TheVariants as openings
 use Rattle.ls_lines.specs.declared.file.FileCommand.TheVariants as files
@@ -32,14 +32,14 @@ module _ (n : ℕ) (i : Interview) where
   can-changed old next (refusal ∷ refusals) r can = tt
 
   can-edit : (j : Interview) (e : Edit) → CanSay n i (edit_row j e).response
-  can-edit j (edit.Blocks size) = can-changed _ _ _ _ tt
-  can-edit j (edit.Answer r is_yes) = can-changed _ _ _ _ tt
-  can-edit j (edit.Retract number) = can-changed _ _ _ _ tt
+  can-edit j (edit.Blocks size) = search (can-changed)
+  can-edit j (edit.Answer r is_yes) = search (can-changed)
+  can-edit j (edit.Retract number) = search (can-changed)
 
   can-set : (settings : Settings) (s : Setting) → CanSay n i (setting_row settings s).response
-  can-set settings (setting.All ratios) = can-changed _ _ _ _ tt
-  can-set settings (setting.Item item ratios) = can-changed _ _ _ _ tt
-  can-set settings (setting.Limits budget share) = can-changed _ _ _ _ tt
+  can-set settings (setting.All ratios) = search (can-changed)
+  can-set settings (setting.Item item ratios) = search (can-changed)
+  can-set settings (setting.Limits budget share) = search (can-changed)
 
   can-shown : (show : Pupil → Response) → ((p : Pupil) → CanSay n i (show p)) → (o : Option Pupil) → CanSay n i (shown_of show o)
   can-shown show can None = tt
@@ -47,14 +47,14 @@ module _ (n : ℕ) (i : Interview) where
 
   can-reply : (m : ℕ) (pupils : List Pupil) (item : ℕ) (right : Bool) (o : Option Pupil) → CanSay n i (reply_row m pupils item right o).response
   can-reply m pupils item right None = tt
-  can-reply m pupils item right (Some p) = can-changed _ _ _ _ tt
+  can-reply m pupils item right (Some p) = search (can-changed)
 
   can-pupil : (j : Interview) (settings : Settings) (pupils : List Pupil) (name : Text) (what : PupilRequest) → CanSay n i (pupil_row j settings pupils name what).response
-  can-pupil j settings pupils name pupil.Begin = can-changed _ _ _ _ tt
+  can-pupil j settings pupils name pupil.Begin = search (can-changed)
   can-pupil j settings pupils name pupil.Question = can-shown (question_shown j.count) (λ p. tt) (pupil_with pupils name)
   can-pupil j settings pupils name (pupil.Reply item right) = can-reply j.count pupils item right (pupil_with pupils name)
   can-pupil j settings pupils name pupil.Report = can-shown (report_shown j.count) (λ p. tt) (pupil_with pupils name)
-  can-pupil j settings pupils name pupil.Close = can-changed _ _ _ _ tt
+  can-pupil j settings pupils name pupil.Close = search (can-changed)
 
 -- ---- effects
 
@@ -84,20 +84,23 @@ unless s e (place ∷ places) h = unshown (answers s (Refused (Unnamed place))) 
 in-domain : (s : Session) (e : Effect) → (has_domain s ≡ true → IsSayable e) → IsSayable (in_domain s e)
 in-domain s e h = elim (has_domain s) as (λ b. (b ≡ true → IsSayable e) → IsSayable (cond b e (answers s (Refused (Unnamed 0))))) [ true ↦ λ h. h refl | false ↦ λ h. unshown (answers s (Refused (Unnamed 0))) refl ] h
 
+asked : (s : Session) (words : List (ℕ × Text)) (e : Effect) → (has_domain s ≡ true → unnamed s.names words ≡ [] → IsSayable e) → IsSayable (in_domain s (unless_unnamed s (unnamed s.names words) e))
+asked s words e h = in-domain s (unless_unnamed s (unnamed s.names words) e) (λ stands. unless s e (unnamed s.names words) (h stands))
+
 -- ---- commands and lines
 
 module _ (s : Session) (calls : Calls) where
   opening-sayable : (c : OpeningCommand) → IsSayable (changes (opening_row s calls c))
-  opening-sayable (openings.Items names) = unshown _ (changed-unshown _ _ _ _ refl)
-  opening-sayable (openings.LoadItems file) = unshown _ (changed-unshown _ _ _ _ refl)
-  opening-sayable (openings.Reopen file) = unshown _ (changed-unshown _ _ _ _ refl)
+  opening-sayable (openings.Items names) = unshown _ (search (changed-unshown))
+  opening-sayable (openings.LoadItems file) = unshown _ (search (changed-unshown))
+  opening-sayable (openings.Reopen file) = unshown _ (search (changed-unshown))
 
   file-sayable : has_domain s ≡ true → (c : FileCommand) → IsSayable (file_effect s calls c)
-  file-sayable stands (files.StartSurmise file) = unshown _ (changed-unshown _ _ _ _ refl)
-  file-sayable stands (files.StartBase file) = unshown _ (changed-unshown _ _ _ _ refl)
-  file-sayable stands (files.Test file) = standing s _ stands refl (λ n i. can-otherwise n i _ _ tt)
-  file-sayable stands (files.Class file) = standing s _ stands refl (λ n i. can-otherwise n i _ _ tt)
-  file-sayable stands (files.Save file) = unshown _ (stores-unshown s _ file _)
+  file-sayable stands (files.StartSurmise file) = unshown _ (search (changed-unshown))
+  file-sayable stands (files.StartBase file) = unshown _ (search (changed-unshown))
+  file-sayable stands (files.Test file) = standing s _ stands refl (λ n i. search (can-otherwise))
+  file-sayable stands (files.Class file) = standing s _ stands refl (λ n i. search (can-otherwise))
+  file-sayable stands (files.Save file) = unshown _ (search (stores-unshown))
 
   view-sayable : has_domain s ≡ true → (c : ViewCommand) → unnamed s.names (view_item_words c) ≡ [] → IsSayable (answers s (view_row s.interview (view_of s.names c)))
   view-sayable stands c none = record {
@@ -110,10 +113,10 @@ module _ (s : Session) (calls : Calls) where
   command-sayable command.Nothing = unshown (answers s Silence) refl
   command-sayable (command.Opening c) = opening-sayable c
   command-sayable (command.File c) = in-domain s (file_effect s calls c) (λ stands. file-sayable stands c)
-  command-sayable (command.Edit c) = in-domain s _ (λ stands. unless s _ _ (λ none. standing s _ stands refl (λ n i. can-edit n i s.interview (edit_of s.names c))))
-  command-sayable (command.View c) = in-domain s _ (λ stands. unless s _ _ (λ none. view-sayable stands c none))
-  command-sayable (command.Setting c) = in-domain s _ (λ stands. unless s _ _ (λ none. standing s _ stands refl (λ n i. can-set n i s.settings (setting_of s.names c))))
-  command-sayable (command.Pupil c) = in-domain s _ (λ stands. unless s _ _ (λ none. standing s _ stands refl (λ n i. can-pupil n i s.interview s.settings s.pupils (pupil_name c) (pupil_of s.names c))))
+  command-sayable (command.Edit c) = asked s (edit_item_words c) (changes_interview s (edit_row s.interview (edit_of s.names c))) (λ stands none. standing s _ stands refl (λ n i. can-edit n i s.interview (edit_of s.names c)))
+  command-sayable (command.View c) = asked s (view_item_words c) (answers s (view_row s.interview (view_of s.names c))) (λ stands none. view-sayable stands c none)
+  command-sayable (command.Setting c) = asked s (setting_item_words c) (changes_settings s (setting_row s.settings (setting_of s.names c))) (λ stands none. standing s _ stands refl (λ n i. can-set n i s.settings (setting_of s.names c)))
+  command-sayable (command.Pupil c) = asked s (pupil_item_words c) (changes_pupils s (pupil_row s.interview s.settings s.pupils (pupil_name c) (pupil_of s.names c))) (λ stands none. standing s _ stands refl (λ n i. can-pupil n i s.interview s.settings s.pupils (pupil_name c) (pupil_of s.names c)))
 
   line-sayable : (line : List ℕ) → IsSayable (line_effect s calls line)
   unfolding line_effect

@@ -1,6 +1,6 @@
 -- A line that was decided, and then written.
-use Rattle.ls_session.proofs.Vocabulary.{AllocError, Bool, Calls, Decides, Effect, Err, Folder, IsErrAnd, IsErrOf, List, Ok, Option, Response, Result, Session, ShelfState, Silence, answers, ap, ap₂, arith, bytes_of, bytes_of-none, false, inl, inr, is_refusal, is_refused, line_effect, lines_of, refl, reply_of, subst, sym, ℕ, ◌∙◌, ◌≡◌}
-use Rattle.ls_session.proofs.Decided.{decides_made}
+use Rattle.ls_session.proofs.Vocabulary.{[], ◌∙◌, ◌≡◌, AllocError, Bool, Calls, Decides, Effect, Err, Folder, IsErrAnd, IsErrOf, List, Ok, Option, Response, Result, Session, ShelfState, Silence, ℕ, answers, ap, ap₂, arith, bytes_of, false, inl, inr, is_refusal, is_refused, line_effect, lines_of, refl, reply_of, subst, sym}
+use Rattle.ls_session.proofs.Decided.{decides_made, files_stay}
 use Rattle.std.specs.Io.KnownBytes.{Appends}
 use Rattle.std.proofs.KnownBytes.{Keeps-refl, Appends-nil}
 use Rattle.ls_edge.specs.Causes.{AppendsFront}
@@ -32,7 +32,7 @@ module _ {effect : Calls → Effect} {old new : Session} {before after : ShelfSt
       record {
         calls = d.calls;
         sees = d.sees;
-        gives = inl (record { session = d.undone.0; files = d.undone.1; written = Keeps-refl a }, λ w. absurd (cc (is, w)));
+        gives = inl (record { session = d.undone.0; files = files_stay before.files after.files d.undone.1; written = Keeps-refl a }, λ w. absurd (cc (is, w)));
         alone = λ one. (ap (λ (s : ShelfState). s.files) (d.alone one), ap (λ (s : ShelfState). s.faults) (d.alone one));
         shelf_later = d.later;
         cause = λ w. absurd (cc (is, w));
@@ -78,12 +78,16 @@ module _ {effect : Calls → Effect} {old new : Session} {before after : ShelfSt
         later = w.cause.later;
       }
 
+no_lines : [] ≡ bytes_of []
+unfolding bytes_of
+no_lines = refl
+
 -- nothing was done, and nothing said
 pub follows_silent : {effect : Calls → Effect} {s : Session} {folder : Option Folder} {i : ℕ} {a : Option (List ℕ)} {k : ℕ} → ((calls : Calls) → effect calls ≡ answers s Silence) → Follows Write effect s s folder folder i i a a k k (Ok false)
 follows_silent {effect} {s} {folder} {i} {a} {k} same =
     let shelf : ShelfState = record { files = folder; faults = i } in
     let d : Decides effect s s shelf shelf (Ok Silence) = decides_made same refl (record { response = refl; session = refl; undone = tt }) in
-    let is = bytes_of-none ∙ reply_is d in
+    let is = no_lines ∙ reply_is d in
     record {
       calls = d.calls;
       sees = d.sees;

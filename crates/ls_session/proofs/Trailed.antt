@@ -1,5 +1,5 @@
 -- What is followed over the first Yes answers, where the interview changes.
-use Rattle.ls_session.proofs.Vocabulary.{Bool, Interview, IsTrail, IsTrail-more, IsTrailOf, List, Query, Some, accepted, answer_with, arith, false, retracted, rules_before, subst, sym, take, true, yes_queries, ℕ, ◌≡◌}
+use Rattle.ls_session.proofs.Vocabulary.{◌≡◌, Bool, Interview, IsTrail, IsTrail-more, IsTrailOf, List, Query, Some, ℕ, accepted, answer_with, arith, false, retracted, rules_before, subst, sym, take, true, yes_queries}
 use Rattle.ls_theory.specs.declared.answer.Answer.{Answer}
 use Rattle.ls_laws.specs.Forced.{IsNumbered}
 use Rattle.ls_base.specs.declared.trail.Entry.{Entry}

@@ -1,5 +1,5 @@
 -- The words that the proofs of this crate cite, passed on from one place.
-pub use Rattle.std.proofs.Common.{◌++◌, ◌+◌, ◌<◌, ◌==◌, ◌∙◌, ◌∷◌, ◌≡◌, ◌≤◌, Bool, Err, IfOk, IsErrAnd, IsErrOf, List, MatchResult, None, Ok, OnErr, OnOk, Option, Result, Some, Vec, ℕ, [], ap, ap₂, arith, bytes_eq, codes, cond, decimal, false, inl, inr, le-ltb, length, lt-ltb, ltb, ltb-true, ne_eqb, not, option_copied, refl, rules, slice_get, subst, suc, sym, take, true, zero}
+pub use Rattle.std.proofs.Common.{◌++◌, ◌+◌, ◌<◌, ◌==◌, ◌∙◌, ◌∷◌, ◌≡◌, ◌≤◌, Bool, Err, IfOk, IsErrAnd, IsErrOf, List, MatchResult, None, Ok, OnErr, OnOk, Option, Result, Some, Vec, ℕ, [], ap, ap₂, append-nil, arith, bytes_eq, codes, cond, decimal, false, inl, inr, le-ltb, length, lt-ltb, ltb, ltb-true, ne_eqb, not, option_copied, refl, rules, slice_get, subst, suc, sym, take, true, zero}
 pub use Rattle.std.proofs.lemmas.Bool.{cases_Bool, true≢false}
 pub use Rattle.std.proofs.lemmas.List.Quantifiers.{position-Some}
 pub use Rattle.std.proofs.lemmas.Result.{IfOk-weaker}
@@ -24,8 +24,8 @@ pub use Rattle.ls_lines.specs.declared.pupil.PupilCommand.{PupilCommand}
 pub use Rattle.ls_lines.specs.declared.setting.SettingCommand.{SettingCommand}
 pub use Rattle.ls_lines.specs.declared.view.ViewCommand.{ViewCommand}
 pub use Rattle.ls_meaning.proofs.Effects.{has_domain-some, in_domain-some, items_row-begins, line_effect-command, line_effect-fault, line_effect-long, load_items_row-begins, load_items_row-stands}
-pub use Rattle.ls_meaning.specs.{Bytes, Calls, Change, Effect, Failed, Fetched, IsAfterOn, IsViewOn, Missing, Session, TooLarge, after_of, answers, bytes_fetched, bytes_of, calls_of, changed, changes, changes_interview, changes_pupils, changes_settings, class_row, edit_effect, edit_item_words, edit_of, edit_row, fetched_from, file_effect, file_refusals, has_domain, in_domain, is_refusal, is_refused, items_row, line_of, lines_of, load_items_row, open_row, opened_by, opening_row, placed, projected_place, pupil_effect, pupil_item_words, pupil_of, pupil_row, pupil_with, question_shown, refusal_words, refuse, reply_of, reply_row, report_shown, save_row, setting_effect, setting_item_words, setting_of, setting_row, shown_of, start_read, start_row, started, started_by, starts_by, stores, test_row, unless_unnamed, unnamed, view_effect, view_item_words, view_of, view_row, words_effect, ◌otherwise◌}
-unfoldable pub use Rattle.ls_meaning.specs.{command_effect, line_effect}
+pub use Rattle.ls_meaning.specs.{Bytes, Calls, Change, Effect, Failed, Fetched, IsAfterOn, IsViewOn, Missing, Session, TooLarge, after_of, answers, bytes_fetched, calls_of, changed, changes, changes_interview, changes_pupils, changes_settings, class_row, edit_effect, edit_item_words, edit_of, edit_row, fetched_from, file_effect, file_refusals, has_domain, in_domain, is_refusal, is_refused, items_row, lines_of, load_items_row, open_row, opened_by, opening_row, placed, projected_place, pupil_effect, pupil_item_words, pupil_of, pupil_row, pupil_with, question_shown, refusal_words, refuse, reply_of, reply_row, report_shown, save_row, setting_effect, setting_item_words, setting_of, setting_row, shown_of, start_of_base, start_read, start_row, started, started_by, starts_by, stores, test_row, unless_unnamed, unnamed, view_effect, view_item_words, view_of, view_row, words_effect, ◌otherwise◌}
+unfoldable pub use Rattle.ls_meaning.specs.{bytes_of, command_effect, line_effect, line_of}
 pub use Rattle.ls_meaning.specs.Meanings.{some_read}
 pub use Rattle.ls_meaning.specs.Sessions.{Pupil}
 pub use Rattle.ls_meaning.specs.declared.request.Edit.{Edit}
@@ -44,10 +44,15 @@ pub use Rattle.ls_theory.specs.{Interview, accepted, answer_with, based, retract
 unfoldable pub use Rattle.ls_theory.specs.{base, compat}
 pub use Rattle.ls_theory.specs.Settings.{Settings}
 pub use Rattle.ls_theory.specs.declared.answer.Answer.{Answer}
-pub use Rattle.ls_write.proofs.Joins.{bytes_of-none, bytes_of-one}
 pub use Rattle.ls_write.proofs.Saying.{says_as, wrote}
 pub use Rattle.ls_write.proofs.Showing.{can-view}
 pub use Rattle.ls_write.specs.Showing.{CanSay, is_shown}
-pub use Rattle.ls_session.specs.Decides.{Decides, IsDecided, IsFetched, Makes, MakesChange, Sees, SeesFile, ShelfState}
+pub use Rattle.ls_session.specs.Decides.{Decides, IsDecided, IsFetched, Makes, MakesChange, Sees, SeesFile, ShelfState, shelf_state}
 pub use Rattle.ls_session.specs.Standing.{IsAfterLine, standing_session}
 pub use Rattle.ls_session.specs.States.{IsTrailOf, state_session}
+pub use Rattle.ls_clauses.proofs.BaseCovers.{based-cover}
+pub use Rattle.ls_files.specs.ClassTables.{class_of}
+pub use Rattle.ls_files.specs.SetFiles.{sets_of}
+pub use Rattle.ls_meaning.specs.{classed_by, tested_by}
+pub use Rattle.ls_meaning.specs.declared.request.StartFile.{StartFile}
+pub use Rattle.ls_theory.specs.{compatible_sets}

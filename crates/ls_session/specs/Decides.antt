@@ -5,7 +5,7 @@ use Rattle.std.specs.declared.option.Option.{Option}
 use Rattle.std.specs.declared.alloc.AllocError.{AllocError}
 use Rattle.std.specs.declared.alloc.Global.{Global}
 use Rattle.ls_edge.specs.Causes.{Rose}
-use Rattle.ls_edge.specs.Files.{Folder}
+use Rattle.ls_edge.specs.Files.{Folder, FolderStays}
 use Rattle.ls_edge.specs.declared.traits.Shelf as shelf
 use Rattle.ls_lines.specs.{Text}
 use Rattle.ls_meaning.specs.{Bytes, Calls, Change, Effect, Failed, Fetched, Session}
@@ -40,10 +40,6 @@ pub record ShelfState : Type 0 where
 abbrev pub shelf_state : {H : Type 0} → shelf.Ghosts H → H → ShelfState
 shelf_state told h = record { files = told.files h; faults = told.faults h }
 
--- told files stay as they were
-abbrev pub KeepsFiles : Option Folder → Option Folder → Type 0
-KeepsFiles folder left = (m : Folder) → folder ≡ Some m → left ≡ Some m
-
 -- What a line saw of the folder: told files are seen by whether a call of the line failed, and a
 -- call fails only where the count of faults rose.
 pub record Sees (calls : Calls) (folder : Option Folder) (before now : ℕ) : Type 0 where
@@ -65,7 +61,7 @@ pub record Decides (effect : Calls → Effect) (old new : Session) (before after
   pub sees : Sees calls before.files before.faults after.faults
   pub response : IfOk result (λ r. r ≡ (effect calls).response)
   pub decided : OnOk result (IsDecided (effect calls) new before.files after.files)
-  pub undone : OnErr result ((new ≡ old) × KeepsFiles before.files after.files)
+  pub undone : OnErr result ((new ≡ old) × FolderStays before.files after.files)
   pub alone : ((a b : Calls) → effect a ≡ effect b) → after ≡ before
   pub later : before.faults ≤ after.faults
 
@@ -83,5 +79,5 @@ pub record SeesFile (name : Text) (before after : ShelfState)
   pub calls : Calls
   pub sees : Sees calls before.files before.faults after.faults
   pub given : IsFetched (calls.file name) result
-  pub kept : KeepsFiles before.files after.files
+  pub kept : FolderStays before.files after.files
   pub later : before.faults ≤ after.faults
