@@ -1,5 +1,5 @@
 -- What is decided, by what is made.
-use Rattle.ls_session.proofs.Vocabulary.{[], ◌∙◌, ◌∷◌, ◌≡◌, AllocError, Bool, Bytes, Calls, Change, Command, Decides, EditCommand, Effect, Err, Failed, Fetched, Folder, FolderStays, IfOk, Interview, IsAfterLine, IsDecided, IsErrAnd, List, Makes, MakesChange, Missing, None, Ok, OnOk, Option, PupilCommand, Refused, Response, Result, Rose, Sees, Session, SettingCommand, ShelfState, Some, TooLarge, Unnamed, ViewCommand, ℕ, answers, ap, arith, calls_of, changes_interview, changes_pupils, changes_settings, command_effect, cond, edit_effect, edit_item_words, edit_of, edit_row, false, fetched_from, has_domain, in_domain, length, line_effect, longest_file, ltb, pupil_effect, pupil_item_words, pupil_name, pupil_of, pupil_row, refl, setting_effect, setting_item_words, setting_of, setting_row, standing_session, started, subst, sym, true, unless_unnamed, unnamed, view_effect, view_item_words, view_of, view_row}
+use Rattle.ls_session.proofs.Vocabulary.{[], ◌<◌, ◌∙◌, ◌∷◌, ◌≡◌, AllocError, Bool, Bytes, Calls, Change, Command, Decides, EditCommand, Effect, Err, Failed, Fetched, Folder, FolderStays, IfOk, Interview, IsAfterLine, IsDecided, IsErrAnd, List, Makes, MakesChange, Missing, None, Ok, OnOk, Option, PupilCommand, Refused, Response, Result, Rose, Sees, Session, SettingCommand, ShelfState, Some, TooLarge, Unnamed, ViewCommand, ℕ, answers, ap, arith, calls_of, changes_interview, changes_pupils, changes_settings, command_effect, cond, edit_effect, edit_item_words, edit_of, edit_row, false, fetched_from, has_domain, in_domain, length, line_effect, longest_file, ltb, pupil_effect, pupil_item_words, pupil_name, pupil_of, pupil_row, refl, setting_effect, setting_item_words, setting_of, setting_row, standing_session, started, subst, sym, true, unless_unnamed, unnamed, view_effect, view_item_words, view_of, view_row}
 use Rattle.std.specs.FinMap as map
 use Rattle.std.proofs.lemmas.Result.{on_ok_weaker, on_err_weaker}
 
@@ -142,6 +142,11 @@ pub pupil-stored : (s : Session) (c : PupilCommand) → (in_domain s (pupil_effe
 pupil-stored s c = asked-stored s (unnamed s.names (pupil_item_words c)) (changes_pupils s (pupil_row s.interview s.settings s.pupils (pupil_name c) (pupil_of s.names c))) refl
 
 -- ---- a command, by whether a domain stands
+
+-- a session by another name has names too
+pub some_names : {s t : Session} → s ≡ t → 0 < length s.names → 0 < length t.names
+some_names {s} {t} same some = subst (λ (x : Session). 0 < length x.names) same some
+
 
 module _ {o : Option Session} {c d : Command} (is : c ≡ d) where
   pub decides_standing : {s new : Session} {before after : ShelfState} {r : Result Response AllocError} → o ≡ Some s

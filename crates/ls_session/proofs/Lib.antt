@@ -1,8 +1,8 @@
 mod Vocabulary
-pub mod Decided
-pub mod Fetched
-pub mod Stored
+mod Decided
+mod Fetched
+mod Stored
 mod Meant
-pub mod Sayable
-pub mod Steps
+mod Sayable
+mod Steps
 mod Trailed

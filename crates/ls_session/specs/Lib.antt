@@ -1,5 +1,5 @@
 pub mod States
-pub mod Starts
+pub mod Readings
 pub mod Decides
 pub mod Standing
 pub mod Follows

@@ -1,9 +1,6 @@
--- The session where a domain stands, or none does.
-use Rattle.std.specs.Prelude.{◌≡◌, ℕ, List, [], Option, Some, None, Result, Ok, IfOk, IfErr}
+-- What stands between two lines.
+use Rattle.std.specs.Prelude.{◌≡◌, ℕ, List, [], Option, Some, None}
 use Rattle.std.specs.Option.{ForSome}
-use Rattle.ls_lines.specs.{Text}
-use Rattle.ls_domain.specs.Domains.{IsDomainFault}
-use Rattle.ls_domain.specs.declared.domain_fault.DomainFault.{DomainFault}
 use Rattle.ls_meaning.specs.{Calls, Session, line_effect, started}
 use Rattle.ls_meaning.specs.declared.response.Response.{Response}
 use Rattle.ls_write.specs.Rooms.{RoomState, no_reply}
@@ -24,8 +21,3 @@ pub record IsAfterLine (s : Session) (response : Response) : Type 0 where
 -- a room, if there is one, is as before a reply
 abbrev pub IsIdle : Option RoomState → Type 0
 IsIdle room = ForSome room (λ r. r ≡ no_reply)
-
--- names that were read are those of the reading, unless memory ran out
-pub record IsRead (reading read : Result (List Text) DomainFault) : Type 0 where
-  pub names : IfOk read (λ names. reading ≡ Ok names)
-  pub fault : IfErr read (IsDomainFault reading)

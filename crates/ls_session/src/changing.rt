@@ -68,8 +68,8 @@ fn take<L: Ledger>(
     }
 }
 
-// `retract NUMBER`: of the trail, what stands for the Yes answers before a Yes that is taken back is
-// kept.
+// `retract NUMBER`: of the trail, what stands for the Yes answers before a Yes that is taken back
+// is kept.
 fn take_back<L: Ledger>(
     inquiry: &mut Inquiry,
     trail: &mut Trail,

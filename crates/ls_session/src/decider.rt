@@ -17,7 +17,7 @@ use std::alloc::{AllocError, Global};
 use std::sync::ledger::Ledger;
 use std::thread::Threads;
 
-/// What stands where a domain does, if one stands. It decides what lines do, and says their replies.
+/// What stands where a domain does, if one does. It decides what lines do, and says their replies.
 #[derive(Drop)]
 pub struct Decider {
     alloc: Global,

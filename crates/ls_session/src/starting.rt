@@ -5,9 +5,10 @@ ghost use Rattle.ls_laws.specs.Spans.{AreOn};
 ghost use Rattle.ls_files.specs.SetFiles.{sets_of};
 ghost use Rattle.ls_files.specs.SurmiseFiles.{surmise_of};
 ghost use Rattle.ls_expert.specs.Starts.{start_of, IsStartOn};
-ghost use Rattle.ls_meaning.specs.{start_of_base, start_of_clauses, start_of_sets, start_read, starts_by};
+ghost use Rattle.ls_meaning.specs.{start_of_base, start_of_clauses, start_of_sets, start_read};
+ghost use Rattle.ls_meaning.specs.{starts_by};
 ghost use Rattle.ls_session.specs.Decides.{MakesChange};
-ghost use Rattle.ls_session.specs.Starts.{IsStartRead};
+ghost use Rattle.ls_session.specs.Readings.{IsStartRead};
 ghost use Rattle.ls_session.specs.States.{IsTrailOf};
 
 use ls_base::{Base, Trail};

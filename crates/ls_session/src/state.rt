@@ -2,7 +2,8 @@
 ghost use Rattle.std.specs.Prelude.{◌≡◌, Ok, IfOk, IfErr, length};
 ghost use Rattle.ls_files.specs.{session_of};
 ghost use Rattle.ls_store.specs.Chains.{IsSessionFault};
-ghost use Rattle.ls_meaning.specs.{bytes_of, edit_effect, in_domain, lines_of, pupil_effect, setting_effect, started, view_effect};
+ghost use Rattle.ls_meaning.specs.{bytes_of, edit_effect, in_domain, lines_of, pupil_effect};
+ghost use Rattle.ls_meaning.specs.{setting_effect, started, view_effect};
 ghost use Rattle.ls_write.specs.Rooms.{Says};
 ghost use Rattle.ls_pupils.specs.Cases.{ArePupils};
 ghost use Rattle.ls_session.specs.Decides.{Makes};
@@ -191,7 +192,8 @@ impl State {
         }
     }
 
-    /// Says the lines of a response.
+    /// Says the lines of a response. It is not made part of its caller, since its frame is large.
+    #[inline(never)]
     pub fn put<K: Sink, L: Ledger>(
         &self,
         response: &Response,

@@ -4,9 +4,11 @@ ghost use Rattle.ls_domain.specs.Domains.{names_of_table};
 ghost use Rattle.ls_domain.specs.declared.domain_fault.DomainFault.{DomainFault as Fault};
 ghost use Rattle.ls_lines.specs.{Text};
 ghost use Rattle.ls_files.specs.{session_of};
-ghost use Rattle.ls_meaning.specs.{changes, has_domain, items_row, load_items_row, open_row, opened_by, opening_row, started_by};
+ghost use Rattle.ls_meaning.specs.{changes, has_domain, items_row, load_items_row};
+ghost use Rattle.ls_meaning.specs.{open_row, opened_by, opening_row, started_by};
 ghost use Rattle.ls_session.specs.Decides.{Decides, Makes, shelf_state};
-ghost use Rattle.ls_session.specs.Standing.{IsRead, standing_session};
+ghost use Rattle.ls_session.specs.Readings.{AreNamesRead};
+ghost use Rattle.ls_session.specs.Standing.{standing_session};
 
 use crate::decider::Decider;
 use crate::fetching::fetch;
@@ -113,7 +115,7 @@ impl Decider {
         steps: &mut Steps<L>,
     ) -> Result<Response, AllocError>
         ensures { let s = standing_session self.old.state in
-            (reading : Result (List Text) Fault) → IsRead reading read →
+            (reading : Result (List Text) Fault) → AreNamesRead reading read →
             Makes (changes (started_by s [] reading)) s (standing_session self.new.state) result }
     {
         match read {

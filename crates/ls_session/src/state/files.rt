@@ -1,7 +1,9 @@
 // Commands that fetch or store a file, where a domain stands.
 ghost use Rattle.std.specs.Prelude.{◌≡◌, [], IfOk, length};
 ghost use Rattle.ls_files.specs.SetFiles.{sets_of};
-ghost use Rattle.ls_meaning.specs.{Session, answers, changes_interview, class_row, file_effect, in_domain, refuse, save_row, start_row, stores, test_row, tested_by};
+ghost use Rattle.ls_meaning.specs.{Session, answers, changes_interview, class_row, file_effect};
+ghost use Rattle.ls_meaning.specs.{in_domain, refuse, save_row, start_row, stores, test_row};
+ghost use Rattle.ls_meaning.specs.{tested_by};
 ghost use Rattle.ls_session.specs.Decides.{Decides, shelf_state};
 
 use crate::fetching::fetch;
@@ -46,8 +48,8 @@ impl State {
         }
     }
 
-    // `start surmise FILE` and `start base FILE`. It is not made part of its caller, since its frame
-    // is large.
+    // `start surmise FILE` and `start base FILE`. It is not made part of its caller, since its
+    // frame is large.
     #[inline(never)]
     fn load_start<H: Shelf, L: Ledger>(
         &mut self,
@@ -151,7 +153,7 @@ impl State {
     }
 }
 
-// The verdict on the family that the bytes of a file give, or the refusal of a file that gives none.
+// The verdict on the family that the bytes of a file give, or the refusal of bytes that give none.
 fn test_sets<R: Threads + Sync>(
     rt: &R,
     alloc: Global,

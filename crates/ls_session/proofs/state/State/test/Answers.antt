@@ -1,5 +1,5 @@
 use Rattle.ls_session.proofs.Vocabulary.{[], ◌<◌, ◌∙◌, ◌≡◌, Decides, Effect, Fetched, IfOk, List, Ok, Refusal, Response, Session, Text, ℕ, answers, ap, ap₂, bytes_fetched, file_refusals, in_domain, in_domain-some, length, refl, sets_of, shelf_state, state_session, subst, test_row, tested_by}
-use Rattle.ls_session.proofs.Decided.{makes_response}
+use Rattle.ls_session.proofs.Decided.{makes_response, some_names}
 use Rattle.ls_session.proofs.Fetched.{decides_read, decides_unfetched, decides_unread}
 use Rattle.ls_session.proofs.state.State.test.Goals as goal
 
@@ -15,13 +15,10 @@ shows s refusals bytes = answers s (shown s refusals bytes)
 whole-shows : (s : Session) → 0 < length s.names → (given : Fetched) → whole s given ≡ shows s (file_refusals given) (bytes_fetched given)
 whole-shows s some given = in_domain-some s _ some
 
-abbrev HasNames : Session → Type 0
-HasNames s = 0 < length s.names
-
 pub returns-in_err-bytes : goal.returns-in_err-bytes
 returns-in_err-bytes g c =
     let s = c.args.self.now in
-    decides_unfetched (whole s) (shows s) (whole-shows s (subst HasNames c.self.view_is c.self.invariant.some)) (λ refusal bytes. refl) (λ refusals bytes. refl) c.fetch.ensures _ c.from_residual.result c.from_residual.ensures.1
+    decides_unfetched (whole s) (shows s) (whole-shows s (some_names c.self.view_is c.self.invariant.some)) (λ refusal bytes. refl) (λ refusals bytes. refl) c.fetch.ensures _ c.from_residual.result c.from_residual.ensures.1
 
 pub returns-in-Ok : goal.returns-in-Ok
 returns-in-Ok g c =
@@ -35,4 +32,4 @@ returns-in-Ok g c =
 pub returns-in-Err : goal.returns-in-Err
 returns-in-Err g c =
     let s = c.args.self.now in
-    decides_unread (whole s) (shows s) (whole-shows s (subst HasNames c.self.view_is c.self.invariant.some)) (λ refusal bytes. refl) (λ refusals bytes. refl) c.fetch.ensures (c.in_ok-bytes.was ∙ ap Ok c.in-Err.is)
+    decides_unread (whole s) (shows s) (whole-shows s (some_names c.self.view_is c.self.invariant.some)) (λ refusal bytes. refl) (λ refusals bytes. refl) c.fetch.ensures (c.in_ok-bytes.was ∙ ap Ok c.in-Err.is)
