@@ -62,9 +62,11 @@ alone = refl
 
 -- what answers force rules the other reply out
 forced : map_of (refusal_words []) (refuse_fault Answer (opposed Known.Yes false)) ≡ (codes "20" ∷ []) ∷ []
+unfolding digits
 forced = refl
 
 opposed_by : map_of (refusal_words []) (refuse_fault Answer (opposed (Known.No 2) true)) ≡ (codes "21" ∷ decimal 2 ∷ []) ∷ []
+unfolding digits
 opposed_by = refl
 
 -- blocks of three items
