@@ -1,11 +1,12 @@
 // What pupils are asked and reply, and how they are closed.
-ghost use Rattle.std.specs.Prelude.{◌≡◌, ◌≤◌, ℕ, IfSome, option_map};
+ghost use Rattle.std.specs.Prelude.{◌≡◌, ◌≤◌, ℕ, true, IfSome, option_map};
 ghost use Rattle.std.specs.List.{All};
 ghost use Rattle.ls_meaning.specs.Pupils.{pupil_with, shown_of, question_shown, report_shown};
 ghost use Rattle.ls_meaning.specs.Pupils.{reply_row, close_row};
 ghost use Rattle.ls_meaning.specs.declared.response.Response.TheVariants.{Shown as ShownAs};
-ghost use Rattle.ls_pupils.specs.Cases.{pupil_of_case, pupils_of, IsCase, IsOwnCase, ArePupils};
-ghost use Rattle.ls_pupils.specs.Cases.{changed_to};
+ghost use Rattle.ls_pupils.specs.Own.{have_own_names};
+ghost use Rattle.ls_pupils.specs.Cases.{case_name, pupil_of_case, pupils_of, changed_to};
+ghost use Rattle.ls_pupils.specs.Cases.{IsCase, IsOwnCase, ArePupils};
 
 use crate::cases::{PupilCase, PupilCases};
 use ls_fringe::fringes;
@@ -81,9 +82,9 @@ pub fn reply(pupils: &mut PupilCases, name: &Word, item: u32, right: bool) -> Re
 
 /// `close NAME`
 pub fn close(pupils: &mut PupilCases, name: &Word) -> Response
-    requires { All IsOwnCase pupils.old }
-    ensures row { (n : ℕ) → ArePupils n pupils.old →
-        close_row (pupils_of pupils.old) name.now ≡ changed_to pupils.new result }
+    requires cases { All IsOwnCase pupils.old }
+    requires own { have_own_names case_name pupils.old ≡ true }
+    ensures row { close_row (pupils_of pupils.old) name.now ≡ changed_to pupils.new result }
     ensures pupils { (n : ℕ) → ArePupils n pupils.old → ArePupils n pupils.new }
 {
     match pupils.place(name) {
