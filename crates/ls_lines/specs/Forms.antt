@@ -99,8 +99,8 @@ abbrev pub is_right : List (List Text) → ℕ → Bool
 is_right given place = bytes_eq (one given place) (codes "right")
 
 -- ---- the topics: of each its forms, the parts of their lines, the commands that they make of the
--- words at the parts, and the way back: the form of a command, and what stands at those of its parts
--- that are no fixed words
+-- words at the parts, and the way back: the form of a command, and what stands at those of its
+-- parts that are no fixed words
 
 -- ---- opening a session
 

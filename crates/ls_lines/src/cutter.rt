@@ -1,5 +1,6 @@
 // Cutting a stream into lines.
-ghost use Rattle.std.specs.Prelude.{◌≡◌, ◌<◌, ◌≤◌, ◌+◌, ◌^◌, ◌==◌, ℕ, IfOk, IfSome, IfNone, MatchOption};
+ghost use Rattle.std.specs.Prelude.{◌≡◌, ◌<◌, ◌≤◌, ◌+◌, ◌^◌, ◌==◌, ℕ};
+ghost use Rattle.std.specs.Prelude.{IfOk, IfSome, IfNone, MatchOption};
 ghost use Rattle.std.specs.Prelude.{List, [], ◌∷◌, ◌++◌, length, position, take};
 ghost use Rattle.ls_lines.specs.Lines.{lines};
 ghost use Rattle.ls_lines.specs.Cutting.{Holds, IsTaken, Ends, ahead};

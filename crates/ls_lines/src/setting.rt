@@ -25,8 +25,8 @@ pub enum SettingCommand {
         right: u64,
         wrong: u64,
     },
-    /// The ratios of each item: `right_a` to `right_b` for a right reply, and `wrong_a` to `wrong_b`
-    /// for a wrong one.
+    /// The ratios of each item: `right_a` to `right_b` for a right reply, and `wrong_a` to
+    /// `wrong_b` for a wrong one.
     RatioAll {
         right_a: u64,
         right_b: u64,

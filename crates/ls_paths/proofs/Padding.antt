@@ -1,5 +1,5 @@
 -- Orders of all items, and the zeros behind a list in an array.
-use Rattle.ls_paths.proofs.Vocabulary.{◌++◌, ◌-◌, ◌<◌, ◌∙◌, ◌∷◌, ◌≡◌, ◌≤◌, Bool, Decides-is_same, IsWithin, Items, List, None, Some, ℕ, [], and_from, ap, arith, drop, drop-replicate, empty, eq-eqb, eqb, eqb-true, false, false_from_ne_true, filter, find, first-long, first_growth, full, has, has-full, is_order, is_same, length, length-append, length-drop, length-replicate, length-take-le, lt-ltb, ltb, ltb-true, not, order-parts, grown_to, reached-all, refl, replicate, set_of, slice_get, slice_get-filter, subst, sym, take, true, true≢false}
+use Rattle.ls_paths.proofs.Vocabulary.{◌++◌, ◌-◌, ◌<◌, ◌∙◌, ◌∷◌, ◌≡◌, ◌≤◌, Bool, Decides-is_same, IsWithin, Items, List, None, Some, ℕ, [], and_from, ap, arith, drop, drop-replicate, empty, eq-eqb, eqb, eqb-true, false, false_from_ne_true, filter, find, first_growth, full, has, has-full, is_order, is_same, length, length-append, length-drop, length-replicate, length-take-le, lt-ltb, ltb, ltb-true, not, grown_to, refl, replicate, set_of, slice_get, slice_get-filter, subst, sym, take, true, true≢false}
 use Rattle.std.specs.List.{All}
 use Rattle.std.proofs.lemmas.List.Elements.{All-from_get_or}
 use Rattle.std.proofs.lemmas.Slice.{drop-append-drop}

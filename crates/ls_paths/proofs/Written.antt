@@ -1,5 +1,5 @@
 -- Steps of a walk: a list that is written from a place on, and the sets that its items give.
-use Rattle.ls_paths.proofs.Vocabulary.{◌&&◌, ◌++◌, ◌+◌, ◌-◌, ◌<◌, ◌∙◌, ◌∷◌, ◌≡◌, ◌≤◌, Bool, IsWithin, Items, List, None, Option, Some, ℕ, [], and_from, and_parts, ap, append-nil, append_assoc, ap₂, arith, drop, drop_all, empty, eqb-true, false, first_growth, first_next, found-passes, fresh-at, full, get_or, grown-next, has, has-full, has-with, inl, inr, is_among, is_fresh, is_grown, is_next, leaves-found, leaves-passed, leaves_below, length, length-drop, length-set, length-take-le, lt-ltb, ltb-true, members, minus, next-above, next-broken, next-small, next-whole, next_item_after, next_growth, next_item, not, not_from_false, or_cases, grown_to, reached-has, reached-next, refl, same_set, set, subst, suc, sym, take, take_all, take_more_set, taken-back, true, with, without, without-within, zero}
+use Rattle.ls_paths.proofs.Vocabulary.{◌&&◌, ◌++◌, ◌+◌, ◌-◌, ◌<◌, ◌∙◌, ◌∷◌, ◌≡◌, ◌≤◌, Bool, IsWithin, Items, List, None, Option, Some, ℕ, [], and_from, and_parts, ap, append-nil, append_assoc, ap₂, arith, drop, drop_all, empty, eqb-true, false, first_growth, first_next, found-passes, full, get_or, has, has-full, has-with, inl, inr, is_among, is_fresh, is_grown, is_next, leaves_below, length, length-drop, length-set, length-take-le, lt-ltb, ltb-true, members, minus, next_item_after, next_growth, next_item, not, not_from_false, or_cases, grown_to, refl, same_set, set, subst, suc, sym, take, take_all, take_more_set, true, with, without, without-within, zero}
 use Rattle.std.proofs.lemmas.Bool.Decides.{nat_tests}
 use borrow.Rule.Slice.PartMut.{put_mid}
 use Rattle.ls_paths.proofs.Added.{next-above, next-small}
@@ -82,7 +82,7 @@ written order j next ys post l e =
 
 -- ---- where the next growth leaves a list
 
--- one more item is reached
+-- one more item is grown_to
 pub level-more : (order : List ℕ) (j : ℕ) (k w : Items) → j < length order → k ≡ grown_to empty (take j order) → w ≡ with k (get_or order j 0) → w ≡ grown_to empty (take (j + 1) order)
 level-more order j k w l e ww = ww ∙ ap (λ s. with s (get_or order j 0)) e ∙ sym (reached-next empty order j l)
 

@@ -1,5 +1,5 @@
 -- What the rows of pupils come to.
-use Rattle.ls_pupils.proofs.Vocabulary.{◌++◌, ◌+◌, ◌<◌, ◌∷◌, ◌≡◌, ◌≤◌, All, Bool, Done, Err, IfOk, Interview, IsCase, IsNewPupil, IsOn, RefusesHeavy, Items, List, None, Ok, OnOk, Pupil, PupilCase, Refused, ReplyFault, Result, Shown, Some, Weighing, ℕ, [], ap, arith, asked, asked_of, begin_row, begun_row, changed, compatible_sets, fringes, get_or, is_among, le-leb, le-ltb, length, lt-leb, most_pupils, new_pupil, pupil_of, pupil_with, refl, replied, reply_fault, reply_row, slice_get, subst, suc, true, weighing_refusals, with_pupil, zero}
+use Rattle.ls_pupils.proofs.Vocabulary.{◌++◌, ◌+◌, ◌<◌, ◌∷◌, ◌≡◌, ◌≤◌, Bool, Done, Err, IfOk, Interview, IsCase, IsNewPupil, RefusesHeavy, List, None, Ok, OnOk, Pupil, PupilCase, Refused, ReplyFault, Result, Some, Weighing, ℕ, [], asked, asked_of, begin_row, begun_row, changed, compatible_sets, le-leb, le-ltb, length, lt-leb, most_pupils, new_pupil, pupil_of_case, pupil_with, refl, replied, reply_fault, reply_row, slice_get, weighing_refusals, with_pupil}
 use Rattle.std.specs.declared.alloc.AllocError.{AllocError}
 use Rattle.ls_theory.specs.Settings.{Settings, most_states, heavy_after}
 use Rattle.ls_weight.specs.declared.fault.WeightFault.{WeightFault}
@@ -33,7 +33,7 @@ refuses_heavy-new i s (Err (Memory e)) result few is light heavy h = rw h tt
 -- ---- replies
 
 -- what a pupil of n items is asked is what its case is
-pub asked-same : (n : ℕ) (c : PupilCase) → IsCase n c → asked_of n (pupil_of c) ≡ asked c.pupil.settings c.pupil.states c.pupil.replies
+pub asked-same : (n : ℕ) (c : PupilCase) → IsCase n c → asked_of n (pupil_of_case c) ≡ asked c.pupil.settings c.pupil.states c.pupil.replies
 asked-same n c h = rw (h.settings, h.states) refl
 
 pub row-taken : (n : ℕ) (pupils : List Pupil) (item : ℕ) (right : Bool) (p : Pupil) → reply_fault (asked_of n p) item ≡ None

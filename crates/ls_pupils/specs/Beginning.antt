@@ -12,6 +12,12 @@ use Rattle.ls_meaning.specs.Sessions.{Pupil}
 use Rattle.ls_meaning.specs.declared.response.Refusal.{Refusal}
 use Rattle.ls_meaning.specs.declared.response.Refusal.TheVariants as refusal
 use Rattle.ls_meaning.specs.declared.response.Response.TheVariants.{Done}
+use Rattle.ls_pupils.specs.Cases.{IsCase}
+use Rattle.ls_pupils.specs.declared.cases.PupilCase.{PupilCase}
+
+-- a case of the interview's items whose states are those of the interview
+abbrev pub IsCaseOf : Interview → PupilCase → Type 0
+IsCaseOf i c = IsCase i.count c × (c.pupil.states ≡ compatible_sets i)
 
 -- a pupil over the states of the interview with no replies, where these can be weighed; or the
 -- first refusal

@@ -1,5 +1,6 @@
 -- Pupils as the program keeps them.
---     pupil_of c, pupils_of cs      the pupils of the definitions
+--     pupil_of_case c, pupils_of cs      the pupils of the definitions
+--     case_name c      the name of a case
 --     ArePupils n cs      pupils among n items, each with a name of its own
 --     changed_to cs r      the response, and what the pupils became
 use Rattle.std.specs.Prelude.{ℕ, ◌≡◌, ◌≤◌, true, List, map, length}
@@ -7,14 +8,18 @@ use Rattle.std.specs.List.{All, list_all}
 use Rattle.ls_set.specs.{is_good, most_items}
 use Rattle.ls_theory.specs.{compat, most_states}
 use Rattle.ls_meaning.specs.{Change, most_pupils}
+use Rattle.ls_lines.specs.{Text}
 use Rattle.ls_expert.specs.Starts.{start_of, IsStartOn}
 use Rattle.ls_meaning.specs.Sessions.{Pupil}
 use Rattle.ls_meaning.specs.declared.response.Response.{Response}
 use Rattle.ls_pupils.specs.Own.{have_own_names}
 use Rattle.ls_pupils.specs.declared.cases.PupilCase.{PupilCase}
 
-abbrev pub pupil_of : PupilCase → Pupil
-pupil_of c = record {
+abbrev pub case_name : PupilCase → Text
+case_name c = c.name
+
+abbrev pub pupil_of_case : PupilCase → Pupil
+pupil_of_case c = record {
   name = c.name;
   start = start_of c.start;
   yeses = c.yes;
@@ -23,7 +28,7 @@ pupil_of c = record {
 }
 
 abbrev pub pupils_of : List PupilCase → List Pupil
-pupils_of cases = map pupil_of cases
+pupils_of cases = map pupil_of_case cases
 
 -- The states of a case are those of its start and Yes queries, which are on n items, and not too
 -- many; its settings are those of n items, by which its pupil is assessed.
@@ -43,7 +48,7 @@ IsOwnCase c = IsCase (length c.settings.ratios) c
 pub record ArePupils (n : ℕ) (cases : List PupilCase) : Type 0 where
   pub few_items : n ≤ most_items
   pub each : All (IsCase n) cases
-  pub own : have_own_names (λ c. c.name) cases ≡ true
+  pub own : have_own_names case_name cases ≡ true
   pub few : length cases ≤ most_pupils
 
 -- the response, and what the pupils became

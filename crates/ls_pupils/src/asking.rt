@@ -1,9 +1,12 @@
 // What pupils are asked and reply, and how they are closed.
-ghost use Rattle.std.specs.Prelude.{◌≡◌, ◌≤◌, ℕ, IfSome, option_map};
+ghost use Rattle.std.specs.Prelude.{◌≡◌, ◌≤◌, ℕ, true, IfSome, option_map};
 ghost use Rattle.std.specs.List.{All};
-ghost use Rattle.ls_meaning.specs.Pupils.{pupil_with, shown_of, question_shown, report_shown, reply_row, close_row};
+ghost use Rattle.ls_meaning.specs.Pupils.{pupil_with, shown_of, question_shown, report_shown};
+ghost use Rattle.ls_meaning.specs.Pupils.{reply_row, close_row};
 ghost use Rattle.ls_meaning.specs.declared.response.Response.TheVariants.{Shown as ShownAs};
-ghost use Rattle.ls_pupils.specs.Cases.{pupil_of, pupils_of, IsCase, IsOwnCase, ArePupils, changed_to};
+ghost use Rattle.ls_pupils.specs.Own.{have_own_names};
+ghost use Rattle.ls_pupils.specs.Cases.{case_name, pupil_of_case, pupils_of, changed_to};
+ghost use Rattle.ls_pupils.specs.Cases.{IsCase, IsOwnCase, ArePupils};
 
 use crate::cases::{PupilCase, PupilCases};
 use ls_fringe::fringes;
@@ -14,7 +17,8 @@ use ls_set::PLACES;
 
 // The case of the name.
 fn case_of<'a>(pupils: &'a PupilCases, name: &Word) -> Option<&'a PupilCase>
-    ensures pupil { option_map (λ c. pupil_of c.now) result ≡ pupil_with (pupils_of pupils.now) name.now }
+    ensures pupil { option_map (λ c. pupil_of_case c.now) result
+        ≡ pupil_with (pupils_of pupils.now) name.now }
     ensures case { (n : ℕ) → ArePupils n pupils.now → IfSome result (λ c. IsCase n c.now) }
 {
     match pupils.place(name) {
@@ -49,7 +53,7 @@ pub fn report(n: u32, pupils: &PupilCases, name: &Word) -> Response
 fn report_of(n: u32, case: &PupilCase) -> Shown
     requires few { n ≤ PLACES }
     requires case { IsCase n case.now }
-    ensures { ShownAs result ≡ report_shown n (pupil_of case.now) }
+    ensures { ShownAs result ≡ report_shown n (pupil_of_case case.now) }
 {
     let outcome = case.pupil.result();
     let states = Listed::new(n, case.pupil.states());
@@ -68,8 +72,8 @@ pub fn reply(pupils: &mut PupilCases, name: &Word, item: u32, right: bool) -> Re
     match pupils.place(name) {
         None => Response::Refused(Refusal::NoPupil),
         Some(place) => match pupils.reply(place, item, right) {
-            Ok(()) => Response::Done {
-                number: pupils.as_slice()[place].pupil.replies().len() as u64,
+            Ok(replies) => Response::Done {
+                number: replies as u64,
             },
             Err(fault) => Response::Refused(Refusal::Reply(fault)),
         },
@@ -78,9 +82,9 @@ pub fn reply(pupils: &mut PupilCases, name: &Word, item: u32, right: bool) -> Re
 
 /// `close NAME`
 pub fn close(pupils: &mut PupilCases, name: &Word) -> Response
-    requires { All IsOwnCase pupils.old }
-    ensures row { (n : ℕ) → ArePupils n pupils.old →
-        close_row (pupils_of pupils.old) name.now ≡ changed_to pupils.new result }
+    requires cases { All IsOwnCase pupils.old }
+    requires own { have_own_names case_name pupils.old ≡ true }
+    ensures row { close_row (pupils_of pupils.old) name.now ≡ changed_to pupils.new result }
     ensures pupils { (n : ℕ) → ArePupils n pupils.old → ArePupils n pupils.new }
 {
     match pupils.place(name) {

@@ -4,10 +4,9 @@ ghost use Rattle.std.specs.List.{list_any};
 ghost use Rattle.ls_theory.specs.{compatible_sets, yes_queries};
 ghost use Rattle.ls_expert.specs.Starts.{start_of};
 ghost use Rattle.ls_meaning.specs.{begin_row, most_pupils};
-ghost use Rattle.ls_pupils.specs.Own.{is_named};
-ghost use Rattle.ls_pupils.specs.Cases.{pupils_of, IsCase, IsOwnCase, ArePupils, changed_to};
-ghost use Rattle.ls_pupils.specs.Beginning.{IsNewPupil, RefusesHeavy, begun_row};
-ghost use Rattle.ls_pupils.specs.declared.cases.PupilCase.{PupilCase as Case};
+ghost use Rattle.ls_pupils.specs.Own.{is_called};
+ghost use Rattle.ls_pupils.specs.Cases.{case_name, pupils_of, IsOwnCase, ArePupils, changed_to};
+ghost use Rattle.ls_pupils.specs.Beginning.{IsCaseOf, IsNewPupil, RefusesHeavy, begun_row};
 
 use crate::cases::{PupilCase, PupilCases};
 use ls_assess::{Pupil, Settings, WeightFault};
@@ -69,7 +68,7 @@ fn new_pupil<L: Ledger>(
     requires items { length settings.now.ratios ≡ inquiry.now.count }
     ensures { IfOk result (IsNewPupil inquiry.now settings.now) }
 {
-    match like(pupils, inquiry) {
+    match case_like(pupils, inquiry) {
         Some(case) => unless_heavy(case.pupil.again(settings)),
         None => listed(alloc, inquiry, settings, steps),
     }
@@ -77,10 +76,9 @@ fn new_pupil<L: Ledger>(
 
 // A case with the start and the Yes queries of the interview: one that stands, or the one that was
 // closed last.
-fn like<'a>(pupils: &'a PupilCases, inquiry: &Inquiry) -> Option<&'a PupilCase>
+fn case_like<'a>(pupils: &'a PupilCases, inquiry: &Inquiry) -> Option<&'a PupilCase>
     requires { ArePupils inquiry.now.count pupils.now }
-    ensures { IfSome result (λ c. IsCase inquiry.now.count c.now
-        × (c.now.pupil.states ≡ compatible_sets inquiry.now)) }
+    ensures { IfSome result (λ c. IsCaseOf inquiry.now c.now) }
 {
     match standing_like(pupils, inquiry) {
         Some(case) => Some(case),
@@ -90,20 +88,18 @@ fn like<'a>(pupils: &'a PupilCases, inquiry: &Inquiry) -> Option<&'a PupilCase>
 
 // The case that was closed last, where it has the start and the Yes queries of the interview.
 fn closed_like<'a>(pupils: &'a PupilCases, inquiry: &Inquiry) -> Option<&'a PupilCase>
-    ensures { IfSome result (λ c. IsCase inquiry.now.count c.now
-        × (c.now.pupil.states ≡ compatible_sets inquiry.now)) }
+    ensures { IfSome result (λ c. IsCaseOf inquiry.now c.now) }
 {
     match pupils.closed() {
-        Some(case) if is_own(case, inquiry) => Some(case),
+        Some(case) if is_of_inquiry(case, inquiry) => Some(case),
         _ => None,
     }
 }
 
 // Whether the case has as many items as the interview, and its start and Yes queries.
-fn is_own(case: &PupilCase, inquiry: &Inquiry) -> bool
+fn is_of_inquiry(case: &PupilCase, inquiry: &Inquiry) -> bool
     requires { IsOwnCase case.now }
-    ensures { result ≡ true → IsCase inquiry.now.count case.now
-        × (case.now.pupil.states ≡ compatible_sets inquiry.now) }
+    ensures { result ≡ true → IsCaseOf inquiry.now case.now }
 {
     case.settings.count() == inquiry.items() && is_like(case, inquiry)
 }
@@ -111,8 +107,7 @@ fn is_own(case: &PupilCase, inquiry: &Inquiry) -> bool
 // A case that stands, with the start and the Yes queries of the interview.
 fn standing_like<'a>(pupils: &'a PupilCases, inquiry: &Inquiry) -> Option<&'a PupilCase>
     requires { ArePupils inquiry.now.count pupils.now }
-    ensures { IfSome result (λ c. IsCase inquiry.now.count c.now
-        × (c.now.pupil.states ≡ compatible_sets inquiry.now)) }
+    ensures { IfSome result (λ c. IsCaseOf inquiry.now c.now) }
 {
     pupils.as_slice().iter().find(|case| is_like(case, inquiry))
 }
@@ -194,7 +189,7 @@ fn keep(
         begun_row inquiry.now settings.now (pupils_of pupils.old) name.now
         ≡ changed_to pupils.new r) }
     ensures pupils { ArePupils inquiry.now.count pupils.old → length pupils.old < most_pupils →
-        list_any (is_named (λ (c : Case). c.name) name.now) pupils.old ≡ false →
+        list_any (is_called case_name name.now) pupils.old ≡ false →
         length settings.now.ratios ≡ inquiry.now.count →
         ArePupils inquiry.now.count pupils.new }
     ensures err { OnErr result (pupils.new ≡ pupils.old) }

@@ -18,8 +18,9 @@ use std::alloc::{AllocError, Global};
 use std::sync::ledger::Ledger;
 use std::thread::Threads;
 
-/// `class FILE`, where the file was fetched: what is known of the pupils of the class that its bytes
-/// give, each assessed over the compatible sets of the interview; or why there are no results.
+/// `class FILE`, where the file was fetched: what is known of the pupils of the class that its
+/// bytes give, each assessed over the compatible sets of the interview; or why there are no
+/// results.
 pub fn assess_class<R: Threads + Sync, L: Ledger>(
     rt: &R,
     alloc: Global,

@@ -67,7 +67,7 @@ pub fn read_order(
     ensures { ResolvesInMemory (unnamed domain.now (placed first names.now))
         (map (item_of domain.now) names.now) result }
 {
-    let _ = read_names(domain, names, first)?;
+    let _ = read_names(domain, names, first)?; // each is named
     Ok(items_of(alloc, domain, names)?)
 }
 

@@ -12,8 +12,8 @@ use ls_meaning::PupilRequest;
 // The place of the item of `reply`, behind the name of the pupil.
 const ITEM_OF_REPLY: usize = 3;
 
-/// What the command asks of a pupil, on a domain's items. The error is the word of a reply that must
-/// name an item and doesn't.
+/// What the command asks of a pupil, on a domain's items. The error is its word that must name an
+/// item and doesn't.
 pub fn resolve_pupil(domain: &Domain, command: &PupilCommand) -> Result<PupilRequest, Unnamed>
     ensures resolves { Resolves (unnamed domain.now (pupil_item_words command.now))
         (pupil_of domain.now command.now) result }

@@ -1,6 +1,7 @@
 // Commands that set what an assessment goes by, on named items.
 ghost use Rattle.std.specs.Prelude.{◌≡◌, length, IfOk};
-ghost use Rattle.ls_meaning.specs.{IsSettingOn, setting_item_words, setting_of, two_odds, two_ratios, unnamed};
+ghost use Rattle.ls_meaning.specs.{IsSettingOn, setting_item_words, setting_of, two_odds};
+ghost use Rattle.ls_meaning.specs.{two_ratios, unnamed};
 ghost use Rattle.ls_resolve.specs.Resolving.{Resolves};
 
 use crate::names::read_item;

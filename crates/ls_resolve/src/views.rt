@@ -1,7 +1,8 @@
 // Commands that show something of the interview, on named items.
 ghost use Rattle.std.specs.Prelude.{◌≡◌, ◌≤◌, map, length, option_map, IfOk};
 ghost use Rattle.ls_domain.specs.Meanings.{item_of, items_of};
-ghost use Rattle.ls_meaning.specs.{IsAfterOn, IsViewOn, after_of, order_words, placed, projected_place, sets_words, unnamed, view_item_words, view_of};
+ghost use Rattle.ls_meaning.specs.{IsAfterOn, IsViewOn, after_of, order_words, placed};
+ghost use Rattle.ls_meaning.specs.{projected_place, sets_words, unnamed, view_item_words, view_of};
 ghost use Rattle.ls_meaning.specs.declared.request.View.TheVariants as view;
 ghost use Rattle.ls_resolve.specs.Resolving.{Resolves, ResolvesInMemory};
 

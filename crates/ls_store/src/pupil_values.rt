@@ -6,7 +6,7 @@ ghost use Rattle.ls_clauses.specs.Surmise.{IsSurmise};
 ghost use Rattle.ls_expert.specs.Starts.{start_of, IsStartOn};
 ghost use Rattle.ls_files.specs.SurmiseFiles.{list_value};
 ghost use Rattle.ls_files.specs.{pupil_value, set_value, start_value};
-ghost use Rattle.ls_pupils.specs.Cases.{pupil_of, pupils_of, IsCase};
+ghost use Rattle.ls_pupils.specs.Cases.{pupil_of_case, pupils_of, IsCase};
 
 use crate::values::{
     PupilParts, limits_value, odds_value, pupil_object, queries_value, replies_value, sets_value,
@@ -57,7 +57,7 @@ pub fn start_value(alloc: Global, n: u32, start: &Start) -> Result<Value, AllocE
 pub fn pupil_value(alloc: Global, n: u32, case: &PupilCase) -> Result<Value, AllocError>
     requires few { n ≤ PLACES }
     requires case { IsCase n case.now }
-    ensures { IfOk result (λ v. view v ≡ pupil_value n (pupil_of case.now)) }
+    ensures { IfOk result (λ v. view v ≡ pupil_value n (pupil_of_case case.now)) }
 {
     let settings = &case.settings;
     let parts = PupilParts {

@@ -8,9 +8,8 @@ ghost use Rattle.ls_theory.specs.{is_same_query};
 ghost use Rattle.ls_domain.specs.Domains.{is_name};
 ghost use Rattle.ls_files.specs.SurmiseFiles.{read_list};
 ghost use Rattle.ls_files.specs.{Pupil, are_apart, at_key, read_pupil, read_pupils, read_query, read_reply, read_settings};
-ghost use Rattle.ls_pupils.specs.Own.{is_named};
-ghost use Rattle.ls_pupils.specs.Cases.{pupil_of, pupils_of, IsCase, ArePupils};
-ghost use Rattle.ls_pupils.specs.declared.cases.PupilCase.{PupilCase as Case};
+ghost use Rattle.ls_pupils.specs.Own.{is_called};
+ghost use Rattle.ls_pupils.specs.Cases.{case_name, pupil_of_case, pupils_of, IsCase, ArePupils};
 
 use crate::apart::are_apart;
 use crate::members::{own_limits, own_name, own_odds, own_start};
@@ -103,7 +102,7 @@ fn read_case<L: Ledger>(
     requires few { n ≤ PLACES }
     requires name { at_key (codes "name") as_str (view object.now) ≡ Some name }
     ensures value { IfOk result (λ found.
-        option_map pupil_of found ≡ read_pupil version n (view object.now)) }
+        option_map pupil_of_case found ≡ read_pupil version n (view object.now)) }
     ensures case { IfOk result (λ found. IfSome found (IsCase n)) }
 {
     let Some(settings) = own_settings(alloc, version, n, object)? else {
@@ -146,13 +145,13 @@ fn next_case<L: Ledger>(
     requires some { 0 < n }
     requires few { n ≤ PLACES }
     ensures value { IfOk result (λ found. IfSome found (λ c.
-        read_pupil version n (view object.now) ≡ Some (pupil_of c))) }
+        read_pupil version n (view object.now) ≡ Some (pupil_of_case c))) }
     ensures case { IfOk result (λ found. IfSome found (IsCase n)) }
     ensures own { IfOk result (λ found. IfSome found (λ c.
-        list_any (is_named (λ (e : Case). e.name) c.name) earlier.now ≡ false)) }
+        list_any (is_called case_name c.name) earlier.now ≡ false)) }
     ensures none { (p : Pupil) → result ≡ Ok None →
         read_pupil version n (view object.now) ≡ Some p →
-        list_any (is_named (λ (e : Case). e.name) p.name) earlier.now ≡ true }
+        list_any (is_called case_name p.name) earlier.now ≡ true }
 {
     let Some(name) = own_name(alloc, object)? else {
         return Ok(None);

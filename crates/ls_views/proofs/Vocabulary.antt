@@ -1,5 +1,5 @@
 -- The words that the proofs of this crate cite, passed on from one place.
-pub use Rattle.std.proofs.Common.{◌<◌, ◌∙◌, ◌∷◌, ◌≡◌, List, Option, Some, ℕ, [], ap, ap₂, arith, length, rules, subst, sym, true}
+pub use Rattle.std.proofs.Common.{◌<◌, ◌∙◌, ◌∷◌, ◌≡◌, Err, List, Option, Some, ℕ, [], ap, ap₂, arith, length, rules, subst, sym, true}
 pub use Rattle.std.proofs.lemmas.Result.{IfOk-weaker}
 pub use Rattle.std.specs.Prelude.{slice_get}
 pub use Rattle.ls_set.specs.{Items, full}
@@ -16,6 +16,7 @@ unfoldable pub use Rattle.ls_meaning.specs.{command_effect}
 pub use Rattle.ls_meaning.specs.declared.request.View.{View}
 pub use Rattle.ls_meaning.specs.declared.response.Response.{Response}
 pub use Rattle.ls_meaning.specs.declared.response.Response.TheVariants.{Refused}
+pub use Rattle.ls_resolve.specs.{ResolvesInMemory}
 pub use Rattle.ls_write.proofs.Saying.{wrote}
 pub use Rattle.ls_write.specs.Showing.{CanSay, session_with}
 pub use Rattle.ls_views.specs.Views.{based_on, is_based}

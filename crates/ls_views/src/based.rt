@@ -2,7 +2,8 @@
 ghost use Rattle.std.specs.Prelude.{◌≡◌, true, IfOk};
 ghost use Rattle.std.specs.Option.{option_map_or};
 ghost use Rattle.ls_set.specs.{IsWithin, full};
-ghost use Rattle.ls_theory.specs.{base_verdict, is_order, is_space, projection, state_of, yes_queries};
+ghost use Rattle.ls_theory.specs.{base_verdict, is_order, is_space, projection, state_of};
+ghost use Rattle.ls_theory.specs.{yes_queries};
 ghost use Rattle.ls_theory.specs.Bases as bases;
 ghost use Rattle.ls_base.specs.Bases.{family};
 ghost use Rattle.ls_base.specs.Followed.{IsFollowed};
@@ -37,7 +38,7 @@ pub fn decide_based(
         IsFollowed i.count i.start (yes_queries i.answers) followed.now }
     ensures { IfOk result (λ r. r ≡ view_row inquiry.now asked) }
 {
-    let _ = inquiry.standing();
+    let _ = inquiry.standing(); // it is sound
     match followed {
         Followed::Within(base) => show(alloc, base, asked),
         Followed::Past { position, count } => Ok(Response::Refused(Refusal::Past {

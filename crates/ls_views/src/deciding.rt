@@ -1,7 +1,8 @@
 // What is shown of an interview, decided.
 ghost use Rattle.std.specs.Prelude.{◌≡◌, ◌≤◌, ◌+◌, false};
 ghost use Rattle.ls_set.specs.{IsWithin, full};
-ghost use Rattle.ls_meaning.specs.{IsViewOn, fringes_row, known_row, project_row, states_row, view_row};
+ghost use Rattle.ls_meaning.specs.{IsViewOn, fringes_row, known_row, project_row, states_row};
+ghost use Rattle.ls_meaning.specs.{view_row};
 ghost use Rattle.ls_views.specs.Views.{is_based, view_steps};
 
 use ls_expert::{AnswerFault, BadQuery, Inquiry};

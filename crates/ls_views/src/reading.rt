@@ -3,7 +3,8 @@ ghost use Rattle.std.specs.Prelude.{◌≡◌, ◌≤◌, ◌+◌, length, IfOk,
 ghost use Rattle.std.specs.Io.KnownBytes.{Appends};
 ghost use Rattle.ls_edge.specs.Causes.{AppendsFront, HasSinkCause};
 ghost use Rattle.ls_lines.specs.declared.command.Command.TheVariants as commands;
-ghost use Rattle.ls_meaning.specs.{Calls, IsViewOn, Session, answers, bytes_of, command_effect, is_refusal, lines_of, reply_of, view_row};
+ghost use Rattle.ls_meaning.specs.{Calls, IsViewOn, Session, answers, bytes_of, command_effect};
+ghost use Rattle.ls_meaning.specs.{is_refusal, lines_of, reply_of, view_row};
 ghost use Rattle.ls_theory.specs.{yes_queries};
 ghost use Rattle.ls_base.specs.Followed.{IsFollowed};
 ghost use Rattle.ls_write.specs.Rooms.{Wrote, no_reply};
@@ -47,7 +48,7 @@ fn respond<L: Ledger>(
         (steps.new ≤ steps.old + command_steps command.now inquiry.now.count) }
 {
     prove!(domain.count() > 0);
-    let _ = inquiry.standing();
+    let _ = inquiry.standing(); // it is sound
     match resolve_view(alloc, domain, command) {
         Ok(view) => show(alloc, inquiry, followed, view, steps),
         Err(ResolveFault::Unnamed { place }) => Ok(Response::Refused(Refusal::Unnamed { place })),

@@ -1,5 +1,5 @@
 -- The names of a set's items, group by group.
-use Rattle.ls_write.proofs.Vocabulary.{◌%◌, ◌*◌, ◌++◌, ◌+◌, ◌-◌, ◌/◌, ◌<◌, ◌^◌, ◌∙◌, ◌∷◌, ◌≡◌, ◌≢◌, ◌≤◌, Bool, Items, List, Text, ℕ, [], agree_below_at, ap, append-nil, ap₂, arith, bit_at, cases_lt, cond, drop, drop_of_length-le, eq-eqb, eqb, eqb-true, false, filter, filter-append, flat_map, flat_map-append, get_or, group_count, group_items, group_text, group_texts, has, inl, inr, join-spaced-one, join_with_byte, length, map, map-append, map-id, min, name_of, names_of_set, nat_tests, ne_eqb, numbers_from, refl, single, spaced, spaced_names, suc, sym, true, zero}
+use Rattle.ls_write.proofs.Vocabulary.{◌%◌, ◌*◌, ◌++◌, ◌+◌, ◌-◌, ◌/◌, ◌<◌, ◌^◌, ◌∙◌, ◌∷◌, ◌≡◌, ◌≢◌, ◌≤◌, Bool, Items, List, Text, ℕ, [], agree_below_at, ap, append-nil, ap₂, arith, bit_at, cases_lt, cond, drop, drop-parts, drop_of_length-le, eq-eqb, eqb, eqb-true, false, filter, filter-append, flat_map, flat_map-append, get_or, group_count, group_items, group_text, group_texts, has, inl, inr, join-spaced-one, join_with_byte, length, length-append, map, map-append, map-id, min, name_of, names_of_set, nat_tests, ne_eqb, numbers_from, refl, single, spaced, spaced_names, suc, sym, true, zero}
 use Rattle.std.proofs.lemmas.Nat.Bits.{bit_at-zero}
 use Rattle.ls_set.proofs.Sets.{has-single}
 use Rattle.ls_set.proofs.Sizes.{numbers_from-add, filter-none}
@@ -15,7 +15,7 @@ get_or-map-numbers f d i zero k h = absurd (omega arith)
 get_or-map-numbers f d i (suc m) zero h = ap f (let e : i ≡ i + 0 = omega arith in e)
 get_or-map-numbers f d i (suc m) (suc k) h = get_or-map-numbers f d (suc i) m k (omega arith) ∙ ap f (let e : suc i + k ≡ i + suc k = omega arith in e)
 
-pub numbers_from-next : (i m : ℕ) → numbers_from i (m + 1) ≡ numbers_from i m ++ (i + m) ∷ []
+numbers_from-next : (i m : ℕ) → numbers_from i (m + 1) ≡ numbers_from i m ++ (i + m) ∷ []
 numbers_from-next i m = numbers_from-add i m 1
 
 same-filter : (p q : ℕ → Bool) (i m : ℕ) → ((j : ℕ) → i ≤ j → j < i + m → p j ≡ q j) → filter p (numbers_from i m) ≡ filter q (numbers_from i m)
@@ -101,7 +101,7 @@ module _ (names : List Text) where
   pub names_before-dropped : (s : Items) (k : ℕ) → [] ≡ drop k (names_before s 0)
   names_before-dropped s k = sym (drop_of_length-le [] (omega arith)) ∙ ap (drop k) (sym (names_before-none s))
 
-  pub names_before-next : (s : Items) (g : ℕ) → 8 * g < length names → names_before s g ++ spaced_names names (has s) (group_items (length names) g) ≡ names_before s (g + 1)
+  names_before-next : (s : Items) (g : ℕ) → 8 * g < length names → names_before s g ++ spaced_names names (has s) (group_items (length names) g) ≡ names_before s (g + 1)
   names_before-next s g h =
       let n = length names in
       let low : min n (8 * g) ≡ 8 * g = omega arith in
@@ -109,6 +109,15 @@ module _ (names : List Text) where
       ap (λ m. spaced_names names (has s) (numbers_from 0 m) ++ spaced_names names (has s) (group_items n g)) low
       ∙ sym (ap (λ m. spaced_names names (has s) (numbers_from 0 m)) (sym high) ∙ ap (spaced_names names (has s)) (numbers_from-add 0 (8 * g) (min 8 (n - 8 * g))) ∙ spaced-append (has s) (numbers_from 0 (8 * g)) (numbers_from (0 + 8 * g) (min 8 (n - 8 * g)))
       ∙ ap (λ i. spaced_names names (has s) (numbers_from 0 (8 * g)) ++ spaced_names names (has s) (numbers_from i (min 8 (n - 8 * g)))) (let e : 0 + 8 * g ≡ 8 * g = omega arith in e))
+
+  -- the same but for the first k bytes
+  pub dropped-next : (s : Items) (g k : ℕ) → 8 * g < length names
+      → drop k (names_before s g) ++ drop (k - length (names_before s g)) (spaced_names names (has s) (group_items (length names) g)) ≡ drop k (names_before s (g + 1))
+  dropped-next s g k h = drop-parts k (names_before s g) (spaced_names names (has s) (group_items (length names) g)) ∙ ap (drop k) (names_before-next s g h)
+
+  -- so long they are
+  pub length-names_before : (s : Items) (g : ℕ) → 8 * g < length names → length (names_before s (g + 1)) ≡ length (names_before s g) + length (spaced_names names (has s) (group_items (length names) g))
+  length-names_before s g h = ap length (sym (names_before-next s g h)) ∙ length-append (names_before s g) (spaced_names names (has s) (group_items (length names) g))
 
   -- the text of the pattern of a set
   module _ (s : Items) (g pattern : ℕ) (same : (j : ℕ) → j < 8 → eqb (bit_at pattern j) 1 ≡ has s (8 * g + j)) where

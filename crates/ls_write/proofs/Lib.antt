@@ -1,6 +1,6 @@
 mod Vocabulary
 pub mod Saying
-mod LineBytes
+pub mod LineBytes
 mod Pages
 mod Parts
 mod Groups

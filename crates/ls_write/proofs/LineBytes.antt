@@ -7,7 +7,7 @@ use Rattle.ls_meaning.specs.Heads as head
 pub lines-one : (l : Line) → line_bytes l ≡ lines_bytes (l ∷ [])
 lines-one l = sym (append-nil (line_bytes l))
 
-pub lines-append : (ls ks : List Line) → lines_bytes (ls ++ ks) ≡ lines_bytes ls ++ lines_bytes ks
+lines-append : (ls ks : List Line) → lines_bytes (ls ++ ks) ≡ lines_bytes ls ++ lines_bytes ks
 lines-append ls ks = flat_map-append line_bytes ls ks
 
 pub lines-last : (ls : List Line) (l : Line) → lines_bytes ls ++ line_bytes l ≡ lines_bytes (ls ++ l ∷ [])
@@ -26,13 +26,13 @@ unfolding bytes_of
 lines-words [] = refl
 lines-words (l ∷ ls) = ap (λ bytes. line_bytes l ++ bytes) (lines-words ls)
 
-pub words-one : (ws : List Text) → line_of ws ≡ bytes_of (ws ∷ [])
+pub bytes_of-one : (ws : List Text) → bytes_of (ws ∷ []) ≡ line_of ws
 unfolding bytes_of
-words-one ws = sym (append-nil (line_of ws))
+bytes_of-one ws = append-nil (line_of ws)
 
-pub words-none : [] ≡ bytes_of []
+pub bytes_of-none : [] ≡ bytes_of []
 unfolding bytes_of
-words-none = refl
+bytes_of-none = refl
 
 -- ---- one line
 

@@ -27,10 +27,6 @@ module _ (names : List Text) where
   by_name-All P [] all = all
   by_name-All P (i ∷ is) all = insert-All P i (by_name names is) (All-head P i is all) (by_name-All P is (All-tail P i is all))
 
-  -- each is one of the items
-  pub by_name-below : (i n : ℕ) → i ≤ n → All (λ j. j < n) (by_name names (numbers_from i (n - i)))
-  by_name-below i n le = by_name-All (λ j. j < n) (numbers_from i (n - i)) (numbers-All (λ j. j < n) i (n - i) (λ j l h. omega arith))
-
   -- the place of an item is the first before whose item it comes
   pub insert-place : (i : ℕ) (js : List ℕ) (k : ℕ) → k ≤ length js → ((m : ℕ) → m < k → comes_first i (get_or js m 0) ≡ false) → (k < length js → comes_first i (get_or js k 0) ≡ true)
       → insert js k i ≡ insert_by_name names i js

@@ -6,7 +6,7 @@ pub use Rattle.std.proofs.lemmas.Bool.{agree_below_at, and_from, and_parts, case
 pub use Rattle.std.proofs.lemmas.Bool.Decides.{Decides-eqb, nat_tests}
 pub use Rattle.std.proofs.lemmas.Grind.{common_steps, flat_map-append}
 pub use Rattle.std.proofs.lemmas.List.{drop_all, drop_min, drop_more, get_or-append-add, get_or-map, get_or_past, length-map, map-append, map-id, take_all, take_more}
-pub use Rattle.std.proofs.lemmas.List.Elements.{All-cons, All-head, All-nil, All-push, All-same, All-tail, filter-append}
+pub use Rattle.std.proofs.lemmas.List.Elements.{All-cons, All-head, All-nil, All-tail, filter-append}
 pub use Rattle.std.proofs.lemmas.Simd.{map-map}
 pub use Rattle.std.proofs.lemmas.Slice.Eq.{bytes_eq-Decides, strip_prefix_is}
 pub use Rattle.std.specs.Cmp.Lexicographic.{pointwise, slice_cmp}
@@ -35,8 +35,7 @@ pub use Rattle.ls_domain.specs.Texts.{joined_names, name_of, set_text}
 unfoldable pub use Rattle.ls_domain.specs.Texts.{names_of_set}
 pub use Rattle.ls_files.specs.ClassResults.{result_of}
 pub use Rattle.ls_files.specs.declared.class_results.ClassResult.{ClassResult}
-pub use Rattle.ls_meaning.specs.{◌otherwise◌, IsAfterOn, IsViewOn, Line, Session, asked_line, base_lines, based_row, detail_of, detail_word, fringes_line, known_line, learned, learning_line, learning_refusals, line, line_bytes, line_words, lines_bytes, lines_of, more_line, notice_of, notice_words, outcome_line, page_lines, past_refusal, path_line, path_lines, paths_shown, project_row, question_line, reason_word, refusal_notice, refusal_words, refuse, refuse_fault, result_line, set_line, shown_lines, started, state_line, state_shown, states_row, surmise_line, verdict_line, view_row}
-pub use Rattle.ls_meaning.specs.Heads.{head_word}
+pub use Rattle.ls_meaning.specs.{◌otherwise◌, IsAfterOn, IsViewOn, Line, Session, asked_line, base_lines, based_row, detail_of, detail_word, fringes_line, known_line, learned, learning_line, learning_refusals, line, line_bytes, line_words, lines_bytes, lines_of, more_line, notice_words, outcome_line, page_lines, past_refusal, path_line, path_lines, paths_shown, project_row, question_line, reason_word, refusal_words, refuse, refuse_fault, result_line, set_line, shown_lines, started, state_line, state_shown, states_row, surmise_line, verdict_line, view_row}
 unfoldable pub use Rattle.ls_meaning.specs.{bytes_of, line_of}
 pub use Rattle.ls_meaning.specs.declared.request.View.{View}
 pub use Rattle.ls_meaning.specs.declared.response.Response.{Response}
@@ -45,6 +44,6 @@ pub use Rattle.ls_write.specs.Paths.{IsTextOf, PathFront, paths_after}
 pub use Rattle.ls_write.specs.Rooms.{Ends, HasSaid, RoomState, Says, Sends, Wrote, no_reply}
 pub use Rattle.ls_write.specs.SetTexts.{group_count, group_items, group_text, names_in, spaced_names}
 unfoldable pub use Rattle.ls_write.specs.SetTexts.{group_texts}
-pub use Rattle.ls_write.specs.Showing.{CanSay, CanShow, is_shown, session_with}
+pub use Rattle.ls_write.specs.Showing.{CanSay, CanShow, session_with}
 pub use Rattle.ls_write.specs.SurmiseTexts.{clause_text, clauses_text, insert_by_name, items_by_name, listed, quoted_name, row_text}
 unfoldable pub use Rattle.ls_write.specs.SurmiseTexts.{by_name, rows_text}

@@ -15,9 +15,9 @@ use Rattle.ls_meaning.specs.declared.response.Shown.TheVariants as shown
 abbrev pub session_with : Session → List Text → Interview → Session
 session_with s names i = record s { names = names; interview = i }
 
--- Of an interview on n items: a page begins after a set of these; atoms are those of the states, at
--- the sets of their base; and learning paths are those of a learning space, a page of which begins
--- after an order of the items.
+-- of an interview on n items: a page begins after a set of these; atoms are those of the states,
+-- at the sets of their base; and learning paths are those of a learning space, a page of which
+-- begins after an order of the items
 abbrev pub CanShow : ℕ → Interview → Shown → Type 0
 CanShow n i (shown.States count after) = ForSome after (λ k. IsWithin k (full n))
 CanShow n i (shown.Projected part count after) = ForSome after (λ k. IsWithin k (full n))

@@ -1,5 +1,5 @@
--- The text of a surmise function, piece by piece. Its items stand in the order of the bytes of their
--- names.
+-- The text of a surmise function, piece by piece. Its items stand in the order of the bytes of
+-- their names.
 use Rattle.std.specs.Prelude.{ℕ, Bool, false, true, if◌then◌else◌, List, [], ◌∷◌, ◌++◌, length}
 use Rattle.std.specs.Ordering.{nat_cmp, is_lt}
 use Rattle.std.specs.Cmp.Lexicographic.{slice_cmp}

@@ -1,6 +1,7 @@
 // The lines of assessments.
 ghost use Rattle.std.specs.Prelude.{◌∷◌, []};
-ghost use Rattle.ls_meaning.specs.{asked_line, fringes_line, line_bytes, lines_bytes, outcome_line};
+ghost use Rattle.ls_meaning.specs.{asked_line, fringes_line, outcome_line};
+ghost use Rattle.ls_meaning.specs.{line_bytes, lines_bytes};
 ghost use Rattle.ls_write.specs.Rooms.{Says};
 
 use crate::judging::put_fringes;

@@ -1,5 +1,5 @@
 // The lines of verdicts, and of states and their fringes.
-ghost use Rattle.std.specs.Prelude.{◌∷◌, [], ◌++◌, length};
+ghost use Rattle.std.specs.Prelude.{◌∷◌, [], ◌++◌};
 ghost use Rattle.ls_lists.specs.Lists.{spaced};
 ghost use Rattle.ls_meaning.specs.{double_words, fringes_line, learning_line, line_bytes};
 ghost use Rattle.ls_meaning.specs.{state_line, verdict_line};

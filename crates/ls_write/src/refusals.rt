@@ -1,6 +1,5 @@
 // The lines of refusals.
-ghost use Rattle.std.specs.Prelude.{◌∷◌, codes, map, option_copied};
-ghost use Rattle.std.specs.List.{flat_map};
+ghost use Rattle.std.specs.Prelude.{◌∷◌, codes, option_copied};
 ghost use Rattle.ls_lists.specs.Lists.{spaced};
 ghost use Rattle.ls_meaning.specs.{detail_of, detail_word, line_of, refusal_words};
 ghost use Rattle.ls_write.specs.Rooms.{Says};

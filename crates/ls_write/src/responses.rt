@@ -3,8 +3,8 @@ ghost use Rattle.std.specs.Prelude.{◌≡◌, ◌≤◌, ◌+◌, ◌*◌, [], 
 ghost use Rattle.std.specs.Option.{ForSome};
 ghost use Rattle.ls_set.specs.{IsWithin, comes_before, full};
 ghost use Rattle.ls_theory.specs.{Interview, page};
-ghost use Rattle.ls_meaning.specs.{Session, bytes_of, known_line, line_bytes, lines_bytes, lines_of};
-ghost use Rattle.ls_meaning.specs.{page_lines, question_line, shown_lines, started};
+ghost use Rattle.ls_meaning.specs.{Session, bytes_of, line_bytes, lines_bytes, lines_of, started};
+ghost use Rattle.ls_meaning.specs.{known_line, page_lines, question_line, shown_lines};
 ghost use Rattle.ls_write.specs.Rooms.{Says};
 ghost use Rattle.ls_write.specs.SetTexts.{names_in};
 ghost use Rattle.ls_write.specs.Showing.{CanSay, CanShow, is_shown, session_with};

@@ -44,7 +44,7 @@ impl Room {
     }
 
     /// Says the bytes. No call of the sink is made where they fit, nor after a fault.
-    pub fn put<K: Sink>(&mut self, bytes: &[u8], out: &mut K)
+    pub(crate) fn put<K: Sink>(&mut self, bytes: &[u8], out: &mut K)
         ensures held { length self.old.pending + length bytes.now ≤ ROOM → out.new ≡ out.old }
         ensures idle { is_some self.old.fault ≡ true → out.new ≡ out.old }
         ensures kept { length self.old.pending + length bytes.now ≤ ROOM → self.new ≡ record
@@ -60,14 +60,14 @@ impl Room {
     }
 
     /// Whether the sink has failed since the reply began.
-    pub fn has_failed(&self) -> bool
+    pub(crate) fn has_failed(&self) -> bool
         ensures { result ≡ is_some self.now.fault }
     {
         self.fault.is_some()
     }
 
     /// Says a space.
-    pub fn space<K: Sink>(&mut self, out: &mut K)
+    pub(crate) fn space<K: Sink>(&mut self, out: &mut K)
         ensures { Says (K.written out.old) (K.faults out.old) self.old (K.written out.new)
             (K.faults out.new) self.new (32 ∷ []) }
     {
@@ -75,7 +75,7 @@ impl Room {
     }
 
     /// Says a line feed.
-    pub fn end_line<K: Sink>(&mut self, out: &mut K)
+    pub(crate) fn end_line<K: Sink>(&mut self, out: &mut K)
         ensures { Says (K.written out.old) (K.faults out.old) self.old (K.written out.new)
             (K.faults out.new) self.new (10 ∷ []) }
     {
@@ -83,7 +83,7 @@ impl Room {
     }
 
     /// Says a number in decimal digits.
-    pub fn put_number<I: Integer, K: Sink>(&mut self, number: I, out: &mut K)
+    pub(crate) fn put_number<I: Integer, K: Sink>(&mut self, number: I, out: &mut K)
         ensures { Says (K.written out.old) (K.faults out.old) self.old (K.written out.new)
             (K.faults out.new) self.new (I.text number) }
     {
@@ -92,7 +92,7 @@ impl Room {
     }
 
     /// Sends what is pending, unless there was a fault. Nothing is pending then.
-    pub fn flush<K: Sink>(&mut self, out: &mut K)
+    fn flush<K: Sink>(&mut self, out: &mut K)
         ensures says { Says (K.written out.old) (K.faults out.old) self.old (K.written out.new)
             (K.faults out.new) self.new [] }
         ensures none { self.new.pending ≡ [] }

@@ -1,7 +1,7 @@
 // The names of sets, joined beforehand.
 ghost use Rattle.std.specs.Prelude.{◌≡◌, ◌+◌, ◌-◌, ◌*◌, ◌<◌, ◌≤◌, ◌++◌, ◌∷◌, length, drop};
 ghost use Rattle.std.specs.Prelude.{IfOk, OnOk};
-ghost use Rattle.std.specs.List.{All, insert};
+ghost use Rattle.std.specs.List.{insert};
 ghost use Rattle.ls_lists.specs.Lists.{spaced};
 ghost use Rattle.ls_set.specs.{full, has, meet};
 ghost use Rattle.ls_domain.specs.Domains.{IsDomain};
@@ -95,7 +95,7 @@ impl SetTexts {
     }
 
     /// Says the names of the set's items, in the order of items, joined by single spaces.
-    pub fn put_names<K: Sink>(&self, s: ItemSet, room: &mut Room, out: &mut K)
+    pub(crate) fn put_names<K: Sink>(&self, s: ItemSet, room: &mut Room, out: &mut K)
         ensures { Says (K.written out.old) (K.faults out.old) room.old (K.written out.new)
             (K.faults out.new) room.new (joined_names self.now s) }
     {
@@ -103,7 +103,7 @@ impl SetTexts {
     }
 
     /// Says a set, its names within braces, behind a space.
-    pub fn put_set<K: Sink>(&self, s: ItemSet, room: &mut Room, out: &mut K)
+    pub(crate) fn put_set<K: Sink>(&self, s: ItemSet, room: &mut Room, out: &mut K)
         ensures { Says (K.written out.old) (K.faults out.old) room.old (K.written out.new)
             (K.faults out.new) room.new (32 ∷ set_text self.now s) }
     {
@@ -114,7 +114,13 @@ impl SetTexts {
 
     /// Says the names of the set's items, in the order of items, each behind a space, but for as
     /// many bytes as are to be skipped.
-    pub fn put_spaced<K: Sink>(&self, s: ItemSet, skipped: usize, room: &mut Room, out: &mut K)
+    pub(crate) fn put_spaced<K: Sink>(
+        &self,
+        s: ItemSet,
+        skipped: usize,
+        room: &mut Room,
+        out: &mut K,
+    )
         ensures { Says (K.written out.old) (K.faults out.old) room.old (K.written out.new)
             (K.faults out.new) room.new (drop skipped (spaced (λ w. w) (names_of_set self.now s))) }
     {
@@ -125,7 +131,7 @@ impl SetTexts {
     }
 
     /// Says the name of an item behind a space.
-    pub fn put_name<K: Sink>(&self, item: u32, room: &mut Room, out: &mut K)
+    pub(crate) fn put_name<K: Sink>(&self, item: u32, room: &mut Room, out: &mut K)
         ensures { Says (K.written out.old) (K.faults out.old) room.old (K.written out.new)
             (K.faults out.new) room.new (32 ∷ name_of self.now item) }
     {
@@ -142,7 +148,7 @@ impl SetTexts {
     }
 
     /// Says the line of a set: its cursor and its names.
-    pub fn put_set_line<K: Sink>(&self, s: ItemSet, room: &mut Room, out: &mut K)
+    pub(crate) fn put_set_line<K: Sink>(&self, s: ItemSet, room: &mut Room, out: &mut K)
         ensures { Says (K.written out.old) (K.faults out.old) room.old (K.written out.new)
             (K.faults out.new) room.new (line_bytes (set_line self.now s)) }
     {
@@ -252,8 +258,6 @@ fn items_by_name(alloc: Global, domain: &Domain) -> Result<Vec<u32>, AllocError>
 
 // Where an item stands among others that are in the order of their names.
 fn place_by_name(domain: &Domain, item: u32, order: &[u32]) -> usize
-    requires item { item < length domain.now }
-    requires order { All (λ i. i < length domain.now) order.now }
     ensures within { result ≤ length order.now }
     ensures place { insert order.now result item ≡ insert_by_name domain.now item order.now }
 {

@@ -1,4 +1,5 @@
-use Rattle.ls_paths.proofs.Vocabulary.{◌∙◌, IsWithin, Items, PLACES, ap, arith, empty, full, get_or, grown_to, reached-all, reached-next, subst, sym, take_all, with}
+use Rattle.ls_paths.proofs.Vocabulary.{◌∙◌, IsWithin, Items, PLACES, ap, arith, empty, full, get_or, grown_to, subst, sym, take_all, with}
+use Rattle.ls_paths.proofs.Levels.{reached-all, reached-next}
 use Rattle.ls_paths.proofs.Written.{place-small}
 use Rattle.ls_paths.proofs.order.set_of.Goals as goal
 

@@ -1,4 +1,4 @@
-use Rattle.ls_pupils.proofs.Vocabulary.{◌∙◌, Shown, ap, asked_of, pupil_of, question_shown, shown_of, sym}
+use Rattle.ls_pupils.proofs.Vocabulary.{◌∙◌, Shown, ap, question_shown, shown_of, sym}
 use Rattle.ls_pupils.proofs.Rows.{asked-same}
 use Rattle.ls_meaning.specs.declared.response.Shown.TheVariants as shown
 use Rattle.ls_pupils.proofs.asking.question.Goals as goal

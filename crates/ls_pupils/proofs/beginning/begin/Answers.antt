@@ -1,5 +1,5 @@
-use Rattle.ls_pupils.proofs.Vocabulary.{◌<◌, ◌∙◌, ◌≡◌, ◌≤◌, IfOk-weaker, IsNewPupil, ap, false, is_named, is_some, length, length-map, most_pupils, on_ok_weaker, position, pupil_of, pupils_of, subst, sym}
-use Rattle.ls_pupils.proofs.Named.{IsNoName, name_of, stands, not_standing}
+use Rattle.ls_pupils.proofs.Vocabulary.{◌<◌, ◌∙◌, ◌≤◌, IfOk-weaker, IsNewPupil, ap, false, is_some, length, length-map, most_pupils, pupil_of_case, pupils_of, subst, sym}
+use Rattle.ls_pupils.proofs.Named.{stands, not_standing}
 use Rattle.ls_pupils.proofs.Rows.{begin-stands, begin-many, begin-refused, begin-begins}
 use Rattle.ls_pupils.proofs.beginning.begin.Given as given
 use Rattle.ls_pupils.proofs.beginning.begin.Goals as goal
@@ -14,7 +14,7 @@ pub returns-then-as_slice-ge-MOST_PUPILS-clause-row : goal.returns-then-as_slice
 returns-then-as_slice-ge-MOST_PUPILS-clause-row g c =
     let cases = c.args.pupils.now in
     let none = not_standing c.args.name.now cases (sym (c.if-is_some.ensures ∙ ap (λ o. is_some o) c.place.ensures)) in
-    let many : most_pupils ≤ length (pupils_of cases) = rw (length-map cases pupil_of, sym c.as_slice.ensures) c.if-as_slice-ge-MOST_PUPILS.true in
+    let many : most_pupils ≤ length (pupils_of cases) = rw (length-map cases pupil_of_case, sym c.as_slice.ensures) c.if-as_slice-ge-MOST_PUPILS.true in
     begin-many c.args.inquiry.now c.args.settings.now (pupils_of cases) c.args.name.now none.none many
 
 pub returns-in-Ok-clause-row : goal.returns-in-Ok-clause-row
@@ -23,7 +23,7 @@ returns-in-Ok-clause-row g c =
     let i = c.args.inquiry.now in
     let s = c.args.settings.now in
     let none = not_standing c.args.name.now cases (sym (c.if-is_some.ensures ∙ ap (λ o. is_some o) c.place.ensures)) in
-    let few : length (pupils_of cases) < most_pupils = rw (length-map cases pupil_of, sym c.as_slice.ensures) c.if-as_slice-ge-MOST_PUPILS.false in
+    let few : length (pupils_of cases) < most_pupils = rw (length-map cases pupil_of_case, sym c.as_slice.ensures) c.if-as_slice-ge-MOST_PUPILS.false in
     let new = subst (IsNewPupil i s) c.in-Ok.is c.in_ok-pupil.ensures in
     IfOk-weaker c.keep.result _ _ (λ r e. begin-begins i s (pupils_of cases) c.args.name.now none.none few new.1 ∙ e) c.keep.ensures.row
 
@@ -40,6 +40,6 @@ returns-in-Err-clause-row g c =
     let i = c.args.inquiry.now in
     let s = c.args.settings.now in
     let none = not_standing c.args.name.now cases (sym (c.if-is_some.ensures ∙ ap (λ o. is_some o) c.place.ensures)) in
-    let few : length (pupils_of cases) < most_pupils = rw (length-map cases pupil_of, sym c.as_slice.ensures) c.if-as_slice-ge-MOST_PUPILS.false in
+    let few : length (pupils_of cases) < most_pupils = rw (length-map cases pupil_of_case, sym c.as_slice.ensures) c.if-as_slice-ge-MOST_PUPILS.false in
     let first = subst (IsNewPupil i s) c.in-Err.is c.in_ok-pupil.ensures in
     begin-refused i s (pupils_of cases) c.args.name.now c.in-Err.refusal none.none few first

@@ -1,4 +1,4 @@
-use Rattle.ls_pupils.proofs.Vocabulary.{◌∙◌, ArePupils, IsCase, IsStartOn, List, PupilCase, Query, Settings, Start, Weighing, ap, ap₂, compat, is_good, length, list_all, start_of, subst, sym}
+use Rattle.ls_pupils.proofs.Vocabulary.{◌∙◌, ◌≡◌, ArePupils, IsCase, IsStartOn, List, PupilCase, Query, Settings, Start, Weighing, ap, ap₂, case_name, compat, false, is_called, is_good, length, list_all, list_any, start_of, subst, sym}
 use Rattle.ls_pupils.proofs.Keeping.{are-more}
 use Rattle.ls_pupils.proofs.beginning.keep.Goals as goal
 
@@ -17,4 +17,5 @@ returns-clause-pupils c = λ h few apart items.
       good = ap (list_all (is_good i.count)) c.in_ok-from_slice.ensures ∙ c.yes_queries.ensures.good;
       items = ap (λ (s : Settings). length s.ratios) c.in_ok-copy-3.ensures ∙ items;
     } in
-    subst (ArePupils i.count) (sym c.in_ok-push.ensures.ok) (are-more i.count c.args.pupils.now case h few apart own)
+    let free = subst (λ name. list_any (is_called case_name name) c.args.pupils.now ≡ false) (sym c.in_ok-copy.ensures) apart in
+    subst (ArePupils i.count) (sym c.in_ok-push.ensures.ok) (are-more i.count c.args.pupils.now case h few free own)

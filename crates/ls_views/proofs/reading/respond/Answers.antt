@@ -1,4 +1,6 @@
-use Rattle.ls_views.proofs.Vocabulary.{◌<◌, ◌∙◌, CanSay, IfOk-weaker, answers, ap, arith, length, session_with, subst, sym, view_row}
+use Rattle.ls_views.proofs.Vocabulary.{◌<◌, ◌∙◌, CanSay, Err, IfOk-weaker, Refused, ResolvesInMemory, answers, ap, arith, length, session_with, subst, sym, unnamed, view_item_words, view_of, view_row}
+use Rattle.ls_resolve.specs.declared.unnamed.ResolveFault.{ResolveFault}
+use Rattle.ls_meaning.specs.declared.response.Refusal.TheVariants.{Unnamed}
 use Rattle.ls_write.proofs.Showing.{can-view}
 use Rattle.ls_views.proofs.Viewing.{shows-row, tells-place}
 use Rattle.ls_views.proofs.reading.respond.Goals as goal
@@ -23,6 +25,11 @@ returns-in-Ok-clause-can g c =
 
 pub returns-in-Err-Unnamed-clause-response : goal.returns-in-Err-Unnamed-clause-response
 returns-in-Err-Unnamed-clause-response g c = λ old calls.
-    let s = session_with old c.args.domain.now c.args.inquiry.now in
-    let some : 0 < length c.args.domain.now = omega (arith, c.count.ensures.value, c.count.ensures.some) in
-    tells-place s calls c.args.command.now some c.in-Err-Unnamed.place c.in-Err-Unnamed.ensures.resolves
+    let names = c.args.domain.now in
+    let asked = c.args.command.now in
+    let s = session_with old names c.args.inquiry.now in
+    let some : 0 < length names = omega (arith, c.count.ensures.value, c.count.ensures.some) in
+    let first = subst (λ (fault : ResolveFault). ResolvesInMemory (unnamed names (view_item_words asked)) (view_of names asked) (Err fault))
+    c.in-Err-Unnamed.field-0-is c.in-Err-Unnamed.ensures.resolves in
+    tells-place s calls asked some c.in-Err-Unnamed.place first
+    ∙ ap (λ n. answers s (Refused (Unnamed n))) (sym c.in-Err-Unnamed.place-is)

@@ -10,7 +10,7 @@ returns g c =
     let names = names_in (option_copied c.args.texts) in
     let notice = c.notice-notice.result in
     let word : Held → Text = λ d. detail_word names (detail_of d) in
-    let given : c.as_slice.result.now ≡ notice.details.items = c.as_slice.ensures in
+    let given : c.as_slice.result.now ≡ notice.details.items = c.as_slice.ensures.value in
     says_as
     (ap (λ (ds : List Held). ((codes "no " ++ decimal notice.code) ++ spaced word ds) ++ 10 ∷ []) given
     ∙ line-spaced (codes "no" ∷ decimal notice.code ∷ []) word notice.details.items (omega arith)

@@ -9,4 +9,4 @@ returns-in-Some g c =
     let names = c.args.texts.now in
     let r = c.in-Some.query in
     says_as (line-question (joined_names names r.a) (name_of names r.q) ∙ ap (λ (o : Option Query). line_bytes (question_line names o)) (sym c.in-Some.is))
-    (says_then (says_then (says_then (says_then c.put.ensures.says c.put_names.ensures) c.put-2.ensures.says) c.put_name.ensures) c.end_line.ensures)
+    (says_then (says_then (says_then (says_then c.put.ensures.says c.put_names.ensures) c.put-in-Some.ensures.says) c.put_name.ensures) c.end_line.ensures)

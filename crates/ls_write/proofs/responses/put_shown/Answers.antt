@@ -1,6 +1,5 @@
 use Rattle.ls_write.proofs.Vocabulary.{◌++◌, ◌∙◌, CanShow, Items, List, [], ap, ap₂, asked_line, atom_items, base_lines, breaks_none, clauses_at, comes_before, compat, compatible_sets, filter, fringes_line, is_lex_before, known_line, learning_line, length, line_bytes, lines_bytes, map, page, page_lines, path_lines, paths, projection, question_line, set_of, state_line, subst, surmise_line, sym, verdict_line}
 use Rattle.ls_expert.specs.Starts.{StartOn}
-use Rattle.ls_meaning.specs.declared.response.Shown.TheVariants as shown
 use Rattle.ls_write.proofs.Saying.{says_as, says_then}
 use Rattle.ls_write.proofs.LineBytes.{lines-one, lines-last}
 use Rattle.ls_write.proofs.Atoms.{base-clauses, base-atoms}
@@ -12,7 +11,9 @@ put_surmise-requires g c =
     let i = c.args.inquiry.now in
     let can = subst (CanShow (length c.args.texts.now) i) c.in-Surmise.is c.requires.can in
     let sets = c.as_slice-in-Surmise.ensures in
-    c.as_slice-in-Surmise-2.ensures ∙ can.1 ∙ base-atoms i c.in-Surmise.base can.0 ∙ ap (λ (ks : List Items). map (λ k. set_of (atom_items ks k)) ks) (sym sets)
+    record {
+      atoms = c.as_slice-in-Surmise-2.ensures ∙ can.1 ∙ base-atoms i c.in-Surmise.base can.0 ∙ ap (λ (ks : List Items). map (λ k. set_of (atom_items ks k)) ks) (sym sets);
+    }
 
 pub returns-in-Surmise-clause-says : goal.returns-in-Surmise-clause-says
 returns-in-Surmise-clause-says g c =

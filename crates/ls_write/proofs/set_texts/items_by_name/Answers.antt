@@ -1,5 +1,5 @@
-use Rattle.ls_write.proofs.Vocabulary.{◌-◌, ◌<◌, ◌∙◌, ◌≡◌, All, ap, arith, by_name, insert, insert_by_name, length, numbers_from, subst, suc, sym}
-use Rattle.ls_write.proofs.NameOrder.{by_name-below, by_name-next, by_name-none}
+use Rattle.ls_write.proofs.Vocabulary.{◌-◌, ◌∙◌, ◌≡◌, ap, arith, by_name, insert, insert_by_name, length, numbers_from, suc, sym}
+use Rattle.ls_write.proofs.NameOrder.{by_name-next, by_name-none}
 use Rattle.ls_write.proofs.set_texts.items_by_name.Goals as goal
 
 pub loop-item-init : goal.loop-item-init
@@ -10,12 +10,6 @@ loop-item-init c =
       within = omega arith;
       order = c.in_ok-order.ensures.items ∙ by_name-none names (length names) ∙ ap (λ i. by_name names (numbers_from i (length names - i))) count;
     }
-
-pub place_by_name-place-requires-clause-order : goal.place_by_name-place-requires-clause-order
-place_by_name-place-requires-clause-order c =
-    let names = c.args.domain.now in
-    let n = length names in
-    subst (All (λ i. i < n)) (sym (c.deref.ensures.value ∙ c.loop-item.invariant.order)) (by_name-below names c.loop-item.item n c.loop-item.invariant.within)
 
 pub loop-item-preserved : goal.loop-item-preserved
 loop-item-preserved c =

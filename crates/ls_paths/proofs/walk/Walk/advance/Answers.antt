@@ -1,4 +1,6 @@
-use Rattle.ls_paths.proofs.Vocabulary.{◌∙◌, ◌≡◌, ap, arith, empty, full, grown-fresh, is_whole, learning-from, grown_to, sym, take_all, true, whole-parts, whole-reaches}
+use Rattle.ls_paths.proofs.Vocabulary.{◌∙◌, ◌≡◌, ap, arith, empty, full, is_whole, grown_to, sym, take_all, true}
+use Rattle.ls_paths.proofs.Growths.{learning-from}
+use Rattle.ls_paths.proofs.Levels.{grown-fresh, whole-parts, whole-reaches}
 use Rattle.ls_paths.proofs.Walks.{follows-path}
 use Rattle.ls_paths.proofs.walk.Walk.advance.Goals as goal
 

@@ -1,6 +1,6 @@
-use Rattle.ls_write.proofs.Vocabulary.{◌*◌, ◌++◌, ◌+◌, ◌∙◌, ◌≡◌, ap, arith, drop, drop-parts, group_items, has, length, length-append, min, numbers_from, spaced_names}
+use Rattle.ls_write.proofs.Vocabulary.{◌*◌, ◌++◌, ◌<◌, ◌∙◌, ◌≡◌, ap, arith, drop, group_items, has, length, min, numbers_from, spaced_names}
 use Rattle.ls_write.proofs.Saying.{says_as, says_nothing, says_then}
-use Rattle.ls_write.proofs.Groups.{names_before, names_before-none, names_before-dropped, names_before-next, all-spaced}
+use Rattle.ls_write.proofs.Groups.{names_before, names_before-none, names_before-dropped, dropped-next, length-names_before, all-spaced}
 use Rattle.ls_write.proofs.set_texts.SetTexts.put_spaced.Goals as goal
 
 pub loop-group-init : goal.loop-group-init
@@ -12,12 +12,13 @@ loop-group-init g c = record {
 pub loop-group-preserved : goal.loop-group-preserved
 loop-group-preserved g c =
     let names = c.args.self.now in
-    let before = names_before names c.args.s c.loop-group.group in
-    let here = spaced_names names (has c.args.s) (group_items (length names) c.loop-group.group) in
-    let next : before ++ here ≡ names_before names c.args.s (c.loop-group.group + 1) = names_before-next names c.args.s c.loop-group.group (omega (arith, ap length c.self.view_is, c.count.ensures.value)) in
+    let group = c.loop-group.group in
+    let before = names_before names c.args.s group in
+    let here = spaced_names names (has c.args.s) (group_items (length names) group) in
+    let lt : 8 * group < length names = omega (arith, ap length c.self.view_is, c.count.ensures.value) in
     record {
-      said = says_as (ap (λ k. drop c.args.skipped before ++ drop k here) c.loop-group.invariant.left ∙ drop-parts c.args.skipped before here ∙ ap (drop c.args.skipped) next) (says_then c.loop-group.invariant.said c.put_group-left.ensures.says);
-      left = omega (arith, c.put_group-left.ensures.skipped, c.loop-group.invariant.left, ap length next, length-append before here);
+      said = says_as (ap (λ k. drop c.args.skipped before ++ drop k here) c.loop-group.invariant.left ∙ dropped-next names c.args.s group c.args.skipped lt) (says_then c.loop-group.invariant.said c.put_group-left.ensures.says);
+      left = omega (arith, c.put_group-left.ensures.skipped, c.loop-group.invariant.left, length-names_before names c.args.s group lt);
     }
 
 pub returns : goal.returns
