@@ -1,7 +1,8 @@
 mod Vocabulary
+mod Decided
+mod Fetched
+mod Stored
+mod Meant
+mod Sayable
+mod Steps
 mod Trailed
-pub mod Deciding
-pub mod Fetching
-pub mod Storing
-pub mod Beginning
-pub mod Steps

@@ -1,10 +1,7 @@
 -- What is followed over the first Yes answers, where the interview changes.
-use Rattle.ls_session.proofs.Vocabulary.{◌∙◌, ◌≡◌, Bool, EndsAt, Interview, IsTrail, IsTrail-more, IsTrailOf, List, None, Option, Query, Some, ℕ, [], accepted, answer_with, ap, arith, base, compatible_sets, false, followed-base, last_followed, peak_of, retracted, rules_before, subst, sym, take, trail_sets, true, yes_queries}
-use Rattle.std.specs.Option.{option_map_or}
+use Rattle.ls_session.proofs.Vocabulary.{◌≡◌, Bool, Interview, IsTrail, IsTrail-more, IsTrailOf, List, Query, Some, ℕ, accepted, answer_with, arith, false, retracted, rules_before, subst, sym, take, true, yes_queries}
 use Rattle.ls_theory.specs.declared.answer.Answer.{Answer}
 use Rattle.ls_laws.specs.Forced.{IsNumbered}
-use Rattle.ls_base.specs.Followed.{IsFollowed, followed_sets}
-use Rattle.ls_base.specs.declared.followed.Followed.{Followed}
 use Rattle.ls_base.specs.declared.trail.Entry.{Entry}
 use Rattle.ls_expert.proofs.AnswerLists.{yes_queries-yes, yes_queries-no, yes_queries-without_no, take-yes_queries-without_yes}
 
@@ -18,15 +15,3 @@ module _ (i : Interview) (a : Answer) (numbered : IsNumbered i) (stands : answer
 
   pub first-kept : (k : ℕ) → a.yes ≡ true → k ≡ rules_before i.answers a.number → take k (yes_queries (retracted i a.number).answers) ≡ take k (yes_queries i.answers)
   first-kept k is_yes e = take-yes_queries-without_yes i a numbered stands k is_yes (omega arith)
-
--- ---- what stands on the base of the last entry
-
-module _ (i : Interview) (t : List Entry) (f : Followed) (ends : EndsAt i.count i.start (yes_queries i.answers) t) (last : Some f ≡ last_followed t) where
-  pub last-followed : IsFollowed i.count i.start (yes_queries i.answers) f
-  last-followed =
-      let is : Some f ≡ Some ends.end = last ∙ ends.is_last in
-      let same : f ≡ ends.end = cc is in
-      subst (λ (e : Followed). IsFollowed i.count i.start (yes_queries i.answers) e) (sym same) ends.is_followed
-
-  pub last-sets : peak_of i ≡ None → trail_sets t ≡ base (compatible_sets i)
-  last-sets e = ap (λ (o : Option Followed). option_map_or followed_sets o []) (sym last) ∙ followed-base i f last-followed e

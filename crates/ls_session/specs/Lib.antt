@@ -1,6 +1,6 @@
 pub mod States
-pub mod Starts
+pub mod Readings
 pub mod Decides
+pub mod Standing
 pub mod Follows
 pub mod Faults
-pub mod Courses

@@ -3,14 +3,12 @@
 
 mod changing;
 mod decider;
-mod following;
-mod loading;
-mod saving;
+mod fetching;
 mod session;
 mod starting;
 mod state;
 mod step_fault;
-mod testing;
+mod viewing;
 
 pub use session::Session;
 pub use step_fault::StepFault;

@@ -39,11 +39,11 @@ fn is_passed(line: &[u8]) -> bool
 
 impl Model for Session {
     ghost use Rattle.ls_meaning.specs.{Session as State};
-    ghost use Rattle.ls_session.specs.Courses.{standing_session, IsIdle};
+    ghost use Rattle.ls_session.specs.Standing.{standing_session, IsIdle};
 
     ghost Value = { State };
 
-    ghost view = { λ s. standing_session s.decider.course };
+    ghost view = { λ s. standing_session s.decider.state };
 
     ghost invariant = { λ s. IsIdle s.room };
 }

@@ -1,13 +1,14 @@
 // Interviews that begin with the start that a file gives.
-ghost use Rattle.std.specs.Prelude.{◌≡◌, [], length, IfOk, OnOk, OnErr};
-ghost use Rattle.ls_theory.specs.{base, based, compat};
+ghost use Rattle.std.specs.Prelude.{◌≡◌, [], Ok, length, IfOk};
+ghost use Rattle.ls_theory.specs.{based};
 ghost use Rattle.ls_laws.specs.Spans.{AreOn};
 ghost use Rattle.ls_files.specs.SetFiles.{sets_of};
 ghost use Rattle.ls_files.specs.SurmiseFiles.{surmise_of};
 ghost use Rattle.ls_expert.specs.Starts.{start_of, IsStartOn};
 ghost use Rattle.ls_meaning.specs.{start_of_base, start_of_clauses, start_of_sets, start_read};
-ghost use Rattle.ls_meaning.specs.declared.response.Response.TheVariants.{Done};
-ghost use Rattle.ls_session.specs.Starts.{IsStartRead};
+ghost use Rattle.ls_meaning.specs.{starts_by};
+ghost use Rattle.ls_session.specs.Decides.{MakesChange};
+ghost use Rattle.ls_session.specs.Readings.{IsStartRead};
 ghost use Rattle.ls_session.specs.States.{IsTrailOf};
 
 use ls_base::{Base, Trail};
@@ -22,8 +23,33 @@ use ls_theory::{BaseFault, SurmiseFault};
 use std::alloc::{AllocError, Global};
 use std::sync::ledger::Ledger;
 
-/// The start that the bytes of a file give, or the refusal of a file that gives none.
-pub fn read_start(
+/// Begins the interview with the start that the bytes of a file give, where no answer stands. Where
+/// they give none it is refused, and where memory runs out nothing changes.
+pub fn start_from<L: Ledger>(
+    alloc: Global,
+    domain: &Domain,
+    file: StartFile,
+    bytes: &[u8],
+    inquiry: &mut Inquiry,
+    trail: &mut Trail,
+    steps: &mut Steps<L>,
+) -> Result<Response, AllocError>
+    requires items { length domain.now ≡ inquiry.old.count }
+    requires none { inquiry.old.answers ≡ [] }
+    requires trail { IsTrailOf inquiry.old trail.old }
+    ensures change { let i = inquiry.old in
+        MakesChange (starts_by i [] (start_read file domain.now bytes.now)) i inquiry.new result }
+    ensures trail { IsTrailOf inquiry.new trail.new }
+    ensures items { inquiry.new.count ≡ inquiry.old.count }
+{
+    match read_start(alloc, domain, file, bytes)? {
+        Ok(start) => begin_with(alloc, inquiry, trail, start, steps),
+        Err(refusal) => Ok(Response::Refused(refusal)),
+    }
+}
+
+// The start that the bytes of a file give, or the refusal of a file that gives none.
+fn read_start(
     alloc: Global,
     domain: &Domain,
     file: StartFile,
@@ -89,9 +115,9 @@ fn base_of(
     }
 }
 
-/// Begins the inquiry with the start, where no answer stands, and its trail with the base of the
-/// start. How many sets that has is told. Where memory runs out nothing changes.
-pub fn begin_with<L: Ledger>(
+// Begins the interview with the start, where no answer stands, and its trail with the base of the
+// start. How many sets that has is told.
+fn begin_with<L: Ledger>(
     alloc: Global,
     inquiry: &mut Inquiry,
     trail: &mut Trail,
@@ -101,11 +127,10 @@ pub fn begin_with<L: Ledger>(
     requires on { IsStartOn inquiry.old.count start }
     requires none { inquiry.old.answers ≡ [] }
     requires trail { IsTrailOf inquiry.old trail.old }
-    ensures response { IfOk result (λ r.
-        r ≡ Done (length (base (compat inquiry.old.count (start_of start) [])))) }
-    ensures next { OnOk result (inquiry.new ≡ record inquiry.old { start = start_of start }) }
+    ensures change { MakesChange (starts_by inquiry.old [] (Ok (start_of start)))
+        inquiry.old inquiry.new result }
     ensures trail { IsTrailOf inquiry.new trail.new }
-    ensures err { OnErr result (inquiry.new ≡ inquiry.old) }
+    ensures items { inquiry.new.count ≡ inquiry.old.count }
 {
     let base = start.base(alloc, inquiry.items())?;
     let number = base.sets().len() as u64;

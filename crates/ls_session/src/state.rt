@@ -1,43 +1,42 @@
-// A domain, the interview on its items, and its pupils.
-ghost use Rattle.std.specs.Prelude.{◌≡◌, ◌<◌, ◌==◌, true, not, [], length, Ok, IfOk, IfErr, OnOk, OnErr};
-ghost use Rattle.ls_theory.specs.{compatible_sets};
-ghost use Rattle.ls_files.specs.ClassTables.{class_of};
-ghost use Rattle.ls_files.specs.{session_of, session_text};
+// What stands where a domain does.
+ghost use Rattle.std.specs.Prelude.{◌≡◌, Ok, IfOk, IfErr, length};
+ghost use Rattle.ls_files.specs.{session_of};
 ghost use Rattle.ls_store.specs.Chains.{IsSessionFault};
-ghost use Rattle.ls_meaning.specs.{asked_effect, bytes_of, classed_by, edit_row, pupil_row, request_of, setting_row, shown_lines, start_read, started, starts_by, tested_by, unnamed_at, view_row};
-ghost use Rattle.ls_files.specs.SetFiles.{sets_of};
+ghost use Rattle.ls_meaning.specs.{bytes_of, edit_effect, in_domain, lines_of, pupil_effect};
+ghost use Rattle.ls_meaning.specs.{setting_effect, started, view_effect};
 ghost use Rattle.ls_write.specs.Rooms.{Says};
-ghost use Rattle.ls_resolve.specs.Asked.{IsOn, IsSettingOn};
-ghost use Rattle.ls_views.specs.Views.{CanShow, is_based};
 ghost use Rattle.ls_pupils.specs.Cases.{ArePupils};
-ghost use Rattle.ls_session.specs.States.{session_with, CanTell};
+ghost use Rattle.ls_session.specs.Decides.{Makes};
+ghost use Rattle.ls_session.specs.Standing.{IsAfterLine};
+ghost use Rattle.ls_session.specs.States.{state_session};
 
-use crate::changing::{set_blocks, take, take_back};
-use crate::following::{follow, seek};
-use crate::starting::{begin_with, read_start};
-use crate::testing::test_sets;
+mod files;
+
+use crate::changing::change;
+use crate::viewing::show;
 use ls_assess::Settings;
 use ls_base::Trail;
 use ls_domain::Domain;
 use ls_edge::Sink;
 use ls_expert::{Inquiry, Start};
 use ls_interior::Steps;
-use ls_lines::{Command, Word};
-use ls_meaning::{Edit, PupilRequest, Refusal, Request, Response, Setting, Shown, StartFile, View};
-use ls_pupils::{PupilCases, assess_class, attend, set};
-use ls_resolve::{ResolveFault, resolve};
-use ls_store::{Parts, SessionFault, print_parts, read_parts};
-use ls_views::{decide, decide_based, is_based, put_shown};
-use ls_write::{Room, SetTexts};
+use ls_lines::{EditCommand, PupilCommand, SettingCommand, ViewCommand};
+use ls_meaning::{Refusal, Response};
+use ls_pupils::{PupilCases, attend, set};
+use ls_resolve::{
+    ResolveFault, Unnamed, resolve_edit, resolve_pupil, resolve_setting, resolve_view,
+};
+use ls_store::{Parts, SessionFault, read_parts};
+use ls_write::{Room, SetTexts, put_response};
 use std::alloc::{AllocError, Global};
 use std::marker::Model;
 use std::sync::ledger::Ledger;
-use std::thread::Threads;
 
-/// A domain, the interview on its items, and the pupils that are assessed, with the settings of
-/// those that begin. The base of the interview is followed when it is asked for.
+/// What stands where a domain does: the names of its items, the interview on them, and the pupils
+/// that are assessed, with the settings of those that begin. The base of the interview is followed
+/// when it is asked for.
 #[derive(Drop)]
-pub struct Course {
+pub struct State {
     alloc: Global,
     texts: SetTexts,
     inquiry: Inquiry,
@@ -46,201 +45,32 @@ pub struct Course {
     pupils: PupilCases,
 }
 
-impl Model for Course {
-    ghost use Rattle.ls_base.specs.Trail.{trail_sets};
-    ghost use Rattle.ls_session.specs.States.{CourseState, session_with, IsCourse};
+impl Model for State {
+    ghost use Rattle.ls_meaning.specs.{Session};
+    ghost use Rattle.ls_session.specs.States.{IsState, state_session};
 
-    ghost Value = { CourseState };
+    ghost Value = { Session };
 
-    ghost view = { λ c. record {
-      session = session_with c.texts c.inquiry c.settings c.pupils;
-      followed = trail_sets c.trail;
-    } };
+    ghost view = { λ s. state_session s.texts s.inquiry s.settings s.pupils };
 
-    ghost invariant = { λ c. IsCourse c.texts c.inquiry c.trail c.settings c.pupils };
+    ghost invariant = { λ s. IsState s.texts s.inquiry s.trail s.settings s.pupils };
 }
 
-impl Course {
+impl State {
     /// The interview begins, with no answers, the standard settings and no pupils.
     pub fn begin<L: Ledger>(
         alloc: Global,
         domain: Domain,
         steps: &mut Steps<L>,
-    ) -> Result<Course, AllocError>
-        ensures { IfOk result (λ c. c.session ≡ started domain) }
+    ) -> Result<State, AllocError>
+        ensures { IfOk result (λ s. s ≡ started domain) }
     {
-        let inquiry = Inquiry::new(alloc, domain.count(), Start::Free, steps)?;
-        let settings = Settings::standard(alloc, domain.count())?;
-        Course::of(alloc, domain, inquiry, settings, PupilCases::new(alloc))
-    }
-
-    // The course of the parts of a session; its base is not followed yet.
-    fn of(
-        alloc: Global,
-        domain: Domain,
-        inquiry: Inquiry,
-        settings: Settings,
-        pupils: PupilCases,
-    ) -> Result<Course, AllocError>
-        requires items { length domain ≡ inquiry.count }
-        requires settings { length settings.ratios ≡ inquiry.count }
-        requires pupils { ArePupils inquiry.count pupils }
-        ensures { IfOk result (λ c. c.session ≡ session_with domain inquiry settings pupils) }
-    {
-        let _ = inquiry.items();
-        Ok(Course {
-            alloc,
-            texts: SetTexts::new(alloc, domain)?,
-            inquiry,
-            trail: Trail::new(alloc),
-            settings,
-            pupils,
-        })
-    }
-
-    /// The names of the items.
-    pub fn domain(&self) -> &Domain
-        ensures value { result.now ≡ self.now.session.names }
-        ensures some { 0 < length result.now }
-    {
-        self.texts.domain()
-    }
-
-    /// Carries out what a command asks, and answers the response. Where memory runs out nothing
-    /// changes.
-    pub fn ask<L: Ledger>(
-        &mut self,
-        command: &Command,
-        steps: &mut Steps<L>,
-    ) -> Result<Response, AllocError>
-        ensures response { let s = self.old.session in
-            IfOk result (λ r. r ≡ (asked_effect s (unnamed_at s command.now)
-            (request_of s.names command.now)).response) }
-        ensures session { let s = self.old.session in
-            OnOk result (self.new.session ≡ (asked_effect s (unnamed_at s command.now)
-            (request_of s.names command.now)).session) }
-        ensures said { IfOk result (CanTell self.new) }
-        ensures err { OnErr result (self.new.session ≡ self.old.session) }
-    {
-        match resolve(self.alloc, self.texts.domain(), command) {
-            Ok(Some(Request::View(view))) => self.view(view, steps),
-            Ok(Some(Request::Edit(edit))) => self.edit(&edit, steps),
-            Ok(Some(Request::Setting(setting))) => Ok(self.set(setting)),
-            Ok(Some(Request::Pupil { name, what })) => self.attend(name, what, steps),
-            Ok(None) => Ok(Response::Silence),
-            Err(ResolveFault::Unnamed { place }) => {
-                Ok(Response::Refused(Refusal::Unnamed { place }))
-            }
-            Err(ResolveFault::Memory(e)) => Err(e),
-        }
-    }
-
-    /// Says what is shown of the interview. It is not made part of its callers, since the frame of
-    /// a listing is large, and most lines of a long script show nothing.
-    #[inline(never)]
-    pub fn put<K: Sink, L: Ledger>(
-        &self,
-        shown: &Shown,
-        room: &mut Room,
-        out: &mut K,
-        steps: &mut Steps<L>,
-    )
-        requires { let s = self.now.session in
-            CanShow s.names s.interview self.now.followed shown.now }
-        ensures { Says (K.written out.old) (K.faults out.old) room.old (K.written out.new)
-            (K.faults out.new) room.new
-            (bytes_of (shown_lines self.now.session.names self.now.session.interview shown.now)) }
-    {
-        put_shown(
-            &self.texts,
-            &self.inquiry,
-            self.trail.sets(),
-            shown,
-            room,
-            out,
-            steps,
-        );
-    }
-
-    /// Whether an answer stands.
-    pub fn has_answers(&self) -> bool
-        ensures { result ≡ not (length self.now.session.interview.answers == 0) }
-    {
-        !self.inquiry.standing().is_empty()
-    }
-
-    /// Begins the interview with the start that the bytes of a file give, where no answer stands.
-    /// Where they give none it is refused, and where memory runs out nothing changes.
-    pub fn start_from<L: Ledger>(
-        &mut self,
-        file: StartFile,
-        bytes: &[u8],
-        steps: &mut Steps<L>,
-    ) -> Result<Response, AllocError>
-        requires { self.old.session.interview.answers ≡ [] }
-        ensures response { let s = self.old.session in IfOk result (λ r.
-            r ≡ (starts_by s.interview [] (start_read file s.names bytes.now)).response) }
-        ensures session { let s = self.old.session in
-            OnOk result (self.new.session ≡ record s {
-              interview =
-                  (starts_by s.interview [] (start_read file s.names bytes.now)).next;
-            }) }
-        ensures said { IfOk result (CanTell self.new) }
-        ensures err { OnErr result (self.new.session ≡ self.old.session) }
-    {
-        match read_start(self.alloc, self.texts.domain(), file, bytes)? {
-            Ok(start) => begin_with(self.alloc, &mut self.inquiry, &mut self.trail, start, steps),
-            Err(refusal) => Ok(Response::Refused(refusal)),
-        }
-    }
-
-    /// The verdict on the family that the bytes of a file give, or the refusal of a file that gives
-    /// none.
-    pub fn test<R: Threads + Sync>(&self, rt: &R, bytes: &[u8]) -> Result<Response, AllocError>
-        ensures response { let names = self.now.session.names in IfOk result (λ r.
-            r ≡ tested_by (length names) [] (sets_of names bytes.now)) }
-        ensures said { IfOk result (CanTell self.now) }
-    {
-        test_sets(rt, self.alloc, self.texts.domain(), bytes)
-    }
-
-    /// What is known of the pupils of the class that the bytes of a table give, each assessed over
-    /// the states as they are, with the settings; or the refusal of a table that gives no class, or
-    /// of states that can't be weighed.
-    pub fn class<R: Threads + Sync, L: Ledger>(
-        &self,
-        rt: &R,
-        bytes: &[u8],
-        steps: &mut Steps<L>,
-    ) -> Result<Response, AllocError>
-        ensures response { let s = self.now.session in IfOk result (λ r.
-            r ≡ classed_by s.settings (compatible_sets s.interview) []
-            (class_of s.names bytes.now)) }
-        ensures said { IfOk result (CanTell self.now) }
-    {
-        let inquiry = &self.inquiry;
-        assess_class(
-            rt,
-            self.alloc,
-            self.texts.domain(),
-            inquiry,
-            &self.settings,
-            bytes,
-            steps,
-        )
-    }
-
-    /// The text by which the session is saved.
-    pub fn text(&self) -> Result<Vec<u8>, AllocError>
-        ensures { IfOk result (λ v. v.items ≡ session_text self.now.session) }
-    {
-        print_parts(
-            self.alloc,
-            self.texts.domain(),
-            &self.inquiry,
-            &self.settings,
-            &self.pupils,
-        )
+        let count = domain.count();
+        let texts = SetTexts::new(alloc, domain)?;
+        let settings = Settings::standard(alloc, count)?;
+        let inquiry = Inquiry::new(alloc, count, Start::Free, steps)?;
+        let pupils = PupilCases::new(alloc);
+        Ok(State::of(alloc, texts, inquiry, settings, pupils))
     }
 
     /// The session that the bytes of a saved one give; its base is not followed yet. The error is
@@ -249,8 +79,8 @@ impl Course {
         alloc: Global,
         bytes: &[u8],
         steps: &mut Steps<L>,
-    ) -> Result<Course, SessionFault>
-        ensures session { IfOk result (λ c. session_of bytes.now ≡ Ok c.session) }
+    ) -> Result<State, SessionFault>
+        ensures session { IfOk result (λ s. session_of bytes.now ≡ Ok s) }
         ensures fault { IfErr result (IsSessionFault (session_of bytes.now)) }
     {
         let Parts {
@@ -259,98 +89,125 @@ impl Course {
             settings,
             pupils,
         } = read_parts(alloc, bytes, steps)?;
-        Ok(Course::of(alloc, domain, inquiry, settings, pupils)?)
+        let texts = SetTexts::new(alloc, domain)?;
+        Ok(State::of(alloc, texts, inquiry, settings, pupils))
     }
 
-    // What is shown. The base is followed, or the first open query looked for, where it is asked
-    // for.
-    fn view<L: Ledger>(&mut self, view: View, steps: &mut Steps<L>) -> Result<Response, AllocError>
-        requires { IsOn (length self.old.session.names) view }
-        ensures response { IfOk result (λ r. r ≡ view_row self.old.session.interview view) }
-        ensures session { self.new.session ≡ self.old.session }
-        ensures said { IfOk result (CanTell self.new) }
+    // The state of the parts of a session; its base is not followed yet.
+    fn of(
+        alloc: Global,
+        texts: SetTexts,
+        inquiry: Inquiry,
+        settings: Settings,
+        pupils: PupilCases,
+    ) -> State
+        requires items { length texts ≡ inquiry.count }
+        requires settings { length settings.ratios ≡ inquiry.count }
+        requires pupils { ArePupils inquiry.count pupils }
+        ensures { result ≡ state_session texts inquiry settings pupils }
     {
-        let _ = self.inquiry.standing();
-        if is_based(&view) {
-            self.based(view)
-        } else {
-            seek(&mut self.inquiry, &view);
-            Ok(decide(&self.inquiry, &view, steps))
+        // at least one
+        let _ = inquiry.items();
+        State {
+            alloc,
+            texts,
+            inquiry,
+            trail: Trail::new(alloc),
+            settings,
+            pupils,
         }
     }
 
-    // What stands on the base.
-    fn based(&mut self, view: View) -> Result<Response, AllocError>
-        requires on { IsOn (length self.old.session.names) view }
-        requires based { is_based view ≡ true }
-        ensures response { IfOk result (λ r. r ≡ view_row self.old.session.interview view) }
-        ensures session { self.new.session ≡ self.old.session }
-        ensures said { IfOk result (CanTell self.new) }
+    /// The names of the items.
+    pub fn domain(&self) -> &Domain
+        ensures { result.now ≡ self.now.names }
     {
-        let _ = self.inquiry.standing();
-        follow(&mut self.trail, &self.inquiry)?;
-        match self.trail.last() {
-            Some(followed) => decide_based(self.alloc, &self.inquiry, followed, view),
-            None => unreachable!(),
-        }
+        self.texts.domain()
     }
 
-    // How the interview changes.
-    fn edit<L: Ledger>(&mut self, edit: &Edit, steps: &mut Steps<L>) -> Result<Response, AllocError>
-        ensures response { IfOk result (λ r. r ≡ (edit_row self.old.session.interview
-            edit.now).response) }
-        ensures session { let s = self.old.session in OnOk result (self.new.session ≡
-            record s { interview = (edit_row s.interview edit.now).next }) }
-        ensures said { IfOk result (CanTell self.new) }
-        ensures err { OnErr result (self.new.session ≡ self.old.session) }
-    {
-        match edit {
-            Edit::Blocks { size } => set_blocks(&mut self.inquiry, *size),
-            Edit::Answer { query, yes } => take(&mut self.inquiry, *query, *yes, steps),
-            Edit::Retract { number } => {
-                let response = take_back(&mut self.inquiry, &mut self.trail, *number, steps);
-                Ok(response)
-            }
-        }
-    }
-
-    // How the settings change.
-    fn set(&mut self, setting: Setting) -> Response
-        requires { IsSettingOn (length self.old.session.names) setting }
-        ensures response { result ≡ (setting_row self.old.session.settings setting).response }
-        ensures session { let s = self.old.session in
-            self.new.session ≡ record s { settings = (setting_row s.settings setting).next } }
-        ensures said { CanTell self.new result }
-    {
-        let _ = self.inquiry.items();
-        set(&mut self.settings, setting)
-    }
-
-    // What is asked of a pupil, or done with it.
-    fn attend<L: Ledger>(
+    /// Changes the interview. Where memory runs out nothing changes.
+    pub fn edit<L: Ledger>(
         &mut self,
-        name: Word,
-        what: PupilRequest,
+        command: &EditCommand,
         steps: &mut Steps<L>,
     ) -> Result<Response, AllocError>
-        ensures response { let s = self.old.session in IfOk result (λ r.
-            r ≡ (pupil_row s.interview s.settings s.pupils name what).response) }
-        ensures session { let s = self.old.session in
-            OnOk result (self.new.session ≡ record s {
-              pupils =
-                  (pupil_row s.interview s.settings s.pupils name what).next;
-            }) }
-        ensures said { IfOk result (CanTell self.new) }
-        ensures err { OnErr result (self.new.session ≡ self.old.session) }
+        ensures { Makes (in_domain self.old (edit_effect self.old command.now))
+            self.old self.new result }
     {
-        attend(
-            self.alloc,
-            &mut self.pupils,
-            name,
-            what,
-            &self.inquiry,
-            &self.settings,
-            steps,
-        )
+        match resolve_edit(self.texts.domain(), command) {
+            Ok(edit) => change(&mut self.inquiry, &mut self.trail, &edit, steps),
+            Err(Unnamed { place }) => Ok(Response::Refused(Refusal::Unnamed { place })),
+        }
+    }
+
+    /// What is shown of the interview, which stays as it is.
+    pub fn view<L: Ledger>(
+        &mut self,
+        command: &ViewCommand,
+        steps: &mut Steps<L>,
+    ) -> Result<Response, AllocError>
+        ensures { Makes (in_domain self.old (view_effect self.old command.now))
+            self.old self.new result }
+    {
+        match resolve_view(self.alloc, self.texts.domain(), command) {
+            Ok(view) => show(self.alloc, &mut self.inquiry, &mut self.trail, view, steps),
+            Err(ResolveFault::Unnamed { place }) => {
+                Ok(Response::Refused(Refusal::Unnamed { place }))
+            }
+            Err(ResolveFault::Memory(e)) => Err(e),
+        }
+    }
+
+    /// Changes the settings of the pupils that begin.
+    pub fn set(&mut self, command: &SettingCommand) -> Response
+        ensures { Makes (in_domain self.old (setting_effect self.old command.now))
+            self.old self.new (Ok result) }
+    {
+        match resolve_setting(self.texts.domain(), command) {
+            Ok(setting) => set(&mut self.settings, setting),
+            Err(Unnamed { place }) => Response::Refused(Refusal::Unnamed { place }),
+        }
+    }
+
+    /// What is asked of a pupil, or done with it. Where memory runs out nothing changes.
+    pub fn attend<L: Ledger>(
+        &mut self,
+        command: &PupilCommand,
+        steps: &mut Steps<L>,
+    ) -> Result<Response, AllocError>
+        ensures { Makes (in_domain self.old (pupil_effect self.old command.now))
+            self.old self.new result }
+    {
+        match resolve_pupil(self.texts.domain(), command) {
+            Ok(what) => attend(
+                self.alloc,
+                &mut self.pupils,
+                command.name(),
+                what,
+                &self.inquiry,
+                &self.settings,
+                steps,
+            ),
+            Err(Unnamed { place }) => Ok(Response::Refused(Refusal::Unnamed { place })),
+        }
+    }
+
+    /// Says the lines of a response. It is not made part of its caller, since its frame is large.
+    #[inline(never)]
+    pub fn put<K: Sink, L: Ledger>(
+        &self,
+        response: &Response,
+        room: &mut Room,
+        out: &mut K,
+        steps: &mut Steps<L>,
+    )
+        requires { IsAfterLine self.now response.now }
+        ensures { Says (K.written out.old) (K.faults out.old) room.old
+            (K.written out.new) (K.faults out.new) room.new
+            (bytes_of (lines_of self.now response.now)) }
+    {
+        // it is sound
+        let _ = self.inquiry.standing();
+        put_response(&self.texts, &self.inquiry, response, room, out, steps);
     }
 }

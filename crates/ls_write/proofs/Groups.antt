@@ -15,7 +15,7 @@ get_or-map-numbers f d i zero k h = absurd (omega arith)
 get_or-map-numbers f d i (suc m) zero h = ap f (let e : i ≡ i + 0 = omega arith in e)
 get_or-map-numbers f d i (suc m) (suc k) h = get_or-map-numbers f d (suc i) m k (omega arith) ∙ ap f (let e : suc i + k ≡ i + suc k = omega arith in e)
 
-pub numbers_from-next : (i m : ℕ) → numbers_from i (m + 1) ≡ numbers_from i m ++ (i + m) ∷ []
+numbers_from-next : (i m : ℕ) → numbers_from i (m + 1) ≡ numbers_from i m ++ (i + m) ∷ []
 numbers_from-next i m = numbers_from-add i m 1
 
 same-filter : (p q : ℕ → Bool) (i m : ℕ) → ((j : ℕ) → i ≤ j → j < i + m → p j ≡ q j) → filter p (numbers_from i m) ≡ filter q (numbers_from i m)
@@ -101,7 +101,7 @@ module _ (names : List Text) where
   pub names_before-dropped : (s : Items) (k : ℕ) → [] ≡ drop k (names_before s 0)
   names_before-dropped s k = sym (drop_of_length-le [] (omega arith)) ∙ ap (drop k) (sym (names_before-none s))
 
-  pub names_before-next : (s : Items) (g : ℕ) → 8 * g < length names → names_before s g ++ spaced_names names (has s) (group_items (length names) g) ≡ names_before s (g + 1)
+  names_before-next : (s : Items) (g : ℕ) → 8 * g < length names → names_before s g ++ spaced_names names (has s) (group_items (length names) g) ≡ names_before s (g + 1)
   names_before-next s g h =
       let n = length names in
       let low : min n (8 * g) ≡ 8 * g = omega arith in

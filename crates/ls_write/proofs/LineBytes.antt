@@ -7,7 +7,7 @@ use Rattle.ls_meaning.specs.Heads as head
 pub lines-one : (l : Line) → line_bytes l ≡ lines_bytes (l ∷ [])
 lines-one l = sym (append-nil (line_bytes l))
 
-pub lines-append : (ls ks : List Line) → lines_bytes (ls ++ ks) ≡ lines_bytes ls ++ lines_bytes ks
+lines-append : (ls ks : List Line) → lines_bytes (ls ++ ks) ≡ lines_bytes ls ++ lines_bytes ks
 lines-append ls ks = flat_map-append line_bytes ls ks
 
 pub lines-last : (ls : List Line) (l : Line) → lines_bytes ls ++ line_bytes l ≡ lines_bytes (ls ++ l ∷ [])

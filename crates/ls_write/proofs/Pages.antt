@@ -1,15 +1,15 @@
 -- The bytes of a page, line by line, by what is left of a listing.
-use Rattle.ls_write.proofs.Vocabulary.{◌++◌, ◌+◌, ◌-◌, ◌<◌, ◌∙◌, ◌∷◌, ◌≡◌, ◌≤◌, Bool, Line, List, MatchOption, None, Option, Some, ℕ, [], ap, ap₂, arith, false, filter_true, is_some, length, line_bytes, line_of, lines_bytes, lt-ltb, ltb, map, more_line, nat_tests, paths, paths_after, suc, sym, take, zero}
+use Rattle.ls_write.proofs.Vocabulary.{◌++◌, ◌+◌, ◌-◌, ◌<◌, ◌∙◌, ◌∷◌, ◌≡◌, ◌≤◌, Bool, Line, List, MatchOption, None, Option, Some, ℕ, [], ap, ap₂, arith, false, filter_true, is_some, length, line_bytes, lines_bytes, lt-ltb, ltb, map, more_line, nat_tests, paths, paths_after, suc, sym, take, zero}
 use Rattle.ls_write.proofs.LineBytes.{lines-one}
 use Rattle.ls_set.specs.{Items}
 
-module _ {X : Type 0} (line_of : X → Line) where
+module _ {X : Type 0} (as_line : X → Line) where
   -- the page of k of those that are left
   abbrev pub page_bytes : List X → ℕ → List ℕ
-  page_bytes left k = lines_bytes (map line_of (take k left) ++ more_line (ltb k (length left)) ∷ [])
+  page_bytes left k = lines_bytes (map as_line (take k left) ++ more_line (ltb k (length left)) ∷ [])
 
-  next : (x : X) (rest : List X) (k : ℕ) → page_bytes (x ∷ rest) (suc k) ≡ line_bytes (line_of x) ++ page_bytes rest k
-  next x rest k = ap (λ more. line_bytes (line_of x) ++ lines_bytes (map line_of (take k rest) ++ more_line more ∷ [])) (later k (length rest))
+  next : (x : X) (rest : List X) (k : ℕ) → page_bytes (x ∷ rest) (suc k) ≡ line_bytes (as_line x) ++ page_bytes rest k
+  next x rest k = ap (λ more. line_bytes (as_line x) ++ lines_bytes (map as_line (take k rest) ++ more_line more ∷ [])) (later k (length rest))
     where
       later : (k l : ℕ) → ltb (suc k) (suc l) ≡ ltb k l
       later k l = grind (arith, nat_tests)
@@ -24,7 +24,7 @@ module _ {X : Type 0} (line_of : X → Line) where
   module _ (given whole : List ℕ) (left : List X) (count done : ℕ) (so_far : given ++ page_bytes left (count - done) ≡ whole) where
     -- one of the page was said
     pub page-next : (x : X) (rest : List X) → left ≡ x ∷ rest → done < count
-        → given ++ (line_bytes (line_of x) ++ page_bytes rest (count - (done + 1))) ≡ whole
+        → given ++ (line_bytes (as_line x) ++ page_bytes rest (count - (done + 1))) ≡ whole
     page-next x rest e l =
         let k : count - done ≡ suc (count - (done + 1)) = omega arith in
         ap (λ bytes. given ++ bytes) (sym (ap₂ page_bytes e k ∙ next x rest (count - (done + 1)))) ∙ so_far

@@ -1,5 +1,5 @@
 -- Parts of bytes, which stay as they are where more bytes follow.
-use Rattle.ls_write.proofs.Vocabulary.{◌++◌, ◌∙◌, ◌∷◌, ◌≡◌, ◌≤◌, All, All-push, List, ℕ, [], ap₂, arith, length, length-append, map, map-append, part-kept, part-last, refl, slice_range, suc}
+use Rattle.ls_write.proofs.Vocabulary.{◌++◌, ◌∙◌, ◌∷◌, ◌≡◌, ◌≤◌, All, List, ℕ, [], ap₂, arith, length, map, map-append, part-kept, part-last, refl, slice_range, suc}
 
 -- parts by their bounds
 module _ {X : Type 0} (start end : X → ℕ) (ordered : (p : X) → start p ≤ end p) where
@@ -15,9 +15,3 @@ module _ {X : Type 0} (start end : X → ℕ) (ordered : (p : X) → start p ≤
   parts-next bs xs ps p h s e =
       map-append (λ p. slice_range (bs ++ xs) (start p) (end p)) ps (p ∷ [])
       ∙ ap₂ (λ ts t. ts ++ t ∷ []) (parts-kept bs xs ps h) (ap₂ (slice_range (bs ++ xs)) s e ∙ part-last bs xs)
-
-  pub within-longer : (bs xs : List ℕ) (ps : List X) → All (λ p. end p ≤ length bs) ps → All (λ p. end p ≤ length (bs ++ xs)) ps
-  within-longer bs xs ps h = λ k d l. let w = h k d l in omega (arith, length-append bs xs, w)
-
-  pub within-next : (bs xs : List ℕ) (ps : List X) (p : X) → All (λ p. end p ≤ length bs) ps → end p ≡ length (bs ++ xs) → All (λ p. end p ≤ length (bs ++ xs)) (ps ++ p ∷ [])
-  within-next bs xs ps p h e = All-push (λ p. end p ≤ length (bs ++ xs)) ps p (within-longer bs xs ps h) (omega arith)

@@ -6,7 +6,7 @@ pub use Rattle.std.proofs.lemmas.Bool.{agree_below_at, and_from, and_parts, case
 pub use Rattle.std.proofs.lemmas.Bool.Decides.{Decides-eqb, nat_tests}
 pub use Rattle.std.proofs.lemmas.Grind.{common_steps, flat_map-append}
 pub use Rattle.std.proofs.lemmas.List.{drop_all, drop_min, drop_more, get_or-append-add, get_or-map, get_or_past, length-map, map-append, map-id, take_all, take_more}
-pub use Rattle.std.proofs.lemmas.List.Elements.{All-cons, All-head, All-nil, All-push, All-tail, filter-append}
+pub use Rattle.std.proofs.lemmas.List.Elements.{All-cons, All-head, All-nil, All-tail, filter-append}
 pub use Rattle.std.proofs.lemmas.Simd.{map-map}
 pub use Rattle.std.proofs.lemmas.Slice.Eq.{bytes_eq-Decides, strip_prefix_is}
 pub use Rattle.std.specs.Cmp.Lexicographic.{pointwise, slice_cmp}

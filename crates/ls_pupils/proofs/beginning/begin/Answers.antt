@@ -1,7 +1,6 @@
-use Rattle.ls_pupils.proofs.Vocabulary.{◌<◌, ◌∙◌, ◌≤◌, IfOk-weaker, IsNewPupil, ap, false, is_some, length, length-map, most_pupils, pupil_of_case, pupils_of, subst, sym}
+use Rattle.ls_pupils.proofs.Vocabulary.{◌<◌, ◌∙◌, ◌≤◌, IfOk-weaker, IsNewPupil, ap, is_some, length, length-map, most_pupils, pupil_of_case, pupils_of, subst, sym}
 use Rattle.ls_pupils.proofs.Named.{stands, not_standing}
 use Rattle.ls_pupils.proofs.Rows.{begin-stands, begin-many, begin-refused, begin-begins}
-use Rattle.ls_pupils.proofs.beginning.begin.Given as given
 use Rattle.ls_pupils.proofs.beginning.begin.Goals as goal
 
 pub returns-then-is_some-clause-row : goal.returns-then-is_some-clause-row

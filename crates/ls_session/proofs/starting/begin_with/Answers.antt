@@ -1,4 +1,4 @@
-use Rattle.ls_session.proofs.Vocabulary.{◌∙◌, Interview, IsTrail, IsTrailOf, [], ap, base, compat, subst, sym, yes_queries}
+use Rattle.ls_session.proofs.Vocabulary.{[], ◌∙◌, Interview, IsTrail, IsTrailOf, ap, base, compat, subst, sym, yes_queries}
 use Rattle.ls_expert.specs.Starts.{start_of}
 use Rattle.ls_session.proofs.starting.begin_with.Goals as goal
 

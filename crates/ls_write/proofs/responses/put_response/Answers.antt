@@ -1,6 +1,4 @@
 use Rattle.ls_write.proofs.Vocabulary.{◌∙◌, session_with, shown_lines}
-use Rattle.ls_write.specs.Rooms.{Says}
-use Rattle.ls_meaning.specs.declared.response.Response.TheVariants as response
 use Rattle.ls_write.proofs.Saying.{says_as}
 use Rattle.ls_write.proofs.LineBytes.{lines-words}
 use Rattle.ls_write.proofs.Showing.{said-same}

@@ -1,6 +1,5 @@
 use Rattle.ls_write.proofs.Vocabulary.{◌++◌, ◌∙◌, CanShow, Items, List, [], ap, ap₂, asked_line, atom_items, base_lines, breaks_none, clauses_at, comes_before, compat, compatible_sets, filter, fringes_line, is_lex_before, known_line, learning_line, length, line_bytes, lines_bytes, map, page, page_lines, path_lines, paths, projection, question_line, set_of, state_line, subst, surmise_line, sym, verdict_line}
 use Rattle.ls_expert.specs.Starts.{StartOn}
-use Rattle.ls_meaning.specs.declared.response.Shown.TheVariants as shown
 use Rattle.ls_write.proofs.Saying.{says_as, says_then}
 use Rattle.ls_write.proofs.LineBytes.{lines-one, lines-last}
 use Rattle.ls_write.proofs.Atoms.{base-clauses, base-atoms}

@@ -1,4 +1,4 @@
-use Rattle.ls_write.proofs.Vocabulary.{◌%◌, ◌*◌, ◌++◌, ◌-◌, ◌/◌, ◌^◌, ◌∙◌, ◌∷◌, ◌≡◌, Global, Vec, ℕ, ap, append_assoc, ap₂, bit_at, eq-eqb, eqb, false, if◌then◌else◌, name_of, ne_eqb, numbers_from, spaced_names, sym, true}
+use Rattle.ls_write.proofs.Vocabulary.{◌%◌, ◌*◌, ◌++◌, ◌-◌, ◌/◌, ◌^◌, ◌∙◌, ◌∷◌, ◌≡◌, Global, Vec, ℕ, ap, append_assoc, ap₂, bit_at, eq-eqb, eqb, false, name_of, ne_eqb, numbers_from, spaced_names, sym, true}
 use Rattle.std.proofs.lemmas.Nat.{and_mask}
 use Rattle.ls_write.proofs.Groups.{spaced-taken, spaced-passed}
 use Rattle.ls_write.proofs.set_texts.push_group.Goals as goal

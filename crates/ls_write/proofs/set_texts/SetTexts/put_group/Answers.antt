@@ -1,4 +1,4 @@
-use Rattle.ls_write.proofs.Vocabulary.{◌∙◌, [], ap, arith, drop, drop_min, drop_of_length-le, if◌then◌else◌, length, length-drop, sym, take, take-length}
+use Rattle.ls_write.proofs.Vocabulary.{◌∙◌, [], ap, arith, drop, drop_min, drop_of_length-le, length, length-drop, sym, take, take-length}
 use Rattle.ls_write.proofs.Saying.{says_as, says_nothing}
 use Rattle.ls_write.proofs.Groups.{group_text-of_set, group_text-none}
 use Rattle.ls_write.proofs.set_texts.SetTexts.put_group.Goals as goal
