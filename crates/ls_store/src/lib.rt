@@ -3,23 +3,22 @@
 #![tactic(auto)]
 
 mod apart;
-mod blocks;
+mod coded;
+mod entries;
 mod fault;
 mod inquiries;
 mod laws;
-mod members;
 mod names;
 mod objects;
 mod parts;
 mod printing;
 mod pupil_values;
 mod pupils;
-mod readers;
 mod reading;
 mod replaying;
 mod saved;
+mod settings;
 mod starts;
-mod values;
 
 pub use fault::SessionFault;
 pub use laws::{sessions_are_read_back, tests_tell_what_stands};
