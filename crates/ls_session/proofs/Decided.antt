@@ -147,7 +147,6 @@ pupil-stored s c = asked-stored s (unnamed s.names (pupil_item_words c)) (change
 pub some_names : {s t : Session} → s ≡ t → 0 < length s.names → 0 < length t.names
 some_names {s} {t} same some = subst (λ (x : Session). 0 < length x.names) same some
 
-
 module _ {o : Option Session} {c d : Command} (is : c ≡ d) where
   pub decides_standing : {s new : Session} {before after : ShelfState} {r : Result Response AllocError} → o ≡ Some s
       → Decides (λ calls. command_effect s calls d) s new before after r → Decides (λ calls. command_effect (standing_session o) calls c) (standing_session o) new before after r

@@ -109,13 +109,30 @@ module _ (n : ℕ) (some : 0 < n) (few : n ≤ most_items) where
   pupil-plain : (p : Pupil) → IsPupil n p → IsPlain (pupil_value version.Ratios n p)
   pupil-plain p h =
       let stands = stands-parts n p h.stands in
-      let settings = settings-parts n p.settings h.settings in
-      ((IsUtf8-are_ascii (codes "limits") refl, limits-faithful.plain (p.settings.budget, p.settings.share) settings.limits,
-        (IsUtf8-are_ascii (codes "name") refl, is_name-utf8 p.name stands.name,
-        (IsUtf8-are_ascii (codes "odds") refl, (odds-faithful n).plain p.settings.ratios (settings.ratios, settings.count),
-        (IsUtf8-are_ascii (codes "replies") refl, replies-faithful.plain p.replies (replies-less n p some h),
-        (IsUtf8-are_ascii (codes "start") refl, (start-faithful n).plain p.start h.start,
-        (IsUtf8-are_ascii (codes "yes") refl, yeses-faithful.plain p.yeses stands.good, tt)))))), refl)
+      let settings = settings-parts n p.settings h.settings in (
+        (
+          IsUtf8-are_ascii (codes "limits") refl,
+          limits-faithful.plain (p.settings.budget, p.settings.share) settings.limits,
+          (
+            IsUtf8-are_ascii (codes "name") refl,
+            is_name-utf8 p.name stands.name,
+            (
+              IsUtf8-are_ascii (codes "odds") refl,
+              (odds-faithful n).plain p.settings.ratios (settings.ratios, settings.count),
+              (
+                IsUtf8-are_ascii (codes "replies") refl,
+                replies-faithful.plain p.replies (replies-less n p some h),
+                (
+                  IsUtf8-are_ascii (codes "start") refl,
+                  (start-faithful n).plain p.start h.start,
+                  (IsUtf8-are_ascii (codes "yes") refl, yeses-faithful.plain p.yeses stands.good, tt),
+                ),
+              ),
+            ),
+          ),
+        ),
+        refl,
+      )
 
   pupil-shallow : (p : Pupil) → depth (pupil_value version.Ratios n p) ≤ 4
   pupil-shallow p =

@@ -91,16 +91,42 @@ module _ (s : Session) (h : IsWhole s) where
       let i = s.interview in
       let n = i.count in
       let settings = settings-parts n s.settings h.settings in
-      let next : i.next < 2 ^ 64 = omega (arith, h.answers.numbers_left) in
-      ((IsUtf8-are_ascii (codes "answers") refl, answers-faithful.plain i.answers refl,
-        (IsUtf8-are_ascii (codes "block") refl, (block-faithful n few).plain i.block h.blocks,
-        (IsUtf8-are_ascii (codes "items") refl, names-faithful.plain s.names h.domain,
-        (IsUtf8-are_ascii (codes "limits") refl, limits-faithful.plain (s.settings.budget, s.settings.share) settings.limits,
-        (IsUtf8-are_ascii (codes "next") refl, next,
-        (IsUtf8-are_ascii (codes "odds") refl, (odds-faithful n).plain s.settings.ratios (settings.ratios, settings.count),
-        (IsUtf8-are_ascii (codes "pupils") refl, pupils-faithful.plain s.pupils (h.pupils, h.apart),
-        (IsUtf8-are_ascii (codes "start") refl, (start-faithful n).plain i.start h.start,
-        (IsUtf8-are_ascii (codes "version") refl, omega arith, tt))))))))), refl)
+      let next : i.next < 2 ^ 64 = omega (arith, h.answers.numbers_left) in (
+        (
+          IsUtf8-are_ascii (codes "answers") refl,
+          answers-faithful.plain i.answers refl,
+          (
+            IsUtf8-are_ascii (codes "block") refl,
+            (block-faithful n few).plain i.block h.blocks,
+            (
+              IsUtf8-are_ascii (codes "items") refl,
+              names-faithful.plain s.names h.domain,
+              (
+                IsUtf8-are_ascii (codes "limits") refl,
+                limits-faithful.plain (s.settings.budget, s.settings.share) settings.limits,
+                (
+                  IsUtf8-are_ascii (codes "next") refl,
+                  next,
+                  (
+                    IsUtf8-are_ascii (codes "odds") refl,
+                    (odds-faithful n).plain s.settings.ratios (settings.ratios, settings.count),
+                    (
+                      IsUtf8-are_ascii (codes "pupils") refl,
+                      pupils-faithful.plain s.pupils (h.pupils, h.apart),
+                      (
+                        IsUtf8-are_ascii (codes "start") refl,
+                        (start-faithful n).plain i.start h.start,
+                        (IsUtf8-are_ascii (codes "version") refl, omega arith, tt),
+                      ),
+                    ),
+                  ),
+                ),
+              ),
+            ),
+          ),
+        ),
+        refl,
+      )
 
   session-shallow : depth (object (session_members s)) ≤ 6
   session-shallow =

@@ -70,8 +70,8 @@ abbrev pub pair_of : {X Y : Type 0} → Codec X → Codec Y → Codec (X × Y)
 pair_of a b = record {
   write = λ p. array (item (a.write p.0) (item (b.write p.1) no_items));
   read = λ d.
-    option_and_then (λ p. option_zip (a.read p.0) (b.read p.1))
-    (option_and_then two_values (as_array d));
+      option_and_then (λ p. option_zip (a.read p.0) (b.read p.1))
+      (option_and_then two_values (as_array d));
 }
 
 abbrev pub four_values : Items → Option ((Data × Data) × (Data × Data))
@@ -86,12 +86,12 @@ four_values (item d (item e (item f (item g (item h ds))))) = None
 abbrev pub four_of : {W X Y Z : Type 0} → Codec W → Codec X → Codec Y → Codec Z → Codec ((W × X) × (Y × Z))
 four_of a b c d = record {
   write = λ p.
-    array (item (a.write p.0.0) (item (b.write p.0.1)
-    (item (c.write p.1.0) (item (d.write p.1.1) no_items))));
+      array (item (a.write p.0.0) (item (b.write p.0.1)
+      (item (c.write p.1.0) (item (d.write p.1.1) no_items))));
   read = λ v.
-    option_and_then (λ p. option_zip
-    (option_zip (a.read p.0.0) (b.read p.0.1)) (option_zip (c.read p.1.0) (d.read p.1.1)))
-    (option_and_then four_values (as_array v));
+      option_and_then (λ p. option_zip
+      (option_zip (a.read p.0.0) (b.read p.0.1)) (option_zip (c.read p.1.0) (d.read p.1.1)))
+      (option_and_then four_values (as_array v));
 }
 
 -- ---- objects
