@@ -35,7 +35,8 @@ impl Model for ClassTable {
 
     ghost Value = { List Row };
 
-    ghost view = { λ t. map (λ e. record { name = string_bytes e.0; right = e.1 }) t.pupils.entries };
+    ghost view = { λ t.
+        map (λ e. record { name = string_bytes e.0; right = e.1 }) t.pupils.entries };
 
     ghost invariant = { λ t. length t.pupils.entries ≤ most_class_pupils };
 }
@@ -86,7 +87,8 @@ impl ClassTable {
     /// The name of the pupil at the place, counted from 0, and the items that it gets right.
     pub fn row(&self, place: usize) -> (&str, ItemSet)
         requires { place < length self.now }
-        ensures { slice_get self.now place ≡ Some (record { name = result.0.now; right = result.1 }) }
+        ensures { slice_get self.now place
+            ≡ Some (record { name = result.0.now; right = result.1 }) }
     {
         let (name, right) = self.pupils.get_index(place).unwrap();
         (name.as_str(), *right)

@@ -1,5 +1,7 @@
--- The parts of a saved session: each is read from a value, where it is of its form and meets its conditions. A session and its pupils share them.
-use Rattle.std.specs.Prelude.{ℕ, Bool, ◌==◌, nat_lt, if◌then◌else◌, List, length, codes, bytes_eq, Option, Some, None, option_map, option_and_then}
+-- The parts of a saved session: each is read from a value, where it is of its form and meets its
+-- conditions. A session and its pupils share them.
+use Rattle.std.specs.Prelude.{ℕ, Bool, ◌==◌, nat_lt, if◌then◌else◌, List, length, codes, bytes_eq}
+use Rattle.std.specs.Prelude.{Option, Some, None, option_map, option_and_then}
 use Rattle.std.specs.Option.{option_zip}
 use Rattle.std.specs.Result.{result_ok}
 use Rattle.serde_json.specs.Data.{Data}
@@ -25,7 +27,8 @@ use Rattle.ls_files.specs.Readers.{only_if, read_number, read_pair, four_values,
 -- ---- the version, and the items
 
 abbrev pub version_from : ℕ → Option Version
-version_from n = if n == 1 then Some version.Odds else (if n == 2 then Some version.Ratios else None)
+version_from n =
+    if n == 1 then Some version.Odds else (if n == 2 then Some version.Ratios else None)
 
 abbrev pub read_version : Data → Option Version
 read_version d = option_and_then version_from (read_number d)
@@ -113,17 +116,22 @@ answer_from p = record { number = p.0.0; query = query_from p.1; yes = p.0.1 }
 -- a number, whether it is Yes, a cursor and an item
 abbrev pub read_answer : ℕ → Data → Option Answer
 read_answer n d =
-    option_and_then (λ p. option_map answer_from (option_zip (option_zip (read_number p.0.0) (as_bool p.0.1)) (option_zip (read_set n p.1.0) (read_item n p.1.1))))
+    option_and_then (λ p. option_map answer_from
+    (option_zip (option_zip (read_number p.0.0) (as_bool p.0.1))
+    (option_zip (read_set n p.1.0) (read_item n p.1.1))))
     (option_and_then four_values (as_array d))
 
 abbrev pub interview_from : ℕ → Start → ℕ → List Answer × ℕ → Interview
-interview_from n start block p = record { count = n; start = start; block = block; answers = p.0; next = p.1 }
+interview_from n start block p =
+    record { count = n; start = start; block = block; answers = p.0; next = p.1 }
 
 -- the interview of n items, of whose parts the answers and the next number are left to be read
 abbrev pub read_interview : ℕ → Start → ℕ → Data → Option Interview
 read_interview n start block d =
     only_if stands
-    (option_map (interview_from n start block) (option_zip (at_key (codes "answers") (read_list (read_answer n)) d) (at_key (codes "next") read_number d)))
+    (option_map (interview_from n start block)
+    (option_zip (at_key (codes "answers") (read_list (read_answer n)) d)
+    (at_key (codes "next") read_number d)))
 
 -- ---- the pupils
 
@@ -134,20 +142,26 @@ abbrev pub read_reply : ℕ → Data → Option Reply
 read_reply n d = option_map reply_from (read_pair (read_item n) as_bool d)
 
 abbrev pub pupil_from : (Text × Settings) × (Start × (List Query × List Reply)) → Pupil
-pupil_from p = record { name = p.0.0; start = p.1.0; yeses = p.1.1.0; settings = p.0.1; replies = p.1.1.1 }
+pupil_from p =
+    record { name = p.0.0; start = p.1.0; yeses = p.1.1.0; settings = p.0.1; replies = p.1.1.1 }
 
 abbrev pub read_settings : Version → ℕ → Data → Option Settings
-read_settings v n d = option_map (λ p. settings_from p.0 p.1) (option_zip (at_key (codes "odds") (read_odds v n) d) (at_key (codes "limits") read_limits d))
+read_settings v n d =
+    option_map (λ p. settings_from p.0 p.1)
+    (option_zip (at_key (codes "odds") (read_odds v n) d) (at_key (codes "limits") read_limits d))
 
 -- what a pupil has answered and was asked
 abbrev pub read_course : ℕ → Data → Option (List Query × List Reply)
-read_course n d = option_zip (at_key (codes "yes") (read_list (read_query n)) d) (at_key (codes "replies") (read_list (read_reply n)) d)
+read_course n d =
+    option_zip (at_key (codes "yes") (read_list (read_query n)) d)
+    (at_key (codes "replies") (read_list (read_reply n)) d)
 
 abbrev pub read_pupil : Version → ℕ → Data → Option Pupil
 read_pupil v n d =
     only_if (is_pupil n)
     (option_map pupil_from
-    (option_zip (option_zip (at_key (codes "name") as_str d) (read_settings v n d)) (option_zip (at_key (codes "start") (read_start n) d) (read_course n d))))
+    (option_zip (option_zip (at_key (codes "name") as_str d) (read_settings v n d))
+    (option_zip (at_key (codes "start") (read_start n) d) (read_course n d))))
 
 abbrev pub read_pupils : Version → ℕ → Data → Option (List Pupil)
 read_pupils v n d = only_if are_pupils (read_list (read_pupil v n) d)

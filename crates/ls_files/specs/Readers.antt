@@ -30,8 +30,10 @@ four_values (item d (item e (item f no_items))) = None
 four_values (item d (item e (item f (item g no_items)))) = Some ((d, e), (f, g))
 four_values (item d (item e (item f (item g (item h ds))))) = None
 
-abbrev pub read_pair : {X Y : Type 0} → (Data → Option X) → (Data → Option Y) → Data → Option (X × Y)
-read_pair f g d = option_and_then (λ p. option_zip (f p.0) (g p.1)) (option_and_then two_values (as_array d))
+abbrev pub read_pair : {X Y : Type 0} → (Data → Option X) → (Data → Option Y) → Data
+    → Option (X × Y)
+read_pair f g d =
+    option_and_then (λ p. option_zip (f p.0) (g p.1)) (option_and_then two_values (as_array d))
 
 -- the value at a key
 abbrev pub at_key : {X : Type 0} → List ℕ → (Data → Option X) → Data → Option X

@@ -5,10 +5,12 @@ use Rattle.ls_files.specs.declared.cause.Cause.{Cause}
 use Rattle.ls_files.specs.declared.cause.Cause.TheVariants as cause
 use Rattle.ls_files.specs.Sessions.{Session}
 use Rattle.ls_files.specs.Readers.{at_key, read_object}
-use Rattle.ls_files.specs.Parts.{read_version, read_names, read_limits, read_odds, settings_from, read_start, read_block, read_interview, read_pupils}
+use Rattle.ls_files.specs.Parts.{read_version, read_names, read_limits, read_odds, settings_from}
+use Rattle.ls_files.specs.Parts.{read_start, read_block, read_interview, read_pupils}
 
 -- the part, or else the cause
-abbrev pub or_cause : {X : Type 0} → Cause → Option X → (X → Result Session Cause) → Result Session Cause
+abbrev pub or_cause : {X : Type 0} → Cause → Option X → (X → Result Session Cause)
+    → Result Session Cause
 or_cause c None next = Err c
 or_cause c (Some x) next = next x
 
@@ -22,8 +24,14 @@ session_from d =
     or_cause cause.Start (at_key (codes "start") (read_start (length names)) d) (λ start.
     or_cause cause.Block (at_key (codes "block") (read_block (length names)) d) (λ block.
     or_cause cause.Answers (read_interview (length names) start block d) (λ interview.
-    or_cause cause.Pupils (at_key (codes "pupils") (read_pupils version (length names)) d) (λ pupils.
-    Ok (record { names = names; interview = interview; settings = settings_from ratios limits; pupils = pupils })))))))))
+    or_cause cause.Pupils (at_key (codes "pupils") (read_pupils version (length names)) d)
+    (λ pupils.
+    Ok (record {
+      names = names;
+      interview = interview;
+      settings = settings_from ratios limits;
+      pupils = pupils;
+    })))))))))
 
 -- the session that bytes are
 unfoldable pub session_of : List ℕ → Result Session Cause

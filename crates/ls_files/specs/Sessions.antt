@@ -7,7 +7,8 @@ use Rattle.ls_theory.specs.Settings.{Settings}
 use Rattle.ls_theory.specs.declared.reply.Reply.{Reply}
 use Rattle.ls_lines.specs.{Text}
 
--- a pupil: the name; the start, the Yes queries and the settings as they were when it began; and the replies
+-- a pupil: the name; the start, the Yes queries and the settings as they were when it began; and
+-- the replies
 pub record Pupil : Type 0 where
   pub name : Text
   pub start : Start
@@ -23,7 +24,8 @@ pupil_states n p = compat n p.start p.yeses
 abbrev pub most_pupils : ℕ
 most_pupils = 16
 
--- the names of the items, none where no domain stands; the interview; the settings of pupils that begin; and the pupils in the order in which they began
+-- the names of the items, none where no domain stands; the interview; the settings of pupils that
+-- begin; and the pupils in the order in which they began
 pub record Session : Type 0 where
   pub names : List Text
   pub interview : Interview

@@ -1,11 +1,13 @@
 -- Which bases, answers and pupils a session can have, as tests.
-use Rattle.std.specs.Prelude.{ℕ, ◌+◌, Bool, true, false, not, ◌&&◌, ◌==◌, nat_lt, nat_le, is_none, List, [], ◌∷◌, ◌++◌, map, length, bytes_eq}
+use Rattle.std.specs.Prelude.{ℕ, ◌+◌, Bool, true, false, not, ◌&&◌, ◌==◌, nat_lt, nat_le, is_none}
+use Rattle.std.specs.Prelude.{List, [], ◌∷◌, ◌++◌, map, length, bytes_eq}
 use Rattle.std.specs.Option.{option_map_or}
 use Rattle.std.specs.Result.{is_ok, result_ok}
 use Rattle.std.specs.List.{list_any, list_all}
 use Rattle.std.specs.Cmp.Lexicographic.{pointwise}
 use Rattle.ls_set.specs.{Items, is_good, is_same}
-use Rattle.ls_theory.specs.{Interview, asked, based, is_same_query, made, most_answers, most_number, spaces_of}
+use Rattle.ls_theory.specs.{Interview, asked, based, is_same_query, made, most_answers, most_number}
+use Rattle.ls_theory.specs.{spaces_of}
 use Rattle.ls_theory.specs.Settings.{Settings, is_between, most_states, heavy_after}
 use Rattle.ls_theory.specs.declared.reply.Reply.{Reply}
 use Rattle.ls_theory.specs.declared.asked.Asked.{Asked}
@@ -27,9 +29,11 @@ is_ascending (m ∷ ms) = list_all (nat_lt m) ms && is_ascending ms
 
 -- ---- bases
 
--- the sets are those of the base that they give, each in its place; so each of the n items is in some set, and there are not too many
+-- the sets are those of the base that they give, each in its place; so each of the n items is in
+-- some set, and there are not too many
 abbrev pub is_base : ℕ → List Items → Bool
-is_base n sets = option_map_or (λ found. pointwise is_same found sets) (result_ok (based n sets)) false
+is_base n sets =
+    option_map_or (λ found. pointwise is_same found sets) (result_ok (based n sets)) false
 
 -- ---- interviews
 
@@ -58,7 +62,8 @@ abbrev pub follow : Settings → List Items → List Reply → List Reply → Bo
 follow s f earlier [] = true
 follow s f earlier (r ∷ rs) = is_asked (asked s f earlier) r.q && follow s f (earlier ++ r ∷ []) rs
 
--- Beside its start and its settings: its name is one, its queries are good and differ, its states are not too many and can be
+-- Beside its start and its settings: its name is one, its queries are good and differ, its states
+-- are not too many and can be
 -- weighed, and its replies are to the items that were asked.
 unfoldable pub is_pupil : ℕ → Pupil → Bool
 is_pupil n p =

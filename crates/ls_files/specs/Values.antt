@@ -1,6 +1,7 @@
 -- The text of a session: the compact text of an object with nine keys.
 use Rattle.std.specs.Prelude.{ℕ, List, codes}
-use Rattle.serde_json.specs.Data.{Data, unsigned, boolean, number, string, array, object, no_items, item, no_members, member}
+use Rattle.serde_json.specs.Data.{Data, unsigned, boolean, number, string, array, object, no_items}
+use Rattle.serde_json.specs.Data.{item, no_members, member}
 use Rattle.serde_json.specs.Written.{compact_text}
 use Rattle.ls_set.specs.{Items, cursor}
 use Rattle.ls_set.specs.declared.query.Query.{Query}
@@ -28,7 +29,9 @@ query_value n r = pair_value (set_value n r.a) (number_value r.q)
 
 -- an answer: its number, whether it is Yes, and its query
 abbrev pub answer_value : ℕ → Answer → Data
-answer_value n a = array (item (number_value a.number) (item (boolean a.yes) (item (set_value n a.query.a) (item (number_value a.query.q) no_items))))
+answer_value n a =
+    array (item (number_value a.number)
+    (item (boolean a.yes) (item (set_value n a.query.a) (item (number_value a.query.q) no_items))))
 
 abbrev pub reply_value : Reply → Data
 reply_value r = pair_value (number_value r.q) (boolean r.right)
@@ -47,8 +50,10 @@ odds_value s = list_value ratios_value s.ratios
 
 abbrev pub start_value : ℕ → Start → Data
 start_value n Free = string (codes "free")
-start_value n (Clauses clauses) = object (member (codes "surmise") (list_value (list_value (set_value n)) clauses) no_members)
-start_value n (Sets sets) = object (member (codes "base") (list_value (set_value n) sets) no_members)
+start_value n (Clauses clauses) =
+    object (member (codes "surmise") (list_value (list_value (set_value n)) clauses) no_members)
+start_value n (Sets sets) =
+    object (member (codes "base") (list_value (set_value n) sets) no_members)
 
 -- keys stand in the order of their bytes
 abbrev pub pupil_value : ℕ → Pupil → Data

@@ -1,4 +1,5 @@
-//! What files say: set files, surmise files, class tables and saved sessions; and what a session is.
+//! What files say: set files, surmise files, class tables and saved sessions; and what a session
+//! is.
 //! Here are definitions and plain data alone; no file is touched. The readings stand in specs/, as
 //! functions of the names and the bytes.
 #![tactic(auto)]

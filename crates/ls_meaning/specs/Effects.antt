@@ -28,12 +28,14 @@ pub record Change (A : Type 0) : Type 0 where
   pub response : Response
   pub next : A
 
--- The part is as it was where there is a refusal, of which the first is told; or else it becomes another, with this response.
+-- The part is as it was where there is a refusal, of which the first is told; or else it becomes
+-- another, with this response.
 abbrev pub changed : {A : Type 0} → A → List Refusal → Response → A → Change A
 changed old [] response next = record { response = response; next = next }
 changed old (refusal ∷ refusals) response next = record { response = Refused refusal; next = old }
 
--- what a line does: its response, the session after it, and the file that it stores, with its bytes, if it stores one
+-- what a line does: its response, the session after it, and the file that it stores, with its
+-- bytes, if it stores one
 pub record Effect : Type 0 where
   pub response : Response
   pub session : Session
@@ -41,8 +43,10 @@ pub record Effect : Type 0 where
 
 -- a file is stored, where nothing refuses it, and the session stays; how many bytes it has is told
 abbrev pub stores : Session → List Refusal → Text → List ℕ → Effect
-stores s [] name bytes = record { response = Done (length bytes); session = s; stored = Some (name, bytes) }
-stores s (refusal ∷ refusals) name bytes = record { response = Refused refusal; session = s; stored = None }
+stores s [] name bytes =
+    record { response = Done (length bytes); session = s; stored = Some (name, bytes) }
+stores s (refusal ∷ refusals) name bytes =
+    record { response = Refused refusal; session = s; stored = None }
 
 -- nothing changes
 abbrev pub answers : Session → Response → Effect
@@ -54,12 +58,15 @@ changes c = record { response = c.response; session = c.next; stored = None }
 
 -- its interview becomes another
 abbrev pub changes_interview : Session → Change Interview → Effect
-changes_interview s c = record { response = c.response; session = record s { interview = c.next }; stored = None }
+changes_interview s c =
+    record { response = c.response; session = record s { interview = c.next }; stored = None }
 
 -- its settings become others
 abbrev pub changes_settings : Session → Change Settings → Effect
-changes_settings s c = record { response = c.response; session = record s { settings = c.next }; stored = None }
+changes_settings s c =
+    record { response = c.response; session = record s { settings = c.next }; stored = None }
 
 -- its pupils become others
 abbrev pub changes_pupils : Session → Change (List Pupil) → Effect
-changes_pupils s c = record { response = c.response; session = record s { pupils = c.next }; stored = None }
+changes_pupils s c =
+    record { response = c.response; session = record s { pupils = c.next }; stored = None }

@@ -1,5 +1,6 @@
 -- What a command's words mean, where a list of names gives the items.
-use Rattle.std.specs.Prelude.{ℕ, ◌+◌, ◌<◌, suc, true, false, not, List, [], ◌∷◌, ◌++◌, map, filter, length}
+use Rattle.std.specs.Prelude.{ℕ, ◌+◌, ◌<◌, suc, true, false, not, List, [], ◌∷◌, ◌++◌, map, filter}
+use Rattle.std.specs.Prelude.{length}
 use Rattle.std.specs.Prelude.{Option, Some, None, option_map, Result, Ok, Err, ⊤}
 use Rattle.std.specs.Option.{ForSome}
 use Rattle.ls_set.specs.{IsWithin, Items, full, read_cursor}
@@ -71,7 +72,8 @@ abbrev pub order_words : Option (List Text) → List (ℕ × Text)
 order_words None = []
 order_words (Some names) = placed 4 names
 
--- the place of a projection's first name: behind the count, the cursor, if there is one, and the colon
+-- the place of a projection's first name: behind the count, the cursor, if there is one, and the
+-- colon
 abbrev pub projected_place : Option Text → ℕ
 projected_place None = 4
 projected_place (Some w) = 6
@@ -134,7 +136,11 @@ two_odds right wrong = record { right = odds right; wrong = odds wrong }
 -- ratios, each as two numbers
 abbrev pub two_ratios : ℕ → ℕ → ℕ → ℕ → Ratios
 two_ratios right_a right_b wrong_a wrong_b =
-    record { right = record { a = right_a; b = right_b }; wrong = record { a = wrong_a; b = wrong_b } }
+    record {
+      right = record { a = right_a; b = right_b };
+      wrong =
+          record { a = wrong_a; b = wrong_b };
+    }
 
 -- the words that must name an item, with their places in the line
 abbrev pub setting_item_words : SettingCommand → List (ℕ × Text)

@@ -25,7 +25,17 @@ use Rattle.ls_files.specs.declared.family_fault.FamilyFault.TheVariants as sets
 use Rattle.ls_files.specs.declared.cause.Cause.{Cause}
 use Rattle.ls_files.specs.declared.cause.Cause.TheVariants as cause
 use Rattle.ls_meaning.specs.declared.response.Refusal.{Refusal}
-use Rattle.ls_meaning.specs.declared.response.Refusal.TheVariants.{NoCommand, LongLine, DomainStands, Domain, AnswersStand, StartSurmise, StartSets, StartBase, Unnamed, Block, Answer, NotStanding, Cursor, Past, NoFile, FileFailed, LargeFile, TestedSets, NotState, NotLearning, NoState, NotOrder, ManyStates, Heavy, ManyPupils, PupilStands, NoPupil, Reply, BadSetting, BadClass, BadSession}
+use Rattle.ls_meaning.specs.declared.response.Refusal.TheVariants.{NoCommand, LongLine}
+use Rattle.ls_meaning.specs.declared.response.Refusal.TheVariants.{DomainStands, Domain}
+use Rattle.ls_meaning.specs.declared.response.Refusal.TheVariants.{AnswersStand, StartSurmise}
+use Rattle.ls_meaning.specs.declared.response.Refusal.TheVariants.{StartSets, StartBase, Unnamed}
+use Rattle.ls_meaning.specs.declared.response.Refusal.TheVariants.{Block, Answer, NotStanding}
+use Rattle.ls_meaning.specs.declared.response.Refusal.TheVariants.{Cursor, Past, NoFile, FileFailed}
+use Rattle.ls_meaning.specs.declared.response.Refusal.TheVariants.{LargeFile, TestedSets, NotState}
+use Rattle.ls_meaning.specs.declared.response.Refusal.TheVariants.{NotLearning, NoState, NotOrder}
+use Rattle.ls_meaning.specs.declared.response.Refusal.TheVariants.{ManyStates, Heavy, ManyPupils}
+use Rattle.ls_meaning.specs.declared.response.Refusal.TheVariants.{PupilStands, NoPupil, Reply}
+use Rattle.ls_meaning.specs.declared.response.Refusal.TheVariants.{BadSetting, BadClass, BadSession}
 
 -- a detail: a word, a number, the name of an item, or a set
 pub data Detail : Type 0 where
@@ -57,7 +67,8 @@ abbrev pub domain_notice : DomainFault → Notice
 domain_notice domain.NoItems = told 12 (Word (codes "none") ∷ [])
 domain_notice (domain.BadCsv row) = told 12 (Word (codes "csv") ∷ Number row ∷ [])
 domain_notice (domain.BadName row) = told 12 (Word (codes "name") ∷ Number row ∷ [])
-domain_notice (domain.Repeat row first) = told 12 (Word (codes "repeat") ∷ Number row ∷ Number first ∷ [])
+domain_notice (domain.Repeat row first) =
+    told 12 (Word (codes "repeat") ∷ Number row ∷ Number first ∷ [])
 domain_notice domain.TooMany = told 12 (Word (codes "many") ∷ [])
 domain_notice (domain.Memory e) = told 12 []
 
@@ -87,9 +98,12 @@ abbrev pub surmise_notice : SurmiseFault → Notice
 surmise_notice surmise.BadJson = told 14 (Word (codes "json") ∷ [])
 surmise_notice surmise.UnknownItem = told 14 (Word (codes "unknown") ∷ [])
 surmise_notice (surmise.NoClause q) = told 14 (Word (codes "no-clause") ∷ Item q ∷ [])
-surmise_notice (surmise.Reflexive q clause) = told 14 (Word (codes "reflexive") ∷ Item q ∷ Number clause ∷ [])
-surmise_notice (surmise.NotClosed q clause r) = told 14 (Word (codes "open") ∷ Item q ∷ Number clause ∷ Item r ∷ [])
-surmise_notice (surmise.Comparable q first second) = told 14 (Word (codes "comparable") ∷ Item q ∷ Number first ∷ Number second ∷ [])
+surmise_notice (surmise.Reflexive q clause) =
+    told 14 (Word (codes "reflexive") ∷ Item q ∷ Number clause ∷ [])
+surmise_notice (surmise.NotClosed q clause r) =
+    told 14 (Word (codes "open") ∷ Item q ∷ Number clause ∷ Item r ∷ [])
+surmise_notice (surmise.Comparable q first second) =
+    told 14 (Word (codes "comparable") ∷ Item q ∷ Number first ∷ Number second ∷ [])
 surmise_notice (surmise.Wide count) = told 14 (Word (codes "wide") ∷ Number count ∷ [])
 surmise_notice (surmise.Memory e) = told 14 []
 
@@ -97,7 +111,8 @@ surmise_notice (surmise.Memory e) = told 14 []
 abbrev pub sets_notice : ℕ → FamilyFault → Notice
 sets_notice code (sets.BadLine row) = told code (Word (codes "line") ∷ Number row ∷ [])
 sets_notice code (sets.UnknownItem row) = told code (Word (codes "unknown-item") ∷ Number row ∷ [])
-sets_notice code (sets.Repeat row first) = told code (Word (codes "repeat") ∷ Number row ∷ Number first ∷ [])
+sets_notice code (sets.Repeat row first) =
+    told code (Word (codes "repeat") ∷ Number row ∷ Number first ∷ [])
 sets_notice code (sets.TooMany row) = told code (Word (codes "many") ∷ Number row ∷ [])
 sets_notice code (sets.Memory e) = told code []
 

@@ -21,7 +21,8 @@ use Rattle.ls_meaning.specs.Meanings.{setting_item_words, setting_of, pupil_item
 use Rattle.ls_meaning.specs.Lines.{lines_of}
 use Rattle.ls_meaning.specs.Effects.{Effect, Change, answers, changes}
 use Rattle.ls_meaning.specs.Effects.{changes_interview, changes_settings, changes_pupils}
-use Rattle.ls_meaning.specs.Rows.{items_row, load_items_row, start_row, test_row, view_row, edit_row}
+use Rattle.ls_meaning.specs.Rows.{items_row, load_items_row, start_row, test_row, view_row}
+use Rattle.ls_meaning.specs.Rows.{edit_row}
 use Rattle.ls_meaning.specs.Pupils.{setting_row, pupil_row, class_row}
 use Rattle.ls_meaning.specs.Saving.{save_row, open_row}
 use Rattle.ls_meaning.specs.declared.response.Refusal.TheVariants.{NoCommand, LongLine, Unnamed}
@@ -48,7 +49,8 @@ file_effect s calls (files.Class file) =
     answers s (class_row s.interview s.settings s.names (calls.file file))
 file_effect s calls (files.Save file) = save_row s calls.failed file
 
--- an effect, where each word that must name an item does; or else the place of the first that doesn't
+-- an effect, where each word that must name an item does; or else the place of the first that
+-- doesn't
 abbrev pub unless_unnamed : Session → List ℕ → Effect → Effect
 unless_unnamed s [] effect = effect
 unless_unnamed s (place ∷ places) effect = answers s (Refused (Unnamed place))

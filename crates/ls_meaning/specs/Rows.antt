@@ -1,11 +1,15 @@
 -- The row of each command: its refusals in their order, otherwise what it does.
-use Rattle.std.specs.Prelude.{ℕ, Bool, true, not, ◌==◌, is_none, List, [], ◌∷◌, ◌++◌, length, Option, Some, None, Result, Ok, Err}
+use Rattle.std.specs.Prelude.{ℕ, Bool, true, not, ◌==◌, is_none, List, [], ◌∷◌, ◌++◌, length}
+use Rattle.std.specs.Prelude.{Option, Some, None, Result, Ok, Err}
 use Rattle.std.specs.Option.{option_map_or}
 use Rattle.ls_set.specs.{Items, full, is_among, is_good}
 use Rattle.ls_set.specs.declared.query.Query.{Query}
 use Rattle.ls_set.specs.declared.cursor.CursorFault.{CursorFault}
 use Rattle.ls_theory.specs.Starts.{Start, Clauses, Sets}
-use Rattle.ls_theory.specs.{BlockRange, Interview, Peak, accepted, answer_with, atom_sets, base, base_verdict, based, blocks, compat, compatible_sets, fringes, is_order, known, made, next_question, peak_of, projection, refusal, retracted, state_of, verdict}
+use Rattle.ls_theory.specs.{BlockRange, Interview, Peak, accepted, answer_with, atom_sets, base}
+use Rattle.ls_theory.specs.{base_verdict, based, blocks, compat, compatible_sets, fringes, is_order}
+use Rattle.ls_theory.specs.{known, made, next_question, peak_of, projection, refusal, retracted}
+use Rattle.ls_theory.specs.{state_of, verdict}
 use Rattle.ls_theory.specs.declared.verdict.BaseVerdict.{BaseVerdict}
 use Rattle.ls_theory.specs.declared.verdict.BaseVerdict.TheVariants.{NotGraded, Learning}
 use Rattle.ls_theory.specs.declared.answer_fault.AnswerFault.TheVariants.{BadQuery}
@@ -52,7 +56,8 @@ started_by s refusals reading =
 
 -- `items`
 abbrev pub items_row : Session → List Text → Change Session
-items_row s names = started_by s (refuse refusal_of.DomainStands (has_domain s)) (names_of_words names)
+items_row s names =
+    started_by s (refuse refusal_of.DomainStands (has_domain s)) (names_of_words names)
 
 -- a file that is missing, is too large, or could not be fetched
 abbrev pub file_refusals : Fetched → List Refusal
@@ -68,7 +73,8 @@ bytes_fetched fetched = []
 -- `load-items`
 abbrev pub load_items_row : Session → Fetched → Change Session
 load_items_row s fetched =
-    started_by s (refuse refusal_of.DomainStands (has_domain s) ++ file_refusals fetched) (names_of_table (bytes_fetched fetched))
+    started_by s (refuse refusal_of.DomainStands (has_domain s) ++ file_refusals fetched)
+    (names_of_table (bytes_fetched fetched))
 
 -- ---- starts
 
@@ -101,23 +107,28 @@ abbrev pub start_or : Start → Result Start Refusal → Start
 start_or start (Ok read) = read
 start_or start (Err refusal) = start
 
--- the interview with the start that was read, after these refusals; how many sets its base has is told
+-- the interview with the start that was read, after these refusals; how many sets its base has is
+-- told
 abbrev pub starts_by : Interview → List Refusal → Result Start Refusal → Change Interview
 starts_by i refusals reading =
     let start = start_or i.start reading in
-    changed i (refusals ++ start_refusals reading) (Done (length (base (compat i.count start [])))) (record i { start = start })
+    changed i (refusals ++ start_refusals reading) (Done (length (base (compat i.count start []))))
+    (record i { start = start })
 
 -- `start surmise` and `start base`: no answer stands
 abbrev pub start_row : StartFile → Session → Fetched → Change Interview
 start_row kind s fetched =
     let i = s.interview in
-    starts_by i (refuse refusal_of.AnswersStand (not (length i.answers == 0)) ++ file_refusals fetched) (start_read kind s.names (bytes_fetched fetched))
+    starts_by i (refuse refusal_of.AnswersStand (not (length i.answers == 0))
+    ++ file_refusals fetched) (start_read kind s.names (bytes_fetched fetched))
 
 -- ---- what an interview shows
 
 -- `known`
 abbrev pub known_row : Interview → Query → Response
-known_row i r = refuse (refusal_of.Answer BadQuery) (not (is_good i.count r)) otherwise Shown (shown.Known (known i r))
+known_row i r =
+    refuse (refusal_of.Answer BadQuery) (not (is_good i.count r))
+    otherwise Shown (shown.Known (known i r))
 
 -- `ask`
 abbrev pub ask_row : Interview → Response
@@ -164,7 +175,8 @@ project_base_row i part =
 abbrev pub fringes_row : Interview → Items → Response
 fringes_row i k =
     let f = compatible_sets i in
-    refuse refusal_of.NotState (not (is_among f k)) otherwise Shown (shown.Fringes (fringes i.count f k))
+    refuse refusal_of.NotState (not (is_among f k))
+    otherwise Shown (shown.Fringes (fringes i.count f k))
 
 -- the refusal of states that are no learning space
 abbrev pub learning_refusals : BaseVerdict → List Refusal
@@ -187,7 +199,9 @@ state_row i inner outer =
 
 -- `paths`: as many as are asked for, those after an order of the n items or the first ones
 abbrev pub paths_shown : ℕ → ℕ → Option (List ℕ) → Response
-paths_shown n count after = refuse refusal_of.NotOrder (not (option_map_or (is_order n) after true)) otherwise Shown (shown.Paths count after)
+paths_shown n count after =
+    refuse refusal_of.NotOrder (not (option_map_or (is_order n) after true))
+    otherwise Shown (shown.Paths count after)
 
 abbrev pub paths_row : Interview → ℕ → Option (List ℕ) → Response
 paths_row i count after =
@@ -220,10 +234,12 @@ sets_refusals (Err fault) = refusal_of.TestedSets fault ∷ []
 -- `test`: the verdict on the sets that were read, after these refusals
 abbrev pub tested_by : ℕ → List Refusal → Result (List Items) FamilyFault → Response
 tested_by n refusals reading =
-    (refusals ++ sets_refusals reading) otherwise Shown (shown.Tested (verdict (full n) (sets_read reading)))
+    (refusals ++ sets_refusals reading)
+    otherwise Shown (shown.Tested (verdict (full n) (sets_read reading)))
 
 abbrev pub test_row : List Text → Fetched → Response
-test_row names fetched = tested_by (length names) (file_refusals fetched) (sets_of names (bytes_fetched fetched))
+test_row names fetched =
+    tested_by (length names) (file_refusals fetched) (sets_of names (bytes_fetched fetched))
 
 -- ---- how an interview changes
 
@@ -233,15 +249,21 @@ block_refusals (Err fault) = refusal_of.Block fault ∷ []
 
 -- `blocks`: questions are asked of sets of 1 to `size` items, whose number is told
 abbrev pub blocks_row : Interview → ℕ → Change Interview
-blocks_row i size = changed i (block_refusals (made i.count size)) (Done (length (blocks i.count size))) (record i { block = size })
+blocks_row i size =
+    changed i (block_refusals (made i.count size)) (Done (length (blocks i.count size)))
+    (record i { block = size })
 
 -- `yes` and `no`: an answer gets the next number, which is told
 abbrev pub answer_row : Interview → Query → Bool → Change Interview
-answer_row i r is_yes = changed i (refuse_fault refusal_of.Answer (refusal i r is_yes)) (Done i.next) (accepted i r is_yes)
+answer_row i r is_yes =
+    changed i (refuse_fault refusal_of.Answer (refusal i r is_yes)) (Done i.next)
+    (accepted i r is_yes)
 
 -- `retract`
 abbrev pub retract_row : Interview → ℕ → Change Interview
-retract_row i number = changed i (refuse refusal_of.NotStanding (is_none (answer_with i number))) (Done number) (retracted i number)
+retract_row i number =
+    changed i (refuse refusal_of.NotStanding (is_none (answer_with i number))) (Done number)
+    (retracted i number)
 
 abbrev pub edit_row : Interview → Edit → Change Interview
 edit_row i (edit.Blocks size) = blocks_row i size

@@ -6,7 +6,9 @@ pub use Rattle.ls_files.specs.Sessions.{Pupil, pupil_states, Session}
 
 -- the session that begins with the names
 abbrev pub started : List Text → Session
-started names = let n = length names in record { names = names; interview = begun n Free; settings = standard n; pupils = [] }
+started names =
+    let n = length names in
+    record { names = names; interview = begun n Free; settings = standard n; pupils = [] }
 
 abbrev pub has_domain : Session → Bool
 has_domain s = not (length s.names == 0)

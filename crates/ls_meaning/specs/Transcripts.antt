@@ -1,5 +1,6 @@
 -- The transcript of a script over a folder, where the calls of some lines on the folder failed.
-use Rattle.std.specs.Prelude.{ℕ, Bool, false, ◌||◌, List, [], ◌∷◌, ◌++◌, map, Option, Some, None, count_by}
+use Rattle.std.specs.Prelude.{ℕ, Bool, false, ◌||◌, List, [], ◌∷◌, ◌++◌, map, Option, Some, None}
+use Rattle.std.specs.Prelude.{count_by}
 use Rattle.std.specs.FinMap as map
 use Rattle.ls_edge.specs.Files.{Folder}
 use Rattle.ls_lines.specs.{Text, lines}
@@ -45,7 +46,12 @@ folder_with folder None = folder
 folder_with folder (Some file) = map.insert folder file.0 file.1
 
 abbrev pub world_next : World → Marked → World
-world_next w l = record { session = (effect_at w l).session; folder = folder_with w.folder (effect_at w l).stored }
+world_next w l =
+    record {
+      session = (effect_at w l).session;
+      folder =
+          folder_with w.folder (effect_at w l).stored;
+    }
 
 -- the replies to the lines, joined
 unfoldable pub replies : World → List Marked → List ℕ

@@ -1,7 +1,9 @@
 // What the faults of files, names, answers and replies tell where they refuse a line.
 ghost use Rattle.std.specs.Prelude.{◌≡◌};
 ghost use Rattle.ls_meaning.specs.Notices.{notice_of};
-ghost use Rattle.ls_meaning.specs.Refusals.{answer_notice, base_notice, block_notice, cause_word, cursor_notice, domain_notice, reason_word, reply_notice, sets_notice, surmise_notice};
+ghost use Rattle.ls_meaning.specs.Refusals.{answer_notice, base_notice, block_notice, cause_word};
+ghost use Rattle.ls_meaning.specs.Refusals.{cursor_notice, domain_notice, reason_word};
+ghost use Rattle.ls_meaning.specs.Refusals.{reply_notice, sets_notice, surmise_notice};
 
 use crate::notices::{Detail, Notice};
 use ls_domain::DomainFault;

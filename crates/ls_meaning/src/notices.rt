@@ -9,7 +9,8 @@ use ls_set::ItemSet;
 // How many details a refusal has at most.
 const MOST_DETAILS: usize = 4;
 
-/// A detail of a refusal: a word, a number, an item by its name, or a set by the names of its items.
+/// A detail of a refusal: a word, a number, an item by its name, or a set by the names of its
+/// items.
 #[derive(Clone, Copy)]
 pub enum Detail {
     Word(&'static str),

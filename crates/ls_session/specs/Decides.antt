@@ -54,7 +54,8 @@ pub record IsDecided (effect : Effect) (new : Session) (folder left : Option Fol
   pub files : (m : Folder) → folder ≡ Some m → left ≡ Some (folder_with m effect.stored)
 
 -- The response, the session and the files of an effect by what was seen of the folder; or memory
--- ran out, and all is as before. Where the effect does not depend on the folder, that is left alone.
+-- ran out, and all is as before. Where the effect does not depend on the folder, that is left
+-- alone.
 pub record Decides (effect : Calls → Effect) (old new : Session) (before after : ShelfState)
     (result : Result Response AllocError) : Type 0 where
   pub calls : Calls

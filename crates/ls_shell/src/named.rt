@@ -56,7 +56,8 @@ pub fn answer_named<R: Threads + Sync, K: Sink, H: Shelf>(
         (H.faults shelf.old) (H.faults shelf.new) (K.written out.old) (K.written out.new) result }
 
     // Status 3, 5 and 7: nothing is written, and the files are as they were.
-    ensures read_fault { result ≡ Status.ReadFault → Rose (H.faults shelf.old) (H.faults shelf.new) }
+    ensures read_fault { result ≡ Status.ReadFault
+        → Rose (H.faults shelf.old) (H.faults shelf.new) }
     ensures unread { (result ≡ Status.Done → ⊥) → (result ≡ Status.Refused → ⊥)
         → (result ≡ Status.WriteFault → ⊥) → (result ≡ Status.NoMemory → ⊥)
         → Keeps (K.written out.old) (K.written out.new)

@@ -1,5 +1,6 @@
 // The top call.
-ghost use Rattle.std.specs.Prelude.{◌≡◌, ◌≢◌, ◌<◌, ◌≤◌, ◌++◌, [], List, ℕ, Some, None, IfSome, false, true, length, map};
+ghost use Rattle.std.specs.Prelude.{◌≡◌, ◌≢◌, ◌<◌, ◌≤◌, ◌++◌, [], List, ℕ, Some, None, IfSome};
+ghost use Rattle.std.specs.Prelude.{false, true, length, map};
 ghost use Rattle.std.specs.FinMap as map;
 ghost use Rattle.std.specs.Io.KnownBytes.{Keeps};
 ghost use Rattle.ls_edge.specs.Files.{Folder, longest_file};
@@ -57,7 +58,8 @@ fn status_after(ended: Result<bool, RunFault>) -> Status
 
 /// The program, by the words after its name. Without any it answers the script that the source has;
 /// `--script NAME` answers the one that the file of the name has, and `--drill N`, optionally with
-/// `--number S`, runs a drill. Other words are answered by the usage line. It says how the run ended.
+/// `--number S`, runs a drill. Other words are answered by the usage line. It says how the run
+/// ended.
 pub fn lspace<R: Threads + Sync, S: Source, K: Sink, H: Shelf>(
     rt: &R,
     alloc: Global,

@@ -1,9 +1,11 @@
 -- Codecs: how the values of one kind are written in JSON, and what is read as one of them.
 --     c.write x      the JSON value that is written for x
 --     c.read d      what the JSON value d is read as, where it is of the form
-use Rattle.std.specs.Prelude.{ℕ, Bool, if◌then◌else◌, List, Option, Some, None, option_map, option_and_then}
+use Rattle.std.specs.Prelude.{ℕ, Bool, if◌then◌else◌, List, Option, Some, None, option_map}
+use Rattle.std.specs.Prelude.{option_and_then}
 use Rattle.std.specs.Option.{option_zip}
-use Rattle.serde_json.specs.Data.{Data, Items, no_items, item, unsigned, boolean, number, string, array}
+use Rattle.serde_json.specs.Data.{Data, Items, no_items, item, unsigned, boolean, number, string}
+use Rattle.serde_json.specs.Data.{array}
 use Rattle.serde_json.specs.Find.{as_array, as_bool, as_number, as_str, as_u64, get}
 use Rattle.ls_lines.specs.{Text}
 use Rattle.ls_files.specs.SurmiseFiles.{list_value, read_list}
@@ -83,7 +85,8 @@ four_values (item d (item e (item f (item g no_items)))) = Some ((d, e), (f, g))
 four_values (item d (item e (item f (item g (item h ds))))) = None
 
 -- a list of four values
-abbrev pub four_of : {W X Y Z : Type 0} → Codec W → Codec X → Codec Y → Codec Z → Codec ((W × X) × (Y × Z))
+abbrev pub four_of : {W X Y Z : Type 0} → Codec W → Codec X → Codec Y → Codec Z
+    → Codec ((W × X) × (Y × Z))
 four_of a b c d = record {
   write = λ p.
       array (item (a.write p.0.0) (item (b.write p.0.1)

@@ -1,5 +1,6 @@
 -- Why there is no session, as code tells it.
---     IsSessionFault answer fault      the fault is the cause why there is no answer, or memory ran out
+--     IsSessionFault answer fault      the fault is the cause why there is no answer, or memory ran
+--         out
 use Rattle.std.specs.Prelude.{◌≡◌, Result, Err, ⊤}
 use Rattle.ls_files.specs.declared.cause.Cause.{Cause}
 use Rattle.ls_store.specs.declared.fault.SessionFault.{SessionFault}

@@ -1,5 +1,6 @@
 -- How the parts of a session are written and read. A session and its pupils share them.
-use Rattle.std.specs.Prelude.{ℕ, Bool, ◌==◌, nat_lt, if◌then◌else◌, List, length, codes, bytes_eq, Option, Some, None, option_map, option_and_then, Result, Ok, Err}
+use Rattle.std.specs.Prelude.{ℕ, Bool, ◌==◌, nat_lt, if◌then◌else◌, List, length, codes, bytes_eq}
+use Rattle.std.specs.Prelude.{Option, Some, None, option_map, option_and_then, Result, Ok, Err}
 use Rattle.std.specs.Option.{option_zip}
 use Rattle.std.specs.Result.{result_ok}
 use Rattle.serde_json.specs.Data.{Data, string, object, member, no_members}
@@ -21,7 +22,8 @@ use Rattle.ls_files.specs.declared.version.Version.{Version}
 use Rattle.ls_files.specs.declared.version.Version.TheVariants as version
 use Rattle.ls_files.specs.Sessions.{Pupil}
 use Rattle.ls_files.specs.Standing.{is_base, are_made, is_pupil, are_pupils}
-use Rattle.ls_store.specs.Codecs.{Codec, at_key, four_of, list_of, mapped, number_codec, only, only_if, pair_of, parsed, text_codec, truth_codec}
+use Rattle.ls_store.specs.Codecs.{Codec, at_key, four_of, list_of, mapped, number_codec, only}
+use Rattle.ls_store.specs.Codecs.{only_if, pair_of, parsed, text_codec, truth_codec}
 
 -- ---- the items
 

@@ -1,5 +1,6 @@
 -- Saved sessions: the text of a session, and which session a text is.
-use Rattle.std.specs.Prelude.{ℕ, ◌==◌, if◌then◌else◌, List, length, codes, Option, Some, None, option_map, option_and_then, Result, Ok, Err}
+use Rattle.std.specs.Prelude.{ℕ, ◌==◌, if◌then◌else◌, List, length, codes, Option, Some, None}
+use Rattle.std.specs.Prelude.{option_map, option_and_then, Result, Ok, Err}
 use Rattle.std.specs.Option.{is_some, option_zip}
 use Rattle.serde_json.specs.Data.{Data, object, member, no_members}
 use Rattle.serde_json.specs.Find.{as_object}
@@ -16,7 +17,9 @@ use Rattle.ls_files.specs.declared.version.Version.TheVariants as version
 use Rattle.ls_files.specs.Sessions.{Session}
 use Rattle.ls_files.specs.Standing.{stands}
 use Rattle.ls_store.specs.Codecs.{Codec, at_key, list_of, mapped, number_codec, only_if, parsed}
-use Rattle.ls_store.specs.SessionCodecs.{answer_codec, block_codec, limits_codec, names_codec, odds_codec, or_cause, pupils_codec, settings_in, start_codec}
+use Rattle.ls_store.specs.SessionCodecs.{answer_codec, block_codec, limits_codec, names_codec}
+use Rattle.ls_store.specs.SessionCodecs.{odds_codec, or_cause, pupils_codec, settings_in}
+use Rattle.ls_store.specs.SessionCodecs.{start_codec}
 
 -- ---- the text of a session
 

@@ -32,7 +32,8 @@ pub record IsPupil (n : ℕ) (p : Pupil) : Type 0 where
   pub settings : are_settings n p.settings ≡ true
   pub stands : is_pupil n p ≡ true
 
--- its parts have one number of items; its answers stand; and its pupils are not too many, and their names differ
+-- its parts have one number of items; its answers stand; and its pupils are not too many, and their
+-- names differ
 pub record IsWhole (s : Session) : Type 0 where
   pub domain : IsDomain s.names
   pub count : s.interview.count ≡ length s.names

@@ -5,7 +5,8 @@ ghost use Rattle.serde_json.specs.Find.{as_array};
 ghost use Rattle.serde_json.specs.View.{view};
 ghost use Rattle.ls_set.specs.{is_good, most_items, IsWithin, full};
 ghost use Rattle.ls_store.specs.Codecs.{list_of, number_codec, two_values, four_values};
-ghost use Rattle.ls_store.specs.SessionCodecs.{answer_codec, item_codec, query_codec, reply_codec, set_codec};
+ghost use Rattle.ls_store.specs.SessionCodecs.{answer_codec, item_codec, query_codec, reply_codec};
+ghost use Rattle.ls_store.specs.SessionCodecs.{set_codec};
 
 use crate::coded::{Coded, Form};
 use ls_set::{ItemSet, Query, QueryList, SetList, cursor_length};

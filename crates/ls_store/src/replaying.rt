@@ -1,5 +1,6 @@
 // Pupils of saved sessions: their states are listed, and their replies are given once more.
-ghost use Rattle.std.specs.Prelude.{◌≡◌, ◌<◌, ◌≤◌, ◌&&◌, [], true, length, nat_le, is_none, is_some, Some, IfOk, IfSome};
+ghost use Rattle.std.specs.Prelude.{◌≡◌, ◌<◌, ◌≤◌, ◌&&◌, [], true, length, nat_le, is_none};
+ghost use Rattle.std.specs.Prelude.{is_some, Some, IfOk, IfSome};
 ghost use Rattle.std.specs.List.{list_all};
 ghost use Rattle.ls_set.specs.{is_good, most_items};
 ghost use Rattle.ls_theory.specs.{compat, heavy_after, most_states};

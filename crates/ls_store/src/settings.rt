@@ -3,7 +3,8 @@ ghost use Rattle.std.specs.Prelude.{◌≡◌, ◌≤◌, ⊤, length, codes, op
 ghost use Rattle.serde_json.specs.View.{view};
 ghost use Rattle.ls_theory.specs.{are_limits, is_ratio};
 ghost use Rattle.ls_store.specs.Codecs.{at_key};
-ghost use Rattle.ls_store.specs.SessionCodecs.{limits_codec, odds_codec, ratio_codec, ratio_in, ratios_codec, settings_in};
+ghost use Rattle.ls_store.specs.SessionCodecs.{limits_codec, odds_codec, ratio_codec, ratio_in};
+ghost use Rattle.ls_store.specs.SessionCodecs.{ratios_codec, settings_in};
 ghost use Rattle.ls_store.specs.Faults.{IsSessionFault};
 
 use crate::coded::{Coded, Form, own_list};
