@@ -1,5 +1,5 @@
 -- The case of a pupil that is read, from its parts.
-use Rattle.ls_store.proofs.Vocabulary.{◌&&◌, ◌∙◌, ◌≡◌, ◌≤◌, Bool, IsCase, IsStartOn, Items, List, None, Pupil, PupilCase, Some, Weighing, ℕ, ap, compat, cond, false, is_followed, is_good, is_pupil, is_spelled, leb, leb-true, length, list_all, most_states, only_if, pupil_of, pupil_of_parts, refl, start_of, subst, sym, true, weighing_of}
+use Rattle.ls_store.proofs.Vocabulary.{◌&&◌, ◌∙◌, ◌≡◌, ◌≤◌, Bool, IsCase, IsStartOn, Items, List, None, Pupil, PupilCase, Some, Weighing, ℕ, ap, compat, cond, false, is_followed, is_good, is_pupil, is_spelled, leb, leb-true, length, list_all, most_states, only_if, pupil_of_case, pupil_of_parts, refl, start_of, subst, sym, true, weighing_of}
 use Rattle.ls_store.specs.declared.parts.PupilParts.{PupilParts}
 
 -- ---- whether they are one
@@ -39,7 +39,7 @@ module _ (n : ℕ) (parts : PupilParts) (w : Weighing) (is : w ≡ weighing_of n
   abbrev case_from : PupilCase
   case_from = record { name = parts.name; start = parts.start; yes = parts.yes; settings = parts.settings; pupil = w }
 
-  pub same-pupil : Some (pupil_of case_from) ≡ only_if (is_pupil n) (Some (pupil_of_parts parts))
+  pub same-pupil : Some (pupil_of_case case_from) ≡ only_if (is_pupil n) (Some (pupil_of_parts parts))
   same-pupil =
       ap (λ (w : Weighing). let p : Pupil = record (pupil_of_parts parts) { replies = w.replies } in Some p) is
       ∙ sym (tested n (pupil_of_parts parts) true spelled can)

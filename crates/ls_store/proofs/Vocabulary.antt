@@ -37,9 +37,8 @@ pub use Rattle.ls_lines.specs.{Text}
 unfoldable pub use Rattle.ls_lines.specs.{is_of}
 pub use Rattle.ls_lists.proofs.Every.{All-given, All-list_all, each, list_all-All}
 pub use Rattle.ls_lists.proofs.Places.{drop-next, is_some-position}
-pub use Rattle.ls_pupils.proofs.Named.{name_of}
-pub use Rattle.ls_pupils.specs.Cases.{ArePupils, IsCase, pupil_of, pupils_of}
-pub use Rattle.ls_pupils.specs.Own.{have_own_names, is_named}
+pub use Rattle.ls_pupils.specs.Cases.{ArePupils, IsCase, case_name, pupil_of_case, pupils_of}
+pub use Rattle.ls_pupils.specs.Own.{have_own_names, is_called}
 pub use Rattle.ls_pupils.specs.declared.cases.PupilCase.{PupilCase}
 pub use Rattle.ls_set.proofs.Cursors.{nibble_of-lt, only as read_only, read_back}
 pub use Rattle.ls_set.proofs.Members.{Each-among, among-append, among-filter, among-here, among-there}

@@ -3,7 +3,7 @@ ghost use Rattle.std.specs.Prelude.{◌≡◌, ◌≤◌, IfOk};
 ghost use Rattle.std.specs.List.{All};
 ghost use Rattle.serde_json.specs.View.{view};
 ghost use Rattle.ls_files.specs.declared.version.Version.TheVariants as version;
-ghost use Rattle.ls_pupils.specs.Cases.{pupil_of, pupils_of, IsCase};
+ghost use Rattle.ls_pupils.specs.Cases.{pupil_of_case, pupils_of, IsCase};
 ghost use Rattle.ls_store.specs.SessionCodecs.{pupil_codec, pupils_codec};
 
 use crate::coded::list_value;
@@ -20,7 +20,7 @@ use std::alloc::{AllocError, Global};
 pub fn pupil_value(alloc: Global, n: u32, case: &PupilCase) -> Result<Value, AllocError>
     requires few { n ≤ PLACES }
     requires case { IsCase n case.now }
-    ensures { IfOk result (λ v. view v ≡ (pupil_codec version.Ratios n).write (pupil_of case.now)) }
+    ensures { IfOk result (λ v. view v ≡ (pupil_codec version.Ratios n).write (pupil_of_case case.now)) }
 {
     let settings = &case.settings;
     let mut map = Map::new(alloc);

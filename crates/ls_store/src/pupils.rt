@@ -7,8 +7,8 @@ ghost use Rattle.ls_set.specs.{is_good};
 ghost use Rattle.ls_expert.specs.Starts.{IsStartOn};
 ghost use Rattle.ls_files.specs.Sessions.{Pupil};
 ghost use Rattle.ls_files.specs.Standing.{is_pupil};
-ghost use Rattle.ls_pupils.specs.Own.{is_named};
-ghost use Rattle.ls_pupils.specs.Cases.{pupil_of, pupils_of, IsCase, ArePupils};
+ghost use Rattle.ls_pupils.specs.Own.{is_called};
+ghost use Rattle.ls_pupils.specs.Cases.{pupil_of_case, pupils_of, IsCase, ArePupils};
 ghost use Rattle.ls_pupils.specs.declared.cases.PupilCase.{PupilCase as Case};
 ghost use Rattle.ls_store.specs.Codecs.{at_key, list_of, only_if, text_codec};
 ghost use Rattle.ls_store.specs.SessionCodecs.{pupil_codec, pupil_in, pupils_codec, query_codec};
@@ -131,7 +131,7 @@ fn case_of<L: Ledger>(
     requires start { IsStartOn n parts.start }
     requires items { length parts.settings.ratios ≡ n }
     ensures value { IfOk result (λ found.
-        option_map pupil_of found ≡ only_if (is_pupil n) (Some (pupil_of_parts parts))) }
+        option_map pupil_of_case found ≡ only_if (is_pupil n) (Some (pupil_of_parts parts))) }
     ensures case { IfOk result (λ found. IfSome found (IsCase n)) }
 {
     let spelled = is_spelled(alloc, n, &parts)?;
@@ -163,7 +163,7 @@ fn read_case<L: Ledger>(
     requires some { 0 < form.items }
     requires few { form.items ≤ PLACES }
     requires name { at_key (codes "name") text_codec (view object.now) ≡ Some name }
-    ensures value { IfOk result (λ found. option_map pupil_of found
+    ensures value { IfOk result (λ found. option_map pupil_of_case found
         ≡ (pupil_codec form.version form.items).read (view object.now)) }
     ensures case { IfOk result (λ found. IfSome found (IsCase form.items)) }
 {
@@ -184,13 +184,13 @@ fn next_case<L: Ledger>(
     requires some { 0 < form.items }
     requires few { form.items ≤ PLACES }
     ensures value { IfOk result (λ found. IfSome found (λ c.
-        (pupil_codec form.version form.items).read (view object.now) ≡ Some (pupil_of c))) }
+        (pupil_codec form.version form.items).read (view object.now) ≡ Some (pupil_of_case c))) }
     ensures case { IfOk result (λ found. IfSome found (IsCase form.items)) }
     ensures own { IfOk result (λ found. IfSome found (λ c.
-        list_any (is_named (λ (e : Case). e.name) c.name) earlier.now ≡ false)) }
+        list_any (is_called (λ (e : Case). e.name) c.name) earlier.now ≡ false)) }
     ensures none { (p : Pupil) → result ≡ Ok None →
         (pupil_codec form.version form.items).read (view object.now) ≡ Some p →
-        list_any (is_named (λ (e : Case). e.name) p.name) earlier.now ≡ true }
+        list_any (is_called (λ (e : Case). e.name) p.name) earlier.now ≡ true }
 {
     let Some(name) = own_name(alloc, object)? else {
         return Ok(None);
