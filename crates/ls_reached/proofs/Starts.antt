@@ -18,7 +18,7 @@ use Rattle.ls_files.specs.SurmiseFiles.{Table, table_of, is_table_named, row_und
 use Rattle.ls_files.specs.declared.family_fault.FamilyFault.{FamilyFault}
 use Rattle.ls_family.proofs.Fitting.{sets-fit, each-fits}
 use Rattle.ls_surmise.proofs.Files.{clauses-on, row-named}
-use Rattle.ls_store.proofs.Bases.{base-small}
+use Rattle.ls_store.proofs.WrittenStarts.{base-small}
 use Rattle.ls_store.proofs.Surmises.{narrow-read}
 use Rattle.ls_meaning.specs.declared.request.StartFile.TheVariants as start_file
 

@@ -1,7 +1,7 @@
 // What stands where a domain does.
 ghost use Rattle.std.specs.Prelude.{◌≡◌, Ok, IfOk, IfErr, length};
 ghost use Rattle.ls_files.specs.{session_of};
-ghost use Rattle.ls_store.specs.Faults.{IsSessionFault};
+ghost use Rattle.ls_store.specs.Chains.{IsSessionFault};
 ghost use Rattle.ls_meaning.specs.{bytes_of, edit_effect, in_domain, lines_of, pupil_effect};
 ghost use Rattle.ls_meaning.specs.{setting_effect, started, view_effect};
 ghost use Rattle.ls_write.specs.Rooms.{Says};

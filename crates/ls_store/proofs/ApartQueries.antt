@@ -4,7 +4,8 @@ use Rattle.std.specs.Ordering.{is_eq}
 use Rattle.std.proofs.Math.Bool.{and-false}
 use Rattle.std.proofs.lemmas.List.Folds.{list_any-append}
 use Rattle.std.proofs.lemmas.Map.Keys.{IsDistinct-push}
-use Rattle.ls_store.proofs.StandingTests.{apart-distinct, apart-from}
+use Rattle.ls_store.proofs.WrittenAnswers.{apart-from}
+use Rattle.ls_store.proofs.Sound.{apart-distinct}
 
 -- one more, which none of the others is
 one-more : (queries : List Query) (r : Query) → are_apart is_same_query queries ≡ true → list_any (is_same_query r) queries ≡ false

@@ -1,8 +1,9 @@
 -- The sets of clauses that were read are of the items.
-use Rattle.ls_store.proofs.Vocabulary.{◌∙◌, ◌∷◌, ◌≡◌, Data, AreOn, Items, List, Some, ℕ, [], all_clauses, inl, inr, is_among, or_cases, list_of, set_codec, sym, true≢false}
+use Rattle.ls_store.proofs.Vocabulary.{◌∙◌, ◌∷◌, ◌≡◌, Data, AreOn, Items, List, Some, ℕ, [], all_clauses, inl, inr, is_among, on-from, or_cases, read_list, read_set, sym, true≢false}
 use Rattle.std.specs.List.{AllByRecursion}
 use Rattle.ls_set.proofs.Members.{among-append}
-use Rattle.ls_store.proofs.Sound.{list-sound, sets-sound}
+use Rattle.ls_store.proofs.Inverse.{list-some}
+use Rattle.ls_store.proofs.Read.{on-from}
 
 each-on : (n : ℕ) (clauses : List (List Items)) → AllByRecursion (AreOn n) clauses → AreOn n (all_clauses clauses)
 each-on n [] h k c = absurd (true≢false (sym c))
@@ -12,5 +13,5 @@ each-on n (own ∷ clauses) h k c =
       | inr b ↦ each-on n clauses h.1 k b
     ]
 
-pub lists-on : (n : ℕ) (d : Data) (clauses : List (List Items)) → Some clauses ≡ (list_of (list_of (set_codec n))).read d → AreOn n (all_clauses clauses)
-lists-on n d clauses e = each-on n clauses (list-sound (list_of (set_codec n)) (AreOn n) (sets-sound n) d clauses (sym e))
+pub lists-on : (n : ℕ) (d : Data) (clauses : List (List Items)) → Some clauses ≡ read_list (read_list (read_set n)) d → AreOn n (all_clauses clauses)
+lists-on n d clauses e = each-on n clauses (list-some (read_list (read_set n)) (AreOn n) (on-from n) d clauses (sym e))

@@ -36,3 +36,5 @@ weighable n start own sets s kept some few each =
   where
     few_enough : (m : ℕ) → leb m most_states ≡ true → m ≤ most_states
     few_enough m t = leb-true m most_states t
+
+-- ---- whether the pupil stands

@@ -1,141 +1,95 @@
--- What codecs read, and so the parts of a session: each is of its kind.
-use Rattle.ls_store.proofs.Vocabulary.{All-list_all, AllByRecursion, Bool, Cause, Clauses, Codec, Data, Each-among, Free, IsDomain, IsNarrow, AreOn, IsPupil, IsStart, Items, List, None, Ok, Option, Pupil, Ratios, Sets, Some, Start, Text, Values, Version, [], and_from, ap, are_limits, are_ratios, are_settings, as_array, as_str, at_key, base_codec, based, bytes_eq, codes, eqb, eqb-true, get, is_base, is_pupil, is_ratio, item, length, limits_codec, list_all, list_of, mapped, names_codec, names_of_words, names_of_words-read, no_items, number_codec, odds_codec, only, only_if, option_and_then, option_map, option_zip, or_cause, pair_of, parsed, pupil_codec, pupil_from, query_codec, ratio_codec, ratio_in, ratios_codec, read_each, read_only, reply_codec, result_ok, set_codec, settings_in, start_codec, start_from, start_within, subst, surmise_codec, surmise_from, sym, text_codec, true, two_values, ℕ, ◌&&◌, ◌∙◌, ◌∷◌, ◌≡◌}
-use Rattle.ls_set.specs.{IsWithin, full, read_cursor}
-use Rattle.ls_theory.specs.Settings.{Settings}
-use Rattle.ls_files.specs.declared.cause.Cause.TheVariants as cause
-use Rattle.ls_store.proofs.Inverse.{chosen, if_ok-ok, map-some, ok-some, only_if-some, or_cause-ok, then-some, zip-some}
-use Rattle.ls_store.proofs.Bases.{is_base-based}
-use Rattle.ls_store.proofs.Surmises.{narrow-read}
-
--- of what is read P holds
-abbrev pub IsSound : {X : Type 0} → Codec X → (X → Type 0) → Type 0
-IsSound {X} c P = (d : Data) (x : X) → c.read d ≡ Some x → P x
-
--- ---- codecs from others
-
-pub only-sound : {X : Type 0} (c : Codec X) (p : X → Bool) (P : X → Type 0) → IsSound c P → IsSound (only p c) (λ x. P x × (p x ≡ true))
-only-sound c p P h d x e = let read = only_if-some p (c.read d) x e in (h d x read.0, read.1)
-
-pub at-sound : {X : Type 0} (key : List ℕ) (c : Codec X) (P : X → Type 0) → IsSound c P → (d : Data) (x : X) → at_key key c d ≡ Some x → P x
-at-sound key c P h d x e = let found = then-some c.read (get key d) x e in h found.0 x found.2
-
-each-sound : {X : Type 0} (c : Codec X) (P : X → Type 0) → IsSound c P → (ds : Values) (xs : List X) → read_each c.read ds ≡ Some xs → AllByRecursion P xs
-each-sound c P h no_items [] e = tt
-each-sound c P h no_items (x ∷ xs) e = absurd (let no : ⊥ = cc in no)
-each-sound c P h (item d ds) xs e =
-    let first = then-some (λ x. option_map (λ ys. x ∷ ys) (read_each c.read ds)) (c.read d) xs e in
-    let rest = map-some (λ ys. first.0 ∷ ys) (read_each c.read ds) xs first.2 in
-    subst (AllByRecursion P) rest.2 (h d first.0 first.1, each-sound c P h ds rest.0 rest.1)
-
-pub list-sound : {X : Type 0} (c : Codec X) (P : X → Type 0) → IsSound c P → IsSound (list_of c) (AllByRecursion P)
-list-sound c P h d xs e = let values = then-some (read_each c.read) (as_array d) xs e in each-sound c P h values.0 xs values.2
-
-pair-sound : {X Y : Type 0} (a : Codec X) (b : Codec Y) (P : X → Type 0) (Q : Y → Type 0) → IsSound a P → IsSound b Q → IsSound (pair_of a b) (λ p. P p.0 × Q p.1)
-pair-sound a b P Q h k d p e =
-    let values = then-some (λ (q : Data × Data). option_zip (a.read q.0) (b.read q.1)) (option_and_then two_values (as_array d)) p e in
-    let parts = zip-some (a.read values.0.0) (b.read values.0.1) p values.2 in
-    (h values.0.0 p.0 parts.0, k values.0.1 p.1 parts.1)
-
--- ---- names, sets and starts
-
-pub names-sound : IsSound names_codec IsDomain
-names-sound d names e =
-    let words = then-some (λ ws. result_ok (names_of_words ws)) ((list_of text_codec).read d) names e in
-    (names_of_words-read words.0 names (ok-some (names_of_words words.0) names words.2)).0
-
-set-sound : (n : ℕ) → IsSound (set_codec n) (λ s. IsWithin s (full n))
-set-sound n d s e = let text = then-some (λ w. result_ok (read_cursor n w)) (as_str d) s e in (read_only n text.0 s (ok-some (read_cursor n text.0) s text.2)).0
-
-pub sets-sound : (n : ℕ) → IsSound (list_of (set_codec n)) (AreOn n)
-sets-sound n d ss e k h = Each-among (λ s. IsWithin s (full n)) ss k (list-sound (set_codec n) _ (set-sound n) d ss e) h
-
-surmise-sound : (n : ℕ) → IsSound (surmise_codec n) (IsNarrow n)
-surmise-sound n d cs e =
-    let lists = list_of (list_of (set_codec n)) in
-    let made = then-some (λ cs. result_ok (surmise_from n cs)) ((only (λ cs. eqb (length cs) n) lists).read d) cs e in
-    let read = only-sound lists (λ cs. eqb (length cs) n) (AllByRecursion (AreOn n)) (list-sound (list_of (set_codec n)) (AreOn n) (sets-sound n)) d made.0 made.1 in
-    narrow-read n made.0 cs read.0 (eqb-true (length made.0) n read.1) made.2
-
-within-sound : (n : ℕ) (base surmise : Option Data) (s : Start) → start_within n base surmise ≡ Some s → IsStart n s
-within-sound n (Some d) surmise s e =
-    let made = map-some Sets ((base_codec n).read d) s e in
-    subst (IsStart n) made.2 (is_base-based n made.0 (only_if-some (is_base n) ((list_of (set_codec n)).read d) made.0 made.1).1)
-within-sound n None (Some d) s e = let made = map-some Clauses ((surmise_codec n).read d) s e in subst (IsStart n) made.2 (surmise-sound n d made.0 made.1)
-within-sound n None None s e = absurd (let no : ⊥ = cc in no)
-
-from-sound : (n : ℕ) (d : Data) (w : Option Text) (s : Start) → start_from n d w ≡ Some s → IsStart n s
-from-sound n d (Some w) s e = subst (IsStart n) (chosen (bytes_eq w (codes "free")) Free s e).0 tt
-from-sound n d None s e = within-sound n (get (codes "base") d) (get (codes "surmise") d) s e
-
-pub start-sound : (n : ℕ) → IsSound (start_codec n) (IsStart n)
-start-sound n d s e = from-sound n d (as_str d) s e
+-- What is read of a session is a part of a whole one: settings, starts and interviews.
+use Rattle.ls_store.proofs.Vocabulary.{◌&&◌, ◌+◌, ◌||◌, ◌∙◌, ◌∷◌, ◌≡◌, All-list_all, AllByRecursion, Answer, BaseFault, Bool, Data, Decides-is_same, Err, Interview, IsDistinct, IsStanding, IsStrictlyIncreasing-from_sorted, IsStrictlySortedBy, Less, List, Ok, Ratios, Result, Some, Version, ℕ, [], and_from, and_parts, ap, are_apart, are_limits, are_made, are_ratios, are_settings, based, cond, each, eqb, false, filter, is_ascending, is_base, is_ratio, is_same_query, leb, leb-true, length, list_all, list_all-All, list_any, ltb, map, most_answers, most_number, nat_cmp, no_queries, not, not-true, option_map_or, pointwise, pointwise_decides, ratio_in, ratios_from, read_base, read_block, read_limits, read_list, read_number, read_odds, read_pair, read_ratio, read_ratios, read_set, refl, result_ok, settings_from, spaces_of, stands, subst, sym, true, true≢false}
+use Rattle.ls_set.specs.{Items, is_good, is_same}
+use Rattle.ls_store.proofs.Inverse.{only_if-some, map-some, list-some, pair-some}
 
 -- ---- settings
 
-ratio-sound : (v : Version) → IsSound (ratio_codec v) (λ r. is_ratio r ≡ true)
-ratio-sound v d r e = (only_if-some is_ratio ((ratio_in v).read d) r e).1
-
-ratios-sound : (v : Version) → IsSound (ratios_codec v) (λ r. are_ratios r ≡ true)
+ratios-sound : (v : Version) (d : Data) (r : Ratios) → read_ratios v d ≡ Some r → are_ratios r ≡ true
 ratios-sound v d r e =
-    let made = map-some _ ((pair_of (ratio_codec v) (ratio_codec v)).read d) r e in
-    let parts = pair-sound (ratio_codec v) (ratio_codec v) _ _ (ratio-sound v) (ratio-sound v) d made.0 made.1 in
-    subst (λ r. are_ratios r ≡ true) made.2 (and_from (is_ratio made.0.0) (is_ratio made.0.1) parts.0 parts.1)
+    let made = map-some ratios_from _ r e in
+    let parts = pair-some (read_ratio v) (read_ratio v) d made.0 made.1 in
+    let right = only_if-some is_ratio (ratio_in v parts.0.0) made.0.0 parts.1 in
+    let wrong = only_if-some is_ratio (ratio_in v parts.0.1) made.0.1 parts.2 in
+    subst (λ r. are_ratios r ≡ true) made.2 (and_from (is_ratio made.0.0) (is_ratio made.0.1) right.1 wrong.1)
 
-pub record AreOdds (n : ℕ) (rs : List Ratios) : Type 0 where
-  pub count : eqb (length rs) n ≡ true
-  pub each : list_all are_ratios rs ≡ true
+pub settings-sound : (v : Version) (n : ℕ) (d e : Data) (rs : List Ratios) (limits : ℕ × ℕ) → read_odds v n d ≡ Some rs → read_limits e ≡ Some limits → are_settings n (settings_from rs limits) ≡ true
+settings-sound v n d e rs limits odds bounds =
+    let list = only_if-some (λ rs. eqb (length rs) n) (read_list (read_ratios v) d) rs odds in
+    let each = All-list_all are_ratios rs (list-some (read_ratios v) (λ r. are_ratios r ≡ true) (ratios-sound v) d rs list.0) in
+    let most = only_if-some (λ p. are_limits p.0 p.1) (read_pair read_number read_number e) limits bounds in
+    and_from (eqb (length rs) n && list_all are_ratios rs) (are_limits limits.0 limits.1) (and_from (eqb (length rs) n) (list_all are_ratios rs) list.1 each) most.1
 
-pub odds-sound : (v : Version) (n : ℕ) → IsSound (odds_codec v n) (AreOdds n)
-odds-sound v n d rs e =
-    let read = only-sound (list_of (ratios_codec v)) (λ rs. eqb (length rs) n) _ (list-sound (ratios_codec v) _ (ratios-sound v)) d rs e in
-    record { count = read.1; each = All-list_all are_ratios rs read.0 }
+-- ---- bases
 
-pub limits-sound : IsSound limits_codec (λ p. are_limits p.0 p.1 ≡ true)
-limits-sound d p e = (only_if-some (λ p. are_limits p.0 p.1) ((pair_of number_codec number_codec).read d) p e).1
+based-from : (sets : List Items) (r : Result (List Items) BaseFault) → option_map_or (λ found. pointwise is_same found sets) (result_ok r) false ≡ true → r ≡ Ok sets
+based-from sets (Ok found) h = ap Ok ((pointwise_decides Decides-is_same found sets).0 h)
+based-from sets (Err e) h = absurd (true≢false (sym h))
 
-pub settings-sound : (v : Version) (n : ℕ) (d : Data) (s : Settings) → settings_in v n d ≡ Ok s → are_settings n s ≡ true
-settings-sound v n d s e =
-    let limits = or_cause-ok cause.Limits (at_key (codes "limits") limits_codec d) _ s e in
-    let ratios = or_cause-ok cause.Odds (at_key (codes "odds") (odds_codec v n) d) _ s limits.2 in
-    let within = at-sound (codes "limits") limits_codec _ limits-sound d limits.0 limits.1 in
-    let odds = at-sound (codes "odds") (odds_codec v n) (AreOdds n) (odds-sound v n) d ratios.0 ratios.1 in
-    let same : (let t : Settings = record { ratios = ratios.0; budget = limits.0.0; share = limits.0.1 } in t) ≡ s = cc ratios.2 in
-    subst (λ s. are_settings n s ≡ true) same
-    (and_from (eqb (length ratios.0) n && list_all are_ratios ratios.0) (are_limits limits.0.0 limits.0.1) (and_from (eqb (length ratios.0) n) (list_all are_ratios ratios.0) odds.count odds.each) within)
+pub is_base-based : (n : ℕ) (sets : List Items) → is_base n sets ≡ true → based n sets ≡ Ok sets
+is_base-based n sets h = based-from sets (based n sets) h
 
--- ---- pupils
+pub base-sound : (n : ℕ) (d : Data) (sets : List Items) → read_base n d ≡ Some sets → based n sets ≡ Ok sets
+base-sound n d sets e = is_base-based n sets (only_if-some (is_base n) (read_list (read_set n) d) sets e).1
 
--- what stands in the object of a pupil
-pub record IsPupilIn (v : Version) (n : ℕ) (d : Data) (p : Pupil) : Type 0 where
-  pub name : at_key (codes "name") text_codec d ≡ Some p.name
-  pub settings : settings_in v n d ≡ Ok p.settings
-  pub start : at_key (codes "start") (start_codec n) d ≡ Some p.start
-  pub stands : is_pupil n p ≡ true
+-- ---- interviews
 
-pub pupil-parts : (v : Version) (n : ℕ) (d : Data) (p : Pupil) → (pupil_codec v n).read d ≡ Some p → IsPupilIn v n d p
-pupil-parts v n d p e =
-    let name = at_key (codes "name") text_codec d in
-    let settings = result_ok (settings_in v n d) in
-    let start = at_key (codes "start") (start_codec n) d in
-    let course = option_zip (at_key (codes "yes") (list_of (query_codec n)) d) (at_key (codes "replies") (list_of (reply_codec n)) d) in
-    let parts = option_zip (option_zip name settings) (option_zip start course) in
-    let read = only_if-some (is_pupil n) (option_map pupil_from parts) p e in
-    let made = map-some pupil_from parts p read.0 in
-    let halves = zip-some (option_zip name settings) (option_zip start course) made.0 made.1 in
-    let first = zip-some name settings made.0.0 halves.0 in
-    let second = zip-some start course made.0.1 halves.1 in
+none-same : {X : Type 0} (same : X → X → Bool) (x : X) (xs : List X) → list_any (same x) xs ≡ false → AllByRecursion (λ y. same x y ≡ false) xs
+none-same same x [] h = tt
+none-same same x (y ∷ ys) h = elim (same x y) as (λ b. same x y ≡ b → (b || list_any (same x) ys) ≡ false → AllByRecursion (λ y. same x y ≡ false) (y ∷ ys)) [
+  | true ↦ λ e h. absurd (true≢false h)
+  | false ↦ λ e h. (e, none-same same x ys h)
+] refl h
+
+pub apart-distinct : {X : Type 0} (same : X → X → Bool) (xs : List X) → are_apart same xs ≡ true → IsDistinct same xs
+unfolding IsDistinct
+apart-distinct same [] h = tt
+apart-distinct same (x ∷ xs) h =
+    let p = and_parts (not (list_any (same x) xs)) (are_apart same xs) h in
+    (none-same same x xs (not-true (list_any (same x) xs) p.0), apart-distinct same xs p.1)
+
+less-first : (m y : ℕ) → ltb m y ≡ true → nat_cmp m y ≡ Less
+less-first m y h = rw h refl
+
+ascending-increasing : (ms : List ℕ) → is_ascending ms ≡ true → IsStrictlySortedBy nat_cmp ms
+unfolding IsStrictlySortedBy
+ascending-increasing [] h = tt
+ascending-increasing (m ∷ ms) h =
+    let p = and_parts (list_all (ltb m) ms) (is_ascending ms) h in
+    (each (less-first m) ms (list_all-All (ltb m) ms p.0), ascending-increasing ms p.1)
+
+some-list : {X : Type 0} (xs : List X) → not (eqb (length xs) 0) ≡ true → xs ≡ [] → ⊥
+some-list xs h e = true≢false (sym h ∙ ap (λ ys. not (eqb (length ys) 0)) e)
+
+good-nos : (n : ℕ) (answers : List Answer) → list_all (λ a. is_good n a.query) answers ≡ true → list_all (is_good n) (no_queries answers) ≡ true
+good-nos n [] h = refl
+good-nos n (a ∷ answers) h =
+    let p = and_parts (is_good n a.query) (list_all (λ a. is_good n a.query) answers) h in
+    elim a.yes as (λ b. list_all (is_good n) (map (λ a. a.query) (cond (not b) (a ∷ filter (λ a. not a.yes) answers) (filter (λ a. not a.yes) answers))) ≡ true) [
+      | true ↦ good-nos n answers p.1
+      | false ↦ and_from (is_good n a.query) (list_all (is_good n) (no_queries answers)) p.0 (good-nos n answers p.1)
+    ]
+
+-- the test tells exactly which answers stand
+pub stands-standing : (i : Interview) → stands i ≡ true → IsStanding i
+unfolding stands
+stands-standing i h =
+    let a = and_parts _ _ h in
+    let b = and_parts _ _ a.0 in
+    let c = and_parts _ _ b.0 in
+    let d = and_parts _ _ c.0 in
+    let e = and_parts _ _ d.0 in
+    let f = and_parts (not (eqb (length (spaces_of i)) 0)) (list_all (λ x. is_good i.count x.query) i.answers) e.0 in
+    let bounds = and_parts (leb 1 i.next) (leb i.next (most_number + 1)) a.1 in
     record {
-      name = first.0 ∙ ap (λ (p : Pupil). Some p.name) made.2;
-      settings = ok-some (settings_in v n d) made.0.0.1 first.1 ∙ ap (λ (p : Pupil). Ok p.settings) made.2;
-      start = second.0 ∙ ap (λ (p : Pupil). Some p.start) made.2;
-      stands = read.1;
+      sound = record { some_fits = some-list (spaces_of i) f.0; are_good = good-nos i.count i.answers f.1 };
+      good = f.1;
+      distinct = apart-distinct is_same_query (map (λ x. x.query) i.answers) e.1;
+      numbered = record { in_order = IsStrictlyIncreasing-from_sorted (map (λ x. x.number) i.answers) (ascending-increasing (map (λ x. x.number) i.answers) d.1); below_next = c.1 };
+      few_answers = leb-true (length i.answers) most_answers b.1;
+      some_number = leb-true 1 i.next bounds.0;
+      numbers_left = leb-true i.next (most_number + 1) bounds.1;
     }
 
-pub pupil-sound : (v : Version) (n : ℕ) → IsSound (pupil_codec v n) (IsPupil n)
-pupil-sound v n d p e =
-    let parts = pupil-parts v n d p e in
-    record {
-      start = at-sound (codes "start") (start_codec n) (IsStart n) (start-sound n) d p.start parts.start;
-      settings = settings-sound v n d p.settings parts.settings;
-      stands = parts.stands;
-    }
+pub block-sound : (n : ℕ) (d : Data) (k : ℕ) → read_block n d ≡ Some k → are_made n k ≡ true
+block-sound n d k e = (only_if-some (are_made n) (read_number d) k e).1

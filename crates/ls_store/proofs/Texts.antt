@@ -138,3 +138,24 @@ read-compact_text d plain shallow =
 pub read_object-compact_text : (ms : Members) → IsPlain (object ms) → depth (object ms) ≤ max_depth → read_object (compact_text (object ms)) ≡ Some (object ms)
 read_object-compact_text ms plain shallow =
     rw (is_utf8-from_IsUtf8 (compact_text (object ms)) (IsUtf8-compact_text (object ms) plain), read-compact_text (object ms) plain shallow) refl
+
+-- ---- a plain value has no float
+
+mutual
+  pub no_float : (d : Data) → IsPlain d → has_float d ≡ false
+  no_float null h = refl
+  no_float (boolean b) h = refl
+  no_float (number (unsigned n)) h = refl
+  no_float (number (negative z)) h = absurd h
+  no_float (number (float x)) h = absurd h
+  no_float (string s) h = refl
+  no_float (array ds) h = items-no_float ds h
+  no_float (object ms) h = members-no_float ms h.0
+
+  items-no_float : (ds : Values) → ArePlain ds → items_have_float ds ≡ false
+  items-no_float no_items h = refl
+  items-no_float (item d ds) h = rw (no_float d h.0) (items-no_float ds h.1)
+
+  members-no_float : (ms : Members) → MembersArePlain ms → members_have_float ms ≡ false
+  members-no_float no_members h = refl
+  members-no_float (member k d ms) h = rw (no_float d h.1) (members-no_float ms h.2)

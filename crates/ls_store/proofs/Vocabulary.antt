@@ -24,11 +24,17 @@ unfoldable pub use Rattle.ls_domain.specs.Domains.{names_from}
 pub use Rattle.ls_expert.specs.Held.{interview_on}
 pub use Rattle.ls_expert.specs.Saved.{IsStandingFault}
 pub use Rattle.ls_expert.specs.Starts.{IsStartOn, StartOn, start_of}
+pub use Rattle.ls_files.specs.Parts.{answer_from, interview_from, pupil_from, query_from, ratio_in, ratios_from, read_answer, read_base, read_block, read_course, read_interview, read_item, read_limits, read_names, read_odds, read_pupil, read_pupils, read_query, read_ratio, read_ratios, read_reply, read_set, read_settings, read_start, read_surmise, read_version, reply_from, settings_from, start_from, start_within}
+pub use Rattle.ls_files.specs.Readers.{at_key, four_values, only_if, read_number, read_object, read_pair, two_values}
+pub use Rattle.ls_files.specs.Reading.{or_cause}
+unfoldable pub use Rattle.ls_files.specs.Reading.{session_from, session_of}
 pub use Rattle.ls_files.specs.Sessions.{Pupil, Session, most_pupils, pupil_states}
 pub use Rattle.ls_files.specs.Standing.{are_apart, are_made, are_pupils, follow, is_ascending, is_asked, is_base}
 unfoldable pub use Rattle.ls_files.specs.Standing.{is_pupil, stands}
 pub use Rattle.ls_files.specs.SurmiseFiles.{in_order, list_value, read_each, read_list, wide}
 unfoldable pub use Rattle.ls_files.specs.SurmiseFiles.{surmise_from}
+pub use Rattle.ls_files.specs.Values.{answer_value, limits_value, number_value, odds_value, pair_value, pupil_value, query_value, ratio_value, ratios_value, reply_value, session_value, set_value, start_value}
+unfoldable pub use Rattle.ls_files.specs.Values.{session_text}
 pub use Rattle.ls_files.specs.declared.cause.Cause.{Cause}
 pub use Rattle.ls_files.specs.declared.version.Version.{Version}
 pub use Rattle.ls_laws.proofs.Breaks.{good-from}
@@ -40,7 +46,7 @@ pub use Rattle.ls_lists.proofs.Places.{drop-next, is_some-position}
 pub use Rattle.ls_pupils.specs.Cases.{ArePupils, IsCase, case_name, pupil_of_case, pupils_of}
 pub use Rattle.ls_pupils.specs.Own.{have_own_names, is_called}
 pub use Rattle.ls_pupils.specs.declared.cases.PupilCase.{PupilCase}
-pub use Rattle.ls_set.proofs.Cursors.{nibble_of-lt, only as read_only, read_back}
+pub use Rattle.ls_set.proofs.Cursors.{nibble_of-lt, only, read_back}
 pub use Rattle.ls_set.proofs.Members.{Each-among, among-append, among-filter, among-here, among-there}
 pub use Rattle.ls_set.proofs.Order.{among-subsets, subsets_from-in_order}
 pub use Rattle.ls_set.proofs.Sets.{Decides-is_same, IsWithin-from, is_within-from}
@@ -63,10 +69,5 @@ pub use Rattle.serde_json.specs.Read.{max_depth, of_items, of_json, of_members, 
 pub use Rattle.serde_json.specs.View.{items_of, items_view, members_view, view}
 pub use Rattle.serde_json.specs.Written.{comma_if, compact_text, has_float, items_have_float, items_outline, items_text, members_have_float, members_outline, members_text, outline}
 pub use Rattle.ls_store.specs.{IsNarrow, IsPupil, IsStanding, IsStart, IsWhole}
+pub use Rattle.ls_store.specs.Chains.{IsSessionFault, interview_chain, settings_chain}
 pub use Rattle.ls_store.specs.QueryOrders.{query_order, same-by_query_order, same_queries}
-pub use Rattle.ls_store.specs.Codecs.{Codec, at_key, four_of, four_values, list_of, mapped, number_codec, only, only_if, pair_of, parsed, text_codec, truth_codec, two_values}
-pub use Rattle.ls_store.specs.Faults.{IsSessionFault}
-pub use Rattle.ls_store.specs.SessionCodecs.{answer_codec, base_codec, block_codec, item_codec, limits_codec, names_codec, odds_codec, or_cause, pupil_codec, pupil_from, pupil_in, pupil_value, pupils_codec, query_codec, ratio_codec, ratio_in, ratios_codec, reply_codec, set_codec, settings_in, start_codec, start_from, start_within, surmise_codec}
-pub use Rattle.ls_store.specs.SessionFiles.{if_ok, interview_from, interview_in, read_interview, read_object, session_object, session_value, version_codec}
-pub use Rattle.ls_store.specs.PupilParts.{is_followed, is_spelled, pupil_of_parts, weighing_of}
-unfoldable pub use Rattle.ls_store.specs.SessionFiles.{session_from, session_of, session_text}

@@ -1,12 +1,13 @@
 -- Whole sessions: those that a program can come to.
-use Rattle.std.specs.Prelude.{◌≡◌, ℕ, true, List, length, None, Ok, ⊤}
-use Rattle.std.specs.List.{AllByRecursion}
-use Rattle.ls_set.specs.{Items}
+use Rattle.std.specs.Prelude.{◌≡◌, ℕ, ◌+◌, ◌<◌, ◌≤◌, true, List, map, length, None, Ok, ⊤}
+use Rattle.std.specs.List.{AllByRecursion, IsDistinct, list_all}
+use Rattle.ls_set.specs.{Items, is_good}
 use Rattle.ls_theory.specs.Starts.{Start, Free, Clauses, Sets}
-use Rattle.ls_theory.specs.{are_settings, based}
+use Rattle.ls_theory.specs.{Interview, are_settings, based, is_same_query, most_answers}
+use Rattle.ls_theory.specs.{most_number}
+use Rattle.ls_laws.specs.Forced.{IsSound, IsNumbered}
 use Rattle.ls_clauses.specs.Surmise.{IsSurmise}
 use Rattle.ls_domain.specs.Domains.{IsDomain}
-pub use Rattle.ls_expert.specs.Held.{IsStanding}
 use Rattle.ls_files.specs.SurmiseFiles.{wide}
 use Rattle.ls_files.specs.Sessions.{Pupil, Session}
 use Rattle.ls_files.specs.Standing.{are_made, is_pupil, are_pupils}
@@ -23,6 +24,20 @@ abbrev pub IsStart : ℕ → Start → Type 0
 IsStart n Free = ⊤
 IsStart n (Clauses clauses) = IsNarrow n clauses
 IsStart n (Sets sets) = based n sets ≡ Ok sets
+
+-- ---- answers
+
+-- Answers that stand: some space fits them, they stand in order of number, below the next number,
+-- their queries are good, and
+-- none is there twice; and there is room for them.
+pub record IsStanding (i : Interview) : Type 0 where
+  pub sound : IsSound i
+  pub good : list_all (λ a. is_good i.count a.query) i.answers ≡ true
+  pub distinct : IsDistinct is_same_query (map (λ a. a.query) i.answers)
+  pub numbered : IsNumbered i
+  pub few_answers : length i.answers ≤ most_answers
+  pub some_number : 0 < i.next
+  pub numbers_left : i.next ≤ most_number + 1
 
 -- ---- sessions
 

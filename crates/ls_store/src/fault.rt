@@ -24,14 +24,3 @@ impl From<AllocError> for SessionFault {
         SessionFault::Memory(e)
     }
 }
-
-impl From<Cause> for SessionFault {
-    ghost use Rattle.std.specs.Prelude.{◌≡◌};
-    ghost use Rattle.ls_store.specs.declared.fault.SessionFault.TheVariants.{BadSession};
-
-    ghost from_gives = { λ cause f. f ≡ BadSession cause };
-
-    fn from(cause: Cause) -> SessionFault {
-        SessionFault::BadSession { cause }
-    }
-}

@@ -1,104 +1,65 @@
-// The interview of a saved session.
-ghost use Rattle.std.specs.Prelude.{◌≡◌, ◌<◌, ◌≤◌, codes, true, Ok, IfOk, IfErr};
+// The inquiry of a saved session.
+ghost use Rattle.std.specs.Prelude.{◌≡◌, ◌<◌, ◌≤◌, codes, true, option_map, IfOk};
 ghost use Rattle.serde_json.specs.View.{view};
+ghost use Rattle.ls_set.specs.{most_items};
+ghost use Rattle.ls_files.specs.SurmiseFiles.{read_list};
 ghost use Rattle.ls_expert.specs.Starts.{start_of, IsStartOn};
-ghost use Rattle.ls_files.specs.Standing.{are_made};
-ghost use Rattle.ls_store.specs.Codecs.{at_key, number_codec};
-ghost use Rattle.ls_store.specs.SessionCodecs.{block_codec};
-ghost use Rattle.ls_store.specs.SessionFiles.{interview_in, read_interview};
-ghost use Rattle.ls_store.specs.Faults.{IsSessionFault};
+ghost use Rattle.ls_files.specs.{are_made, at_key, read_answer, read_interview, read_number};
 
-use crate::coded::{Form, own_list};
-use crate::fault::SessionFault;
-use crate::starts::own_start;
+use crate::readers::{read_answers, read_number};
 use ls_expert::{Inquiry, StandingFault, Start};
-use ls_files::Cause;
 use ls_interior::Steps;
-use ls_query::Blocks;
-use ls_set::PLACES;
+use ls_theory::Answer;
 use serde_json::Value;
 use std::alloc::{AllocError, Global};
 use std::sync::ledger::Ledger;
 
-// The greatest size of the sets that are asked, where blocks of `n` items are made up to it.
-fn read_block(n: u32, value: &Value) -> Option<u32>
-    requires some { 0 < n }
-    requires few { n ≤ PLACES }
-    ensures { result ≡ (block_codec n).read (view value.now) }
+// The answers of an object.
+fn own_answers(alloc: Global, n: u32, object: &Value) -> Result<Option<Vec<Answer>>, AllocError>
+    requires { n ≤ most_items }
+    ensures { IfOk result (λ found. option_map (λ v. v.items) found
+        ≡ at_key (codes "answers") (read_list (read_answer n)) (view object.now)) }
 {
-    let number = value.as_u64()?;
-    if number > u64::from(PLACES) {
-        return None;
+    match object.get("answers") {
+        Some(value) => read_answers(alloc, n, value),
+        None => Ok(None),
     }
-    let size = number as u32;
-    if Blocks::new(n, size).is_ok() {
-        Some(size)
-    } else {
-        None
-    }
-}
-
-// The size of the blocks of an object.
-fn own_block(n: u32, object: &Value) -> Option<u32>
-    requires some { 0 < n }
-    requires few { n ≤ PLACES }
-    ensures { result ≡ at_key (codes "block") (block_codec n) (view object.now) }
-{
-    read_block(n, object.get("block")?)
 }
 
 // The next number of an object.
 fn own_next(object: &Value) -> Option<u64>
-    ensures { result ≡ at_key (codes "next") number_codec (view object.now) }
+    ensures { result ≡ at_key (codes "next") read_number (view object.now) }
 {
-    object.get("next")?.as_u64()
+    read_number(object.get("next")?)
 }
 
-// The inquiry of an object's answers and next number, with the start and the greatest size of the
-// sets that are asked.
-fn read_inquiry<L: Ledger>(
+/// The inquiry of an object's answers and next number, on `n` items, with the start and the
+/// greatest
+/// size of the sets that are asked.
+pub fn read_inquiry<L: Ledger>(
     alloc: Global,
-    form: Form,
+    n: u32,
     start: Start,
     block: u32,
     object: &Value,
     steps: &mut Steps<L>,
 ) -> Result<Option<Inquiry>, AllocError>
-    requires some { 0 < form.items }
-    requires few { form.items ≤ PLACES }
-    requires start { IsStartOn form.items start }
-    requires made { are_made form.items block ≡ true }
+    requires some { 0 < n }
+    requires few { n ≤ most_items }
+    requires start { IsStartOn n start }
+    requires made { are_made n block ≡ true }
     ensures value { IfOk result (λ found.
-        found ≡ read_interview form.items (start_of start) block (view object.now)) }
+        found ≡ read_interview n (start_of start) block (view object.now)) }
 {
-    let Some(answers) = own_list(alloc, form, "answers", object)? else {
+    let Some(answers) = own_answers(alloc, n, object)? else {
         return Ok(None);
     };
     let Some(next) = own_next(object) else {
         return Ok(None);
     };
-    match Inquiry::from_standing(alloc, form.items, start, block, next, &answers, steps) {
+    match Inquiry::from_standing(alloc, n, start, block, next, &answers, steps) {
         Ok(inquiry) => Ok(Some(inquiry)),
         Err(StandingFault::Memory(e)) => Err(e),
         Err(_) => Ok(None),
     }
-}
-
-/// The inquiry of an object, or the first cause why it has none.
-pub fn own_inquiry<L: Ledger>(
-    alloc: Global,
-    form: Form,
-    object: &Value,
-    steps: &mut Steps<L>,
-) -> Result<Inquiry, SessionFault>
-    requires some { 0 < form.items }
-    requires few { form.items ≤ PLACES }
-    ensures interview { IfOk result (λ i. interview_in form.items (view object.now) ≡ Ok i) }
-    ensures items { IfOk result (λ i. i.count ≡ form.items) }
-    ensures fault { IfErr result (IsSessionFault (interview_in form.items (view object.now))) }
-{
-    let start = own_start(alloc, form, object)?.ok_or(Cause::Start)?;
-    let block = own_block(form.items, object).ok_or(Cause::Block)?;
-    let inquiry = read_inquiry(alloc, form, start, block, object, steps)?.ok_or(Cause::Answers)?;
-    Ok(inquiry)
 }

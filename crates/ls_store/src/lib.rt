@@ -3,22 +3,23 @@
 #![tactic(auto)]
 
 mod apart;
-mod coded;
-mod entries;
+mod blocks;
 mod fault;
 mod inquiries;
 mod laws;
+mod members;
 mod names;
 mod objects;
 mod parts;
 mod printing;
 mod pupil_values;
 mod pupils;
+mod readers;
 mod reading;
 mod replaying;
 mod saved;
-mod settings;
 mod starts;
+mod values;
 
 pub use fault::SessionFault;
 pub use laws::{sessions_are_read_back, tests_tell_what_stands};

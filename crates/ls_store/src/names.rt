@@ -1,29 +1,19 @@
 // The names of the items, written and read.
-ghost use Rattle.std.specs.Prelude.{◌≡◌, codes, IfOk};
+ghost use Rattle.std.specs.Prelude.{◌≡◌, IfOk};
+ghost use Rattle.serde_json.specs.Data.{string};
+ghost use Rattle.serde_json.specs.Find.{as_str};
 ghost use Rattle.serde_json.specs.View.{view};
-ghost use Rattle.ls_store.specs.Codecs.{at_key, list_of, text_codec};
-ghost use Rattle.ls_store.specs.SessionCodecs.{names_codec};
+ghost use Rattle.ls_files.specs.SurmiseFiles.{read_list, list_value};
+ghost use Rattle.ls_files.specs.Parts.{read_names};
 
-use crate::entries::text_value;
 use ls_domain::{Domain, DomainFault};
 use ls_lines::{Word, WordList};
 use serde_json::Value;
 use std::alloc::{AllocError, Global};
 
-/// The names of a domain.
-pub fn names_value(alloc: Global, domain: &Domain) -> Result<Value, AllocError>
-    ensures { IfOk result (λ v. view v ≡ names_codec.write domain.now) }
-{
-    let mut values = Vec::new(alloc);
-    for i in 0..domain.count() {
-        values.push(text_value(alloc, domain.name(i))?)?;
-    }
-    Ok(Value::Array(values))
-}
-
 // The texts of a list of them.
 fn read_words(alloc: Global, value: &Value) -> Result<Option<WordList>, AllocError>
-    ensures { IfOk result (λ found. found ≡ (list_of text_codec).read (view value.now)) }
+    ensures { IfOk result (λ found. found ≡ read_list as_str (view value.now)) }
 {
     let Some(entries) = value.as_array() else {
         return Ok(None);
@@ -38,9 +28,9 @@ fn read_words(alloc: Global, value: &Value) -> Result<Option<WordList>, AllocErr
     Ok(Some(words))
 }
 
-// The domain of a list of names.
-fn read_names(alloc: Global, value: &Value) -> Result<Option<Domain>, AllocError>
-    ensures { IfOk result (λ found. found ≡ names_codec.read (view value.now)) }
+/// The domain of a list of names.
+pub fn read_names(alloc: Global, value: &Value) -> Result<Option<Domain>, AllocError>
+    ensures { IfOk result (λ found. found ≡ read_names (view value.now)) }
 {
     let Some(words) = read_words(alloc, value)? else {
         return Ok(None);
@@ -52,13 +42,14 @@ fn read_names(alloc: Global, value: &Value) -> Result<Option<Domain>, AllocError
     }
 }
 
-/// The domain of an object.
-pub fn own_domain(alloc: Global, object: &Value) -> Result<Option<Domain>, AllocError>
-    ensures { IfOk result (λ found.
-        found ≡ at_key (codes "items") names_codec (view object.now)) }
+/// The names of a domain.
+pub fn names_value(alloc: Global, domain: &Domain) -> Result<Value, AllocError>
+    ensures { IfOk result (λ v. view v ≡ list_value string domain.now) }
 {
-    match object.get("items") {
-        Some(value) => read_names(alloc, value),
-        None => Ok(None),
+    let mut values = Vec::new(alloc);
+    for i in 0..domain.count() {
+        let name = String::from_str(alloc, domain.name(i))?;
+        values.push(Value::String(name))?;
     }
+    Ok(Value::Array(values))
 }

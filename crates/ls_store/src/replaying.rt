@@ -2,15 +2,12 @@
 ghost use Rattle.std.specs.Prelude.{◌≡◌, ◌<◌, ◌≤◌, ◌&&◌, [], true, length, nat_le, is_none};
 ghost use Rattle.std.specs.Prelude.{is_some, Some, IfOk, IfSome};
 ghost use Rattle.std.specs.List.{list_all};
-ghost use Rattle.ls_set.specs.{is_good, most_items};
+ghost use Rattle.ls_set.specs.{is_good};
 ghost use Rattle.ls_theory.specs.{compat, heavy_after, most_states};
 ghost use Rattle.ls_weight.specs.Weighings.{IsWeighable};
 ghost use Rattle.ls_expert.specs.Starts.{start_of, IsStartOn};
-ghost use Rattle.ls_files.specs.{follow};
-ghost use Rattle.ls_store.specs.Codecs.{only_if};
-ghost use Rattle.ls_store.specs.PupilParts.{is_followed, pupil_of_parts, weighing_of};
+ghost use Rattle.ls_files.specs.{follow, only_if};
 
-use crate::parts::PupilParts;
 use ls_assess::{Pupil, Reply, Settings, WeightFault};
 use ls_enum::{ListFault, list_all};
 use ls_expert::{OnItems, Start};
@@ -100,30 +97,39 @@ fn replayed(mut pupil: Pupil, replies: &[Reply]) -> Option<Pupil>
     Some(pupil)
 }
 
-/// The pupil of the parts: its states are the sets of `n` items that meet the start and break no
-/// query, and it has given the replies. There is one where there are not too many states, they can
-/// be weighed under the settings, and each reply is to the item that is asked.
+/// The pupil whose states are the sets of `n` items that meet the start and break no query, after
+/// the replies; where there are not too many states, they can be weighed under the settings, and
+/// each reply is to the item that is asked.
 pub fn pupil_after<L: Ledger>(
     alloc: Global,
     n: u32,
-    parts: &PupilParts,
+    start: &Start,
+    yes: &[Query],
+    settings: &Settings,
+    replies: &[Reply],
     steps: &mut Steps<L>,
 ) -> Result<Option<Pupil>, AllocError>
     requires some { 0 < n }
-    requires few { n ≤ most_items }
-    requires on { IsStartOn n parts.now.start }
-    requires good { list_all (is_good n) parts.now.yes ≡ true }
-    requires items { length parts.now.settings.ratios ≡ n }
-    ensures pupil { IfOk result (λ found. IfSome found (λ p.
-        p ≡ weighing_of n (pupil_of_parts parts.now))) }
-    ensures followed { IfOk result (λ found.
-        is_some found ≡ is_followed n (pupil_of_parts parts.now)) }
+    requires few { n ≤ PLACES }
+    requires on { IsStartOn n start.now }
+    requires good { list_all (is_good n) yes.now ≡ true }
+    requires items { length settings.now.ratios ≡ n }
+    ensures pupil { IfOk result (λ found. IfSome found (λ p. p ≡ record {
+      settings = settings.now;
+      states = compat n (start_of start.now) yes.now;
+      replies = replies.now;
+    })) }
+    ensures stands { IfOk result (λ found. is_some found ≡ (
+        nat_le (length (compat n (start_of start.now) yes.now)) most_states
+        && is_none (heavy_after settings.now
+        (length (compat n (start_of start.now) yes.now)))
+        && follow settings.now (compat n (start_of start.now) yes.now) [] replies.now)) }
 {
-    let Some(states) = states_of(alloc, n, &parts.start, parts.yes.as_slice(), steps)? else {
+    let Some(states) = states_of(alloc, n, start, yes, steps)? else {
         return Ok(None);
     };
-    match begun(alloc, n, states, &parts.settings)? {
-        Some(pupil) => Ok(replayed(pupil, &parts.replies)),
+    match begun(alloc, n, states, settings)? {
+        Some(pupil) => Ok(replayed(pupil, replies)),
         None => Ok(None),
     }
 }

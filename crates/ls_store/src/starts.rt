@@ -1,4 +1,4 @@
-// The start of a saved session, written and read.
+// The start of a saved session.
 ghost use Rattle.std.specs.Prelude.{◌≡◌, ◌<◌, ◌≤◌, if◌then◌else◌, ℕ, codes, bytes_eq, Some, None};
 ghost use Rattle.std.specs.Prelude.{option_map, IfOk, IfSome};
 ghost use Rattle.std.specs.Cmp.Lexicographic.{pointwise};
@@ -6,59 +6,17 @@ ghost use Rattle.serde_json.specs.View.{view};
 ghost use Rattle.ls_set.specs.{is_same, most_items};
 ghost use Rattle.ls_theory.specs.Starts as theory;
 ghost use Rattle.ls_laws.specs.Spans.{AreOn};
-ghost use Rattle.ls_clauses.specs.Surmise.{IsSurmise};
 ghost use Rattle.ls_expert.specs.Starts.{start_of, IsStartOn};
-ghost use Rattle.ls_files.specs.Standing.{is_base};
-ghost use Rattle.ls_store.specs.Codecs.{at_key, only_if};
-ghost use Rattle.ls_store.specs.SessionCodecs.{base_codec, start_codec, surmise_codec};
+ghost use Rattle.ls_files.specs.{is_base, only_if, read_base, read_start, read_surmise};
 
-use crate::coded::{Form, list_value};
-use crate::entries::{read_set_lists, read_sets, text_value};
-use crate::objects::single_object;
+use crate::readers::{read_set_lists, read_sets};
 use ls_base::{Base, BaseFault, MOST_BASE_SETS};
 use ls_expert::Start;
-use ls_set::{ItemSet, PLACES};
+use ls_set::ItemSet;
 use ls_surmise::Surmise;
 use ls_theory::SurmiseFault;
 use serde_json::Value;
 use std::alloc::{AllocError, Global};
-
-// ---- written
-
-// The cursors of the clauses of each item in turn.
-fn clauses_value(alloc: Global, n: u32, surmise: &Surmise) -> Result<Value, AllocError>
-    requires few { n ≤ PLACES }
-    requires items { surmise.now.item_count ≡ n }
-    requires surmise { IsSurmise n surmise.now.clauses }
-    ensures { IfOk result (λ v. view v ≡ (surmise_codec n).write surmise.now.clauses) }
-{
-    let mut values = Vec::new(alloc);
-    for q in 0..n {
-        values.push(list_value(alloc, n, surmise.clauses(q))?)?;
-    }
-    Ok(Value::Array(values))
-}
-
-/// A start: the text `free`, or an object of the cursors of its clauses or of its base sets.
-pub fn start_value(alloc: Global, n: u32, start: &Start) -> Result<Value, AllocError>
-    requires few { n ≤ PLACES }
-    requires on { IsStartOn n start.now }
-    ensures { IfOk result (λ v. view v ≡ (start_codec n).write (start_of start.now)) }
-{
-    match start {
-        Start::Free => text_value(alloc, "free"),
-        Start::Clauses(surmise) => {
-            let clauses = clauses_value(alloc, n, surmise)?;
-            single_object(alloc, "surmise", clauses)
-        }
-        Start::Sets(base) => {
-            let sets = list_value(alloc, n, base.sets())?;
-            single_object(alloc, "base", sets)
-        }
-    }
-}
-
-// ---- read
 
 // All sets, by their word.
 fn free_start(text: &str) -> Option<Start>
@@ -105,69 +63,55 @@ fn base_of(alloc: Global, n: u32, sets: &[ItemSet]) -> Result<Option<Start>, All
 }
 
 // The start by the base whose sets are listed.
-fn base_start(alloc: Global, form: Form, value: &Value) -> Result<Option<Start>, AllocError>
-    requires { form.items ≤ most_items }
+fn base_start(alloc: Global, n: u32, value: &Value) -> Result<Option<Start>, AllocError>
+    requires { n ≤ most_items }
     ensures value { IfOk result (λ found. option_map start_of found
-        ≡ option_map theory.Sets ((base_codec form.items).read (view value.now))) }
-    ensures on { IfOk result (λ found. IfSome found (IsStartOn form.items)) }
+        ≡ option_map theory.Sets (read_base n (view value.now))) }
+    ensures on { IfOk result (λ found. IfSome found (IsStartOn n)) }
 {
-    match read_sets(alloc, form, value)? {
-        Some(sets) => base_of(alloc, form.items, sets.as_slice()),
+    match read_sets(alloc, n, value)? {
+        Some(sets) => base_of(alloc, n, sets.as_slice()),
         None => Ok(None),
     }
 }
 
 // The start by the surmise function whose clauses are listed, one list for each item.
-fn surmise_start(alloc: Global, form: Form, value: &Value) -> Result<Option<Start>, AllocError>
-    requires { form.items ≤ most_items }
+fn surmise_start(alloc: Global, n: u32, value: &Value) -> Result<Option<Start>, AllocError>
+    requires { n ≤ most_items }
     ensures value { IfOk result (λ found. option_map start_of found
-        ≡ option_map theory.Clauses ((surmise_codec form.items).read (view value.now))) }
-    ensures on { IfOk result (λ found. IfSome found (IsStartOn form.items)) }
+        ≡ option_map theory.Clauses (read_surmise n (view value.now))) }
+    ensures on { IfOk result (λ found. IfSome found (IsStartOn n)) }
 {
-    let Some(clauses) = read_set_lists(alloc, form, value)? else {
+    let Some(clauses) = read_set_lists(alloc, n, value)? else {
         return Ok(None);
     };
-    if clauses.len() != form.items as usize {
+    if clauses.len() != n as usize {
         return Ok(None);
     }
-    match Surmise::from_clauses(alloc, form.items, &clauses) {
+    match Surmise::from_clauses(alloc, n, &clauses) {
         Ok(surmise) => Ok(Some(Start::Clauses(surmise))),
         Err(SurmiseFault::Memory(e)) => Err(e),
         Err(_) => Ok(None),
     }
 }
 
-// The start that a value is: the word `free`, or an object with a base or the clauses of a surmise
-// function. Where it has both, it is the base.
-fn read_start(alloc: Global, form: Form, value: &Value) -> Result<Option<Start>, AllocError>
-    requires some { 0 < form.items }
-    requires few { form.items ≤ most_items }
+/// The start that a value is, where it is one on `n` items: the word `free`, or an object with a
+/// base or the clauses of a surmise function. Where it has both, it is the base.
+pub fn read_start(alloc: Global, n: u32, value: &Value) -> Result<Option<Start>, AllocError>
+    requires some { 0 < n }
+    requires few { n ≤ most_items }
     ensures value { IfOk result (λ found.
-        option_map start_of found ≡ (start_codec form.items).read (view value.now)) }
-    ensures on { IfOk result (λ found. IfSome found (IsStartOn form.items)) }
+        option_map start_of found ≡ read_start n (view value.now)) }
+    ensures on { IfOk result (λ found. IfSome found (IsStartOn n)) }
 {
     if let Some(text) = value.as_str() {
         return Ok(free_start(text));
     }
     if let Some(sets) = value.get("base") {
-        return base_start(alloc, form, sets);
+        return base_start(alloc, n, sets);
     }
     match value.get("surmise") {
-        Some(clauses) => surmise_start(alloc, form, clauses),
-        None => Ok(None),
-    }
-}
-
-/// The start of an object, on the items of the form.
-pub fn own_start(alloc: Global, form: Form, object: &Value) -> Result<Option<Start>, AllocError>
-    requires some { 0 < form.items }
-    requires few { form.items ≤ PLACES }
-    ensures value { IfOk result (λ found. option_map start_of found
-        ≡ at_key (codes "start") (start_codec form.items) (view object.now)) }
-    ensures on { IfOk result (λ found. IfSome found (IsStartOn form.items)) }
-{
-    match object.get("start") {
-        Some(value) => read_start(alloc, form, value),
+        Some(clauses) => surmise_start(alloc, n, clauses),
         None => Ok(None),
     }
 }

@@ -1,22 +1,22 @@
-use Rattle.ls_store.proofs.Vocabulary.{◌+◌, ◌<◌, ◌∙◌, ◌≤◌, ArePupils, Ok, ap, arith, length, length_push, most_pupils, pupil_codec, read_list, rules, subst, sym, view}
+use Rattle.ls_store.proofs.Vocabulary.{◌+◌, ◌<◌, ◌∙◌, ◌≤◌, ArePupils, Ok, ap, arith, length, length_push, most_pupils, read_list, read_pupil, rules, subst, sym, view}
 use Rattle.ls_pupils.proofs.Keeping.{are-more}
 use Rattle.ls_store.proofs.PupilLists.{too-many, none-next, next-read, all-read}
 use Rattle.ls_store.proofs.pupils.read_cases.Goals as goal
 
 pub returns-then-len-gt-MOST_PUPILS-clause-value : goal.returns-then-len-gt-MOST_PUPILS-clause-value
 returns-then-len-gt-MOST_PUPILS-clause-value g c =
-    too-many (pupil_codec c.args.form.version c.args.form.items).read c.in-Some.entries.now.items (view c.args.value.now) (let l = c.if-len-gt-MOST_PUPILS.true in search rules) (let e = c.as_array.ensures in let f = c.in-Some.is in search rules)
+    too-many (read_pupil c.args.version c.args.n) c.in-Some.entries.now.items (view c.args.value.now) (let l = c.if-len-gt-MOST_PUPILS.true in search rules) (let e = c.as_array.ensures in let f = c.in-Some.is in search rules)
 
 pub returns-in_default-2-clause-value : goal.returns-in_default-2-clause-value
 returns-in_default-2-clause-value g c =
-    let f = (pupil_codec c.args.form.version c.args.form.items).read in
+    let f = read_pupil c.args.version c.args.n in
     none-next f c.loop-entry.cases c.deref-entry-items.result.now c.loop-entry.entry-index c.entry-item.result (read_list f (view c.args.value.now)) c.loop-entry-test.true c.entry-item.is
     (λ p e. c.in_ok-case.ensures.none p (ap Ok c.in_default-2.is) e) c.loop-entry.invariant.read
 
 pub loop-entry-preserved : goal.loop-entry-preserved
 loop-entry-preserved g c =
-    let n = c.args.form.items in
-    let f = (pupil_codec c.args.form.version n).read in
+    let n = c.args.n in
+    let f = read_pupil c.args.version n in
     let cases = c.loop-entry.cases in
     let case = c.in-Some-2.case in
     let more = c.in_ok-push.ensures.ok in
@@ -33,6 +33,6 @@ loop-entry-preserved g c =
 
 pub returns-clause-value : goal.returns-clause-value
 returns-clause-value g c =
-    let f = (pupil_codec c.args.form.version c.args.form.items).read in
-    all-read c.args.form.items f c.loop-entry.cases c.deref-entry-items.result.now c.loop-entry.entry-index (read_list f (view c.args.value.now)) c.loop-entry-test.false c.loop-entry.invariant.cases
+    let f = read_pupil c.args.version c.args.n in
+    all-read c.args.n f c.loop-entry.cases c.deref-entry-items.result.now c.loop-entry.entry-index (read_list f (view c.args.value.now)) c.loop-entry-test.false c.loop-entry.invariant.cases
     c.loop-entry.invariant.read

@@ -1,6 +1,6 @@
 use Rattle.ls_store.proofs.Vocabulary.{◌∙◌, ◌≡◌, ap, is_same, pointwise, sym, true}
 use Rattle.ls_clauses.proofs.BaseCovers.{based-cover}
-use Rattle.ls_store.proofs.Bases.{same-start}
+use Rattle.ls_store.proofs.BaseStarts.{same-start}
 use Rattle.ls_store.proofs.starts.base_of.Goals as goal
 
 pub returns-then-are_same-clause-value : goal.returns-then-are_same-clause-value
