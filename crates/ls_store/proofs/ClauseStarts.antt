@@ -1,5 +1,5 @@
 -- The sets of clauses that were read are of the items.
-use Rattle.ls_store.proofs.Vocabulary.{◌∙◌, ◌∷◌, ◌≡◌, Data, AreOn, Items, List, Some, ℕ, [], all_clauses, inl, inr, is_among, on-from, or_cases, read_list, read_set, sym, true≢false}
+use Rattle.ls_store.proofs.Vocabulary.{◌∙◌, ◌∷◌, ◌≡◌, Data, AreOn, Items, List, Some, ℕ, [], all_clauses, inl, inr, is_among, or_cases, read_list, read_set, sym, true≢false}
 use Rattle.std.specs.List.{AllByRecursion}
 use Rattle.ls_set.proofs.Members.{among-append}
 use Rattle.ls_store.proofs.Inverse.{list-some}

@@ -1,4 +1,5 @@
-use Rattle.ls_store.proofs.Vocabulary.{◌∙◌, AreOn, on-from, subst, sym, view}
+use Rattle.ls_store.proofs.Vocabulary.{◌∙◌, AreOn, subst, sym, view}
+use Rattle.ls_store.proofs.Read.{on-from}
 use Rattle.ls_store.proofs.starts.base_start.Goals as goal
 
 pub base_of-requires-clause-within : goal.base_of-requires-clause-within
