@@ -20,7 +20,7 @@ pub fn half_split(w: &Weights) -> u32
     ensures item { result < length w.now.settings.ratios }
 {
     // There are some items, where there are weights of states.
-    let _ = w.states();
+    let _ = w.states(); // for the proof
     let total = w.total();
     let mut best = 0;
     let mut least = imbalance(w, total, best);

@@ -1,5 +1,6 @@
 // The assessment of one pupil.
-ghost use Rattle.std.specs.Prelude.{◌≡◌, ◌<◌, ◌≤◌, ◌++◌, ◌∷◌, [], ℕ, length, nat_lt, true, Some, None, Err, IfOk, IfErr, OnOk, OnErr};
+ghost use Rattle.std.specs.Prelude.{◌≡◌, ◌<◌, ◌≤◌, ◌++◌, ◌∷◌, [], ℕ, length, nat_lt, true};
+ghost use Rattle.std.specs.Prelude.{Some, None, Err, IfOk, IfErr, OnOk, OnErr};
 ghost use Rattle.std.specs.List.{list_all};
 ghost use Rattle.ls_set.specs.{is_among};
 ghost use Rattle.ls_theory.specs.{asked, has_share, heavy_after, outcome, reply_fault};
@@ -33,7 +34,7 @@ fn has_share(w: &Weights) -> bool
 {
     let settings = w.settings();
     // Settings are in their ranges, so the products fit.
-    let _ = settings.count();
+    let _ = settings.count(); // for the proof
     u128::from(settings.share()) * w.total() <= 100 * w.weight(leader(w))
 }
 

@@ -1,12 +1,12 @@
 -- Bases and the families that they span.
-use Rattle.ls_base.proofs.Vocabulary.{◌&&◌, ◌+◌, ◌<◌, ◌||◌, ◌∙◌, ◌≡◌, ◌≤◌, Bool, Decides-is_same, IsAtom-from, IsInOrder, IsInOrder-filter, IsOn, IsPart, IsUnionFamily, IsWithin, IsWithin-from, Items, List, Spans, ℕ, among-base, among-cases, among-filter, among-here, among-subsets, among-there, and_from, and_parts, ap, arith, atom_within, atoms_at, base, base-in_order, base-member, base-needed, cases_eq, empty, eq-eqb, eqb, eqb-true, false_from_ne_true, from-interior, full, has, has-empty, has-full, has-with, inl, inr, interior, interior-whole, is_among, is_atom_at, is_same, is_within, is_within-from, length, list_any, lt-ltb, ltb-true, map, most_base_sets, needed, not, not-true, not_from_false, range_with_len, refl, same_members, same_truth, same_within, single_sets, some-among, some-from, spanned, spanned-IsUnionFamily, spanned-base, spanned-has, spanned-in_order, spanned-same, spanned-whole, subsets, subsets-IsUnionFamily, subsets_from-in_order, subst, suc, sym, to-interior, true, true≢false, with, zero}
+use Rattle.ls_base.proofs.Vocabulary.{◌&&◌, ◌+◌, ◌<◌, ◌||◌, ◌∙◌, ◌≡◌, ◌≤◌, Bool, Decides-is_same, IsAtom-from, IsInOrder, IsInOrder-filter, AreOn, IsPart, IsUnionFamily, IsWithin, IsWithin-from, Items, List, Spans, ℕ, among-base, among-cases, among-filter, among-here, among-subsets, among-there, and_from, and_parts, ap, arith, atom_within, atoms_at, base, base-in_order, base-member, base-needed, cases_eq, empty, eq-eqb, eqb, eqb-true, false_from_ne_true, from-interior, full, has, has-empty, has-full, has-with, inl, inr, interior, interior-whole, is_among, is_atom_at, is_same, is_within, is_within-from, length, list_any, lt-ltb, ltb-true, map, most_base_sets, needed, not, not-true, not_from_false, range_with_len, refl, same_members, same_truth, same_within, single_sets, some-among, some-from, spanned, spanned-IsUnionFamily, spanned-base, spanned-has, spanned-in_order, spanned-same, spanned-whole, subsets, subsets-IsUnionFamily, subsets_from-in_order, subst, suc, sym, to-interior, true, true≢false, with, zero}
 use Rattle.std.proofs.lemmas.List.FromFn.{length-map-range_with_len}
 use Rattle.ls_set.specs.declared.item_set.TheConstants.{PLACES}
 use Rattle.ls_base.proofs.Below.{interior-same}
 
 -- ---- what a base spans
 
-pub base-on : (n : ℕ) (g : List Items) → base (spanned n g) ≡ g → IsOn n g
+pub base-on : (n : ℕ) (g : List Items) → base (spanned n g) ≡ g → AreOn n g
 base-on n g e k c = (spanned-IsUnionFamily n g).small k (base-member (spanned n g) k (ap (λ f. is_among f k) e ∙ c))
 
 -- members of a family that span it span nothing else
@@ -16,7 +16,7 @@ spanned-is n f g order family part span =
     same_members (spanned n g) f (spanned-in_order n g) order (λ k c. sym (e k) ∙ c) (λ k c. e k ∙ c)
 
 -- the interior in what a list spans is the union of its sets within
-pub interior-spanned : (n : ℕ) (g : List Items) (s : Items) → IsOn n g → interior g s ≡ interior (spanned n g) s
+pub interior-spanned : (n : ℕ) (g : List Items) (s : Items) → AreOn n g → interior g s ≡ interior (spanned n g) s
 interior-spanned n g s small = same_within (interior g s) (interior (spanned n g) s)
     (λ i h. let r = from-interior g s i h in to-interior (spanned n g) s r.0 i (spanned-has n g small r.0 r.1) r.2 r.3)
     (λ i h.
@@ -31,7 +31,7 @@ pub base-told : (f all sorted : List Items) → IsInOrder f → IsPart all f →
 base-told f all sorted order part span sorted_order same =
     base-needed f sorted order sorted_order (λ k c. part k (sym (same k) ∙ c)) (λ k c. interior-same sorted all k same ∙ span k c)
 
-pub base-listed : (n : ℕ) (all sorted : List Items) → IsOn n all → IsInOrder sorted → ((k : Items) → is_among sorted k ≡ is_among all k) → base (spanned n all) ≡ needed sorted
+pub base-listed : (n : ℕ) (all sorted : List Items) → AreOn n all → IsInOrder sorted → ((k : Items) → is_among sorted k ≡ is_among all k) → base (spanned n all) ≡ needed sorted
 base-listed n all sorted small order same = base-told (spanned n all) all sorted (spanned-in_order n all) (spanned-has n all small) (spanned-whole n all) order same
 
 -- a base of a family is the base of what it spans
@@ -92,7 +92,7 @@ from-singles i (suc m) k c = elim (among-cases k (with empty i) (map (with empty
   | inr d ↦ let r = from-singles (i + 1) m k d in let l = r.1 in (r.0, omega arith, r.2)
 ]
 
-pub singles-on : (n : ℕ) → IsOn n (single_sets n)
+pub singles-on : (n : ℕ) → AreOn n (single_sets n)
 singles-on n k c =
     let r = from-singles 0 n k c in
     let l = r.1 in

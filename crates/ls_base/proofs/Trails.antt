@@ -1,5 +1,5 @@
 -- Trails: what their entries stand for, and which is the last.
-use Rattle.ls_base.proofs.Vocabulary.{◌++◌, ◌+◌, ◌-◌, ◌<◌, ◌∙◌, ◌∷◌, ◌≡◌, ◌≤◌, All, All-append, All-drop, All-filter, All-from_recursion, All-map, All-push, All-set, All-take, All-weaker, AreAskable, EndsAt, Entry, Followed, IfSome, IsAskable, IsEntry, IsFollowed, IsTrail, List, Query, Some, Start, ℕ, [], ap, arith, begins_at_none, cases_lt, cond, cut, drop, false, filter, filter_passes, get_or, get_or_from_slice_get, given_up, inl, inr, is_good, last_entry, leb-true, length, length-append, length-set, length-take, length-take-le, list_all, list_all-All, ltb, ltb-false, ltb-true, option_map, option_map_or, reached, refl, set, slice_get, slice_get-get_or, slice_get_read, slice_get_within, subst, suc, sym, take, take-append-le, take-take, take_all, take_more, true}
+use Rattle.ls_base.proofs.Vocabulary.{◌++◌, ◌+◌, ◌-◌, ◌<◌, ◌∙◌, ◌∷◌, ◌≡◌, ◌≤◌, All, All-append, All-drop, All-filter, All-from_recursion, All-map, All-push, All-set, All-take, All-weaker, AreAskable, EndsAt, Entry, Followed, IfSome, IsAskable, IsEntry, IsFollowed, IsTrail, List, Query, Some, Start, ℕ, [], ap, arith, begins_at_none, cases_lt, cond, cut, drop, false, filter, filter_passes, get_or, get_or_from_slice_get, given_up, inl, inr, is_good, last_entry, leb-true, length, length-append, length-set, length-take, length-take-le, list_all, list_all-All, ltb, ltb-false, ltb-true, option_map, option_map_or, followed_count, refl, set, slice_get, slice_get-get_or, slice_get_read, slice_get_within, subst, suc, sym, take, take-append-le, take-take, take_all, take_more, true}
 use Rattle.std.proofs.Math.Dec.{leb}
 use Rattle.std.proofs.lemmas.Grind.{get_or-set_at}
 use Rattle.ls_base.proofs.Followings.{IsAskable-good}
@@ -78,11 +78,11 @@ entry-next n start yeses first m f r l at before here =
       ];
     }
 
-here : (yeses : List Query) (es : List Entry) (e : Entry) (r : Query) → last_entry es ≡ Some e → slice_get yeses (reached es) ≡ Some r → slice_get yeses e.last ≡ Some r
+here : (yeses : List Query) (es : List Entry) (e : Entry) (r : Query) → last_entry es ≡ Some e → slice_get yeses (followed_count es) ≡ Some r → slice_get yeses e.last ≡ Some r
 here yeses es e r l at = ap (λ o. slice_get yeses (option_map_or (λ e. e.last) o 0)) (sym l) ∙ at
 
 -- the last entry stands for one more
-pub trail-set : (n : ℕ) (start : Start) (yeses : List Query) (es : List Entry) (i : ℕ) (e : Entry) (r : Query) → last_entry es ≡ Some e → IsTrail n start yeses es → slice_get yeses (reached es) ≡ Some r
+pub trail-set : (n : ℕ) (start : Start) (yeses : List Query) (es : List Entry) (i : ℕ) (e : Entry) (r : Query) → last_entry es ≡ Some e → IsTrail n start yeses es → slice_get yeses (followed_count es) ≡ Some r
     → (IsFollowed n start (take e.last yeses) e.followed → IsFollowed n start (take e.last yeses ++ r ∷ []) e.followed) → IsTrail n start yeses (set es i (record { first = e.first; last = e.last + 1; followed = e.followed }))
 trail-set n start yeses es i e r l t at stays =
     let h = entry-last n start yeses es e t l in
@@ -90,7 +90,7 @@ trail-set n start yeses es i e r l t at stays =
     All-set (IsEntry n start yeses) es i _ (entry-next n start yeses e.first e.last e.followed r (omega arith) (here yeses es e r l at) h.followed (stays (h.followed e.last order (omega arith)))) t
 
 -- or there is a new one
-pub trail-push : (n : ℕ) (start : Start) (yeses : List Query) (es : List Entry) (e : Entry) (r : Query) (f : Followed) → last_entry es ≡ Some e → IsTrail n start yeses es → slice_get yeses (reached es) ≡ Some r
+pub trail-push : (n : ℕ) (start : Start) (yeses : List Query) (es : List Entry) (e : Entry) (r : Query) (f : Followed) → last_entry es ≡ Some e → IsTrail n start yeses es → slice_get yeses (followed_count es) ≡ Some r
     → (IsFollowed n start (take e.last yeses) e.followed → e.last + 1 ≡ length (take e.last yeses) + 1 → IsFollowed n start (take e.last yeses ++ r ∷ []) f) → IsTrail n start yeses (es ++ record { first = e.last + 1; last = e.last + 1; followed = f } ∷ [])
 trail-push n start yeses es e r f l t at next =
     let h = entry-last n start yeses es e t l in
@@ -100,14 +100,14 @@ trail-push n start yeses es e r f l t at next =
     (next (h.followed e.last order (omega arith)) (omega (arith, length-take-le e.last yeses few))))
 
 -- where all are followed, the last entry is what follows them all
-pub trail-end : (n : ℕ) (start : Start) (yeses : List Query) (es : List Entry) → IsTrail n start yeses es → 0 < length es → length yeses ≤ reached es → EndsAt n start yeses es
+pub trail-end : (n : ℕ) (start : Start) (yeses : List Query) (es : List Entry) → IsTrail n start yeses es → 0 < length es → length yeses ≤ followed_count es → EndsAt n start yeses es
 trail-end n start yeses es t l whole =
     let x = last-some es l in
     let e = x.0 in
     let h = entry-last n start yeses es e t x.1 in
     let order : e.first ≤ e.last = h.in_order in
     let few : e.last ≤ length yeses = h.few in
-    let at : reached es ≡ e.last = ap (λ o. option_map_or (λ e. e.last) o 0) x.1 in
+    let at : followed_count es ≡ e.last = ap (λ o. option_map_or (λ e. e.last) o 0) x.1 in
     record {
       end = e.followed;
       is_last = ap (option_map (λ e. e.followed)) x.1;

@@ -16,7 +16,7 @@ pub use Rattle.ls_laws.proofs.Counts.{as_many, len-zero}
 pub use Rattle.ls_laws.proofs.Interiors.{IsUnionFamily, from-interior, has-interior, interior-member, interior-whole, interior-within, subsets-IsUnionFamily, to-interior}
 pub use Rattle.ls_laws.proofs.Lists.{IsInOrder-filter, every-from, same_members, some-among, some-filter, some-from, some-same}
 pub use Rattle.ls_laws.proofs.Spans.{base-in_order, base-needed, base-of, spanned-IsUnionFamily, spanned-base, spanned-has, spanned-in_order, spanned-same, spanned-whole}
-pub use Rattle.ls_laws.specs.Spans.{IsOn, IsPart, Spans, is_proper, joins, left_by, spanned, union_below}
+pub use Rattle.ls_laws.specs.Spans.{AreOn, IsPart, Spans, is_proper, joins, left_by, spanned, union_below}
 unfoldable pub use Rattle.ls_laws.specs.Spans.{needed}
 pub use Rattle.ls_lists.proofs.Bools.{beq-cases, beq-same, same_truth}
 pub use Rattle.ls_lists.proofs.Every.{list_all-All}
@@ -31,9 +31,9 @@ unfoldable pub use Rattle.ls_set.specs.{is_same, items, len}
 pub use Rattle.ls_set.specs.declared.query.Query.{Query}
 pub use Rattle.ls_theory.specs.{Peak, Start, atom_items, atoms_at, base, base_size, based, breaks, compat, first_missing, is_atom_at, limited, most_base_sets, some_breaks, unions}
 unfoldable pub use Rattle.ls_theory.specs.{interior, peak}
-pub use Rattle.ls_base.specs.Bases.{BaseState, IsFaultOf, IsPastOf, base_fault, family, own_items, single_sets}
+pub use Rattle.ls_base.specs.Bases.{BaseState, IsBaseFault, IsPastOf, base_fault, family, own_items, single_sets}
 pub use Rattle.ls_base.specs.Followed.{IsAskable, IsFollowed, IsFollowedBase}
 pub use Rattle.ls_base.specs.Gains.{broken_at, broken_in, gained_at, gained_below, is_gained, least_size}
-pub use Rattle.ls_base.specs.Trail.{AreAskable, EndsAt, IsEntry, IsTrail, begins_at_none, cut, given_up, last_entry, reached}
+pub use Rattle.ls_base.specs.Trail.{AreAskable, EndsAt, IsEntry, IsTrail, begins_at_none, cut, followed_count, given_up, last_entry}
 pub use Rattle.ls_base.specs.declared.followed.Followed.{Followed}
 pub use Rattle.ls_base.specs.declared.trail.Entry.{Entry}

@@ -33,9 +33,9 @@ own_items f k = set_of (atom_items f k)
 -- ---- faults
 
 -- the fault is that of the definition, unless memory ran out
-abbrev pub IsFaultOf : Result (List Items) BaseFault → BaseFault → Type 0
-IsFaultOf answer (Memory e) = ⊤
-IsFaultOf answer fault = answer ≡ Err fault
+abbrev pub IsBaseFault : Result (List Items) BaseFault → BaseFault → Type 0
+IsBaseFault answer (Memory e) = ⊤
+IsBaseFault answer fault = answer ≡ Err fault
 
 -- the base has too many sets, as many as are told, unless memory ran out
 abbrev pub IsPastOf : List Items → PastFault → Type 0

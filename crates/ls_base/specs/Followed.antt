@@ -8,7 +8,8 @@ use Rattle.ls_base.specs.declared.followed.Followed.{Followed}
 use Rattle.ls_base.specs.declared.followed.Followed.TheVariants.{Within, Past}
 
 -- the base is that of the compatible sets, and none before it had too many sets
-pub record IsFollowedBase (n : ℕ) (start : Start) (yeses : List Query) (b : BaseState) : Type 0 where
+pub record IsFollowedBase (n : ℕ) (start : Start) (yeses : List Query)
+    (b : BaseState) : Type 0 where
   pub items : b.item_count ≡ n
   pub is_base : b.sets ≡ base (compat n start yeses)
   pub no_peak : peak most_base_sets n start yeses ≡ None
@@ -16,7 +17,8 @@ pub record IsFollowedBase (n : ℕ) (start : Start) (yeses : List Query) (b : Ba
 -- what is followed over the Yes answers: the base of the compatible sets, or the peak
 abbrev pub IsFollowed : ℕ → Start → List Query → Followed → Type 0
 IsFollowed n start yeses (Within b) = IsFollowedBase n start yeses b
-IsFollowed n start yeses (Past position count) = peak most_base_sets n start yeses ≡ Some (record { position = position; count = count })
+IsFollowed n start yeses (Past position count) =
+    peak most_base_sets n start yeses ≡ Some (record { position = position; count = count })
 
 -- the query can be asked of what is followed
 abbrev pub IsAskable : Followed → Query → Type 0
@@ -28,7 +30,8 @@ abbrev pub followed_sets : Followed → List Items
 followed_sets (Within b) = b.sets
 followed_sets (Past position count) = []
 
--- whether one more Yes changes nothing: what is past stays, and so does a base none of whose sets breaks the query
+-- whether one more Yes changes nothing: what is past stays, and so does a base none
+-- of whose sets breaks the query
 abbrev pub is_unchanged : Followed → Query → Bool
 is_unchanged (Within b) r = not (some_breaks b.sets r)
 is_unchanged (Past position count) r = true

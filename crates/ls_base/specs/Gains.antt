@@ -22,13 +22,18 @@ least_size most (k ∷ ks) = least_size (min most (len k)) ks
 
 -- within k lies no set of `staying`, and no other join of a set of `sets` with one of `near`
 abbrev pub is_gained : List Items → List Items → List Items → Items → Bool
-is_gained staying sets near k = has_none_within staying k && not (list_any (λ l. is_proper l k) (joins sets near))
+is_gained staying sets near k =
+    has_none_within staying k && not (list_any (λ l. is_proper l k) (joins sets near))
 
--- the joins, of a set that is an atom at the item with one of `near`, within which no other lies and no set with the item that stays
+-- the joins, of a set that is an atom at the item with one of `near`, within which no other lies
+-- and no set with the item that stays
 abbrev pub gained_at : List Items → List Broken → List Items → ℕ → List Items
-gained_at staying broken near i = let sets = broken_at i broken in filter (is_gained (having i staying) sets near) (joins sets near)
+gained_at staying broken near i =
+    let sets = broken_at i broken in
+    filter (is_gained (having i staying) sets near) (joins sets near)
 
 -- what is gained at each of the items below n
 abbrev pub gained_below : List Items → List Broken → List Items → ℕ → List Items
 gained_below staying broken near zero = []
-gained_below staying broken near (suc n) = gained_below staying broken near n ++ gained_at staying broken near n
+gained_below staying broken near (suc n) =
+    gained_below staying broken near n ++ gained_at staying broken near n

@@ -1,5 +1,7 @@
 -- What is followed over the first Yes answers, for some numbers of them.
-use Rattle.std.specs.Prelude.{ℕ, ◌-◌, ◌≡◌, ◌≤◌, Bool, true, false, ◌==◌, nat_lt, nat_le, if◌then◌else◌, List, [], ◌∷◌, map, filter, length, take, slice_get, Option, Some, option_map, IfSome}
+use Rattle.std.specs.Prelude.{ℕ, ◌-◌, ◌≡◌, ◌≤◌, Bool, true, false, ◌==◌, nat_lt, nat_le}
+use Rattle.std.specs.Prelude.{if◌then◌else◌, List, [], ◌∷◌, map, filter, length, take, slice_get}
+use Rattle.std.specs.Prelude.{Option, Some, option_map, IfSome}
 use Rattle.std.specs.List.{All}
 use Rattle.std.specs.Option.{option_map_or}
 use Rattle.ls_set.specs.{Items}
@@ -29,8 +31,8 @@ abbrev pub last_followed : List Entry → Option Followed
 last_followed trail = option_map (λ e. e.followed) (last_entry trail)
 
 -- the greatest number of Yes answers for which the last entry stands
-abbrev pub reached : List Entry → ℕ
-reached trail = option_map_or (λ e. e.last) (last_entry trail) 0
+abbrev pub followed_count : List Entry → ℕ
+followed_count trail = option_map_or (λ e. e.last) (last_entry trail) 0
 
 -- the last entry is what is followed over all of the Yes answers
 pub record EndsAt (n : ℕ) (start : Start) (yeses : List Query) (trail : List Entry) : Type 0 where

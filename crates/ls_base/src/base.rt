@@ -1,10 +1,13 @@
 // Bases.
-ghost use Rattle.std.specs.Prelude.{◌≡◌, ◌<◌, ◌≤◌, true, not, Ok, length, slice_index_or, IsTrue, IfOk, IfErr, OnOk};
+ghost use Rattle.std.specs.Prelude.{◌≡◌, ◌<◌, ◌≤◌, true, not, Ok, length, slice_index_or, IsTrue};
+ghost use Rattle.std.specs.Prelude.{IfOk, IfErr, OnOk};
 ghost use Rattle.ls_set.specs.{empty, is_good, subsets};
 ghost use Rattle.ls_theory.specs.Queries.{some_breaks};
-ghost use Rattle.ls_theory.specs.Bases.{base, atom_sets, based, is_atom_at, atoms_at, most_base_sets};
-ghost use Rattle.ls_laws.specs.Spans.{IsOn, left_by, spanned};
-ghost use Rattle.ls_base.specs.Bases.{family, single_sets, own_items, IsFaultOf, IsPastOf, IsOfMany};
+ghost use Rattle.ls_theory.specs.Bases.{base, atom_sets, based, is_atom_at};
+ghost use Rattle.ls_theory.specs.Bases.{atoms_at, most_base_sets};
+ghost use Rattle.ls_laws.specs.Spans.{AreOn, left_by, spanned};
+ghost use Rattle.ls_base.specs.Bases.{family, single_sets, own_items, IsBaseFault};
+ghost use Rattle.ls_base.specs.Bases.{IsPastOf, IsOfMany};
 
 use crate::atoms::is_atom_at;
 use crate::fault::PastFault;
@@ -68,10 +71,10 @@ impl Base {
     /// where the base has more sets than [`MOST_BASE_SETS`]; or memory ran out.
     pub fn from_sets(alloc: Global, n: u32, sets: &[ItemSet]) -> Result<Base, BaseFault>
         requires few_items { n ≤ PLACES }
-        requires is_on { IsOn n sets.now }
+        requires is_on { AreOn n sets.now }
         ensures based { IfOk result (λ b. based n sets.now ≡ Ok b.sets) }
         ensures item_count { IfOk result (λ b. b.item_count ≡ n) }
-        ensures fault { IfErr result (IsFaultOf (based n sets.now)) }
+        ensures fault { IfErr result (IsBaseFault (based n sets.now)) }
     {
         let all = ItemSet::full(n);
         if let Some(item) = all.minus(union_within(sets, all)).least() {
@@ -86,7 +89,7 @@ impl Base {
     /// [`MOST_BASE_SETS`], which it doesn't where no more are given; or memory ran out.
     pub fn spanned_by(alloc: Global, n: u32, sets: Vec<ItemSet>) -> Result<Base, PastFault>
         requires few_items { n ≤ PLACES }
-        requires is_on { IsOn n sets.items }
+        requires is_on { AreOn n sets.items }
         ensures sets { IfOk result (λ b. b.sets ≡ base (spanned n sets.items)) }
         ensures item_count { IfOk result (λ b. b.item_count ≡ n) }
         ensures few { OnOk result (length (base (spanned n sets.items)) ≤ most_base_sets) }

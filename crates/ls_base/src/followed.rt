@@ -29,7 +29,7 @@ impl Followed {
             IsFollowed first.item_count start [] result }
         ensures askable { (r : Query) → is_good first.item_count r ≡ true → IsAskable result r }
     {
-        let _ = first.sets();
+        let _ = first.sets(); // for the proof
         Followed::Within(first)
     }
 

@@ -4,7 +4,7 @@ ghost use Rattle.std.specs.Ordering.{is_lt};
 ghost use Rattle.std.specs.List.Sorted.{IsSortedBy};
 ghost use Rattle.ls_set.specs.{IsInOrder, Items, comes_before, is_among};
 ghost use Rattle.ls_theory.specs.{base};
-ghost use Rattle.ls_laws.specs.Spans.{IsOn, needed, spanned};
+ghost use Rattle.ls_laws.specs.Spans.{AreOn, needed, spanned};
 
 use crate::unions::is_union_of;
 use ls_set::ItemSet;
@@ -70,7 +70,7 @@ pub fn needed_sets(alloc: Global, sets: &[ItemSet]) -> Result<Vec<ItemSet>, Allo
 
 /// The base of the family of all unions of the sets: those that are not the union of others.
 pub fn base_of(alloc: Global, sets: Vec<ItemSet>) -> Result<Vec<ItemSet>, AllocError>
-    ensures base { IfOk result (λ v. (n : ℕ) → IsOn n sets.items →
+    ensures base { IfOk result (λ v. (n : ℕ) → AreOn n sets.items →
         base (spanned n sets.items) ≡ v.items) }
     ensures few { IfOk result (λ v. length v.items ≤ length sets.items) }
 {

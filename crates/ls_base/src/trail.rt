@@ -1,11 +1,14 @@
 // The base followed over the Yes answers when it is asked for, with those of some first answers
 // kept.
-ghost use Rattle.std.specs.Prelude.{◌≡◌, ◌+◌, ◌<◌, ℕ, List, [], true, map, length, take, slice_get, Some, IfSome, OnOk, OnErr};
+ghost use Rattle.std.specs.Prelude.{◌≡◌, ◌+◌, ◌<◌, ℕ, List, [], true, map, length, take, slice_get};
+ghost use Rattle.std.specs.Prelude.{Some, IfSome, OnOk, OnErr};
 ghost use Rattle.std.specs.Option.{option_copied};
 ghost use Rattle.ls_set.specs.declared.query.Query.{Query};
 ghost use Rattle.ls_theory.specs.{Start, base, compat};
 ghost use Rattle.ls_base.specs.Followed.{IsAskable};
-ghost use Rattle.ls_base.specs.Trail.{IsTrail, EndsAt, AreAskable, last_entry, last_followed, reached, is_begun, begins_at_none, begun_trail, cut, given_up, trail_sets};
+ghost use Rattle.ls_base.specs.Trail.{IsTrail, EndsAt, AreAskable, last_entry, last_followed};
+ghost use Rattle.ls_base.specs.Trail.{followed_count, is_begun, begins_at_none, begun_trail, cut};
+ghost use Rattle.ls_base.specs.Trail.{given_up, trail_sets};
 
 use crate::base::Base;
 use crate::followed::Followed;
@@ -77,8 +80,8 @@ fn let_go(entries: &mut Vec<Entry>)
 }
 
 // Over how many answers the last entry stands, 0 where there is none.
-fn reached(entries: &[Entry]) -> usize
-    ensures { result ≡ reached entries.now }
+fn followed_count(entries: &[Entry]) -> usize
+    ensures { result ≡ followed_count entries.now }
 {
     match entries.last() {
         Some(entry) => entry.last,
@@ -89,17 +92,18 @@ fn reached(entries: &[Entry]) -> usize
 // Follows one more Yes answer. Where memory runs out, the entries are as they were.
 fn follow_next(entries: &mut Vec<Entry>, r: &Query) -> Result<(), AllocError>
     requires begun { 0 < length entries.old.items }
-    requires few { reached entries.old.items < usize.MAX }
+    requires few { followed_count entries.old.items < usize.MAX }
     requires askable { IfSome (last_entry entries.old.items) (λ e. IsAskable e.followed r.now) }
     ensures trail { (n : ℕ) (start : Start) (yeses : List Query) →
         IsTrail n start yeses entries.old.items →
-        slice_get yeses (reached entries.old.items) ≡ Some r.now →
+        slice_get yeses (followed_count entries.old.items) ≡ Some r.now →
         IsTrail n start yeses entries.new.items }
     ensures askable { (yeses : List Query) → AreAskable yeses entries.old.items →
         AreAskable yeses entries.new.items }
     ensures begins { begins_at_none entries.new.items ≡ begins_at_none entries.old.items }
     ensures begun { 0 < length entries.new.items }
-    ensures reached { OnOk result (reached entries.new.items ≡ reached entries.old.items + 1) }
+    ensures reached { OnOk result
+        (followed_count entries.new.items ≡ followed_count entries.old.items + 1) }
 {
     let place = entries.len() - 1;
     let last = &entries[place];
@@ -128,7 +132,7 @@ fn follow_over(entries: &mut Vec<Entry>, yeses: &[Query]) -> Result<(), AllocErr
     ensures begins { begins_at_none entries.new.items ≡ begins_at_none entries.old.items }
     ensures begun { 0 < length entries.new.items }
 {
-    for place in reached(entries)..yeses.len() {
+    for place in followed_count(entries)..yeses.len() {
         follow_next(entries, &yeses[place])?;
         let_go(entries);
     }

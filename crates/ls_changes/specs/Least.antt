@@ -1,9 +1,12 @@
 -- Least sets of a list, and the sets of which the least are the atoms after a Yes.
 --     least_sets g      the sets of g within which no other of it lies
---     IsBelow c g      sets of g, one of which lies within each set of g: so the least sets of both are the same
---     having i f, near f r      the sets that have the item; those that have an item of the query's A
+--     IsBelow c g      sets of g, one of which lies within each set of g:
+--         so the least sets of both are the same
+--     having i f, near f r      the sets that have the item;
+--         those that have an item of the query's A
 --     joined f r gs i      each union of an atom at i that breaks r with a set of gs
---     gained f r gs i      those least of these unions within which no base set with i lies that does not break r
+--     gained f r gs i      those least of these unions within which no base set with i lies
+--         that does not break r
 use Rattle.std.specs.Prelude.{ℕ, ◌≡◌, Bool, true, not, List, filter}
 use Rattle.std.specs.List.{list_any}
 use Rattle.ls_set.specs.{IsWithin, Items, has, is_among, is_within}
@@ -20,7 +23,9 @@ has_none_within g k = not (list_any (λ l. is_within l k) g)
 
 pub record IsBelow (c g : List Items) : Type 0 where
   pub part : IsPart c g
-  pub within : (k : Items) → is_among g k ≡ true → (m : Items) × (is_among c m ≡ true) × IsWithin m k
+  pub within : (k : Items)
+      → is_among g k ≡ true
+      → (m : Items) × (is_among c m ≡ true) × IsWithin m k
 
 abbrev pub having : ℕ → List Items → List Items
 having i f = filter (λ k. has k i) f

@@ -1,6 +1,8 @@
 mod Vocabulary
-mod Examples
 mod Headers
 mod Marked
 mod Rows
 mod Kept
+pub mod Turns
+pub mod Parts
+pub mod Lines

@@ -1,5 +1,5 @@
 -- The reading of a table, record by record.
-use Rattle.ls_class.proofs.Vocabulary.{◌++◌, ◌+◌, ◌<◌, ◌∙◌, ◌∷◌, ◌≡◌, ◌≤◌, Err, IfErr, IsErrAnd, IsFaultOf, IsRowFault, Items, List, None, Ok, Result, Row, Some, Text, ℕ, [], ap, arith, cases_Bool, class_in, class_of, columns_of, drop, drop-next, false, get_or, inl, inr, is_name, is_named, is_next_name, length, map, marked, most_class_pupils, nat_tests, next_row, none-some, option_map, refl, rows_from, slice_get, subst, suc, sym, table_records, take, true, zero}
+use Rattle.ls_class.proofs.Vocabulary.{◌++◌, ◌+◌, ◌<◌, ◌∙◌, ◌∷◌, ◌≡◌, ◌≤◌, Err, IfErr, IsErrAnd, IsClassFaultOf, IsRowFault, Items, List, None, Ok, Result, Row, Some, Text, ℕ, [], ap, arith, cases_Bool, class_in, class_of, columns_of, drop, drop-next, false, get_or, inl, inr, is_name, is_named, is_next_name, length, map, marked, most_class_pupils, nat_tests, next_row, none-some, option_map, refl, rows_from, slice_get, subst, suc, sym, table_records, take, true, zero}
 use Rattle.std.specs.declared.option.Option.{Option}
 use Rattle.std.proofs.lemmas.List.{length-append, drop_all}
 use Rattle.csv.specs.Records as records
@@ -93,7 +93,7 @@ put : (o : Option Row) (earlier now : List Row) → option_map (λ row. earlier 
 put None earlier now e = absurd (none-some now e)
 put (Some row) earlier now e = (row, refl, cc)
 
-told : (reading : Result (List Row) ℕ) (found : Option Row) (row : ℕ) (e : ClassFault) → (found ≡ None → reading ≡ Err row) → IsRowFault found row e → IsFaultOf reading e
+told : (reading : Result (List Row) ℕ) (found : Option Row) (row : ℕ) (e : ClassFault) → (found ≡ None → reading ≡ Err row) → IsRowFault found row e → IsClassFaultOf reading e
 told reading found row (BadClass bad) is fault = is fault.0 ∙ ap (λ n. Err n) (sym fault.1)
 told reading found row (Memory e) is fault = tt
 
@@ -107,14 +107,14 @@ module _ (columns : List ℕ) (vs : List records.Row) (i : ℕ) (v : records.Row
       let row = put (next_row columns earlier (records.fields_of v)) earlier now is in
       next ∙ rows_from-next columns earlier (records.fields_of v) (map records.fields_of (drop (i + 1) vs)) row.0 row.1 ∙ ap (λ l. rows_from columns l (map records.fields_of (drop (i + 1) vs))) row.2
 
-  pub loop-fault : (reading : Result (List Row) ℕ) (e : ClassFault) → reading ≡ rows_from columns earlier (map records.fields_of (drop i vs)) → IsRowFault (next_row columns earlier (records.fields_of v)) (length earlier + 2) e → IsFaultOf reading e
+  pub loop-fault : (reading : Result (List Row) ℕ) (e : ClassFault) → reading ≡ rows_from columns earlier (map records.fields_of (drop i vs)) → IsRowFault (next_row columns earlier (records.fields_of v)) (length earlier + 2) e → IsClassFaultOf reading e
   loop-fault reading e so_far fault =
       told reading (next_row columns earlier (records.fields_of v)) (length earlier + 2) e (λ none. so_far ∙ next ∙ rows_from-bad columns earlier (records.fields_of v) (map records.fields_of (drop (i + 1) vs)) none) fault
 
 -- a fault that is passed on
-pub passed_on : {T : Type 0} (reading : Result (List Row) ℕ) (r : Result T ClassFault) (e : ClassFault) → IsErrAnd r (λ f. f ≡ e) → IsFaultOf reading e → IfErr r (IsFaultOf reading)
+pub passed_on : {T : Type 0} (reading : Result (List Row) ℕ) (r : Result T ClassFault) (e : ClassFault) → IsErrAnd r (λ f. f ≡ e) → IsClassFaultOf reading e → IfErr r (IsClassFaultOf reading)
 passed_on reading (Ok x) e is fault = tt
-passed_on reading (Err f) e is fault = subst (IsFaultOf reading) (sym is) fault
+passed_on reading (Err f) e is fault = subst (IsClassFaultOf reading) (sym is) fault
 
 pub loop-end : (columns : List ℕ) (vs : List records.Row) (i : ℕ) (earlier : List Row) → length vs ≤ i → rows_from columns earlier (map records.fields_of (drop i vs)) ≡ Ok earlier
 loop-end columns vs i earlier end = ap (λ l. rows_from columns earlier (map records.fields_of l)) (drop_all i vs end) ∙ rows_from-nil columns earlier

@@ -1,2 +1,2 @@
-pub mod Tables
-pub mod Results
+pub mod Faults
+pub mod Replays

@@ -1,9 +1,11 @@
 // Class tables.
-ghost use Rattle.std.specs.Prelude.{◌≡◌, ◌<◌, ◌≤◌, ◌==◌, ◌+◌, ◌++◌, ◌∷◌, [], All, Ok, Some, false, length, map, slice_get, option_map, IfOk, IfErr, OnOk, OnErr};
+ghost use Rattle.std.specs.Prelude.{◌≡◌, ◌<◌, ◌≤◌, ◌==◌, ◌+◌, ◌++◌, ◌∷◌, [], All, Ok, Some, false};
+ghost use Rattle.std.specs.Prelude.{length, map, slice_get, option_map, IfOk, IfErr, OnOk, OnErr};
 ghost use Rattle.csv.specs.Records.{fields_of};
 ghost use Rattle.ls_domain.specs.Meanings.{is_named};
 ghost use Rattle.ls_theory.specs.{Row};
-ghost use Rattle.ls_class.specs.Tables.{class_of, most_class_pupils, next_row, IsFaultOf, IsRowFault};
+ghost use Rattle.ls_files.specs.ClassTables.{class_of, most_class_pupils, next_row};
+ghost use Rattle.ls_class.specs.Faults.{IsClassFaultOf, IsRowFault};
 
 use crate::ClassFault;
 use crate::columns::columns_of;
@@ -29,11 +31,12 @@ pub struct ClassTable {
 impl Model for ClassTable {
     ghost use Rattle.std.specs.Prelude.{List, map, length, string_bytes, ◌≤◌};
     ghost use Rattle.ls_theory.specs.{Row};
-    ghost use Rattle.ls_class.specs.Tables.{most_class_pupils};
+    ghost use Rattle.ls_files.specs.ClassTables.{most_class_pupils};
 
     ghost Value = { List Row };
 
-    ghost view = { λ t. map (λ e. record { name = string_bytes e.0; right = e.1 }) t.pupils.entries };
+    ghost view = { λ t.
+        map (λ e. record { name = string_bytes e.0; right = e.1 }) t.pupils.entries };
 
     ghost invariant = { λ t. length t.pupils.entries ≤ most_class_pupils };
 }
@@ -46,7 +49,7 @@ impl ClassTable {
     /// many; or memory ran out.
     pub fn from_csv(alloc: Global, domain: &Domain, bytes: &[u8]) -> Result<ClassTable, ClassFault>
         ensures read { IfOk result (λ t. class_of domain.now bytes.now ≡ Ok t) }
-        ensures fault { IfErr result (IsFaultOf (class_of domain.now bytes.now)) }
+        ensures fault { IfErr result (IsClassFaultOf (class_of domain.now bytes.now)) }
     {
         let most = MOST_CLASS_PUPILS + 1;
         let records = first_records(alloc, bytes, most).map_err(ClassFault::Memory)?;
@@ -84,7 +87,8 @@ impl ClassTable {
     /// The name of the pupil at the place, counted from 0, and the items that it gets right.
     pub fn row(&self, place: usize) -> (&str, ItemSet)
         requires { place < length self.now }
-        ensures { slice_get self.now place ≡ Some (record { name = result.0.now; right = result.1 }) }
+        ensures { slice_get self.now place
+            ≡ Some (record { name = result.0.now; right = result.1 }) }
     {
         let (name, right) = self.pupils.get_index(place).unwrap();
         (name.as_str(), *right)
@@ -126,7 +130,8 @@ impl ClassTable {
     fn push(&mut self, alloc: Global, name: &str, right: ItemSet) -> Result<(), AllocError>
         requires new { is_named (map (λ row. row.name) self.old) name.now ≡ false }
         requires room { length self.old < most_class_pupils }
-        ensures ok { OnOk result (self.new ≡ self.old ++ record { name = name.now; right = right } ∷ []) }
+        ensures ok { OnOk result
+            (self.new ≡ self.old ++ record { name = name.now; right = right } ∷ []) }
         ensures err { OnErr result (self.new ≡ self.old) }
     {
         let text = String::from_str(alloc, name)?;

@@ -3,7 +3,7 @@ ghost use Rattle.std.specs.Prelude.{◌≡◌, ◌<◌, ◌+◌, All, IfOk, IfSo
 ghost use Rattle.csv.specs.Records.{fields_of, field_at};
 ghost use Rattle.ls_domain.specs.Meanings.{number_of};
 ghost use Rattle.ls_domain.specs.Domains.{IsDomain};
-ghost use Rattle.ls_class.specs.Tables.{columns_of};
+ghost use Rattle.ls_files.specs.ClassTables.{columns_of};
 
 use csv::ByteRecord;
 use ls_domain::Domain;
@@ -16,7 +16,8 @@ pub(crate) fn columns_of(
     domain: &Domain,
     header: &ByteRecord,
 ) -> Result<Option<ItemList>, AllocError>
-    ensures value { IfOk result (λ columns. columns ≡ columns_of domain.now (fields_of header.now)) }
+    ensures value { IfOk result
+        (λ columns. columns ≡ columns_of domain.now (fields_of header.now)) }
     ensures places { IfOk result (λ columns. IfSome columns (All (λ i. i < PLACES))) }
 {
     let count = domain.count();
@@ -42,7 +43,8 @@ pub(crate) fn columns_of(
 // The item that the field at the place names, if it names one.
 fn item_at(domain: &Domain, header: &ByteRecord, place: usize) -> Option<u32>
     requires { IsDomain domain.now }
-    ensures value { result ≡ option_and_then (number_of domain.now) (field_at (fields_of header.now) place) }
+    ensures value { result ≡
+        option_and_then (number_of domain.now) (field_at (fields_of header.now) place) }
     ensures places { IfSome result (λ i. i < PLACES) }
 {
     let Ok(name) = str::from_utf8(header.get(place)?) else {

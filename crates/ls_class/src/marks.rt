@@ -1,7 +1,7 @@
 // The marks of a pupil's record.
 ghost use Rattle.std.specs.Prelude.{◌≡◌, ◌<◌, All, length, drop};
 ghost use Rattle.csv.specs.Records.{fields_of};
-ghost use Rattle.ls_class.specs.Tables.{is_right, is_wrong, marked};
+ghost use Rattle.ls_files.specs.ClassTables.{is_right, is_wrong, marked};
 
 use csv::ByteRecord;
 use ls_set::{ItemSet, PLACES};

@@ -1,5 +1,5 @@
 -- The base of sets that have each item has each item, and an item that no set has is one of the items.
-use Rattle.ls_clauses.proofs.Vocabulary.{◌<◌, ◌∙◌, ◌≡◌, Err, IsCover, IsOn, Items, List, None, Ok, Sets, Some, ℕ, [], among-base, and_parts, atom_within, base, base-member, based, compat, compat-IsUnionFamily, compat-sets, cond, false, first_missing, full, has, has-full, has-minus, has-unions, is_among, least-cases, length, limited, lt-ltb, ltb, ltb-true, minus, most_base_sets, not, option_map_or, refl, some-among, subst, sym, true, unions}
+use Rattle.ls_clauses.proofs.Vocabulary.{◌<◌, ◌∙◌, ◌≡◌, Err, IsCover, AreOn, Items, List, None, Ok, Sets, Some, ℕ, [], among-base, and_parts, atom_within, base, base-member, based, compat, compat-IsUnionFamily, compat-sets, cond, false, first_missing, full, has, has-full, has-minus, has-unions, is_among, least-cases, length, limited, lt-ltb, ltb, ltb-true, minus, most_base_sets, not, option_map_or, refl, some-among, subst, sym, true, unions}
 use Rattle.ls_theory.specs.declared.base_fault.BaseFault.TheVariants.{NotSpanning, Past}
 use Rattle.ls_clauses.proofs.Covers.{cover-member, cover-least}
 
@@ -24,7 +24,7 @@ limited-spans sets q =
 
 module _ (n : ℕ) (sets : List Items) where
   -- a base that was found has each item
-  pub based-cover : (made : List Items) → IsOn n sets → based n sets ≡ Ok made → IsCover n made
+  pub based-cover : (made : List Items) → AreOn n sets → based n sets ≡ Ok made → IsCover n made
   based-cover made small e =
       elim (first_missing n sets) as (λ o. first_missing n sets ≡ o → option_map_or (λ q. Err (NotSpanning q)) o (limited (base (compat n (Sets sets) []))) ≡ Ok made → IsCover n made) [
         | None ↦ λ none at. subst (IsCover n) (limited-ok (base (compat n (Sets sets) [])) made at) (base-cover n sets ((cover-least n sets small).1 none))

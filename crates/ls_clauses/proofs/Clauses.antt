@@ -1,5 +1,5 @@
 -- The sets that meet the clauses of a surmise function: they are the unions of clauses, and the clauses are their atoms.
-use Rattle.ls_clauses.proofs.Vocabulary.{◌&&◌, ◌∙◌, ◌∷◌, ◌≡◌, ◌≢◌, Decides-is_same, IsAtom, IsAtom-from, IsInOrder, IsInOrder-filter, IsOn, IsSurmise, IsWithin, IsWithin-from, Items, List, Query, ℕ, [], all-items, all_clauses, among-append, among-base, among-compat, among-filter, among-here, and_from, and_parts, ap, arith, atoms_at, base, base-atom, base-in_order, breaks_none, cases_eq, clauses_of, compat, compat-in_order, compat-sets, false, from-interior, full, has, has_clause_within, inl, inr, interior, interior-member, interior-whole, interior_again, interior_grows, is_among, is_atom_at, is_atom_at-from, is_compatible, is_same, is_within, is_within-from, items-all, members, or_cases, or_left, or_right, refl, same_members, same_truth, same_within, some-among, some-from, spanned, subsets, subst, suc, sym, true, true≢false, without, without-within, zero}
+use Rattle.ls_clauses.proofs.Vocabulary.{◌&&◌, ◌∙◌, ◌∷◌, ◌≡◌, ◌≢◌, Decides-is_same, IsAtom, IsAtom-from, IsInOrder, IsInOrder-filter, AreOn, IsSurmise, IsWithin, IsWithin-from, Items, List, Query, ℕ, [], all-items, all_clauses, among-append, among-base, among-compat, among-filter, among-here, and_from, and_parts, ap, arith, atoms_at, base, base-atom, base-in_order, breaks_none, cases_eq, clauses_of, compat, compat-in_order, compat-sets, false, from-interior, full, has, has_clause_within, inl, inr, interior, interior-member, interior-whole, interior_again, interior_grows, is_among, is_atom_at, is_atom_at-from, is_compatible, is_same, is_within, is_within-from, items-all, members, or_cases, or_left, or_right, refl, same_members, same_truth, same_within, some-among, some-from, spanned, subsets, subst, suc, sym, true, true≢false, without, without-within, zero}
 use Rattle.std.proofs.lemmas.Bool.Decides.{nat_tests}
 use Rattle.std.proofs.lemmas.List.Elements.{filter_agree}
 use Rattle.ls_theory.specs.Starts.{Clauses, Sets, meets}
@@ -69,7 +69,7 @@ compat-spanned n clauses surmise = compat-clauses n clauses surmise [] ∙ compa
 
 -- ---- the members
 
-pub all-small : (n : ℕ) (clauses : List (List Items)) → IsSurmise n clauses → IsOn n (all_clauses clauses)
+pub all-small : (n : ℕ) (clauses : List (List Items)) → IsSurmise n clauses → AreOn n (all_clauses clauses)
 all-small n clauses surmise c h = let o = from-all clauses c h in surmise.small o.0 c o.1
 
 pub member-parts : (n : ℕ) (clauses : List (List Items)) (k : Items) → is_among (compat n (Clauses clauses) []) k ≡ true → (is_within k (full n) ≡ true) × (meets (Clauses clauses) k ≡ true)

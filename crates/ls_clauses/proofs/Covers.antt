@@ -1,5 +1,5 @@
 -- Sets that have each item, and the starts that an interview can have.
-use Rattle.ls_clauses.proofs.Vocabulary.{◌↔◌, ◌∙◌, ◌≡◌, Decides-is_same, IsCover, IsInOrder, IsOn, IsStart, Items, List, None, Query, ℕ, [], among-spanned, and_from, ap, base, base-needed, begun, cases_Bool, clauses_of, compat, compat-sets, compat-space, false, full, has, has-full, has-minus, has-unions, inl, inr, interior, interior-whole, is_among, is_good, is_same, is_space, is_within, is_within-from, least, least-none, lt-ltb, ltb-true, minus, needed, refl, some-from, spanned, spanned-has, spanned-in_order, spanned-whole, sym, true, true≢false, unions}
+use Rattle.ls_clauses.proofs.Vocabulary.{◌↔◌, ◌∙◌, ◌≡◌, Decides-is_same, IsCover, IsInOrder, AreOn, IsStart, Items, List, None, Query, ℕ, [], among-spanned, and_from, ap, base, base-needed, begun, cases_Bool, clauses_of, compat, compat-sets, compat-space, false, full, has, has-full, has-minus, has-unions, inl, inr, interior, interior-whole, is_among, is_good, is_same, is_space, is_within, is_within-from, least, least-none, lt-ltb, ltb-true, minus, needed, refl, some-from, spanned, spanned-has, spanned-in_order, spanned-whole, sym, true, true≢false, unions}
 use Rattle.std.specs.List.{list_all}
 use Rattle.ls_set.proofs.Listed.{least-none_left}
 use Rattle.ls_theory.specs.Starts.{Start, Free, Clauses, Sets, meets}
@@ -21,7 +21,7 @@ cover-member n sets cover =
     ((Decides-is_same (interior sets (full n)) (full n)).1 (cover-full n sets cover))
 
 -- the search for an item that no set has
-pub cover-least : (n : ℕ) (sets : List Items) → IsOn n sets → IsCover n sets ↔ (least (minus (full n) (unions sets)) ≡ None)
+pub cover-least : (n : ℕ) (sets : List Items) → AreOn n sets → IsCover n sets ↔ (least (minus (full n) (unions sets)) ≡ None)
 cover-least n sets small = (
   λ cover. least-none (minus (full n) (unions sets)) (λ q. has-minus (full n) (unions sets) q ∙ elim (cases_Bool (has (full n) q)) [
     | inl a ↦ rw (a, cover.each_item q (ltb-true q n (sym (has-full n q) ∙ a))) refl
@@ -40,13 +40,13 @@ cover-least n sets small = (
 
 -- ---- the sets that meet listed sets
 
-pub base-sets : (n : ℕ) (sets ordered : List Items) → IsOn n sets → IsInOrder ordered → ((k : Items) → is_among ordered k ≡ is_among sets k) → base (compat n (Sets sets) []) ≡ needed ordered
+pub base-sets : (n : ℕ) (sets ordered : List Items) → AreOn n sets → IsInOrder ordered → ((k : Items) → is_among ordered k ≡ is_among sets k) → base (compat n (Sets sets) []) ≡ needed ordered
 base-sets n sets ordered small order same =
     ap base (compat-sets n sets)
     ∙ base-needed (spanned n sets) ordered (spanned-in_order n sets) order
     (part-same (spanned n sets) sets ordered same (spanned-has n sets small)) (spans-same (spanned n sets) sets ordered same (spanned-whole n sets))
 
-pub interior-sets : (n : ℕ) (sets : List Items) → IsOn n sets → (s : Items) → interior (compat n (Sets sets) []) s ≡ interior sets s
+pub interior-sets : (n : ℕ) (sets : List Items) → AreOn n sets → (s : Items) → interior (compat n (Sets sets) []) s ≡ interior sets s
 interior-sets n sets small s = ap (λ f. interior f s) (compat-sets n sets) ∙ interior-spanned n sets small s
 
 -- ---- starts

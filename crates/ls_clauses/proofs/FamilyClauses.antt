@@ -1,5 +1,5 @@
 -- The surmise function of a family: its clauses are the atoms, and the sets that meet it are the members.
-use Rattle.ls_clauses.proofs.Vocabulary.{◌+◌, ◌<◌, ◌∙◌, ◌≡◌, ◌≤◌, Decides-is_same, IsAtom, IsCover, IsInOrder, IsInOrder-filter, IsOn, IsSurmise, IsWithin, IsWithin-from, Items, List, ℕ, [], ap, arith, atom_within, atoms_at, cases_lt, clauses_at, clauses_of, compat, compat-in_order, compat-sets, full, get_or, get_or_default, has, has-full, inl, inr, interior, interior-is, interior-whole, is_among, is_atom_at, is_within-from, length, lt-ltb, ltb-true, map, numbers_from, refl, same_lists, same_members, spanned, spanned-IsFamily, subst, suc, sym, true, true≢false, zero}
+use Rattle.ls_clauses.proofs.Vocabulary.{◌+◌, ◌<◌, ◌∙◌, ◌≡◌, ◌≤◌, Decides-is_same, IsAtom, IsCover, IsInOrder, IsInOrder-filter, AreOn, IsSurmise, IsWithin, IsWithin-from, Items, List, ℕ, [], ap, arith, atom_within, atoms_at, cases_lt, clauses_at, clauses_of, compat, compat-in_order, compat-sets, full, get_or, get_or_default, has, has-full, inl, inr, interior, interior-is, interior-whole, is_among, is_atom_at, is_within-from, length, lt-ltb, ltb-true, map, numbers_from, refl, same_lists, same_members, spanned, spanned-IsFamily, subst, suc, sym, true, true≢false, zero}
 use Rattle.ls_theory.specs.Starts.{Clauses, Sets}
 use Rattle.ls_laws.specs.Families.{IsFamily}
 use Rattle.ls_clauses.proofs.Clauses.{within-clause, meets-clause, meets-from, member-parts, member-from, atom-among, among-atoms, atoms-clauses}
@@ -41,11 +41,11 @@ atom-clause : (n : ℕ) (f : List Items) (q : ℕ) (c : Items) → q < n → IsA
 atom-clause n f q c l a = ap (λ cs. is_among cs c) (clauses-at n f q l) ∙ among-atoms f q c a
 
 -- an item of a member
-item-small : (n : ℕ) (f : List Items) (k : Items) (q : ℕ) → IsOn n f → is_among f k ≡ true → has k q ≡ true → q < n
+item-small : (n : ℕ) (f : List Items) (k : Items) (q : ℕ) → AreOn n f → is_among f k ≡ true → has k q ≡ true → q < n
 item-small n f k q small c h = ltb-true q n (sym (has-full n q) ∙ small k c q h)
 
 -- each item of a member has a clause within it
-member-clause : (n : ℕ) (f : List Items) (k : Items) (q : ℕ) → IsOn n f → is_among f k ≡ true → has k q ≡ true → (c : Items) × (is_among (clauses_of (clauses_at n f) q) c ≡ true) × IsWithin c k
+member-clause : (n : ℕ) (f : List Items) (k : Items) (q : ℕ) → AreOn n f → is_among f k ≡ true → has k q ≡ true → (c : Items) × (is_among (clauses_of (clauses_at n f) q) c ≡ true) × IsWithin c k
 member-clause n f k q small c h =
     let r = atom_within f k q c h in
     (r.0, atom-clause n f q r.0 (item-small n f k q small c h) r.1, r.2)

@@ -1,5 +1,5 @@
 -- Clauses without a flaw are a surmise function once they are put in order, and a surmise function has no flaw.
-use Rattle.ls_clauses.proofs.Vocabulary.{◌+◌, ◌-◌, ◌<◌, ◌==◌, ◌∙◌, ◌∷◌, ◌≡◌, ◌≢◌, Clauses, Comparable, Decides-is_same, IsOn, IsPutInOrder, IsSurmise, Items, List, NoClause, None, NotClosed, Option, Reflexive, Some, ℕ, [], ap, ap₂, are_comparable, arith, bound, cases_order, clause_at, clauses_of, comes_before, comes_before-irreflexive, comparable_at, comparable_in, false, false_from_ne_true, find, first_some, flaw, has, has_clause_within, inl, inr, is_among, is_same, is_within, items, lacking_in, length, meets, ne_eqb, no_clause, not, not-false, not_from_true, numbers_from, option_map, option_or, or_cases, or_left, or_right, places_after, places_of, refl, same_truth, subst, suc, sym, true, true≢false, unclosed_at, unclosed_in, zero}
+use Rattle.ls_clauses.proofs.Vocabulary.{◌+◌, ◌-◌, ◌<◌, ◌==◌, ◌∙◌, ◌∷◌, ◌≡◌, ◌≢◌, Clauses, Comparable, Decides-is_same, AreOn, IsPutInOrder, IsSurmise, Items, List, NoClause, None, NotClosed, Option, Reflexive, Some, ℕ, [], ap, ap₂, are_comparable, arith, bound, cases_order, clause_at, clauses_of, comes_before, comes_before-irreflexive, comparable_at, comparable_in, false, false_from_ne_true, find, first_some, flaw, has, has_clause_within, inl, inr, is_among, is_same, is_within, items, lacking_in, length, meets, ne_eqb, no_clause, not, not-false, not_from_true, numbers_from, option_map, option_or, or_cases, or_left, or_right, places_after, places_of, refl, same_truth, subst, suc, sym, true, true≢false, unclosed_at, unclosed_in, zero}
 use Rattle.ls_lists.specs.Lists.{IsIn}
 use Rattle.ls_lists.proofs.Options.{none_from_map}
 use Rattle.ls_lists.proofs.Elements.{filter-in}
@@ -137,7 +137,7 @@ module _ (n : ℕ) (clauses : List (List Items)) (each : length clauses ≡ n) (
         ]
       ]
 
-pub flawless-ordered : (n : ℕ) (clauses ordered : List (List Items)) → length clauses ≡ n → ((q : ℕ) → IsOn n (clauses_of clauses q)) → IsPutInOrder clauses ordered → flaw n clauses ≡ None → IsSurmise n ordered
+pub flawless-ordered : (n : ℕ) (clauses ordered : List (List Items)) → length clauses ≡ n → ((q : ℕ) → AreOn n (clauses_of clauses q)) → IsPutInOrder clauses ordered → flaw n clauses ≡ None → IsSurmise n ordered
 flawless-ordered n clauses ordered each small put none = record {
   each_item = put.as_many ∙ each;
   has_clause = λ q l e.

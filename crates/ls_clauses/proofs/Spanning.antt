@@ -1,5 +1,5 @@
 -- Interiors among what a list spans, and lists with the same sets.
-use Rattle.ls_clauses.proofs.Vocabulary.{◌∙◌, ◌≡◌, IsOn, IsPart, Items, List, Spans, ℕ, ap, from-interior, has, interior, is_among, same_within, spanned, spanned-has, spanned-whole, sym, to-interior}
+use Rattle.ls_clauses.proofs.Vocabulary.{◌∙◌, ◌≡◌, AreOn, IsPart, Items, List, Spans, ℕ, ap, from-interior, has, interior, is_among, same_within, spanned, spanned-has, spanned-whole, sym, to-interior}
 
 -- the interior is the union of those within of any members that span
 interior-spanning : (f g : List Items) → IsPart g f → Spans g f → (s : Items) → interior g s ≡ interior f s
@@ -10,7 +10,7 @@ interior-spanning f g part span s = same_within (interior g s) (interior f s)
     let x = from-interior g r.0 i (ap (λ t. has t i) (span r.0 r.1) ∙ r.3) in
     to-interior g s x.0 i x.1 (λ j y. r.2 j (x.2 j y)) x.3)
 
-pub interior-spanned : (n : ℕ) (g : List Items) → IsOn n g → (s : Items) → interior (spanned n g) s ≡ interior g s
+pub interior-spanned : (n : ℕ) (g : List Items) → AreOn n g → (s : Items) → interior (spanned n g) s ≡ interior g s
 interior-spanned n g small s = sym (interior-spanning (spanned n g) g (spanned-has n g small) (spanned-whole n g) s)
 
 -- ---- lists with the same sets

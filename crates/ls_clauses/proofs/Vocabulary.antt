@@ -11,7 +11,7 @@ pub use Rattle.ls_laws.proofs.Families.{compat-IsFamily, spanned-IsFamily}
 pub use Rattle.ls_laws.proofs.Interiors.{from-interior, has-unions, interior-is, interior-member, interior-whole, interior_again, interior_grows, to-interior}
 pub use Rattle.ls_laws.proofs.Lists.{IsInOrder-filter, same_members, some-among, some-from}
 pub use Rattle.ls_laws.proofs.Spans.{among-spanned, base-in_order, base-needed, spanned-has, spanned-in_order, spanned-whole}
-pub use Rattle.ls_laws.specs.Spans.{IsOn, IsPart, Spans}
+pub use Rattle.ls_laws.specs.Spans.{AreOn, IsPart, Spans}
 unfoldable pub use Rattle.ls_laws.specs.Spans.{needed, spanned}
 pub use Rattle.ls_lists.proofs.Bools.{same_truth}
 pub use Rattle.ls_set.proofs.Ascending.{least-cases, least-none}

@@ -5,11 +5,11 @@ use Rattle.std.specs.Prelude.{ℕ, ◌<◌, ◌≡◌, true, List, ⊤}
 use Rattle.ls_set.specs.{Items, has}
 use Rattle.ls_theory.specs.{unions}
 use Rattle.ls_theory.specs.Starts.{Start, Free, Clauses, Sets}
-use Rattle.ls_laws.specs.Spans.{IsOn}
+use Rattle.ls_laws.specs.Spans.{AreOn}
 use Rattle.ls_clauses.specs.Surmise.{IsSurmise}
 
 pub record IsCover (n : ℕ) (sets : List Items) : Type 0 where
-  pub small : IsOn n sets
+  pub small : AreOn n sets
   pub each_item : (q : ℕ) → q < n → has (unions sets) q ≡ true
 
 abbrev pub IsStart : ℕ → Start → Type 0

@@ -4,7 +4,7 @@ ghost use Rattle.std.specs.List.{list_all};
 ghost use Rattle.ls_set.specs.{IsInOrder, Items, full, is_among, is_good, least, minus};
 ghost use Rattle.ls_set.specs.declared.query.Query.{Query};
 ghost use Rattle.ls_theory.specs.{Sets, Start, base, begun, compat, interior, is_space, unions};
-ghost use Rattle.ls_laws.specs.Spans.{IsOn, needed};
+ghost use Rattle.ls_laws.specs.Spans.{AreOn, needed};
 ghost use Rattle.ls_laws.specs.Families.{IsFamily};
 ghost use Rattle.ls_laws.specs.Forced.{IsSound};
 ghost use Rattle.ls_clauses.specs.Starts.{IsCover, IsStart};
@@ -15,12 +15,12 @@ ghost use Rattle.ls_clauses.specs.Starts.{IsCover, IsStart};
 pub fn base_starts_are_spaces()
     ensures space { (n : ℕ) (sets : List Items) → IsCover n sets →
         is_space (full n) (compat n (Sets sets) []) ≡ true }
-    ensures cover { (n : ℕ) (sets : List Items) → IsOn n sets →
+    ensures cover { (n : ℕ) (sets : List Items) → AreOn n sets →
         IsCover n sets ↔ (least (minus (full n) (unions sets)) ≡ None) }
-    ensures base { (n : ℕ) (sets ordered : List Items) → IsOn n sets → IsInOrder ordered →
+    ensures base { (n : ℕ) (sets ordered : List Items) → AreOn n sets → IsInOrder ordered →
         ((k : Items) → is_among ordered k ≡ is_among sets k) →
         base (compat n (Sets sets) []) ≡ needed ordered }
-    ensures interior { (n : ℕ) (sets : List Items) (s : Items) → IsOn n sets →
+    ensures interior { (n : ℕ) (sets : List Items) (s : Items) → AreOn n sets →
         interior (compat n (Sets sets) []) s ≡ interior sets s }
 {}
 

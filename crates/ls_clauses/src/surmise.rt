@@ -3,8 +3,9 @@ ghost use Rattle.std.specs.Prelude.{◌≡◌, ◌<◌, ℕ, true, false, List, 
 ghost use Rattle.ls_set.specs.{IsInOrder, IsWithin, Items, full, is_among, without};
 ghost use Rattle.ls_set.specs.declared.query.Query.{Query};
 ghost use Rattle.ls_theory.specs.Starts.{Clauses, Sets, meets};
-ghost use Rattle.ls_theory.specs.{all_clauses, atoms_at, base, clauses_at, clauses_of, compat, flaw, has_clause_within, interior, is_space};
-ghost use Rattle.ls_laws.specs.Spans.{IsOn, spanned};
+ghost use Rattle.ls_theory.specs.{all_clauses, atoms_at, base, clauses_at, clauses_of, compat};
+ghost use Rattle.ls_theory.specs.{flaw, has_clause_within, interior, is_space};
+ghost use Rattle.ls_laws.specs.Spans.{AreOn, spanned};
 ghost use Rattle.ls_laws.specs.Families.{IsFamily};
 ghost use Rattle.ls_clauses.specs.Surmise.{IsSurmise, IsPutInOrder};
 ghost use Rattle.ls_clauses.specs.Starts.{IsCover};
@@ -20,7 +21,7 @@ pub fn clauses_meet_unions()
     ensures spanned { (n : ℕ) (clauses : List (List Items)) → IsSurmise n clauses →
         compat n (Clauses clauses) [] ≡ spanned n (all_clauses clauses) }
     ensures is_on { (n : ℕ) (clauses : List (List Items)) → IsSurmise n clauses →
-        IsOn n (all_clauses clauses) }
+        AreOn n (all_clauses clauses) }
     ensures space { (n : ℕ) (clauses : List (List Items)) → IsSurmise n clauses →
         is_space (full n) (compat n (Clauses clauses) []) ≡ true }
 {}
@@ -76,7 +77,7 @@ pub fn families_have_clauses()
 /// same sets meet them then. A surmise function has no flaw.
 pub fn flawless_clauses_are_surmise_functions()
     ensures ordered { (n : ℕ) (clauses ordered : List (List Items)) → length clauses ≡ n →
-        ((q : ℕ) → IsOn n (clauses_of clauses q)) → IsPutInOrder clauses ordered →
+        ((q : ℕ) → AreOn n (clauses_of clauses q)) → IsPutInOrder clauses ordered →
         flaw n clauses ≡ None → IsSurmise n ordered }
     ensures meets { (clauses ordered : List (List Items)) (k : Items) →
         IsPutInOrder clauses ordered →

@@ -1,5 +1,5 @@
 -- Names and their numbers.
-use Rattle.ls_domain.proofs.Vocabulary.{◌++◌, ◌+◌, ◌<◌, ◌∙◌, ◌∷◌, ◌≡◌, ◌≢◌, AllZip, AreNames, IsAscii, IsDistinct, IsUtf8, IsWithin, Items, List, None, PLACES, Some, String, Text, ℕ, [], ap, ap₂, arith, bytes_eq, cases_Bool, false, full, get_or, has, has-full, inl, inr, is_name, is_named, is_some, is_some-position, item_of, items, items_of, length, length-append, list_all-append, ltb, ltb-true, map, map-append, members, name_of, nat_list_eq_equiv, nat_tests, number_of, position_or_len, refl, same_set, set_of, string_bytes, sym, take, take_more, true, with}
+use Rattle.ls_domain.proofs.Vocabulary.{◌++◌, ◌+◌, ◌<◌, ◌∙◌, ◌∷◌, ◌≡◌, ◌≢◌, AllZip, AreNames, IsAscii, IsDistinct, IsUtf8, IsWithin, Items, List, None, PLACES, Some, String, Text, ℕ, [], ap, ap₂, arith, bytes_eq, cases_Bool, false, full, get_or, has, inl, inr, is_name, is_named, is_some, is_some-position, item_of, items_of, length, length-append, list_all-append, ltb, map, map-append, members, name_of, nat_list_eq_equiv, nat_tests, number_of, position_or_len, refl, same_set, set_of, string_bytes, sym, take, take_more, true, with}
 use Rattle.std.proofs.lemmas.List.Elements.{All-head}
 use Rattle.std.proofs.lemmas.List.Quantifiers.{position-Some}
 use Rattle.std.proofs.lemmas.List.Sums.{position_or_len_is}
@@ -7,7 +7,6 @@ use Rattle.std.proofs.lemmas.Map.Keys.{IsDistinct-push}
 use Rattle.std.proofs.lemmas.Map.Made.{AllPairs-from_IsDistinct}
 use Rattle.std.proofs.lemmas.Slice.Eq.{bytes_eq-Decides}
 use Rattle.std.proofs.lemmas.Str.{IsUtf8-from_ascii}
-use Rattle.ls_set.proofs.Firsts.{listed-has}
 use Rattle.ls_lines.specs.declared.part.Part.TheVariants.{One}
 use Rattle.ls_lines.specs.declared.kind.Kind.TheVariants.{Name}
 use Rattle.ls_lines.proofs.Ascii.{front-ascii}
@@ -81,7 +80,3 @@ items_of-next names words i w item s lt at number is =
 
 pub with-within : (s : Items) (i n : ℕ) → IsWithin s (full n) → i < n → IsWithin (with s i) (full n)
 with-within s i n within lt k h = elim (cases_Bool (has s k)) [ inl e ↦ within k e | inr e ↦ grind (arith, members, nat_tests) ]
-
--- an item of a set of items below n is below n
-pub listed-below : (n : ℕ) (s : Items) (before : List ℕ) (i : ℕ) (rest : List ℕ) → IsWithin s (full n) → before ++ i ∷ rest ≡ items s → i < n
-listed-below n s before i rest within e = ltb-true i n (sym (has-full n i) ∙ within i (listed-has s before i rest e))

@@ -1,5 +1,5 @@
 -- What is read is a domain, and a domain is read from its names.
-use Rattle.ls_domain.proofs.Vocabulary.{◌++◌, ◌+◌, ◌<◌, ◌==◌, ◌∙◌, ◌∷◌, ◌≡◌, AllByRecursion, AreNames, FirstField, IsDistinct, IsDomain, List, None, Ok, PLACES, Some, Text, ℕ, [], and_parts, ap, append-nil, append_assoc, ap₂, arith, bytes_eq, cases_Bool, even_field, false, first_field, first_fields, inl, inr, is_name, is_named, length, length-append, list_all, list_all-append, map, map-append, map-id, name_fault, names_from, names_of, names_of_table, names_of_words, nat_list_eq_equiv, none-some, ok-err, refl, same_Ok, same_Some, subst, sym, table_records, width_of}
+use Rattle.ls_domain.proofs.Vocabulary.{◌++◌, ◌+◌, ◌<◌, ◌==◌, ◌∙◌, ◌∷◌, ◌≡◌, AllByRecursion, AreNames, FirstField, IsDistinct, IsDomain, List, None, Ok, PLACES, Some, Text, ℕ, [], and_parts, ap, append-nil, append_assoc, ap₂, arith, bytes_eq, cases_Bool, even_field, false, first_field, first_fields, inl, inr, is_name, is_named, length, length-append, list_all, list_all-append, map, map-append, map-id, name_fault, names_from, names_of, names_of_table, names_of_words, nat_list_eq_equiv, none-some, ok-err, refl, same_Ok, same_Some, subst, sym, table_records, field_count}
 use Rattle.ls_domain.proofs.Numbers.{AreNames-nil, AreNames-push}
 use Rattle.ls_domain.proofs.Rows.{fault-none, free, length-names_from, names_from-bad, names_from-fault, names_from-next, names_from-nil}
 
@@ -51,7 +51,7 @@ pub names_of_table-read : (bytes : List ℕ) (names : List Text) → names_of_ta
 names_of_table-read bytes names e =
     let table = table_records bytes in
     let all = names_of-rows (first_fields table) names e in
-    (all.0, named (even_field (width_of table)) first_field (even_field-name (width_of table)) table names all.1)
+    (all.0, named (even_field (field_count table)) first_field (even_field-name (field_count table)) table names all.1)
 
 -- ---- a domain's own names
 

@@ -1,5 +1,5 @@
 -- The reading of rows, row by row.
-use Rattle.ls_domain.proofs.Vocabulary.{◌++◌, ◌+◌, ◌<◌, ◌==◌, ◌∙◌, ◌∷◌, ◌≡◌, ◌≢◌, ◌≤◌, BadCsv, BadName, Err, FirstField, IsFaultOf, IsNameFault, List, Memory, NoItems, None, Ok, Option, PLACES, Repeat, Result, Some, Text, TooMany, ℕ, [], ap, ap₂, arith, cases_Bool, drop, eq-eqb, even_field, false, first_field, first_fields, get_or, inl, inr, is_name, is_named, item_of, length, map, name_fault, names_from, names_of, names_of_table, names_of_words, nat_le, nat_tests, ne_eqb, none-some, number_of, ok-err, refl, same_Ok, slice_get, suc, sym, table_records, take, true, zero}
+use Rattle.ls_domain.proofs.Vocabulary.{◌++◌, ◌+◌, ◌<◌, ◌==◌, ◌∙◌, ◌∷◌, ◌≡◌, ◌≢◌, ◌≤◌, BadCsv, BadName, Err, FirstField, IsDomainFault, IsNameFault, List, Memory, NoItems, None, Ok, Option, PLACES, Repeat, Result, Some, Text, TooMany, ℕ, [], ap, ap₂, arith, cases_Bool, drop, eq-eqb, even_field, false, first_field, first_fields, get_or, inl, inr, is_name, is_named, item_of, length, map, name_fault, names_from, names_of, names_of_table, names_of_words, nat_le, nat_tests, ne_eqb, none-some, number_of, ok-err, refl, same_Ok, slice_get, suc, sym, table_records, take, true, zero}
 use Rattle.std.proofs.lemmas.List.{length-append, length-map, take-map, drop_more, drop_all}
 use Rattle.std.proofs.lemmas.Simd.{map-map}
 use Rattle.csv.specs.Records as records
@@ -115,7 +115,7 @@ names_of-some [] some = absurd (omega arith)
 names_of-some (row ∷ rows) some = refl
 
 -- a fault of one name is that of the reading
-fault_told : (reading : Result (List Text) DomainFault) (found : Option DomainFault) (e : DomainFault) → ((fault : DomainFault) → found ≡ Some fault → reading ≡ Err fault) → IsNameFault found e → IsFaultOf reading e
+fault_told : (reading : Result (List Text) DomainFault) (found : Option DomainFault) (e : DomainFault) → ((fault : DomainFault) → found ≡ Some fault → reading ≡ Err fault) → IsNameFault found e → IsDomainFault reading e
 fault_told reading found NoItems told is = told _ is
 fault_told reading found (BadCsv row) told is = told _ is
 fault_told reading found (BadName row) told is = told _ is
@@ -137,7 +137,7 @@ module _ {X : Type 0} (row : X → FirstField) (xs : List X) (i : ℕ) (x : X) (
   loop-bad earlier reading is so_far =
       so_far ∙ ap (λ l. names_from earlier (map row l)) next ∙ ap (λ r. names_from earlier (r ∷ map row (drop (i + 1) xs))) is ∙ names_from-bad earlier (map row (drop (i + 1) xs))
 
-  pub loop-fault : (earlier : List Text) (w : Text) (reading : Result (List Text) DomainFault) (e : DomainFault) → row x ≡ Some w → reading ≡ names_from earlier (map row (drop i xs)) → IsNameFault (name_fault earlier w) e → IsFaultOf reading e
+  pub loop-fault : (earlier : List Text) (w : Text) (reading : Result (List Text) DomainFault) (e : DomainFault) → row x ≡ Some w → reading ≡ names_from earlier (map row (drop i xs)) → IsNameFault (name_fault earlier w) e → IsDomainFault reading e
   loop-fault earlier w reading e is so_far found =
       fault_told reading (name_fault earlier w) e
       (λ fault f. so_far ∙ ap (λ l. names_from earlier (map row l)) next ∙ ap (λ r. names_from earlier (r ∷ map row (drop (i + 1) xs))) is ∙ names_from-fault earlier w (map row (drop (i + 1) xs)) fault f) found

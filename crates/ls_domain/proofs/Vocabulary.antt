@@ -1,5 +1,5 @@
 -- The words that the proofs of this crate cite, passed on from one place.
-pub use Rattle.std.proofs.Common.{◌++◌, ◌+◌, ◌-◌, ◌<◌, ◌==◌, ◌∙◌, ◌∷◌, ◌≡◌, ◌≢◌, ◌≤◌, Bool, Bor, Err, Global, List, None, Ok, Result, Some, String, ℕ, [], ap, append-nil, append_assoc, ap₂, arith, cond, drop, eq-eqb, false, get_or, inl, inr, is_some, le-ltb, length, length-append, lt-ltb, ltb, ltb-true, map, nat_le, ne_eqb, not, option_map, refl, slice_get, string_bytes, subst, suc, sym, take, true, unwrap_or, zero, zero-add}
+pub use Rattle.std.proofs.Common.{◌++◌, ◌+◌, ◌-◌, ◌<◌, ◌==◌, ◌∙◌, ◌∷◌, ◌≡◌, ◌≢◌, ◌≤◌, Bool, Bor, Err, Global, List, None, Ok, Result, Some, String, ℕ, [], ap, append-nil, append_assoc, ap₂, arith, cond, drop, eq-eqb, false, filter, get_or, inl, inr, is_some, le-ltb, length, length-append, lt-ltb, ltb, ltb-true, map, nat_le, ne_eqb, not, option_map, refl, slice_get, string_bytes, subst, suc, sym, take, true, unwrap_or, zero, zero-add}
 pub use Rattle.std.proofs.Math.Seq.{take-append_seam}
 pub use Rattle.std.proofs.lemmas.Bool.{and_from, and_parts, cases_Bool, cases_lt, le-leb}
 pub use Rattle.std.proofs.lemmas.Bool.Decides.{nat_tests}
@@ -21,12 +21,12 @@ pub use Rattle.ls_lists.proofs.Every.{All-given, All-kept, list_any-map}
 pub use Rattle.ls_lists.proofs.Joins.{gap-snoc, join_more}
 pub use Rattle.ls_lists.proofs.Options.{nothing, ok-err, same_Ok}
 pub use Rattle.ls_lists.proofs.Places.{begun-some, is_some-position, moved-here, moved-next, moved-none, moved-zero, position-map}
-pub use Rattle.ls_lists.specs.Lists.{gap, moved}
+pub use Rattle.ls_lists.specs.Lists.{gap, shifted}
 pub use Rattle.ls_set.proofs.Sets.{empty-within, has-full, members, same_set}
-pub use Rattle.ls_set.specs.{IsWithin, Items, bound, full, has, numbers_from, set_of, with}
+pub use Rattle.ls_set.specs.{IsWithin, Items, bound, full, has, meet, numbers_from, set_of, with}
 unfoldable pub use Rattle.ls_set.specs.{items}
 pub use Rattle.ls_set.specs.declared.item_set.TheConstants.{PLACES}
-pub use Rattle.ls_domain.specs.Domains.{AreNames, FirstField, IsDomain, IsFaultOf, IsNameFault, even_field, first_field, first_fields, is_name, name_fault, names_of, names_of_table, names_of_words, table_records, width_of}
+pub use Rattle.ls_domain.specs.Domains.{AreNames, FirstField, IsDomain, IsDomainFault, IsNameFault, even_field, field_count, first_field, first_fields, is_name, name_fault, names_of, names_of_table, names_of_words, table_records}
 unfoldable pub use Rattle.ls_domain.specs.Domains.{names_from}
 pub use Rattle.ls_domain.specs.Meanings.{first_unnamed, is_named, item_of, items_of, number_of}
 pub use Rattle.ls_domain.specs.Texts.{name_of}

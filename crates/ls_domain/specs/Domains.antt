@@ -1,5 +1,7 @@
 -- Domains: the names of the items, and how they are read from words and from a table.
-use Rattle.std.specs.Prelude.{◌≡◌, ◌<◌, ◌≤◌, ℕ, ◌+◌, Bool, true, not, ◌==◌, nat_le, if◌then◌else◌, List, [], ◌∷◌, ◌++◌, map, length, slice_index_or, bytes_eq, Option, Some, None, Result, Ok, Err, ⊤}
+use Rattle.std.specs.Prelude.{◌≡◌, ◌<◌, ◌≤◌, ℕ, ◌+◌, Bool, true, not, ◌==◌, nat_le, if◌then◌else◌}
+use Rattle.std.specs.Prelude.{List, [], ◌∷◌, ◌++◌, map, length, slice_index_or, bytes_eq}
+use Rattle.std.specs.Prelude.{Option, Some, None, Result, Ok, Err, ⊤}
 use Rattle.std.specs.List.{IsDistinct, list_all}
 use Rattle.std.specs.Option.{option_map_or}
 use Rattle.csv.specs.Reading.{default_config, records, strip_bom}
@@ -8,7 +10,8 @@ use Rattle.ls_lines.specs.{Text, is_of}
 use Rattle.ls_lines.specs.declared.kind.Kind.TheVariants.{Name}
 use Rattle.ls_domain.specs.Meanings.{is_named, item_of}
 use Rattle.ls_domain.specs.declared.domain_fault.DomainFault.{DomainFault}
-use Rattle.ls_domain.specs.declared.domain_fault.DomainFault.TheVariants.{NoItems, BadCsv, BadName, Repeat, TooMany, Memory}
+use Rattle.ls_domain.specs.declared.domain_fault.DomainFault.TheVariants.{NoItems, BadCsv, BadName}
+use Rattle.ls_domain.specs.declared.domain_fault.DomainFault.TheVariants.{Repeat, TooMany, Memory}
 
 -- a name of the command language
 abbrev pub is_name : Text → Bool
@@ -27,12 +30,13 @@ pub record IsDomain (names : List Text) : Type 0 where
 
 -- ---- reading
 
--- the first field of a row, or none where its record has another number of fields than the first one
+-- the first field of a row, or none where its record has another number of fields
+-- than the first one
 abbrev pub FirstField : Type 0
 FirstField = Option Text
 
--- what is wrong with a name that comes after the names of the earlier rows: it is no name, or else an earlier row has it, or else
--- there are too many. Rows are counted from 1.
+-- what is wrong with a name that comes after the names of the earlier rows: it is no name,
+-- or else an earlier row has it, or else there are too many. Rows are counted from 1.
 abbrev pub name_fault : List Text → Text → Option DomainFault
 name_fault earlier w =
     if not (is_name w) then Some (BadName (length earlier + 1))
@@ -44,7 +48,8 @@ name_fault earlier w =
 unfoldable pub names_from : List Text → List FirstField → Result (List Text) DomainFault
 names_from earlier [] = Ok earlier
 names_from earlier (None ∷ rows) = Err (BadCsv (length earlier + 1))
-names_from earlier (Some w ∷ rows) = option_map_or (λ fault. Err fault) (name_fault earlier w) (names_from (earlier ++ w ∷ []) rows)
+names_from earlier (Some w ∷ rows) =
+    option_map_or (λ fault. Err fault) (name_fault earlier w) (names_from (earlier ++ w ∷ []) rows)
 
 -- the names of rows, of which there is at least one
 abbrev pub names_of : List FirstField → Result (List Text) DomainFault
@@ -67,11 +72,11 @@ abbrev pub even_field : ℕ → List Text → FirstField
 even_field width fields = if length fields == width then Some (first_field fields) else None
 
 -- how many fields the first record has
-abbrev pub width_of : List (List Text) → ℕ
-width_of table = length (slice_index_or table 0 [])
+abbrev pub field_count : List (List Text) → ℕ
+field_count table = length (slice_index_or table 0 [])
 
 abbrev pub first_fields : List (List Text) → List FirstField
-first_fields table = map (even_field (width_of table)) table
+first_fields table = map (even_field (field_count table)) table
 
 -- the first field of each record is a name, and further fields are passed over
 abbrev pub names_of_table : List ℕ → Result (List Text) DomainFault
@@ -80,9 +85,9 @@ names_of_table bytes = names_of (first_fields (table_records bytes))
 -- ---- faults
 
 -- the fault is that of the reading, unless memory ran out
-abbrev pub IsFaultOf : Result (List Text) DomainFault → DomainFault → Type 0
-IsFaultOf reading (Memory e) = ⊤
-IsFaultOf reading fault = reading ≡ Err fault
+abbrev pub IsDomainFault : Result (List Text) DomainFault → DomainFault → Type 0
+IsDomainFault reading (Memory e) = ⊤
+IsDomainFault reading fault = reading ≡ Err fault
 
 -- the same of one name
 abbrev pub IsNameFault : Option DomainFault → DomainFault → Type 0

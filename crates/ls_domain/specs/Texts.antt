@@ -1,16 +1,16 @@
 -- The texts of items and sets, where a list of names gives the items.
-use Rattle.std.specs.Prelude.{ℕ, List, [], ◌∷◌, ◌++◌, map, slice_index_or}
+use Rattle.std.specs.Prelude.{ℕ, List, [], ◌∷◌, ◌++◌, map, filter, length, slice_index_or}
 use Rattle.std.specs.List.{join_with_byte}
-use Rattle.ls_set.specs.{Items, items}
+use Rattle.ls_set.specs.{Items, has, numbers_from}
 use Rattle.ls_lines.specs.{Text}
 
--- the name of an item
+-- the name of an item, which is empty where the item has none
 abbrev pub name_of : List Text → ℕ → Text
 name_of names i = slice_index_or names i []
 
--- the names of a set's items, in the order of items
+-- the names of those items that the set has, in the order of items
 unfoldable pub names_of_set : List Text → Items → List Text
-names_of_set names s = map (name_of names) (items s)
+names_of_set names s = map (name_of names) (filter (has s) (numbers_from 0 (length names)))
 
 -- those names, joined by single spaces
 abbrev pub joined_names : List Text → Items → Text

@@ -1,10 +1,11 @@
 // Domains.
-ghost use Rattle.std.specs.Prelude.{◌≡◌, ◌<◌, ◌≤◌, ◌++◌, None, Some, Ok, length, IfOk, IfErr, IfSome, OnOk, OnErr};
+ghost use Rattle.std.specs.Prelude.{◌≡◌, ◌<◌, ◌≤◌, ◌++◌, None, Some, Ok, length, IfOk, IfErr};
+ghost use Rattle.std.specs.Prelude.{IfSome, OnOk, OnErr};
 ghost use Rattle.std.specs.Io.{StartsWith};
 ghost use Rattle.ls_set.specs.{IsWithin, full};
 ghost use Rattle.ls_domain.specs.Texts.{name_of, joined_names, set_text};
 ghost use Rattle.ls_domain.specs.Meanings.{number_of, items_of, first_unnamed};
-ghost use Rattle.ls_domain.specs.Domains.{IsDomain, IsFaultOf, names_of_words, names_of_table};
+ghost use Rattle.ls_domain.specs.Domains.{IsDomain, IsDomainFault, names_of_words, names_of_table};
 
 use crate::names::Names;
 use crate::table::{first_field, first_records};
@@ -37,7 +38,7 @@ impl Domain {
     /// too many; or memory ran out.
     pub fn from_names(alloc: Global, names: &WordList) -> Result<Domain, DomainFault>
         ensures read { IfOk result (λ d. names_of_words names.now ≡ Ok d) }
-        ensures fault { IfErr result (IsFaultOf (names_of_words names.now)) }
+        ensures fault { IfErr result (IsDomainFault (names_of_words names.now)) }
     {
         if names.is_empty() {
             return Err(DomainFault::NoItems);
@@ -55,7 +56,7 @@ impl Domain {
     /// field is no name, or is that of an earlier record, or there are too many; or memory ran out.
     pub fn from_csv(alloc: Global, bytes: &[u8]) -> Result<Domain, DomainFault>
         ensures read { IfOk result (λ d. names_of_table bytes.now ≡ Ok d) }
-        ensures fault { IfErr result (IsFaultOf (names_of_table bytes.now)) }
+        ensures fault { IfErr result (IsDomainFault (names_of_table bytes.now)) }
     {
         let records = first_records(alloc, bytes, PLACES as usize).map_err(DomainFault::Memory)?;
         let Some(first) = records.first() else {
@@ -92,9 +93,8 @@ impl Domain {
         self.names.number(name)
     }
 
-    /// The name of item `i`.
+    /// The name of item `i`, which is empty where there is no such item.
     pub fn name(&self, i: u32) -> &str
-        requires { i < length self.now }
         ensures { result.now ≡ name_of self.now i }
     {
         self.names.name(i)
@@ -126,10 +126,9 @@ impl Domain {
         Ok(set)
     }
 
-    /// Appends the names of the set's items, in the order of items, joined by single spaces. Where
-    /// memory runs out the bytes are as they were.
+    /// Appends the names of those items that the set has, in the order of items, joined by single
+    /// spaces. Where memory runs out the bytes are as they were.
     pub fn push_names(&self, s: ItemSet, out: &mut Vec<u8>) -> Result<(), AllocError>
-        requires { IsWithin s (full (length self.now)) }
         ensures ok { OnOk result (out.new.items ≡ out.old.items ++ joined_names self.now s) }
         ensures err { OnErr result (out.new.items ≡ out.old.items) }
     {
@@ -141,10 +140,9 @@ impl Domain {
         pushed
     }
 
-    /// Appends the set: the names of its items within braces, as `push_names` does. Where memory
+    /// Appends the set: its names within braces, as `push_names` does. Where memory
     /// runs out the bytes are as they were.
     pub fn print_set(&self, s: ItemSet, out: &mut Vec<u8>) -> Result<(), AllocError>
-        requires { IsWithin s (full (length self.now)) }
         ensures ok { OnOk result (out.new.items ≡ out.old.items ++ set_text self.now s) }
         ensures err { OnErr result (out.new.items ≡ out.old.items) }
     {
@@ -158,12 +156,11 @@ impl Domain {
 
     // Appends the names; where memory runs out, those that there was room for.
     fn append_names(&self, s: ItemSet, out: &mut Vec<u8>) -> Result<(), AllocError>
-        requires { IsWithin s (full (length self.now)) }
         ensures ok { OnOk result (out.new.items ≡ out.old.items ++ joined_names self.now s) }
         ensures kept { StartsWith out.new.items out.old.items }
     {
         let mut gap: &[u8] = b"";
-        for item in s.items() {
+        for item in s.meet(ItemSet::full(self.count())).items() {
             out.extend_from_slice(gap)?;
             out.extend_from_slice(self.name(item).as_bytes())?;
             gap = b" ";
@@ -173,7 +170,6 @@ impl Domain {
 
     // Appends the set; where memory runs out, what there was room for.
     fn append_set(&self, s: ItemSet, out: &mut Vec<u8>) -> Result<(), AllocError>
-        requires { IsWithin s (full (length self.now)) }
         ensures ok { OnOk result (out.new.items ≡ out.old.items ++ set_text self.now s) }
         ensures kept { StartsWith out.new.items out.old.items }
     {

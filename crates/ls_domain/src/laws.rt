@@ -4,7 +4,8 @@ ghost use Rattle.ls_set.specs.{IsWithin, Items, full};
 ghost use Rattle.ls_lines.specs.{Text};
 ghost use Rattle.ls_domain.specs.Texts.{name_of, names_of_set};
 ghost use Rattle.ls_domain.specs.Meanings.{number_of, items_of, first_unnamed};
-ghost use Rattle.ls_domain.specs.Domains.{IsDomain, first_field, names_of_table, names_of_words, table_records};
+ghost use Rattle.ls_domain.specs.Domains.{IsDomain, first_field, names_of_table};
+ghost use Rattle.ls_domain.specs.Domains.{names_of_words, table_records};
 
 /// The names of a domain and its numbers stand for each other, one to one. Nothing is done.
 pub fn names_and_numbers_agree()
@@ -27,8 +28,8 @@ pub fn domains_are_read()
 
 /// The names of a set's items are read as the set, and none of them is unknown. Nothing is done.
 pub fn sets_are_read_back()
-    ensures set { (names : List Text) (s : Items) → IsDomain names → IsWithin s (full (length names))
-        → items_of names (names_of_set names s) ≡ s }
+    ensures set { (names : List Text) (s : Items) → IsDomain names
+        → IsWithin s (full (length names)) → items_of names (names_of_set names s) ≡ s }
     ensures named { (names : List Text) (s : Items) → IsDomain names
         → IsWithin s (full (length names)) → first_unnamed names (names_of_set names s) ≡ None }
 {}

@@ -1,5 +1,6 @@
 // Names with numbers, put one after another.
-ghost use Rattle.std.specs.Prelude.{◌≡◌, ◌<◌, ◌++◌, ◌∷◌, [], None, true, false, length, IfOk, IfErr, IfSome, OnOk, OnErr};
+ghost use Rattle.std.specs.Prelude.{◌≡◌, ◌<◌, ◌++◌, ◌∷◌, [], None, true, false, length, IfOk};
+ghost use Rattle.std.specs.Prelude.{IfErr, IfSome, OnOk, OnErr};
 ghost use Rattle.ls_domain.specs.Texts.{name_of};
 ghost use Rattle.ls_domain.specs.Meanings.{is_named, number_of};
 ghost use Rattle.ls_domain.specs.Domains.{AreNames, IsNameFault, is_name, name_fault};
@@ -57,12 +58,14 @@ impl Names {
         self.set.get_index_of(name).map(|i| i as u32)
     }
 
-    // The name with the number.
+    // The name with the number, which is empty where no name has it.
     pub(crate) fn name(&self, i: u32) -> &str
-        requires { i < length self.now }
         ensures { result.now ≡ name_of self.now i }
     {
-        self.set.as_slice()[i as usize].as_str()
+        match self.set.get_index(i as usize) {
+            Some(name) => name.as_str(),
+            None => "",
+        }
     }
 
     // The same names once more.

@@ -1,5 +1,5 @@
 -- Chains of pairs in order: what is followed from the last pair on is all that a chain of any pairs reaches.
-use Rattle.ls_drill.proofs.Vocabulary.{◌%◌, ◌&&◌, ◌++◌, ◌+◌, ◌<◌, ◌||◌, ◌∙◌, ◌∷◌, ◌≡◌, ◌≤◌, All, All-append, All-map, AllByRecursion, Bool, Decides-eqb, IsPair, Lcg, List, ℕ, [], ap, ap₂, arith, cond, drawn, each, eqb, false, false_from_ne_true, generator_of, implied, is_chained, item_pairs, list_any, map, numbers_from, pairs, pcg32, reached, refl, related, subst, suc, sym, true, zero}
+use Rattle.ls_drill.proofs.Vocabulary.{◌%◌, ◌&&◌, ◌++◌, ◌+◌, ◌<◌, ◌||◌, ◌∙◌, ◌∷◌, ◌≡◌, ◌≤◌, All, All-append, All-map, AllByRecursion, Bool, Decides-eqb, IsPair, Lcg, List, ℕ, [], ap, ap₂, arith, cond, drawn, each, eqb, false, false_from_ne_true, generator_of, implied, is_chained, item_pairs, list_any, map, numbers_from, pairs, pcg32, has_chain, refl, related, subst, suc, sym, true, zero}
 use Rattle.ls_drill.proofs.DrawnPairs.{related-drawn}
 
 -- ---- lists
@@ -72,8 +72,8 @@ unfolding is_chained
 none_chained zero a q = refl
 none_chained (suc n) a q = refl
 
-pub chained-reached : (n : ℕ) (ps : List (ℕ × ℕ)) (a q : ℕ) → AreOrdered n ps → is_chained ps n a q ≡ reached ps a q
-unfolding is_chained reached
+pub chained-reached : (n : ℕ) (ps : List (ℕ × ℕ)) (a q : ℕ) → AreOrdered n ps → is_chained ps n a q ≡ has_chain ps a q
+unfolding is_chained has_chain
 chained-reached n [] a q h = none_chained n a q
 chained-reached zero (p ∷ ps) a q h = let small : p.1 < 0 = h.0.small in absurd (omega arith)
 chained-reached (suc m) (p ∷ ps) a q h =
@@ -139,5 +139,5 @@ pub related-ordered : (n number : ℕ) → AreOrdered n (related n number)
 related-ordered n number = subst (AreOrdered n) (sym (related-drawn n number)) (drawn-ordered n (generator_of number) (item_pairs n) (pairs-ordered n 0 n (omega arith)))
 
 -- what is followed from the last pair on is what is implied
-pub reached-implied : (n number a q : ℕ) → reached (related n number) a q ≡ implied n number a q
+pub reached-implied : (n number a q : ℕ) → has_chain (related n number) a q ≡ implied n number a q
 reached-implied n number a q = sym (chained-reached n (related n number) a q (related-ordered n number))

@@ -1,15 +1,15 @@
 -- The related pairs are drawn row by row.
-use Rattle.ls_drill.proofs.Vocabulary.{◌%◌, ◌++◌, ◌+◌, ◌-◌, ◌<◌, ◌∙◌, ◌∷◌, ◌≡◌, ◌≢◌, ◌≤◌, Bool, Decides-eqb, Lcg, List, ℕ, [], add-one, after_words, ap, append-nil, append_assoc, ap₂, arith, cond, drawn, eqb, false, false_from_ne_true, filter, generator_of, item_pairs, length, map, numbers_from, pairs, pcg32, refl, related, row, suc, sym, true, words, zip}
+use Rattle.ls_drill.proofs.Vocabulary.{◌%◌, ◌++◌, ◌+◌, ◌-◌, ◌<◌, ◌∙◌, ◌∷◌, ◌≡◌, ◌≢◌, ◌≤◌, Bool, Decides-eqb, Lcg, List, ℕ, [], add-one, after_words, ap, append-nil, append_assoc, ap₂, arith, cond, drawn, eqb, false, false_from_ne_true, filter, generator_of, item_pairs, length, map, numbers_from, pairs, pcg32, refl, related, row, suc, sym, true, drawn_words, zip}
 
 drawn_step : (b : Bool) (p : ℕ × ℕ) (w : ℕ) (ds : List ((ℕ × ℕ) × ℕ)) (rest : List (ℕ × ℕ)) → map (λ (d : (ℕ × ℕ) × ℕ). d.0) ds ≡ rest
     → map (λ (d : (ℕ × ℕ) × ℕ). d.0) (cond b ((p, w) ∷ ds) ds) ≡ cond b (p ∷ rest) rest
 drawn_step true p w ds rest e = ap (λ l. p ∷ l) e
 drawn_step false p w ds rest e = e
 
-zipped : (ps : List (ℕ × ℕ)) (g : Lcg) → map (λ (d : (ℕ × ℕ) × ℕ). d.0) (filter (λ d. eqb (d.1 % 4) 0) (zip ps (words (length ps) g))) ≡ drawn g ps
+zipped : (ps : List (ℕ × ℕ)) (g : Lcg) → map (λ (d : (ℕ × ℕ) × ℕ). d.0) (filter (λ d. eqb (d.1 % 4) 0) (zip ps (drawn_words (length ps) g))) ≡ drawn g ps
 unfolding drawn
 zipped [] g = refl
-zipped (p ∷ ps) g = drawn_step (eqb ((pcg32 g).0 % 4) 0) p (pcg32 g).0 (filter (λ d. eqb (d.1 % 4) 0) (zip ps (words (length ps) (pcg32 g).1))) (drawn (pcg32 g).1 ps) (zipped ps (pcg32 g).1)
+zipped (p ∷ ps) g = drawn_step (eqb ((pcg32 g).0 % 4) 0) p (pcg32 g).0 (filter (λ d. eqb (d.1 % 4) 0) (zip ps (drawn_words (length ps) (pcg32 g).1))) (drawn (pcg32 g).1 ps) (zipped ps (pcg32 g).1)
 
 pub related-drawn : (n number : ℕ) → related n number ≡ drawn (generator_of number) (item_pairs n)
 unfolding related

@@ -1,9 +1,9 @@
 -- The definitions at small cases, computed.
-use Rattle.ls_drill.proofs.Vocabulary.{◌++◌, ◌∷◌, ◌≡◌, None, Some, Summary, [], codes, false, generator_of, implied, is_chained, item_pairs, refl, related, summary_text, true, words}
+use Rattle.ls_drill.proofs.Vocabulary.{◌++◌, ◌∷◌, ◌≡◌, None, Some, Summary, [], codes, false, generator_of, implied, is_chained, item_pairs, refl, related, summary_text, true, drawn_words}
 use Rattle.std.specs.Fmt.{digits}
 
 -- the words that the generator's authors print for 42 and 54
-published_words : words 6 (generator_of 42) ≡ 0xa15c02b7 ∷ 0x7b47f409 ∷ 0xba1d3330 ∷ 0x83d2f293 ∷ 0xbfa4784b ∷ 0xcbed606e ∷ []
+published_words : drawn_words 6 (generator_of 42) ≡ 0xa15c02b7 ∷ 0x7b47f409 ∷ 0xba1d3330 ∷ 0x83d2f293 ∷ 0xbfa4784b ∷ 0xcbed606e ∷ []
 published_words = refl
 
 four_items : item_pairs 4 ≡ (0, 1) ∷ (0, 2) ∷ (0, 3) ∷ (1, 2) ∷ (1, 3) ∷ (2, 3) ∷ []

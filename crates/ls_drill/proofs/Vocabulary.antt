@@ -25,11 +25,11 @@ pub use Rattle.ls_theory.specs.declared.answer.Answer.{Answer}
 pub use Rattle.ls_theory.specs.declared.known.Known.{Known}
 pub use Rattle.rand_pcg.specs.Lcg.{Lcg}
 pub use Rattle.rand_pcg.specs.Pcg.{pcg32}
-pub use Rattle.ls_drill.specs.Draws.{IsKept, IsPair, row}
-unfoldable pub use Rattle.ls_drill.specs.Draws.{after_words, drawn, reached}
+pub use Rattle.ls_drill.specs.Draws.{KeepsHiddenOrder, IsPair, row}
+unfoldable pub use Rattle.ls_drill.specs.Draws.{after_words, drawn, has_chain}
 pub use Rattle.ls_drill.specs.Drills.{IsDrill, reply}
 unfoldable pub use Rattle.ls_drill.specs.Drills.{after_turn, after_turns, drilled}
-pub use Rattle.ls_drill.specs.HiddenOrders.{HiddenOrder, generator_of, implied, item_pairs, most_drilled, words}
+pub use Rattle.ls_drill.specs.HiddenOrders.{HiddenOrder, drawn_words, generator_of, implied, item_pairs, most_drilled}
 unfoldable pub use Rattle.ls_drill.specs.HiddenOrders.{is_chained, related}
 pub use Rattle.ls_drill.specs.Summaries.{counted, is_filled, is_filled_no, is_filled_yes, is_learning, is_no, is_yes, summary_text}
 unfoldable pub use Rattle.ls_drill.specs.Summaries.{summed_up}

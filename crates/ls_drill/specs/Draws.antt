@@ -1,5 +1,6 @@
 -- How the related pairs are drawn, and how chains of them are followed from the last pair on.
-use Rattle.std.specs.Prelude.{ℕ, ◌≡◌, ◌<◌, ◌≤◌, ◌+◌, ◌-◌, ◌%◌, Bool, false, ◌&&◌, ◌||◌, ◌==◌, if◌then◌else◌, List, [], ◌∷◌, map, length, slice_index_or}
+use Rattle.std.specs.Prelude.{ℕ, ◌≡◌, ◌<◌, ◌≤◌, ◌+◌, ◌-◌, ◌%◌, Bool, false, ◌&&◌, ◌||◌, ◌==◌}
+use Rattle.std.specs.Prelude.{if◌then◌else◌, List, [], ◌∷◌, map, length, slice_index_or}
 use Rattle.rand_pcg.specs.Lcg.{Lcg}
 use Rattle.rand_pcg.specs.Pcg.{pcg32}
 use Rattle.ls_set.specs.{Items, empty, has, numbers_from}
@@ -25,12 +26,12 @@ pub record IsPair (n : ℕ) (p : ℕ × ℕ) : Type 0 where
   pub small : p.1 < n
 
 -- whether some chain of the pairs leads from a to q, where each is followed by later ones alone
-unfoldable pub reached : List (ℕ × ℕ) → ℕ → ℕ → Bool
-reached [] a q = false
-reached (p ∷ ps) a q = (p.0 == a && (p.1 == q || reached ps p.1 q)) || reached ps a q
+unfoldable pub has_chain : List (ℕ × ℕ) → ℕ → ℕ → Bool
+has_chain [] a q = false
+has_chain (p ∷ ps) a q = (p.0 == a && (p.1 == q || has_chain ps p.1 q)) || has_chain ps a q
 
 -- for each item, those that it is before
-pub record IsKept (n number : ℕ) (after : List Items) : Type 0 where
+pub record KeepsHiddenOrder (n number : ℕ) (after : List Items) : Type 0 where
   pub few : n ≤ most_drilled
   pub items : length after ≡ n
   pub implies : (a q : ℕ) → a < n → has (slice_index_or after a empty) q ≡ implied n number a q

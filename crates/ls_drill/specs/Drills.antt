@@ -1,5 +1,6 @@
 -- Drills: a simulated expert who knows a hidden order is interviewed.
---     drilled n number      the interview on n items of the expert who knows the order of the number
+--     drilled n number      the interview on n items of the expert who knows
+--         the order of the number
 use Rattle.std.specs.Prelude.{ℕ, zero, suc, ◌*◌, ◌≡◌, Bool, false, None}
 use Rattle.std.specs.Option.{option_map_or}
 use Rattle.std.specs.List.{AllByRecursion}
@@ -15,7 +16,8 @@ reply n number r = option_map_or (λ a. implied n number a r.q) (least r.a) fals
 
 -- after one turn: the first open query is asked and answered; nothing changes where none is open
 unfoldable pub after_turn : ℕ → Interview → Interview
-after_turn number i = option_map_or (λ r. accepted i r (reply i.count number r)) (next_question i None) i
+after_turn number i =
+    option_map_or (λ r. accepted i r (reply i.count number r)) (next_question i None) i
 
 -- after as many turns
 unfoldable pub after_turns : ℕ → ℕ → Interview → Interview
@@ -26,7 +28,8 @@ after_turns number (suc turns) i = after_turns number turns (after_turn number i
 unfoldable pub drilled : ℕ → ℕ → Interview
 drilled n number = after_turns number (n * n) (begun n Free)
 
--- An interview on n items that begins with all sets and asks of single items: each query that was answered has one.
+-- An interview on n items that begins with all sets and asks of single items:
+-- each query that was answered has one.
 pub record IsDrill (n : ℕ) (i : Interview) : Type 0 where
   pub items : i.count ≡ n
   pub start : i.start ≡ Free

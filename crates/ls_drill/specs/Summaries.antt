@@ -1,14 +1,16 @@
 -- What a drill came to, and the text of it.
 --     summary_of n number      what the drill with the number on n items came to
 --     summary_text s      the six lines that tell it
-use Rattle.std.specs.Prelude.{ℕ, Bool, true, false, not, ◌&&◌, nat_lt, if◌then◌else◌, List, [], ◌∷◌, ◌++◌, length, count_by, Option, Some, None, is_none, codes, decimal}
+use Rattle.std.specs.Prelude.{ℕ, Bool, true, false, not, ◌&&◌, nat_lt, if◌then◌else◌, List, [], ◌∷◌}
+use Rattle.std.specs.Prelude.{◌++◌, length, count_by, Option, Some, None, is_none, codes, decimal}
 use Rattle.std.specs.Option.{option_map_or}
 use Rattle.std.specs.List.{join_with_byte}
 use Rattle.ls_set.specs.declared.query.Query.{Query}
 use Rattle.ls_theory.specs.declared.known.Known.{Known}
 use Rattle.ls_theory.specs.declared.verdict.BaseVerdict.{BaseVerdict}
 use Rattle.ls_theory.specs.declared.verdict.BaseVerdict.TheVariants as base_verdict_of
-use Rattle.ls_theory.specs.{Interview, base, base_verdict, compatible_sets, known, most_states, queries, standing_number}
+use Rattle.ls_theory.specs.{Interview, base, base_verdict, compatible_sets, known, most_states}
+use Rattle.ls_theory.specs.{queries, standing_number}
 use Rattle.ls_drill.specs.Drills.{drilled}
 use Rattle.ls_drill.specs.declared.summary.Summary.{Summary}
 
@@ -40,7 +42,8 @@ is_learning (base_verdict_of.NotGraded k i j) = false
 abbrev pub counted : ℕ → Option ℕ
 counted count = if nat_lt most_states count then None else Some count
 
--- what an interview came to: the asked queries, the filled ones of its blocks, and its compatible sets
+-- what an interview came to: the asked queries, the filled ones of its blocks,
+-- and its compatible sets
 unfoldable pub summed_up : ℕ → Interview → Summary
 summed_up number i =
     let all = queries i.count i.block in
@@ -70,11 +73,14 @@ line words = join_with_byte 32 words ++ 10 ∷ []
 
 -- a line of a number of queries, and of their answers
 abbrev pub replies_line : List ℕ → ℕ → ℕ → ℕ → List ℕ
-replies_line name all yeses nos = line (name ∷ decimal all ∷ codes "yes" ∷ decimal yeses ∷ codes "no" ∷ decimal nos ∷ [])
+replies_line name all yeses nos = line (
+    name ∷ decimal all ∷ codes "yes" ∷ decimal yeses ∷ codes "no" ∷ decimal nos ∷ [])
 
 -- the number of states, or that they are more than are counted
 abbrev pub states_line : Option ℕ → List ℕ
-states_line count = option_map_or (λ c. line (codes "states" ∷ decimal c ∷ [])) count (line (codes "states" ∷ codes "over" ∷ decimal most_states ∷ []))
+states_line count =
+    option_map_or (λ c. line (codes "states" ∷ decimal c ∷ [])) count
+    (line (codes "states" ∷ codes "over" ∷ decimal most_states ∷ []))
 
 abbrev pub summary_text : Summary → List ℕ
 summary_text s =

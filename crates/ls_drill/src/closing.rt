@@ -1,8 +1,9 @@
 // The transitive closure of related pairs.
-ghost use Rattle.std.specs.Prelude.{◌≡◌, ◌<◌, ◌≤◌, ℕ, false, length, replicate, slice_set, slice_index_or, IfOk};
+ghost use Rattle.std.specs.Prelude.{◌≡◌, ◌<◌, ◌≤◌, ℕ, false, length, replicate, slice_set};
+ghost use Rattle.std.specs.Prelude.{slice_index_or, IfOk};
 ghost use Rattle.std.specs.List.{All};
 ghost use Rattle.ls_set.specs.{empty, has, union, with};
-ghost use Rattle.ls_drill.specs.Draws.{IsPair, reached};
+ghost use Rattle.ls_drill.specs.Draws.{IsPair, has_chain};
 
 use ls_set::{ItemSet, PLACES};
 use std::alloc::{AllocError, Global};
@@ -37,7 +38,7 @@ fn put_all(after: &mut [ItemSet], pairs: &[(u32, u32)])
     requires pairs { All (IsPair (length after.old)) pairs.now }
     requires few { length after.old ≤ PLACES }
     ensures { (a q : ℕ) → a < length after.old →
-        has (slice_index_or after.new a empty) q ≡ reached pairs.now a q }
+        has (slice_index_or after.new a empty) q ≡ has_chain pairs.now a q }
 {
     for place in (0..pairs.len()).rev() {
         let (i, j) = pairs[place];
@@ -51,7 +52,7 @@ pub fn closed(alloc: Global, n: u32, pairs: &[(u32, u32)]) -> Result<Vec<ItemSet
     requires few { n ≤ PLACES }
     ensures items { IfOk result (λ v. length v.items ≡ n) }
     ensures reached { IfOk result (λ v. (a q : ℕ) → a < n →
-        has (slice_index_or v.items a empty) q ≡ reached pairs.now a q) }
+        has (slice_index_or v.items a empty) q ≡ has_chain pairs.now a q) }
 {
     let mut after = no_items(alloc, n)?;
     put_all(&mut after, pairs);

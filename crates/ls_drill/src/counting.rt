@@ -1,10 +1,11 @@
 // How many queries were asked, and how many the answers force.
-ghost use Rattle.std.specs.Prelude.{◌≡◌, ◌<◌, ◌≤◌, ◌+◌, ◌^◌, true, not, if◌then◌else◌, length, find, count_by};
+ghost use Rattle.std.specs.Prelude.{◌≡◌, ◌<◌, ◌≤◌, ◌+◌, ◌^◌, true, not, if◌then◌else◌, length};
+ghost use Rattle.std.specs.Prelude.{find, count_by};
 ghost use Rattle.std.specs.Option.{ForSome};
 ghost use Rattle.std.specs.List.{list_any};
 ghost use Rattle.ls_set.specs.{is_good};
 ghost use Rattle.ls_theory.specs.{comes_after, is_same_query, most_answers, queries, query_before};
-ghost use Rattle.ls_query.specs.Blocks.{queries_of};
+ghost use Rattle.ls_query.specs.Blocks.{block_queries};
 ghost use Rattle.ls_drill.specs.HiddenOrders.{most_drilled};
 ghost use Rattle.ls_drill.specs.Summaries.{is_yes, is_no, is_filled, is_filled_yes, is_filled_no};
 
@@ -71,7 +72,7 @@ fn was_asked(answers: &[Answer], query: &Query) -> bool
 // The first good query of the blocks that comes after the given one, or the first of all.
 fn query_after(blocks: &Blocks, last: Option<Query>) -> Option<Query>
     requires { ForSome last (λ r. is_good blocks.now.item_count r ≡ true) }
-    ensures { result ≡ find (comes_after query_before last) (queries_of blocks.now) }
+    ensures { result ≡ find (comes_after query_before last) (block_queries blocks.now) }
 {
     match last {
         Some(query) => blocks.next_query(Some(&query)),

@@ -4,7 +4,7 @@ ghost use Rattle.ls_drill.specs.Summaries.{summary_of};
 
 use crate::counting::{count_filled, count_no, count_yes};
 use crate::hidden::{Hidden, MOST_DRILLED};
-use crate::states::{base_of, count_states, is_learning};
+use crate::states::{base_of_states, count_states, is_learning};
 use crate::summary::Summary;
 use crate::turns::interview;
 use ls_interior::Steps;
@@ -27,7 +27,7 @@ pub fn run_drill<L: Ledger>(
     let hidden = Hidden::from_number(alloc, n, s)?;
     let inquiry = interview(alloc, &hidden, steps)?;
     let filled = count_filled(&inquiry, steps);
-    let base = base_of(&inquiry)?;
+    let base = base_of_states(&inquiry)?;
     let states = count_states(alloc, &base, steps)?;
     let answers = inquiry.standing();
     Ok(Summary {

@@ -23,13 +23,13 @@ pub struct Hidden {
 
 impl Model for Hidden {
     ghost use Rattle.ls_drill.specs.HiddenOrders.{HiddenOrder};
-    ghost use Rattle.ls_drill.specs.Draws.{IsKept};
+    ghost use Rattle.ls_drill.specs.Draws.{KeepsHiddenOrder};
 
     ghost Value = { HiddenOrder };
 
     ghost view = { λ h. record { item_count = h.n; number = h.number } };
 
-    ghost invariant = { λ h. IsKept h.n h.number h.after.items };
+    ghost invariant = { λ h. KeepsHiddenOrder h.n h.number h.after.items };
 }
 
 impl Hidden {

@@ -18,7 +18,7 @@ use std::sync::ledger::Ledger;
 
 /// The base of the states. Where each Yes is on one item, each item has one atom, so the base is
 /// never past.
-pub fn base_of(inquiry: &Inquiry) -> Result<Base, AllocError>
+pub fn base_of_states(inquiry: &Inquiry) -> Result<Base, AllocError>
     requires drill { IsDrill inquiry.now.count inquiry.now }
     requires few { inquiry.now.count ≤ most_drilled }
     ensures sets { IfOk result (λ b. b.sets ≡ base (compatible_sets inquiry.now)) }

@@ -1,5 +1,6 @@
 -- When a call on an outside object may fail, and what it does to the bytes that the object tells.
-use Rattle.std.specs.Prelude.{◌+◌, ◌-◌, ◌^◌, ◌≤◌, min, ℕ, List, length, take, Result, IsErrOf, OnErr}
+use Rattle.std.specs.Prelude.{◌+◌, ◌-◌, ◌^◌, ◌≤◌, min, ℕ, List, length, take}
+use Rattle.std.specs.Prelude.{Result, IsErrOf, OnErr}
 use Rattle.std.specs.declared.option.Option.{Option}
 use Rattle.std.specs.Io.KnownBytes.{Appends}
 use Rattle.ls_edge.specs.declared.traits.SinkFault.{SinkFault}

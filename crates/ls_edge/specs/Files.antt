@@ -1,5 +1,6 @@
 -- What the calls on a shelf do to its files, where these are told.
-use Rattle.std.specs.Prelude.{◌≡◌, ◌≤◌, ℕ, List, [], ◌∷◌, length, nat_lt, ◌<◌, ⊤, Result, Ok, Err, Some, None, IsErrOf, IfSome, MatchResult, Vec, if◌then◌else◌}
+use Rattle.std.specs.Prelude.{◌≡◌, ◌≤◌, ℕ, List, [], ◌∷◌, length, nat_lt, ◌<◌, ⊤, Result, Ok, Err}
+use Rattle.std.specs.Prelude.{Some, None, IsErrOf, IfSome, MatchResult, Vec, if◌then◌else◌}
 use Rattle.std.specs.declared.option.Option.{Option}
 use Rattle.std.specs.declared.alloc.Global.{Global}
 use Rattle.std.specs.Ordering.{nat_cmp}
@@ -34,9 +35,9 @@ folder_of [] = map.empty
 folder_of (file ∷ files) = map.insert (folder_of files) (string_bytes file.0) file.1.items
 
 -- told files stay as they were
-abbrev pub Stays : Option Folder → Option Folder → Type 0
-Stays None new = ⊤
-Stays (Some m) new = new ≡ Some m
+abbrev pub FolderStays : Option Folder → Option Folder → Type 0
+FolderStays None new = ⊤
+FolderStays (Some m) new = new ≡ Some m
 
 -- these bytes and no others, unless the object failed or memory ran out
 abbrev pub GivesBytes : List ℕ → Result (Vec ℕ Global) FetchFault → Type 0
@@ -49,18 +50,25 @@ GivesBytes bytes (Err (fetch.Memory e)) = ⊤
 -- the bytes that a fetch of the file has to give, or why it has none to give
 abbrev pub given : Option (List ℕ) → Result (List ℕ) FetchFault
 given None = Err fetch.Missing
-given (Some bytes) = if nat_lt longest_file (length bytes) then Err (fetch.TooLarge (length bytes)) else Ok bytes
+given (Some bytes) =
+    if nat_lt longest_file (length bytes) then Err (fetch.TooLarge (length bytes)) else Ok bytes
 
--- what a fetch answers of the file that a name has: one that is missing and one that is too large are always reported as such
+-- what a fetch answers of the file that a name has: one that is missing and one that is too large
+-- are always reported as such
 abbrev pub FetchedFrom : Option (List ℕ) → Result (Vec ℕ Global) FetchFault → Type 0
-FetchedFrom file result = MatchResult (given file) (λ bytes. GivesBytes bytes result) (λ e. result ≡ Err e)
+FetchedFrom file result =
+    MatchResult (given file) (λ bytes. GivesBytes bytes result) (λ e. result ≡ Err e)
 
 -- a fetch changes no told file, and answers of the file that the name has
-abbrev pub Fetches : Option Folder → Option Folder → List ℕ → Result (Vec ℕ Global) FetchFault → Type 0
-Fetches old new name result = Stays old new × IfSome old (λ m. FetchedFrom (map.get m name) result)
+abbrev pub Fetches :
+    Option Folder → Option Folder → List ℕ → Result (Vec ℕ Global) FetchFault → Type 0
+Fetches old new name result =
+    FolderStays old new × IfSome old (λ m. FetchedFrom (map.get m name) result)
 
--- a store sets the name to the bytes and leaves all other names, and one that was refused leaves all
-abbrev pub Stores : Option Folder → Option Folder → List ℕ → List ℕ → Result (Unit {0}) StoreFault → Type 0
+-- a store sets the name to the bytes and leaves all other names,
+-- and one that was refused leaves all
+abbrev pub Stores :
+    Option Folder → Option Folder → List ℕ → List ℕ → Result (Unit {0}) StoreFault → Type 0
 Stores None new name bytes result = ⊤
 Stores (Some m) new name bytes (Ok u) = new ≡ Some (map.insert m name bytes)
 Stores (Some m) new name bytes (Err e) = new ≡ Some m

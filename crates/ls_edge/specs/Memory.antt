@@ -16,7 +16,8 @@ pub record SureSinkState : Type 0 where
   pub written : List ℕ
   pub piece : ℕ
 
--- a source with calls that fail: also the numbers of the calls that fail, and how many were made and how many failed
+-- a source with calls that fail: also the numbers of the calls that fail, and how many
+-- were made and how many failed
 pub record SourceState : Type 0 where
   pub left : List ℕ
   pub piece : ℕ
@@ -46,8 +47,11 @@ folder_code = map.code (coded_list coded_ℕ) (coded_list coded_ℕ)
 -- such a shelf is stored as the tuple of its fields
 abbrev pub shelf_code : Coded ShelfState
 shelf_code =
-    code_by (Folder × (List ℕ × (ℕ × ℕ))) (coded× folder_code (coded× (coded_list coded_ℕ) (coded× coded_ℕ coded_ℕ))) (λ s. (s.files, (s.fails, (s.calls, s.faults))))
-    (λ t. record { files = t.0; fails = t.1.0; calls = t.1.1.0; faults = t.1.1.1 }) (λ _. refl)
+    code_by (Folder × (List ℕ × (ℕ × ℕ)))
+    (coded× folder_code (coded× (coded_list coded_ℕ) (coded× coded_ℕ coded_ℕ)))
+    (λ s. (s.files, (s.fails, (s.calls, s.faults))))
+    (λ t. record { files = t.0; fails = t.1.0; calls = t.1.1.0; faults = t.1.1.1 })
+    (λ _. refl)
 
 -- the numbers of the calls that fail, and how many calls were made and how many of them failed
 pub record CallState : Type 0 where

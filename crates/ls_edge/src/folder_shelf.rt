@@ -1,7 +1,8 @@
 // The adapter over one folder. It tells nothing of the files.
 ghost use Rattle.std.specs.Prelude.{◌≡◌, ◌≤◌, ℕ, None, IfOk, IfErr, IsErrOf, length};
 ghost use Rattle.ls_edge.specs.Causes.{one_more};
-ghost use Rattle.ls_edge.specs.Files.{longest_file, TellsMore, Fetches, Stores, FetchCause, StoreCause};
+ghost use Rattle.ls_edge.specs.Files.{longest_file, TellsMore, Fetches, Stores};
+ghost use Rattle.ls_edge.specs.Files.{FetchCause, StoreCause};
 
 mod reading;
 mod replacing;

@@ -1,9 +1,12 @@
 // A shelf in memory with calls that fail.
-ghost use Rattle.std.specs.Prelude.{◌≡◌, ◌≤◌, ◌↔◌, Some, true, IfOk, IfErr, OnOk, OnErr, IsErrOf, length};
+ghost use Rattle.std.specs.Prelude.{◌≡◌, ◌≤◌, ◌↔◌, Some, true, IfOk, IfErr, OnOk, OnErr};
+ghost use Rattle.std.specs.Prelude.{IsErrOf, length};
 ghost use Rattle.std.specs.FinMap as map;
 ghost use Rattle.ls_edge.specs.Causes.{one_more};
-ghost use Rattle.ls_edge.specs.Files.{longest_file, TellsMore, Fetches, Stores, FetchCause, StoreCause};
-ghost use Rattle.ls_edge.specs.Memory.{ShelfState, fails_next, next_faults, fetch_fails, fetch_faults};
+ghost use Rattle.ls_edge.specs.Files.{longest_file, TellsMore, Fetches, Stores};
+ghost use Rattle.ls_edge.specs.Files.{FetchCause, StoreCause};
+ghost use Rattle.ls_edge.specs.Memory.{ShelfState, fails_next, next_faults, fetch_fails};
+ghost use Rattle.ls_edge.specs.Memory.{fetch_faults};
 
 use crate::calls::Calls;
 use crate::{FetchFault, Shelf, StoreFault, SureShelf};

@@ -1,7 +1,9 @@
 // A shelf in memory that never fails.
-ghost use Rattle.std.specs.Prelude.{◌≡◌, ◌≤◌, Some, Ok, Err, IfOk, IfErr, OnOk, OnErr, IsErrOf, length};
+ghost use Rattle.std.specs.Prelude.{◌≡◌, ◌≤◌, Some, Ok, Err, IfOk, IfErr, OnOk, OnErr};
+ghost use Rattle.std.specs.Prelude.{IsErrOf, length};
 ghost use Rattle.std.specs.FinMap as map;
-ghost use Rattle.ls_edge.specs.Files.{longest_file, TellsMore, GivesBytes, Fetches, Stores, FetchCause, StoreCause, given};
+ghost use Rattle.ls_edge.specs.Files.{longest_file, TellsMore, GivesBytes, Fetches, Stores};
+ghost use Rattle.ls_edge.specs.Files.{FetchCause, StoreCause, given};
 
 use crate::{FetchFault, LONGEST_FILE, Shelf, StoreFault};
 use std::alloc::{AllocError, Global};

@@ -99,7 +99,8 @@ pub trait Sink {
 
 /// Where files are kept, each under a name.
 pub trait Shelf {
-    ghost use Rattle.ls_edge.specs.Files.{longest_file, TellsMore, Folder, Fetches, Stores, FetchCause, StoreCause};
+    ghost use Rattle.ls_edge.specs.Files.{longest_file, TellsMore, Folder, Fetches, Stores};
+    ghost use Rattle.ls_edge.specs.Files.{FetchCause, StoreCause};
 
     /// The files, where they are told.
     ghost files: { Self → Option Folder };

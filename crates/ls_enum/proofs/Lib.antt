@@ -1,5 +1,5 @@
 mod Vocabulary
-pub mod Reaches
+pub mod Filled
 pub mod Seeking
 pub mod Successors
 pub mod Left

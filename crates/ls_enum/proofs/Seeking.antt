@@ -1,24 +1,24 @@
--- Fronts are filled from the first place on: a front at a place, which has just the word's items before it, gives the front at the next place.
-use Rattle.ls_enum.proofs.Vocabulary.{◌+◌, ◌-◌, ◌<◌, ◌∙◌, ◌≡◌, ◌≤◌, DiffersFirstAt, IsFamily, IsFront, IsWithin, IsWithin-from, Items, List, None, NoneFrom, Option, Some, ℕ, add-one, and_from, and_parts, ap, arith, cases_order, cond, count_before, eq-eqb, eqb, false, false_from_ne_true, find, has, has-without, inl, inr, interior, interior_keeping, is_among, is_within-from, keep_before, ne_eqb, not, refl, same_within, subst, suc, sym, true, true≢false, without, zero}
+-- Widest members are filled from the first place on: a widest member at a place, which has just the word's items before it, gives the widest member at the next place.
+use Rattle.ls_enum.proofs.Vocabulary.{◌+◌, ◌-◌, ◌<◌, ◌∙◌, ◌≡◌, ◌≤◌, DiffersFirstAt, IsFamily, IsWidest, IsWithin, IsWithin-from, Items, List, None, NoneFrom, Option, Some, ℕ, add-one, and_from, and_parts, ap, arith, cases_order, cond, count_before, eq-eqb, eqb, false, false_from_ne_true, find, has, has-without, inl, inr, interior, interior_keeping, is_among, is_within-from, keep_before, ne_eqb, not, refl, same_within, subst, suc, sym, true, true≢false, without, zero}
 use Rattle.ls_enum.proofs.Successors.{inside-is}
-use Rattle.ls_enum.proofs.Reaches.{before-parts, before-from, agreeing, keeping-some, keeping-none, first-front}
+use Rattle.ls_enum.proofs.Filled.{before-parts, before-from, agreeing, keeping-some, keeping-none, first-widest}
 
--- a front at i that has just the word's items before i
+-- a widest member at i that has just the word's items before i
 pub record IsSought (f : List Items) (word : Items) (i : ℕ) (member : Items) : Type 0 where
-  pub front : IsFront f i member
+  pub widest : IsWidest f i member
   pub agrees : keep_before member i ≡ keep_before word i
 
 -- the first member of all is one at the start
 pub first-sought : (n : ℕ) (f : List Items) (word k : Items) → IsFamily n f → find (λ _. true) f ≡ Some k → IsSought f word 0 k
 first-sought n f word k family e = record {
-  front = first-front n f k family e;
+  widest = first-widest n f k family e;
   agrees = same_within (keep_before k 0) (keep_before word 0) (λ j h. let l = (before-parts k 0 j h).1 in absurd (omega arith)) (λ j h. let l = (before-parts word 0 j h).1 in absurd (omega arith));
 }
 
--- a member that first differs from the word at an item from i on is within the front
+-- a member that first differs from the word at an item from i on is within the widest member
 pub differing-sought : (f : List Items) (word member t : Items) (i d : ℕ) → IsSought f word i member → is_among f t ≡ true → i ≤ d → DiffersFirstAt word t d → IsWithin t member
 differing-sought f word member t i d sought c l differs =
-    sought.front.1 t c (λ j h.
+    sought.widest.1 t c (λ j h.
     let p = before-parts t i j h in
     let k : j < d = let q = p.1 in omega arith in
     agreeing word member i j (sym sought.agrees) p.1 (differs.same_below j k ∙ p.0))
@@ -27,7 +27,7 @@ differing-sought f word member t i d sought c l differs =
 
 pub next-has : (f : List Items) (word member : Items) (i : ℕ) → IsSought f word i member → has word i ≡ true → has member i ≡ true → IsSought f word (i + 1) member
 next-has f word member i sought here held = record {
-  front = (sought.front.0, λ t c w. sought.front.1 t c (λ j h. let p = before-parts t i j h in w j (before-from t (i + 1) j p.0 (let k = p.1 in omega arith))));
+  widest = (sought.widest.0, λ t c w. sought.widest.1 t c (λ j h. let p = before-parts t i j h in w j (before-from t (i + 1) j p.0 (let k = p.1 in omega arith))));
   agrees = same_within (keep_before member (i + 1)) (keep_before word (i + 1)) (λ j h.
       let p = before-parts member (i + 1) j h in
       before-from word (i + 1) j (elim (cases_order j i) [
@@ -43,28 +43,28 @@ next-has f word member i sought here held = record {
       ]) p.1);
 }
 
--- the front lacks it: no member agrees with the word that far
+-- the widest member lacks it: no member agrees with the word that far
 pub none-has : (f : List Items) (word member : Items) (i : ℕ) → IsSought f word i member → has word i ≡ true → has member i ≡ false → NoneFrom f word (i + 1)
 none-has f word member i sought here lacks t c d l differs =
     true≢false (sym (differing-sought f word member t i d sought c (omega arith) differs i (sym (differs.same_below i (omega arith)) ∙ here)) ∙ lacks)
 
 -- ---- at an item that the word lacks
 
--- a member within the front that lacks i is within the front without i
+-- a member within the widest member that lacks i is within the widest member without i
 within-without : (t member : Items) (i : ℕ) → IsWithin t member → has t i ≡ false → IsWithin t (without member i)
 within-without t member i w lacks j h = has-without member i j ∙ and_from (has member j) (not (eqb j i)) (w j h) (ap not (ne_eqb j i (λ q. true≢false (sym h ∙ ap (has t) q ∙ lacks))))
 
-next-front : (n : ℕ) (f : List Items) (word member : Items) (i : ℕ) → IsFamily n f → IsSought f word i member → has word i ≡ false → IsWithin (keep_before word i) (interior f (without member i)) → IsSought f word (i + 1) (interior f (without member i))
-next-front n f word member i family sought here kept =
+next-widest : (n : ℕ) (f : List Items) (word member : Items) (i : ℕ) → IsFamily n f → IsSought f word i member → has word i ≡ false → IsWithin (keep_before word i) (interior f (without member i)) → IsSought f word (i + 1) (interior f (without member i))
+next-widest n f word member i family sought here kept =
     let inside = inside-is n f family (without member i) in
     let next = interior f (without member i) in
     let parts : (j : ℕ) → has next j ≡ true → (has member j ≡ true) × (not (eqb j i) ≡ true) = λ j h. and_parts (has member j) (not (eqb j i)) (sym (has-without member i j) ∙ inside.within j h) in
     let lacks : has next i ≡ false = false_from_ne_true (has next i) (λ h. true≢false (sym (parts i h).1 ∙ ap not (eq-eqb i i refl))) in
     record {
-      front = (
+      widest = (
         inside.member,
         λ t c w.
-            let part : IsWithin t member = sought.front.1 t c (λ j h. let p = before-parts t i j h in (parts j (w j (before-from t (i + 1) j p.0 (let k = p.1 in omega arith)))).0) in
+            let part : IsWithin t member = sought.widest.1 t c (λ j h. let p = before-parts t i j h in (parts j (w j (before-from t (i + 1) j p.0 (let k = p.1 in omega arith)))).0) in
             inside.greatest t c (within-without t member i part (false_from_ne_true (has t i) (λ h. true≢false (sym (w i (before-from t (i + 1) i h (omega arith))) ∙ lacks)))),
       );
       agrees = same_within (keep_before next (i + 1)) (keep_before word (i + 1)) (λ j h.
@@ -82,16 +82,16 @@ next-front n f word member i family sought here kept =
           ]) p.1);
     }
 
--- what a front without i gives
+-- what a widest member without i gives
 left-is : (f : List Items) (word member keep : Items) (i : ℕ) (r : Option Items) → IsSought f word i member → keep ≡ keep_before word i → (is_among f member ≡ true → r ≡ interior_keeping f (without member i) keep) → interior_keeping f (without member i) (keep_before word i) ≡ r
-left-is f word member keep i r sought kept gives = ap (interior_keeping f (without member i)) (sym kept) ∙ sym (gives sought.front.0)
+left-is f word member keep i r sought kept gives = ap (interior_keeping f (without member i)) (sym kept) ∙ sym (gives sought.widest.0)
 
--- it is the next front
+-- it is the next widest member
 pub next-lacks : (n : ℕ) (f : List Items) (word member keep next : Items) (i : ℕ) (r : Option Items) → IsFamily n f → IsSought f word i member → has word i ≡ false → keep ≡ keep_before word i
     → (is_among f member ≡ true → r ≡ interior_keeping f (without member i) keep) → r ≡ Some next → IsSought f word (i + 1) next
 next-lacks n f word member keep next i r family sought here kept gives e =
     let left = keeping-some f (without member i) (keep_before word i) next (left-is f word member keep i r sought kept gives ∙ e) in
-    subst (IsSought f word (i + 1)) left.1 (next-front n f word member i family sought here (IsWithin-from (keep_before word i) (interior f (without member i)) left.0))
+    subst (IsSought f word (i + 1)) left.1 (next-widest n f word member i family sought here (IsWithin-from (keep_before word i) (interior f (without member i)) left.0))
 
 -- or one of the word's items before i fell: no member agrees with the word that far
 pub none-lacks : (n : ℕ) (f : List Items) (word member keep : Items) (i : ℕ) (r : Option Items) → IsFamily n f → IsSought f word i member → has word i ≡ false → keep ≡ keep_before word i

@@ -12,5 +12,5 @@ pub use Rattle.ls_set.proofs.Order.{comes_before-asymmetric, comes_before-at, co
 pub use Rattle.ls_set.proofs.Sets.{IsWithin-from, has-full, has-keep_before, has-minus, has-union, has-without, is_within-from, keep_before-within, minus-within, same_within, union-within}
 pub use Rattle.ls_set.specs.{DiffersFirstAt, IsInOrder, IsWithin, Items, comes_before, full, has, is_among, is_within, keep_before, without}
 pub use Rattle.ls_theory.specs.{comes_after, interior, page}
-pub use Rattle.ls_enum.specs.Fronts.{AreFronts, IsFront}
-pub use Rattle.ls_enum.specs.Listings.{NoneFrom, count_before, first_after, joined_pages, left_after, reach}
+pub use Rattle.ls_enum.specs.Widest.{AreWidest, IsWidest}
+pub use Rattle.ls_enum.specs.Listings.{NoneFrom, count_before, filled_above, first_after, joined_pages, left_after}

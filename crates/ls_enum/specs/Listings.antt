@@ -1,24 +1,32 @@
 -- Listings of a family: what comes after a set, and pages joined one after another.
 --     first_after word f      the first member that comes after word, which may be any set
---     reach n word i      where an interior is formed in search of it
+--     filled_above n word i      where an interior is formed in search of it
 --     NoneFrom f word i      no member first differs from word at an item from i on, which word has
 --     count_before word i      how many items below i it has
 --     left_after cursor f      the members after the cursor, or all of them where there is none
---     joined_pages f cursor sizes      pages of these sizes, each after the last set of those before it
-use Rattle.std.specs.Prelude.{ℕ, zero, suc, ◌+◌, ◌≤◌, ◌≡◌, true, if◌then◌else◌, List, [], ◌∷◌, ◌++◌, filter, find, Option}
+--     joined_pages f cursor sizes      pages of these sizes,
+--         each after the last set of those before it
+use Rattle.std.specs.Prelude.{ℕ, zero, suc, ◌+◌, ◌≤◌, ◌≡◌, true, if◌then◌else◌}
+use Rattle.std.specs.Prelude.{List, [], ◌∷◌, ◌++◌, filter, find, Option}
 use Rattle.std.specs.List.{last_or}
-use Rattle.ls_set.specs.{DiffersFirstAt, Items, comes_before, full, has, is_among, keep_before, minus, union}
+use Rattle.ls_set.specs.{DiffersFirstAt, Items, comes_before, full, has, is_among, keep_before}
+use Rattle.ls_set.specs.{minus, union}
 use Rattle.ls_theory.specs.{comes_after, page}
 
 abbrev pub first_after : Items → List Items → Option Items
 first_after word f = find (comes_before word) f
 
 -- the items of the word before i, and all items after i
-abbrev pub reach : ℕ → Items → ℕ → Items
-reach n word i = union (keep_before word i) (minus (full n) (full (i + 1)))
+abbrev pub filled_above : ℕ → Items → ℕ → Items
+filled_above n word i = union (keep_before word i) (minus (full n) (full (i + 1)))
 
 abbrev pub NoneFrom : List Items → Items → ℕ → Type 0
-NoneFrom f word i = (t : Items) → is_among f t ≡ true → (d : ℕ) → i ≤ d → DiffersFirstAt word t d → ⊥
+NoneFrom f word i = (t : Items)
+    → is_among f t ≡ true
+    → (d : ℕ)
+    → i ≤ d
+    → DiffersFirstAt word t d
+    → ⊥
 
 abbrev pub count_before : Items → ℕ → ℕ
 count_before word zero = zero

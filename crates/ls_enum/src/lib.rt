@@ -2,11 +2,11 @@
 #![tactic(auto)]
 
 mod forward;
-mod fronts;
 mod list_fault;
 mod listing;
 mod states;
 mod successor;
+mod widest;
 
 pub use list_fault::ListFault;
 pub use listing::{list_all, page, pages_join};

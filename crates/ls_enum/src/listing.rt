@@ -1,5 +1,6 @@
 // Pages of a family, and the whole of it.
-ghost use Rattle.std.specs.Prelude.{◌≡◌, ◌+◌, ◌*◌, ◌<◌, ◌≤◌, ℕ, false, List, length, sum, Option, None, IfOk, OnOk};
+ghost use Rattle.std.specs.Prelude.{◌≡◌, ◌+◌, ◌*◌, ◌<◌, ◌≤◌, ℕ, false, List, length, sum};
+ghost use Rattle.std.specs.Prelude.{Option, None, IfOk, OnOk};
 ghost use Rattle.std.specs.List.{last_or};
 ghost use Rattle.std.specs.Option.{ForSome};
 ghost use Rattle.ls_set.specs.{IsInOrder, IsWithin, Items, comes_before, full};

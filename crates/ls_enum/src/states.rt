@@ -4,10 +4,10 @@ ghost use Rattle.std.specs.Option.{ForSome};
 ghost use Rattle.std.specs.Iterator.{YieldsFirst, item_count, MakesProgress};
 ghost use Rattle.ls_set.specs.{IsWithin, full};
 ghost use Rattle.ls_enum.specs.Listings.{left_after};
-ghost use Rattle.ls_enum.specs.Fronts.{AreFronts};
+ghost use Rattle.ls_enum.specs.Widest.{AreWidest};
 
-use crate::fronts::Fronts;
 use crate::successor::first_left_by;
+use crate::widest::WidestMembers;
 use ls_interior::{Interior, Steps};
 use ls_set::ItemSet;
 use std::sync::ledger::Ledger;
@@ -23,10 +23,10 @@ pub struct States<'a, I: Interior, L: Ledger> {
     pub steps: &'a mut Steps<L>,
     /// The set after which the next member is looked for: a set of the family's items.
     pub cursor: Option<ItemSet>,
-    // The fronts from which the next member is looked for.
-    fronts: Fronts,
+    // The widest members from which the next member is looked for.
+    widest: WidestMembers,
     ghost small: { ForSome cursor (λ w. IsWithin w (full (I.item_count family.now))) },
-    ghost fronts_hold: { AreFronts (I.members family.now) fronts.held.items },
+    ghost widest_hold: { AreWidest (I.members family.now) widest.held.items },
 }
 
 impl<'a, I: Interior, L: Ledger> States<'a, I, L> {
@@ -43,7 +43,7 @@ impl<'a, I: Interior, L: Ledger> States<'a, I, L> {
             family,
             steps,
             cursor: after,
-            fronts: Fronts::none(),
+            widest: WidestMembers::none(),
         }
     }
 
@@ -99,7 +99,7 @@ impl<'a, I: Interior, L: Ledger> Iterator for States<'a, I, L> {
             ≤ self.old.steps.now + (I.item_count self.old.family.now + 1) }
         ensures loan { self.new.steps.ghost_name ≡ self.old.steps.ghost_name }
     {
-        let member = first_left_by(self.family, self.cursor, &mut self.fronts, self.steps)?;
+        let member = first_left_by(self.family, self.cursor, &mut self.widest, self.steps)?;
         self.cursor = Some(member);
         Some(member)
     }

@@ -4,11 +4,11 @@ ghost use Rattle.std.specs.Option.{ForSome};
 ghost use Rattle.ls_set.specs.{IsWithin, comes_before, full, keep_before};
 ghost use Rattle.ls_theory.specs.{comes_after};
 ghost use Rattle.ls_interior.specs.Keeping.{interior_keeping};
-ghost use Rattle.ls_enum.specs.Listings.{first_after, reach};
-ghost use Rattle.ls_enum.specs.Fronts.{AreFronts};
+ghost use Rattle.ls_enum.specs.Listings.{filled_above, first_after};
+ghost use Rattle.ls_enum.specs.Widest.{AreWidest};
 
 use crate::forward::fill;
-use crate::fronts::Fronts;
+use crate::widest::WidestMembers;
 use ls_interior::{Interior, Steps};
 use ls_set::{ItemSet, PLACES};
 use std::sync::ledger::Ledger;
@@ -35,33 +35,34 @@ pub fn next_after<I: Interior, L: Ledger>(
     ensures small { ForSome result (λ k. IsWithin k (full (I.item_count f.now))) }
     ensures cost { steps.new ≤ steps.old + (I.item_count f.now + 1) }
 {
-    let mut fronts = Fronts::none();
-    next_by(f, word, &mut fronts, steps)
+    let mut widest = WidestMembers::none();
+    next_by(f, word, &mut widest, steps)
 }
 
-// The same by fronts, to which that of the answer is added.
+// The same by widest members, to which that of the answer is added.
 //
 // For each item of the word, from the greatest down, the items before it are kept and all items
 // after it let in. The first interior of such a set that has all that was kept is the answer. Where
-// there are no fronts yet they are made first, which tells from which item on none would have it.
+// there are no widest members yet they are made first, which tells from which item on none would
+// have it.
 fn next_by<I: Interior, L: Ledger>(
     f: &I,
     word: ItemSet,
-    fronts: &mut Fronts,
+    widest: &mut WidestMembers,
     steps: &mut Steps<L>,
 ) -> Option<ItemSet>
     requires small { IsWithin word (full (I.item_count f.now)) }
-    requires fronts { AreFronts (I.members f.now) fronts.old.held.items }
+    requires widest { AreWidest (I.members f.now) widest.old.held.items }
     ensures next { result ≡ first_after word (I.members f.now) }
     ensures small { ForSome result (λ k. IsWithin k (full (I.item_count f.now))) }
-    ensures fronts { AreFronts (I.members f.now) fronts.new.held.items }
+    ensures widest { AreWidest (I.members f.now) widest.new.held.items }
     ensures cost { steps.new ≤ steps.old + (I.item_count f.now + 1) }
 {
-    let end = fill(f, word, fronts, steps);
+    let end = fill(f, word, widest, steps);
     for i in (0..end).rev() {
         if word.has(i) {
-            if let Some(inside) = inside_reach(f, word, i, fronts, steps) {
-                fronts.push(i + 1, inside);
+            if let Some(inside) = inside_filled(f, word, i, widest, steps) {
+                widest.push(i + 1, inside);
                 return Some(inside);
             }
         }
@@ -70,28 +71,28 @@ fn next_by<I: Interior, L: Ledger>(
 }
 
 // The interior of the items of the word before `i` and all items after it, where it has all that
-// was kept, in one step. With a front it is that of a member without an item.
-fn inside_reach<I: Interior, L: Ledger>(
+// was kept, in one step. With a widest member it is that of a member without an item.
+fn inside_filled<I: Interior, L: Ledger>(
     f: &I,
     word: ItemSet,
     i: u32,
-    fronts: &mut Fronts,
+    widest: &mut WidestMembers,
     steps: &mut Steps<L>,
 ) -> Option<ItemSet>
     requires small { IsWithin word (full (I.item_count f.now)) }
     requires item { i < I.item_count f.now }
-    requires fronts { AreFronts (I.members f.now) fronts.old.held.items }
+    requires widest { AreWidest (I.members f.now) widest.old.held.items }
     ensures value { result ≡ interior_keeping (I.members f.now)
-        (reach (I.item_count f.now) word i) (keep_before word i) }
-    ensures fronts { AreFronts (I.members f.now) fronts.new.held.items }
+        (filled_above (I.item_count f.now) word i) (keep_before word i) }
+    ensures widest { AreWidest (I.members f.now) widest.new.held.items }
     ensures cost { steps.new ≡ steps.old + 1 }
 {
     let n = f.items();
     let keep = word.keep_before(i);
-    if let Some(front) = fronts.at(i, keep) {
-        return f.interior_without(front, i, keep, steps);
+    if let Some(member) = widest.at(i, keep) {
+        return f.interior_without(member, i, keep, steps);
     }
-    let inside = f.interior(reach(word, i, n), steps);
+    let inside = f.interior(filled_above(word, i, n), steps);
     if keep.is_within(inside) {
         Some(inside)
     } else {
@@ -100,10 +101,10 @@ fn inside_reach<I: Interior, L: Ledger>(
 }
 
 // The items of the word before `i`, and all items after it.
-fn reach(word: ItemSet, i: u32, n: u32) -> ItemSet
+fn filled_above(word: ItemSet, i: u32, n: u32) -> ItemSet
     requires within { i < n }
     requires few { n ≤ PLACES }
-    ensures { result ≡ reach n word i }
+    ensures { result ≡ filled_above n word i }
 {
     word.keep_before(i)
         .union(ItemSet::full(n).minus(ItemSet::full(i + 1)))
@@ -120,30 +121,30 @@ pub fn first_left<I: Interior, L: Ledger>(
     ensures small { ForSome result (λ k. IsWithin k (full (I.item_count f.now))) }
     ensures cost { steps.new ≤ steps.old + (I.item_count f.now + 1) }
 {
-    let mut fronts = Fronts::none();
-    first_left_by(f, cursor, &mut fronts, steps)
+    let mut widest = WidestMembers::none();
+    first_left_by(f, cursor, &mut widest, steps)
 }
 
-// The same by fronts, to which that of the answer is added.
+// The same by widest members, to which that of the answer is added.
 pub(crate) fn first_left_by<I: Interior, L: Ledger>(
     f: &I,
     cursor: Option<ItemSet>,
-    fronts: &mut Fronts,
+    widest: &mut WidestMembers,
     steps: &mut Steps<L>,
 ) -> Option<ItemSet>
     requires small { ForSome cursor (λ w. IsWithin w (full (I.item_count f.now))) }
-    requires fronts { AreFronts (I.members f.now) fronts.old.held.items }
+    requires widest { AreWidest (I.members f.now) widest.old.held.items }
     ensures first { result ≡ find (comes_after comes_before cursor) (I.members f.now) }
     ensures small { ForSome result (λ k. IsWithin k (full (I.item_count f.now))) }
-    ensures fronts { AreFronts (I.members f.now) fronts.new.held.items }
+    ensures widest { AreWidest (I.members f.now) widest.new.held.items }
     ensures cost { steps.new ≤ steps.old + (I.item_count f.now + 1) }
 {
     match cursor {
         None => {
             let greatest = first(f, steps);
-            fronts.push(0, greatest);
+            widest.push(0, greatest);
             Some(greatest)
         }
-        Some(word) => next_by(f, word, fronts, steps),
+        Some(word) => next_by(f, word, widest, steps),
     }
 }

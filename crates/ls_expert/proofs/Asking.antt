@@ -1,5 +1,5 @@
 -- From where an inquiry looks for an open query.
-use Rattle.ls_expert.proofs.Vocabulary.{◌&&◌, ◌++◌, ◌<◌, ◌∙◌, ◌∷◌, ◌≡◌, AllByRecursion, BlockRange, Bool, FitsIn, Interview, IsHeld, IsIn, IsInquiry, IsSorted, Items, List, None, NoneBefore, Option, PlaceFor, Query, Some, TableRoom, [], accepted, all_spaces, among-left_parts, and_from, and_parts, ap, arith, before-by_item, before-by_set, block_before, blocks_of, cases_Bool, comes_after, compatible-no, compatible-yes, compatible_sets, false, false_from_ne_true, filter, filter_true, find, find-is, find-no_element, find-none_is, find-same, inl, inr, is_among, is_open, list_all, next_question, no_queries, not, not-true, not_from_false, queries, queries_of, query_before, query_before-asymmetric, query_before-cases, refl, some_breaks, sorted-queries, spaces_of, subst, sym, true, true≢false}
+use Rattle.ls_expert.proofs.Vocabulary.{◌&&◌, ◌++◌, ◌<◌, ◌∙◌, ◌∷◌, ◌≡◌, AllByRecursion, BlockRange, Bool, FitsIn, Interview, IsHeld, IsIn, IsInquiry, IsSorted, Items, List, None, NoneBefore, Option, PlaceFor, Query, Some, TableRoom, [], accepted, all_spaces, among-left_parts, and_from, and_parts, ap, arith, before-by_item, before-by_set, block_before, blocks_of, cases_Bool, comes_after, compatible-no, compatible-yes, compatible_sets, false, false_from_ne_true, filter, filter_true, find, find-is, find-no_element, find-none_is, find-same, inl, inr, is_among, is_open, list_all, next_question, no_queries, not, not-true, not_from_false, queries, block_queries, query_before, query_before-asymmetric, query_before-cases, refl, some_breaks, sorted-queries, spaces_of, subst, sym, true, true≢false}
 use Rattle.ls_lists.proofs.Finds.{find-filter}
 use Rattle.ls_query.proofs.BlockOrder.{before-transitive}
 use Rattle.ls_query.proofs.Sorted.{sorted-cases}
@@ -152,12 +152,12 @@ place-some i (Some r) s p = question-after i r s p
 
 -- where an open query is looked for from the first query of the blocks on
 pub asking : (i : Interview) (b : BlockRange) (rules : List Query) (t : TableRoom) (from : Option Query) → IsHeld i rules t → b ≡ blocks_of i → 0 < i.block
-    → from ≡ find (comes_after query_before None) (queries_of b) → IsInquiry i b rules t from false
+    → from ≡ find (comes_after query_before None) (block_queries b) → IsInquiry i b rules t from false
 asking i b rules t from held e some first = record {
   held = held;
   asked = e;
   some_sizes = some;
-  none_before = none-before_first i from (first ∙ ap (λ (b : BlockRange). find (comes_after query_before None) (queries_of b)) e);
+  none_before = none-before_first i from (first ∙ ap (λ (b : BlockRange). find (comes_after query_before None) (block_queries b)) e);
   found = λ e. cc;
 }
 

@@ -1,5 +1,5 @@
 -- Whether answers from which an interview is to go on stand.
-use Rattle.ls_expert.proofs.Vocabulary.{◌&&◌, ◌+◌, ◌-◌, ◌<◌, ◌||◌, ◌∙◌, ◌∷◌, ◌≡◌, ◌≤◌, ◌⊎◌, All-list_all, AllByRecursion, Answer, BlockFault, BlockRange, Bool, Decides, IfErr, Interview, IsDistinct, IsOn, IsRising, IsSound, IsStandingFault, IsStart, IsStrictlyIncreasing, IsStrictlySortedBy, IsTableFault, Items, List, Ok, Query, Result, StartOn, ℕ, [], and-false, and_from, and_parts, ap, ap₂, arith, blocks_of, breaks_none, compat, compat-IsUnionFamily, compat-in_order, compatible_fit, compatible_sets, drop, each, err_from_is_err_and, false, filter, full, get_or, has, has-full, has-minus, inl, inr, interior, is_good, is_same_query, le-ltb, length, length-drop, list_all, list_all-All, list_any, lt-ltb, ltb, ltb-true, made, map, minus, nat_tests, no_queries, not, not-not, not-true, not_from_false, refl, rising-from, some_breaks, space-from, start-space, sym, take, take_all, true, true≢false, yes_queries}
+use Rattle.ls_expert.proofs.Vocabulary.{◌&&◌, ◌+◌, ◌-◌, ◌<◌, ◌||◌, ◌∙◌, ◌∷◌, ◌≡◌, ◌≤◌, ◌⊎◌, All-list_all, AllByRecursion, Answer, BlockFault, BlockRange, Bool, Decides, IfErr, Interview, IsDistinct, AreOn, IsRising, IsSound, IsStandingFault, IsStart, IsStrictlyIncreasing, IsStrictlySortedBy, IsTableFault, Items, List, Ok, Query, Result, StartOn, ℕ, [], and-false, and_from, and_parts, ap, ap₂, arith, blocks_of, breaks_none, compat, compat-IsUnionFamily, compat-in_order, compatible_fit, compatible_sets, drop, each, err_from_is_err_and, false, filter, full, get_or, has, has-full, has-minus, inl, inr, interior, is_good, is_same_query, le-ltb, length, length-drop, list_all, list_all-All, list_any, lt-ltb, ltb, ltb-true, made, map, minus, nat_tests, no_queries, not, not-not, not-true, not_from_false, refl, rising-from, some_breaks, space-from, start-space, sym, take, take_all, true, true≢false, yes_queries}
 use Rattle.std.specs.Cmp.{nat_cmp_is}
 use Rattle.std.specs.Ordering.{nat_cmp}
 use Rattle.std.specs.Result.{IsErrAnd}
@@ -130,7 +130,7 @@ repeats i answers x l e again left =
 -- ---- spaces
 
 -- some member breaks (A, q) exactly where the greatest that has no item of A has q
-pub has-greatest : (n : ℕ) (f : List Items) (r : Query) → IsOn n f → r.q < n → has (interior f (minus (full n) r.a)) r.q ≡ some_breaks f r
+pub has-greatest : (n : ℕ) (f : List Items) (r : Query) → AreOn n f → r.q < n → has (interior f (minus (full n) r.a)) r.q ≡ some_breaks f r
 has-greatest n f r small l =
     let top = interior f (minus (full n) r.a) in
     let e : not (has top r.q) ≡ not (some_breaks f r) = sym (has-minus (full n) top r.q ∙ ap (λ b. b && not (has top r.q)) (has-full n r.q ∙ lt-ltb r.q n l)) ∙ has-closure n f r small l in

@@ -26,14 +26,14 @@ pub use Rattle.ls_laws.proofs.Compat.{among-compat, compat-IsUnionFamily, compat
 pub use Rattle.ls_laws.proofs.Interiors.{interior-member, space-from}
 pub use Rattle.ls_laws.proofs.Numbered.{accepted-numbered, begun-numbered, retracted-numbered}
 pub use Rattle.ls_laws.specs.Forced.{IsNumbered, IsSound, SomeFits}
-pub use Rattle.ls_laws.specs.Spans.{IsOn, left_by, spanned}
+pub use Rattle.ls_laws.specs.Spans.{AreOn, left_by, spanned}
 pub use Rattle.ls_lists.proofs.Every.{All-filter, All-list_all, each, list_all-All}
 pub use Rattle.ls_lists.proofs.Filters.{filter-all, filter-both, filter_true}
 pub use Rattle.ls_lists.proofs.Options.{not_first, nothing}
 pub use Rattle.ls_lists.proofs.Sorted.{find-is, find-no_element, find-none_is, find-same, rising-from}
 pub use Rattle.ls_lists.specs.Lists.{IsIn, IsRising, IsSorted}
 pub use Rattle.ls_query.proofs.QuerySets.{before-by_item, before-by_set, queries-in, query_before-asymmetric, query_before-cases, sorted-queries}
-pub use Rattle.ls_query.specs.Blocks.{choose, queries_of}
+pub use Rattle.ls_query.specs.Blocks.{block_queries, choose}
 pub use Rattle.ls_rules.specs.Ruled.{RuledState}
 pub use Rattle.ls_set.proofs.Sets.{and-false, and-true, has-full, has-minus, is_within-from, minus-within}
 pub use Rattle.ls_set.specs.{IsWithin, Items, full, has, is_among, is_good, is_within, minus, subsets}

@@ -1,19 +1,29 @@
 -- What an inquiry keeps true of its parts.
-use Rattle.std.specs.Prelude.{◌≡◌, ℕ, Bool, ◌+◌, ◌<◌, ◌≤◌, true, false, ◌&&◌, nat_lt, List, map, length, count_by, find, Option, None, Some}
+use Rattle.std.specs.Prelude.{◌≡◌, ℕ, Bool, ◌+◌, ◌<◌, ◌≤◌, true, false, ◌&&◌, nat_lt}
+use Rattle.std.specs.Prelude.{List, map, length, count_by, find, Option, None, Some}
 use Rattle.std.specs.List.{list_all, IsDistinct}
 use Rattle.ls_set.specs.{is_good, most_items}
 use Rattle.ls_set.specs.declared.query.Query.{Query}
 use Rattle.ls_theory.specs.declared.answer.Answer.{Answer}
 use Rattle.ls_theory.specs.Starts as theory
-use Rattle.ls_theory.specs.{BlockRange, Interview, compatible_sets, is_open, is_same_query, most_answers, most_number, next_question, nos, queries, query_before, spaces_of, yes_queries}
+use Rattle.ls_theory.specs.{BlockRange, Interview, compatible_sets, is_open, is_same_query}
+use Rattle.ls_theory.specs.{most_answers, most_number, next_question, nos, queries, query_before}
+use Rattle.ls_theory.specs.{spaces_of, yes_queries}
 use Rattle.ls_lists.specs.Lists.{IsIn}
 use Rattle.ls_laws.specs.Forced.{IsSound, IsNumbered}
 use Rattle.ls_infer.specs.Tables.{TableRoom, IsKeptFor}
 use Rattle.ls_expert.specs.Starts.{StartOn}
 
--- the interview on n items with the start, where sets up to the size k are asked, the answers stand and `next` is the number of the next
+-- the interview on n items with the start, where sets up to the size k are asked,
+-- the answers stand and `next` is the number of the next
 abbrev pub interview_on : ℕ → theory.Start → ℕ → List Answer → ℕ → Interview
-interview_on n start k answers next = record { count = n; start = start; block = k; answers = answers; next = next }
+interview_on n start k answers next = record {
+  count = n;
+  start = start;
+  block = k;
+  answers = answers;
+  next = next;
+}
 
 -- the interview that the parts make
 abbrev pub interview_of : StartOn → ℕ → List Answer → ℕ → Interview
@@ -31,8 +41,8 @@ single_items n = record { item_count = n; largest = 1 }
 abbrev pub IsTabled : Interview → TableRoom → Type 0
 IsTabled i = IsKeptFor (single_items i.count) (compatible_sets i) (nos i.answers)
 
--- Answers that stand: some space fits them, they stand in order of number, below the next number, their queries are good, and none is there twice; and there is
--- room for them.
+-- Answers that stand: some space fits them, they stand in order of number, below the next number,
+-- their queries are good, and none is there twice; and there is room for them.
 pub record IsStanding (i : Interview) : Type 0 where
   pub sound : IsSound i
   pub good : list_all (λ a. is_good i.count a.query) i.answers ≡ true
@@ -56,16 +66,26 @@ pub record IsHeld (i : Interview) (rules : List Query) (table : TableRoom) : Typ
 
 -- No query of the blocks before the given one of them is open; none at all, where none is given.
 abbrev pub NoneBefore : Interview → Option Query → Type 0
-NoneBefore i None = (r : Query) → IsIn r (queries i.count i.block) → is_open (spaces_of i) r ≡ false
-NoneBefore i (Some s) = IsIn s (queries i.count i.block) × ((r : Query) → IsIn r (queries i.count i.block) → query_before r s ≡ true → is_open (spaces_of i) r ≡ false)
+NoneBefore i None = (r : Query)
+    → IsIn r (queries i.count i.block)
+    → is_open (spaces_of i) r ≡ false
+NoneBefore i (Some s) =
+    IsIn s (queries i.count i.block)
+    × ((r : Query)
+    → IsIn r (queries i.count i.block)
+    → query_before r s ≡ true
+    → is_open (spaces_of i) r ≡ false)
 
--- where the question after a query, or the first, is looked for: from the next query of the blocks on, or from one before which none is open
+-- where the question after a query, or the first, is looked for:
+-- from the next query of the blocks on, or from one before which none is open
 abbrev pub PlaceFor : Interview → Option Query → Option Query → Type 0
 PlaceFor i None from = NoneBefore i from
 PlaceFor i (Some r) from = from ≡ find (query_before r) (queries i.count i.block)
 
--- With that the blocks, which have some sizes; the query from which an open one is looked for; and whether that is the first open one.
-pub record IsInquiry (i : Interview) (blocks : BlockRange) (rules : List Query) (table : TableRoom) (from : Option Query) (is_found : Bool) : Type 0 where
+-- With that the blocks, which have some sizes; the query from which an open one is looked for;
+-- and whether that is the first open one.
+pub record IsInquiry (i : Interview) (blocks : BlockRange) (rules : List Query)
+    (table : TableRoom) (from : Option Query) (is_found : Bool) : Type 0 where
   pub held : IsHeld i rules table
   pub asked : blocks ≡ blocks_of i
   pub some_sizes : 0 < i.block

@@ -1,5 +1,6 @@
 // Lists of answers.
-ghost use Rattle.std.specs.Prelude.{◌≡◌, ◌+◌, ◌<◌, ◌≤◌, ◌++◌, ◌∷◌, [], ◌&&◌, ◌==◌, not, filter, find, vec_len, vec_capacity, IfOk, IfSome};
+ghost use Rattle.std.specs.Prelude.{◌≡◌, ◌+◌, ◌<◌, ◌≤◌, ◌++◌, ◌∷◌, [], ◌&&◌, ◌==◌, not, filter};
+ghost use Rattle.std.specs.Prelude.{find, vec_len, vec_capacity, IfOk, IfSome};
 ghost use Rattle.ls_theory.specs.{most_number, nos, opposed, yes_queries};
 ghost use Rattle.ls_expert.specs.Held.{rules_before};
 

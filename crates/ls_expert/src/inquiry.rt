@@ -1,9 +1,13 @@
 // What an expert was asked and answered.
-ghost use Rattle.std.specs.Prelude.{◌≡◌, ◌≢◌, ◌+◌, ◌-◌, max, ◌<◌, ◌≤◌, ◌∷◌, [], true, false, length, filter, Some, None, Ok, Err, IsSome, IsNone, IfOk, IfErr, IfSome, OnOk, OnErr};
+ghost use Rattle.std.specs.Prelude.{◌≡◌, ◌≢◌, ◌+◌, ◌-◌, max, ◌<◌, ◌≤◌, ◌∷◌, [], true, false};
+ghost use Rattle.std.specs.Prelude.{length, filter, Some, None, Ok, Err, IsSome, IsNone, IfOk};
+ghost use Rattle.std.specs.Prelude.{IfErr, IfSome, OnOk, OnErr};
 ghost use Rattle.std.specs.Option.{ForSome, option_map};
 ghost use Rattle.std.specs.List.{list_all};
 ghost use Rattle.ls_set.specs.{is_good};
-ghost use Rattle.ls_theory.specs.{IsBlockFault, IsFaultOf, accepted, answer_with, base, begun, breaks_none, compat, compatible_sets, is_settled, known, made, next_question, nos, refusal, retracted, spaces_of, yes_queries};
+ghost use Rattle.ls_theory.specs.{IsAnswerFault, IsBlockFault, accepted, answer_with, base, begun};
+ghost use Rattle.ls_theory.specs.{breaks_none, compat, compatible_sets, is_settled, known, made};
+ghost use Rattle.ls_theory.specs.{next_question, nos, refusal, retracted, spaces_of, yes_queries};
 ghost use Rattle.ls_infer.specs.Tables.{IsKeptFor};
 ghost use Rattle.ls_expert.specs.Held.{single_items, blocks_of, rules_before, IsStanding, PlaceFor};
 ghost use Rattle.ls_expert.specs.Steps.{steps_back, most_steps};
@@ -179,7 +183,7 @@ impl Inquiry {
         ensures taken { OnOk result (refusal self.old query yes ≡ None) }
         ensures number { IfOk result (λ m. m ≡ self.old.next) }
         ensures ok { OnOk result (self.new ≡ accepted self.old query yes) }
-        ensures fault { IfErr result (IsFaultOf (refusal self.old query yes)) }
+        ensures fault { IfErr result (IsAnswerFault (refusal self.old query yes)) }
         ensures err { OnErr result (self.new ≡ self.old) }
         ensures cost { steps.new ≤ steps.old + most_steps self.old query yes }
         ensures refused { OnErr result (steps.new ≤ steps.old + 1) }
@@ -265,7 +269,7 @@ impl Inquiry {
         ensures one { result ≡ true → self.now.block ≡ max 1 (self.now.count - 1) →
             spaces_of self.now ≡ compatible_sets self.now ∷ [] }
     {
-        let _ = self.standing();
+        let _ = self.standing(); // for the proof
         self.next_question(None).is_none()
     }
 

@@ -1,8 +1,12 @@
 // The interview of an expert.
-ghost use Rattle.std.specs.Prelude.{◌≡◌, ◌≢◌, ◌+◌, ◌-◌, max, ◌<◌, ◌≤◌, ◌∷◌, [], true, false, filter, Some, None, Ok, Err, IsSome, IsNone, IfOk, IfErr, IfSome, OnOk, OnErr};
+ghost use Rattle.std.specs.Prelude.{◌≡◌, ◌≢◌, ◌+◌, ◌-◌, max, ◌<◌, ◌≤◌, ◌∷◌, [], true, false};
+ghost use Rattle.std.specs.Prelude.{filter, Some, None, Ok, Err, IsSome, IsNone, IfOk, IfErr};
+ghost use Rattle.std.specs.Prelude.{IfSome, OnOk, OnErr};
 ghost use Rattle.std.specs.Option.{ForSome, option_map};
 ghost use Rattle.ls_set.specs.{is_good};
-ghost use Rattle.ls_theory.specs.{IsBlockFault, IsFaultOf, accepted, answer_with, begun, breaks_none, compat, compatible_sets, is_settled, known, made, next_question, refusal, retracted, spaces_of, yes_queries};
+ghost use Rattle.ls_theory.specs.{IsAnswerFault, IsBlockFault, accepted, answer_with, begun};
+ghost use Rattle.ls_theory.specs.{breaks_none, compat, compatible_sets, is_settled, known, made};
+ghost use Rattle.ls_theory.specs.{next_question, refusal, retracted, spaces_of, yes_queries};
 ghost use Rattle.ls_base.specs.Followed.{IsFollowed};
 ghost use Rattle.ls_expert.specs.Held.{blocks_of, interview_on, IsStanding};
 ghost use Rattle.ls_expert.specs.Saved.{IsStandingFault};
@@ -154,7 +158,7 @@ impl Interview {
         ensures taken { OnOk result (refusal self.old query yes ≡ None) }
         ensures number { IfOk result (λ m. m ≡ self.old.next) }
         ensures ok { OnOk result (self.new ≡ accepted self.old query yes) }
-        ensures fault { IfErr result (IsFaultOf (refusal self.old query yes)) }
+        ensures fault { IfErr result (IsAnswerFault (refusal self.old query yes)) }
         ensures err { OnErr result (self.new ≡ self.old) }
         ensures cost { steps.new ≤ steps.old + most_steps self.old query yes }
         ensures refused { OnErr result (steps.new ≤ steps.old + 1) }

@@ -97,8 +97,8 @@ pub fn with_rules(
     Ok(family)
 }
 
-/// Whether some member breaks the good query: whether the greatest that has no item of its A has its
-/// q, in one step.
+/// Whether some member breaks the good query: whether the greatest that has no item of its A has
+/// its q, in one step.
 pub fn is_broken<I: Interior, L: Ledger>(f: &I, query: &Query, steps: &mut Steps<L>) -> bool
     requires { is_good (I.item_count f.now) query.now ≡ true }
     ensures { result ≡ some_breaks (I.members f.now) query.now }

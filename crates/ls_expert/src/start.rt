@@ -52,7 +52,6 @@ impl Start {
         requires start { IsStartOn n self.now }
         ensures { result ≡ interior (compat n (start_of self.now) []) s }
     {
-        let _ = n;
         match self {
             Start::Free => s,
             Start::Clauses(surmise) => surmise.inside(s),
@@ -71,7 +70,7 @@ impl Start {
             Start::Free => Base::singletons(alloc, n),
             Start::Clauses(surmise) => surmise.to_base(),
             Start::Sets(base) => {
-                let _ = base.sets();
+                let _ = base.sets(); // for the proof
                 base.copy()
             }
         }

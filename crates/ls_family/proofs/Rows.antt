@@ -1,5 +1,5 @@
 -- The reading of a file, line by line.
-use Rattle.ls_family.proofs.Vocabulary.{◌+◌, ◌<◌, ◌∙◌, ◌∷◌, ◌≡◌, ◌≤◌, BadLine, Bor, Err, FamilyFault, Found, IsFaultOf, List, Memory, None, Ok, Option, Repeat, Result, SetLine, Some, Text, TooMany, UnknownItem, ℕ, [], ap, arith, found_from, keys_of, length, line_read, lines, refl, sets_of, suc, sym, with_line}
+use Rattle.ls_family.proofs.Vocabulary.{◌+◌, ◌<◌, ◌∙◌, ◌∷◌, ◌≡◌, ◌≤◌, BadLine, Bor, Err, FamilyFault, Found, IsFamilyFault, List, Memory, None, Ok, Option, Repeat, Result, SetLine, Some, Text, TooMany, UnknownItem, ℕ, [], ap, arith, found_from, keys_of, length, line_read, lines, refl, sets_of, suc, sym, with_line}
 use Rattle.std.specs.Option.{MatchOption}
 
 pub found_from-nil : (names : List Text) (found : Found) (row : ℕ) → found_from names found row [] ≡ Ok found
@@ -16,7 +16,7 @@ unfolding found_from
 found_from-fault names found row line rest fault e = rw e refl
 
 -- a fault of the next step is that of the reading
-pub fault_told : {X Y : Type 0} (reading : Result X FamilyFault) (step : Result Y FamilyFault) (e : FamilyFault) → ((fault : FamilyFault) → step ≡ Err fault → reading ≡ Err fault) → IsFaultOf step e → IsFaultOf reading e
+pub fault_told : {X Y : Type 0} (reading : Result X FamilyFault) (step : Result Y FamilyFault) (e : FamilyFault) → ((fault : FamilyFault) → step ≡ Err fault → reading ≡ Err fault) → IsFamilyFault step e → IsFamilyFault reading e
 fault_told reading step (BadLine row) told is = told _ is
 fault_told reading step (UnknownItem row) told is = told _ is
 fault_told reading step (Repeat row first) told is = told _ is
@@ -24,7 +24,7 @@ fault_told reading step (TooMany row) told is = told _ is
 fault_told reading step (Memory e) told is = tt
 
 pub line-fault : (names : List Text) (found : Found) (row : ℕ) (line : List ℕ) (rest : List (List ℕ)) (reading : Result Found FamilyFault) (l : SetLine) (e : FamilyFault)
-    → reading ≡ found_from names found row (line ∷ rest) → l ≡ line_read names line → IsFaultOf (with_line found row l) e → IsFaultOf reading e
+    → reading ≡ found_from names found row (line ∷ rest) → l ≡ line_read names line → IsFamilyFault (with_line found row l) e → IsFamilyFault reading e
 line-fault names found row line rest reading l e so_far is =
     fault_told reading (with_line found row l) e (λ fault f. so_far ∙ found_from-fault names found row line rest fault (ap (with_line found row) (sym is) ∙ f))
 
@@ -32,7 +32,7 @@ pub sets_of-ok : (names : List Text) (text : List ℕ) (found : Found) → found
 unfolding sets_of
 sets_of-ok names text found e = rw e refl
 
-pub sets_of-fault : (names : List Text) (text : List ℕ) (e : FamilyFault) → IsFaultOf (found_from names [] 1 (lines text)) e → IsFaultOf (sets_of names text) e
+pub sets_of-fault : (names : List Text) (text : List ℕ) (e : FamilyFault) → IsFamilyFault (found_from names [] 1 (lines text)) e → IsFamilyFault (sets_of names text) e
 unfolding sets_of
 sets_of-fault names text e = fault_told (sets_of names text) (found_from names [] 1 (lines text)) e (λ fault f. rw f refl)
 
@@ -62,6 +62,6 @@ line-good names found next row text line None l h is good = ap (found_from names
 line-good names found next row text line (Some m) l h is good = ap (found_from names found row) h.0 ∙ found_from-next names found next row line (lines m.now) l is good
 
 pub line-bad : (names : List Text) (found : Found) (row : ℕ) (text line : List ℕ) (more : Option (Bor (List ℕ))) (reading : Result Found FamilyFault) (l : SetLine) (e : FamilyFault) → IsCut text line more
-    → reading ≡ found_from names found row (lines text) → l ≡ line_read names line → IsFaultOf (with_line found row l) e → IsFaultOf reading e
+    → reading ≡ found_from names found row (lines text) → l ≡ line_read names line → IsFamilyFault (with_line found row l) e → IsFamilyFault reading e
 line-bad names found row text line None reading l e h so_far is bad = line-fault names found row line [] reading l e (so_far ∙ ap (found_from names found row) h) is bad
 line-bad names found row text line (Some m) reading l e h so_far is bad = line-fault names found row line (lines m.now) reading l e (so_far ∙ ap (found_from names found row) h.0) is bad

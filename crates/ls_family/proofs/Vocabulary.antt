@@ -14,7 +14,7 @@ pub use Rattle.ls_clauses.specs.Orderings.{order_of}
 pub use Rattle.ls_domain.proofs.Numbers.{is_name-utf8, is_named-none, is_named-some, item_of-some, with-within}
 pub use Rattle.ls_domain.specs.Domains.{is_name}
 pub use Rattle.ls_domain.specs.Meanings.{first_unnamed, is_named, item_of, items_of, number_of}
-pub use Rattle.ls_files.specs.SetFiles.{Found, IsFaultOf, body_read, inserted, is_passed, most_members, row_found, set_named, until_brace, with_line, with_set, within_braces, words_within}
+pub use Rattle.ls_files.specs.SetFiles.{Found, IsFamilyFault, body_read, inserted, is_passed, most_members, row_found, set_named, until_brace, with_line, with_set, within_braces, words_within}
 unfoldable pub use Rattle.ls_files.specs.SetFiles.{found_from, line_read, sets_of}
 pub use Rattle.ls_files.specs.declared.family_fault.FamilyFault.{FamilyFault}
 pub use Rattle.ls_files.specs.declared.family_fault.FamilyFault.TheVariants.{BadLine, Memory, Repeat, TooMany, UnknownItem}

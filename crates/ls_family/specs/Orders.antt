@@ -7,7 +7,8 @@ use Rattle.std.specs.declared.cmp.Ordering.TheVariants.{Less, Equal, Greater}
 use Rattle.ls_set.specs.{Items, comes_before, is_same}
 use Rattle.ls_lists.proofs.Bools.{same_truth}
 use Rattle.ls_set.proofs.Sets.{Decides-is_same}
-use Rattle.ls_set.proofs.Order.{comes_before-irreflexive, comes_before-asymmetric, comes_before-transitive, order_cases}
+use Rattle.ls_set.proofs.Order.{comes_before-irreflexive, comes_before-asymmetric}
+use Rattle.ls_set.proofs.Order.{comes_before-transitive, order_cases}
 use Rattle.ls_clauses.specs.Orderings.{order_of}
 
 pub order-less : (s t : Items) → comes_before s t ≡ true → order_of s t ≡ Less
@@ -30,7 +31,9 @@ order-equal s t e = elim (order_cases s t) [
 
 pub order-before : (s t : Items) → order_of s t ≡ Less → comes_before s t ≡ true
 order-before s t e = elim (order_cases s t) [
-  | inl h ↦ absurd (let z : Less ≡ Equal = sym e ∙ ap (λ u. order_of s u) (sym h) ∙ order-self s in cc)
+  | inl h ↦ absurd (
+      let z : Less ≡ Equal = sym e ∙ ap (λ u. order_of s u) (sym h) ∙ order-self s in cc
+      )
   | inr h ↦ elim h [
     | inl a ↦ a
     | inr a ↦ absurd (let z : Less ≡ Greater = sym e ∙ order-greater s t a in cc)
@@ -49,7 +52,8 @@ turned s t = elim (order_cases s t) [
 pub order_of-total : IsTotalOrder order_of
 order_of-total = record {
   antisymm = turned;
-  trans = λ s t u a b. order-less s u (comes_before-transitive s t u (order-before s t a) (order-before t u b));
+  trans = λ s t u a b.
+      order-less s u (comes_before-transitive s t u (order-before s t a) (order-before t u b));
   congr = λ s t u e. ap (λ v. order_of v u) (order-equal s t e);
 }
 
@@ -67,5 +71,7 @@ pub same-by_order : (s t : Items) → (s.digits == t.digits) ≡ is_eq (order_of
 unfolding is_same
 same-by_order = same-order
 
-pub order_of-partial : IsPartialOrder (λ (s t : Items). s.digits == t.digits) (as_partial_cmp order_of)
-order_of-partial = partial_order_from_agreeing_total order_of order_of-total (λ s t. refl) same-by_order
+pub order_of-partial :
+    IsPartialOrder (λ (s t : Items). s.digits == t.digits) (as_partial_cmp order_of)
+order_of-partial =
+    partial_order_from_agreeing_total order_of order_of-total (λ s t. refl) same-by_order

@@ -2,7 +2,7 @@
 ghost use Rattle.std.specs.Prelude.{◌≡◌, ◌<◌, ◌≤◌, ◌∷◌, [], Ok, length, IfOk, IfErr, MatchOption};
 ghost use Rattle.ls_set.specs.{IsInOrder, is_among};
 ghost use Rattle.ls_lines.specs.{lines};
-ghost use Rattle.ls_files.specs.SetFiles.{sets_of, found_from, IsFaultOf};
+ghost use Rattle.ls_files.specs.SetFiles.{sets_of, found_from, IsFamilyFault};
 
 use crate::found::Found;
 use crate::member::order_of;
@@ -27,7 +27,10 @@ impl Model for Family {
 
     ghost view = { λ f. record { item_count = f.items; sets = f.members.items } };
 
-    ghost invariant = { λ f. IsFamilyState (record { item_count = f.items; sets = f.members.items }) };
+    ghost invariant = { λ f. IsFamilyState (record {
+      item_count = f.items;
+      sets = f.members.items;
+    }) };
 }
 
 impl Family {
@@ -36,7 +39,7 @@ impl Family {
     pub fn from_text(alloc: Global, d: &Domain, bytes: &[u8]) -> Result<Family, FamilyFault>
         ensures read { IfOk result (λ f. sets_of d.now bytes.now ≡ Ok f.sets) }
         ensures items { IfOk result (λ f. f.item_count ≡ length d.now) }
-        ensures fault { IfErr result (IsFaultOf (sets_of d.now bytes.now)) }
+        ensures fault { IfErr result (IsFamilyFault (sets_of d.now bytes.now)) }
     {
         let found = found_in(alloc, d, bytes)?;
         let members = found.sets(alloc).map_err(FamilyFault::Memory)?;
@@ -75,7 +78,7 @@ impl Family {
 // The sets of a file, with their rows.
 fn found_in(alloc: Global, d: &Domain, bytes: &[u8]) -> Result<Found, FamilyFault>
     ensures read { IfOk result (λ f. found_from d.now [] 1 (lines bytes.now) ≡ Ok f) }
-    ensures fault { IfErr result (IsFaultOf (found_from d.now [] 1 (lines bytes.now))) }
+    ensures fault { IfErr result (IsFamilyFault (found_from d.now [] 1 (lines bytes.now))) }
 {
     let mut found = Found::new(alloc);
     let mut text = Some(bytes);

@@ -2,7 +2,7 @@
 ghost use Rattle.std.specs.Prelude.{◌≡◌, ◌<◌, [], Ok, IfOk, IfErr, OnOk};
 ghost use Rattle.std.specs.Map.{keys_of};
 ghost use Rattle.ls_set.specs.{IsInOrder};
-ghost use Rattle.ls_files.specs.SetFiles.{with_set, with_line, IsFaultOf};
+ghost use Rattle.ls_files.specs.SetFiles.{with_set, with_line, IsFamilyFault};
 
 use crate::member::Member;
 use ls_files::{FamilyFault, SetLine};
@@ -41,7 +41,7 @@ impl Found {
     // Takes one line more.
     pub(crate) fn take_line(&mut self, row: usize, line: SetLine) -> Result<(), FamilyFault>
         ensures ok { OnOk result (with_line self.old row line ≡ Ok self.new) }
-        ensures fault { IfErr result (IsFaultOf (with_line self.old row line)) }
+        ensures fault { IfErr result (IsFamilyFault (with_line self.old row line)) }
     {
         match line {
             SetLine::Passed => Ok(()),
@@ -54,7 +54,7 @@ impl Found {
     // Takes one set more.
     fn take_set(&mut self, row: usize, set: ItemSet) -> Result<(), FamilyFault>
         ensures ok { OnOk result (with_set self.old row set ≡ Ok self.new) }
-        ensures fault { IfErr result (IsFaultOf (with_set self.old row set)) }
+        ensures fault { IfErr result (IsFamilyFault (with_set self.old row set)) }
     {
         let member = Member::new(set);
         if let Some(first) = self.rows.get(&member).copied() {

@@ -2,7 +2,8 @@
 ghost use Rattle.std.specs.Prelude.{◌≡◌, option_map};
 ghost use Rattle.std.specs.List.{list_all};
 ghost use Rattle.ls_lines.specs.{is_blank, parts_words, without_return};
-ghost use Rattle.ls_files.specs.SetFiles.{unindented, until_brace, words_within, set_named, body_read, line_read};
+ghost use Rattle.ls_files.specs.SetFiles.{unindented, until_brace, words_within, set_named};
+ghost use Rattle.ls_files.specs.SetFiles.{body_read, line_read};
 ghost use Rattle.ls_family.specs.Words.{with_word};
 
 use ls_domain::Domain;

@@ -1,5 +1,7 @@
 -- Set files: one set a line. Bytes are numbers: 123 is `{` and 125 is `}`.
-use Rattle.std.specs.Prelude.{ℕ, ◌+◌, Bool, not, ◌||◌, ◌==◌, nat_le, nat_lt, if◌then◌else◌, List, [], ◌∷◌, length, take, drop, filter, slice_index, position, is_some, Option, Some, None, Result, Ok, Err, ⊤, ◌≡◌}
+use Rattle.std.specs.Prelude.{ℕ, ◌+◌, Bool, not, ◌||◌, ◌==◌, nat_le, nat_lt, if◌then◌else◌, List}
+use Rattle.std.specs.Prelude.{[], ◌∷◌, length, take, drop, filter, slice_index, position, is_some}
+use Rattle.std.specs.Prelude.{Option, Some, None, Result, Ok, Err, ⊤, ◌≡◌}
 use Rattle.std.specs.List.{slice_split, prefix_len, list_all}
 use Rattle.std.specs.Option.{option_map_or, option_and_then}
 use Rattle.std.specs.Map.{lookup, keys_of}
@@ -10,7 +12,8 @@ use Rattle.ls_domain.specs.Meanings.{items_of, first_unnamed}
 use Rattle.ls_files.specs.declared.set_line.SetLine.{SetLine}
 use Rattle.ls_files.specs.declared.set_line.SetLine.TheVariants.{Passed, Bad, Unknown, Set}
 use Rattle.ls_files.specs.declared.family_fault.FamilyFault.{FamilyFault}
-use Rattle.ls_files.specs.declared.family_fault.FamilyFault.TheVariants.{BadLine, UnknownItem, Repeat, TooMany, Memory}
+use Rattle.ls_files.specs.declared.family_fault.FamilyFault.TheVariants.{BadLine, UnknownItem}
+use Rattle.ls_files.specs.declared.family_fault.FamilyFault.TheVariants.{Repeat, TooMany, Memory}
 
 -- ---- one line
 
@@ -24,11 +27,15 @@ is_passed line = (length (unindented line) == 0) || is_note line
 
 -- what stands before the first `}`, where spaces and tabs alone follow it
 abbrev pub until_brace : List ℕ → Option (List ℕ)
-until_brace line = option_and_then (λ i. if list_all is_blank (drop (i + 1) line) then Some (take i line) else None) (position (λ b. b == 125) line)
+until_brace line =
+    option_and_then (λ i. if list_all is_blank (drop (i + 1) line) then
+    Some (take i line) else None) (position (λ b. b == 125) line)
 
--- what stands between the braces, where the line is within braces but for spaces and tabs round them
+-- what stands between the braces, where the line is within braces but for spaces and tabs round
+-- them
 abbrev pub within_braces : List ℕ → Option (List ℕ)
-within_braces line = if slice_index (unindented line) 0 == 123 then until_brace (drop 1 (unindented line)) else None
+within_braces line =
+    if slice_index (unindented line) 0 == 123 then until_brace (drop 1 (unindented line)) else None
 
 -- the runs of bytes between spaces, tabs and commas
 abbrev pub words_within : List ℕ → List Text
@@ -68,7 +75,8 @@ row_found found s = lookup (is_same s) found
 -- one set more, at its place in the order of sets
 abbrev pub inserted : Found → Items → ℕ → Found
 inserted [] s row = (s, row) ∷ []
-inserted (e ∷ found) s row = if comes_before s e.0 then (s, row) ∷ e ∷ found else e ∷ inserted found s row
+inserted (e ∷ found) s row =
+    if comes_before s e.0 then (s, row) ∷ e ∷ found else e ∷ inserted found s row
 
 -- the sets after one set more: a repeat of a set names the row of the first
 abbrev pub with_set : Found → ℕ → Items → Result Found FamilyFault
@@ -91,13 +99,15 @@ after_ok next (Err fault) = Err fault
 -- the sets after further lines, of which the first has the row; or the first fault
 unfoldable pub found_from : List Text → Found → ℕ → List (List ℕ) → Result Found FamilyFault
 found_from names found row [] = Ok found
-found_from names found row (line ∷ rest) = after_ok (λ more. found_from names more (row + 1) rest) (with_line found row (line_read names line))
+found_from names found row (line ∷ rest) =
+    after_ok (λ more. found_from names more (row + 1) rest)
+    (with_line found row (line_read names line))
 
 -- the sets of a file, in the order of sets, each once; or its first fault. Rows are counted from 1.
 unfoldable pub sets_of : List Text → List ℕ → Result (List Items) FamilyFault
 sets_of names text = after_ok (λ found. Ok (keys_of found)) (found_from names [] 1 (lines text))
 
 -- the fault is that of the reading, unless memory ran out
-abbrev pub IsFaultOf : {X : Type 0} → Result X FamilyFault → FamilyFault → Type 0
-IsFaultOf reading (Memory e) = ⊤
-IsFaultOf reading fault = reading ≡ Err fault
+abbrev pub IsFamilyFault : {X : Type 0} → Result X FamilyFault → FamilyFault → Type 0
+IsFamilyFault reading (Memory e) = ⊤
+IsFamilyFault reading fault = reading ≡ Err fault

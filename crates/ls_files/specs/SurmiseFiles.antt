@@ -1,10 +1,14 @@
--- Surmise files: an object whose keys are the items' names, and whose values are arrays of clauses; a clause is an array of names.
-use Rattle.std.specs.Prelude.{ℕ, Bool, ◌&&◌, nat_lt, if◌then◌else◌, List, [], ◌∷◌, map, filter, length, bytes_eq, Option, Some, None, option_map, option_and_then, Result, Ok, Err, ⊤, ◌≡◌}
+-- Surmise files: an object whose keys are the items' names, and whose values are arrays of clauses;
+-- a clause is an array of names.
+use Rattle.std.specs.Prelude.{ℕ, Bool, ◌&&◌, nat_lt, if◌then◌else◌, List, [], ◌∷◌, map, filter}
+use Rattle.std.specs.Prelude.{length, bytes_eq, Option, Some, None, option_map, option_and_then}
+use Rattle.std.specs.Prelude.{Result, Ok, Err, ⊤, ◌≡◌}
 use Rattle.std.specs.List.{list_all}
 use Rattle.std.specs.Option.{option_map_or, option_or}
 use Rattle.std.specs.Map.{lookup}
 use Rattle.std.specs.Str.{is_utf8}
-use Rattle.serde_json.specs.Data.{Data, string, array, object, Items as Values, no_items, item, Members, no_members, member, put}
+use Rattle.serde_json.specs.Data.{Data, string, array, object, Items as Values, no_items, item}
+use Rattle.serde_json.specs.Data.{Members, no_members, member, put}
 use Rattle.serde_json.specs.View.{items_of as values_of}
 use Rattle.serde_json.specs.Find.{as_str, as_array, as_object}
 use Rattle.serde_json.specs.Read.{read}
@@ -12,7 +16,10 @@ use Rattle.serde_json.specs.Written.{compact_text}
 use Rattle.ls_set.specs.{Items, is_among, subsets}
 use Rattle.ls_theory.specs.{all_clauses, flaw, most_base_sets}
 use Rattle.ls_theory.specs.declared.surmise_fault.SurmiseFault.{SurmiseFault}
-use Rattle.ls_theory.specs.declared.surmise_fault.SurmiseFault.TheVariants.{BadJson, UnknownItem, NoClause, Reflexive, NotClosed, Comparable, Wide, Memory}
+use Rattle.ls_theory.specs.declared.surmise_fault.SurmiseFault.TheVariants.{BadJson, UnknownItem}
+use Rattle.ls_theory.specs.declared.surmise_fault.SurmiseFault.TheVariants.{NoClause, Reflexive}
+use Rattle.ls_theory.specs.declared.surmise_fault.SurmiseFault.TheVariants.{NotClosed, Comparable}
+use Rattle.ls_theory.specs.declared.surmise_fault.SurmiseFault.TheVariants.{Wide, Memory}
 use Rattle.ls_lines.specs.{Text}
 use Rattle.ls_domain.specs.Meanings.{is_named, items_of}
 use Rattle.ls_domain.specs.Texts.{names_of_set}
@@ -34,7 +41,8 @@ read_list f d = option_and_then (read_each f) (as_array d)
 -- each of the members, with its key
 abbrev pub read_members : {X : Type 0} → (Data → Option X) → Members → Option (List (Text × X))
 read_members f no_members = Some []
-read_members f (member k d ms) = option_and_then (λ x. option_map (λ xs. (k, x) ∷ xs) (read_members f ms)) (f d)
+read_members f (member k d ms) =
+    option_and_then (λ x. option_map (λ xs. (k, x) ∷ xs) (read_members f ms)) (f d)
 
 -- an array of arrays of texts
 abbrev pub read_clauses : Data → Option (List (List Text))
@@ -80,7 +88,8 @@ wide n clauses =
 
 -- the clauses of each item in order, if they are a surmise function and are not too many
 unfoldable pub surmise_from : ℕ → List (List Items) → Result (List (List Items)) SurmiseFault
-surmise_from n clauses = option_map_or Err (option_or (flaw n clauses) (wide n clauses)) (Ok (map (in_order n) clauses))
+surmise_from n clauses =
+    option_map_or Err (option_or (flaw n clauses) (wide n clauses)) (Ok (map (in_order n) clauses))
 
 abbrev pub surmise_in : List Text → Table → Result (List (List Items)) SurmiseFault
 surmise_in names table =
@@ -115,7 +124,8 @@ clause_value names c = list_value string (names_of_set names c)
 
 -- the clauses under their items' names; keys stand in the order of their bytes
 unfoldable pub members_from : List Text → List Text → List (List Items) → Members
-members_from names (w ∷ ws) (own ∷ clauses) = put w (list_value (clause_value names) own) (members_from names ws clauses)
+members_from names (w ∷ ws) (own ∷ clauses) =
+    put w (list_value (clause_value names) own) (members_from names ws clauses)
 members_from names ws clauses = no_members
 
 abbrev pub surmise_value : List Text → List (List Items) → Data

@@ -1,10 +1,18 @@
-//! What files say of a space: set files and surmise files. The readings stand in specs/, as
-//! functions of the names and the bytes; here are the data types of which they speak.
+//! What files say: set files, surmise files, class tables and saved sessions; and what a session
+//! is.
+//! Here are definitions and plain data alone; no file is touched. The readings stand in specs/, as
+//! functions of the names and the bytes.
 #![tactic(auto)]
 
+mod cause;
+mod class_results;
 mod family_fault;
 mod set_line;
+mod version;
 
+pub use cause::Cause;
+pub use class_results::{ClassResult, Results};
 pub use family_fault::FamilyFault;
 pub use ls_theory::{BaseFault, SurmiseFault};
 pub use set_line::SetLine;
+pub use version::Version;

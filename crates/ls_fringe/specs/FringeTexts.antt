@@ -3,7 +3,8 @@ use Rattle.std.specs.Prelude.{◌≡◌, List, ◌++◌, Some, None, codes}
 use Rattle.std.specs.List.{join_with_byte}
 use Rattle.ls_theory.specs.declared.fringe_pair.FringePair.{FringePair}
 use Rattle.ls_lines.specs.{Text, command_of, words}
-use Rattle.ls_lines.specs.declared.command.Command.TheVariants.{StateOf}
+use Rattle.ls_lines.specs.declared.command.Command.TheVariants.{View}
+use Rattle.ls_lines.specs.declared.view.ViewCommand.TheVariants.{StateOf}
 use Rattle.ls_domain.specs.Texts.{fringe_words}
 use Rattle.ls_domain.specs.Meanings.{items_of, first_unnamed}
 
@@ -19,7 +20,7 @@ state_of_line names x = codes "state-of " ++ fringe_text names x
 pub record AsksFor (names : List Text) (line : Text) (x : FringePair) : Type 0 where
   pub inner : List Text
   pub outer : List Text
-  pub command : command_of (words line) ≡ Some (StateOf inner outer)
+  pub command : command_of (words line) ≡ Some (View (StateOf inner outer))
   pub inner_known : first_unnamed names inner ≡ None
   pub outer_known : first_unnamed names outer ≡ None
   pub inner_set : items_of names inner ≡ x.inner

@@ -3,7 +3,7 @@ ghost use Rattle.std.specs.Prelude.{◌≡◌, true, List, Some, length};
 ghost use Rattle.ls_set.specs.{IsWithin, Items, full, is_among};
 ghost use Rattle.ls_theory.specs.{fringes, is_learning_space, state_of};
 ghost use Rattle.ls_theory.specs.declared.fringe_pair.FringePair.{FringePair};
-ghost use Rattle.ls_laws.specs.Spans.{IsOn};
+ghost use Rattle.ls_laws.specs.Spans.{AreOn};
 ghost use Rattle.ls_lines.specs.{Text};
 ghost use Rattle.ls_domain.specs.Domains.{IsDomain};
 ghost use Rattle.ls_fringe.specs.FringeTexts.{state_of_line, AsksFor};
@@ -16,7 +16,7 @@ pub fn fringes_are_read_back()
         → IsWithin x.inner (full (length names)) → IsWithin x.outer (full (length names))
         → AsksFor names (state_of_line names x) x }
     ensures member { (names : List Text) (f : List Items) (k : Items) → let n = length names in
-        IsDomain names → IsOn n f → is_learning_space (full n) f ≡ true → is_among f k ≡ true
+        IsDomain names → AreOn n f → is_learning_space (full n) f ≡ true → is_among f k ≡ true
         → let x = fringes n f k in
         AsksFor names (state_of_line names x) x × (state_of n f x.inner x.outer ≡ Some k) }
 {}

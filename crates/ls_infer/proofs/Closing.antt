@@ -1,5 +1,5 @@
 -- Closures of sets with one more item, and those that a loop over the blocks finds again.
-use Rattle.ls_infer.proofs.Vocabulary.{◌+◌, ◌<◌, ◌∙◌, ◌∷◌, ◌≡◌, ◌≤◌, AreFirst, BlockRange, IsChange, IsFamily, IsGood, IsUnionFamily, Items, List, None, Option, Query, Some, YesChange, ℕ, [], add-one, and_parts, ap, ap₂, arith, closure, closure_before_yes, closure_stays, empty, false, family_sets, full, get_or, has, has-empty, images, images-at, inl, inr, interior_keeping, is_among, is_stale, is_within, least, least-none, length, list_any, map, minus, not, or_parts, refl, sets_of, slice_get, slice_get-get_or, some_item, subst, suc, sym, take, true, with, without, zero}
+use Rattle.ls_infer.proofs.Vocabulary.{◌+◌, ◌<◌, ◌∙◌, ◌∷◌, ◌≡◌, ◌≤◌, AreFirst, BlockRange, IsChange, IsFamily, IsGood, IsUnionFamily, Items, List, None, Option, Query, Some, YesChange, ℕ, [], add-one, and_parts, ap, ap₂, arith, closure, closure_before_yes, closure_stays, empty, false, family_sets, full, get_or, has, has-empty, images, images-at, inl, inr, interior_keeping, is_among, is_stale, is_within, least, least-none, length, list_any, map, minus, not, or_parts, refl, block_sets, slice_get, slice_get-get_or, some_item, subst, suc, sym, take, true, with, without, zero}
 use Rattle.ls_infer.proofs.Outside.{outside-same, outside-left, outside-closed}
 
 -- ---- with one more item
@@ -50,11 +50,11 @@ module _ {X Y : Type 0} where
   images-stay g h xs ys i x e made same = made ∙ images-same g h xs i x e same ∙ ap (images g h xs) (sym (add-one i))
 
 -- the closures so far are those of the first sets
-pub first-images : (n m : ℕ) (f before : List Items) (b : BlockRange) (closures : List Items) (i : ℕ) → n ≡ m → i ≤ length (sets_of b)
-    → closures ≡ images (closure (full n) f) (closure (full n) before) (sets_of b) i → AreFirst m f b (take i closures)
+pub first-images : (n m : ℕ) (f before : List Items) (b : BlockRange) (closures : List Items) (i : ℕ) → n ≡ m → i ≤ length (block_sets b)
+    → closures ≡ images (closure (full n) f) (closure (full n) before) (block_sets b) i → AreFirst m f b (take i closures)
 first-images n m f before b closures i same l made =
-    subst (λ k. take i closures ≡ map (closure (full k) f) (take (length (take i closures)) (sets_of b))) same
-    (first-mapped (closure (full n) f) (sets_of b) (take i closures) i (ap (take i) made ∙ take-images (closure (full n) f) (closure (full n) before) (sets_of b) i l))
+    subst (λ k. take i closures ≡ map (closure (full k) f) (take (length (take i closures)) (block_sets b))) same
+    (first-mapped (closure (full n) f) (block_sets b) (take i closures) i (ap (take i) made ∙ take-images (closure (full n) f) (closure (full n) before) (block_sets b) i l))
 
 -- ---- after a change
 

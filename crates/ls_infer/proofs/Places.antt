@@ -1,5 +1,5 @@
 -- Places in lists and in blocks.
-use Rattle.ls_infer.proofs.Vocabulary.{◌+◌, ◌<◌, ◌∙◌, ◌∷◌, ◌≡◌, ◌≤◌, BlockRange, Bool, IsWithin, Items, List, None, Some, ℕ, [], add-one, ap, arith, block_before, blocks, blocks-in, closure, cond, empty, false, find, find-next, first-blocks, full, get-append_left, get-in, get-map, len, len-empty, length, map, refl, sets_of, single, slice_get, slice_get-get_or, sorted-blocks, suc, sym, true, zero}
+use Rattle.ls_infer.proofs.Vocabulary.{◌+◌, ◌<◌, ◌∙◌, ◌∷◌, ◌≡◌, ◌≤◌, BlockRange, Bool, IsWithin, Items, List, None, Some, ℕ, [], add-one, ap, arith, block_before, blocks, blocks-in, closure, cond, empty, false, find, find-next, first-blocks, full, get-append_left, get-in, get-map, len, len-empty, length, map, refl, block_sets, single, slice_get, slice_get-get_or, sorted-blocks, suc, sym, true, zero}
 use Rattle.ls_lists.proofs.Finds.{find-any}
 use Rattle.ls_query.proofs.BlockOrder.{before-asymmetric}
 use Rattle.ls_query.proofs.BySize.{of_size, of_size-more, of_size-none, blocks-more}
@@ -22,26 +22,26 @@ place-few n k i b e = (blocks-in n k b (get-in (blocks n k) i b e)).few
 -- ---- walks
 
 -- a walk that goes on comes to the set at the place
-pub came-to : (b of_walk : BlockRange) (i : ℕ) (old new : Items) (went : Bool) → of_walk ≡ b → find (block_before old) (sets_of b) ≡ slice_get (sets_of b) i
-    → find (block_before old) (sets_of of_walk) ≡ cond went (Some new) None → went ≡ true → slice_get (sets_of b) i ≡ Some new
+pub came-to : (b of_walk : BlockRange) (i : ℕ) (old new : Items) (went : Bool) → of_walk ≡ b → find (block_before old) (block_sets b) ≡ slice_get (block_sets b) i
+    → find (block_before old) (block_sets of_walk) ≡ cond went (Some new) None → went ≡ true → slice_get (block_sets b) i ≡ Some new
 came-to b of_walk i old new went same place next went_on =
-    sym place ∙ ap (λ x. find (block_before old) (sets_of x)) (sym same) ∙ next ∙ ap (λ t. cond t (Some new) None) went_on
+    sym place ∙ ap (λ x. find (block_before old) (block_sets x)) (sym same) ∙ next ∙ ap (λ t. cond t (Some new) None) went_on
 
 -- and it does where there is one
-pub came-within : (b of_walk : BlockRange) (i : ℕ) (old new : Items) (went : Bool) → of_walk ≡ b → find (block_before old) (sets_of b) ≡ slice_get (sets_of b) i
-    → find (block_before old) (sets_of of_walk) ≡ cond went (Some new) None → i < length (sets_of b) → slice_get (sets_of b) i ≡ Some new
+pub came-within : (b of_walk : BlockRange) (i : ℕ) (old new : Items) (went : Bool) → of_walk ≡ b → find (block_before old) (block_sets b) ≡ slice_get (block_sets b) i
+    → find (block_before old) (block_sets of_walk) ≡ cond went (Some new) None → i < length (block_sets b) → slice_get (block_sets b) i ≡ Some new
 came-within b of_walk i old new true same place next l = came-to b of_walk i old new true same place next refl
 came-within b of_walk i old new false same place next l =
-    let there = slice_get-get_or (sets_of b) i old l in
-    let none : slice_get (sets_of b) i ≡ None = sym place ∙ ap (λ x. find (block_before old) (sets_of x)) (sym same) ∙ next in
+    let there = slice_get-get_or (block_sets b) i old l in
+    let none : slice_get (block_sets b) i ≡ None = sym place ∙ ap (λ x. find (block_before old) (block_sets x)) (sym same) ∙ next in
     let clash = sym none ∙ there in
     cc
 
 -- and where it doesn't go on there is none
-pub came-past : (b of_walk : BlockRange) (i : ℕ) (old new : Items) (went : Bool) → of_walk ≡ b → find (block_before old) (sets_of b) ≡ slice_get (sets_of b) i
-    → find (block_before old) (sets_of of_walk) ≡ cond went (Some new) None → went ≡ false → slice_get (sets_of b) i ≡ None
+pub came-past : (b of_walk : BlockRange) (i : ℕ) (old new : Items) (went : Bool) → of_walk ≡ b → find (block_before old) (block_sets b) ≡ slice_get (block_sets b) i
+    → find (block_before old) (block_sets of_walk) ≡ cond went (Some new) None → went ≡ false → slice_get (block_sets b) i ≡ None
 came-past b of_walk i old new went same place next stayed =
-    sym place ∙ ap (λ x. find (block_before old) (sets_of x)) (sym same) ∙ next ∙ ap (λ t. cond t (Some new) None) stayed
+    sym place ∙ ap (λ x. find (block_before old) (block_sets x)) (sym same) ∙ next ∙ ap (λ t. cond t (Some new) None) stayed
 
 -- ---- the sets of one item
 

@@ -1,5 +1,5 @@
 -- The first query that is open by the table is the next question.
-use Rattle.ls_infer.proofs.Vocabulary.{◌&&◌, ◌<◌, ◌||◌, ◌∙◌, ◌∷◌, ◌≡◌, BlockRange, Interview, IsIn, IsSound, Items, List, Option, Query, TableState, ℕ, [], ap, ap₂, block_place, closure, comes_after, compatible_sets, filter, filter-in, find, find-same, forced_no_by, forced_yes_is, forces, full, good-from, good-to, has, is_forced_by_closures, is_good, is_open, is_open_by, is_open_in, list_any, map, next_question, no_queries, nos, not, queries, queries-in, queries_of, query_before, refl, spaces_of, standing, sym, table_of, true}
+use Rattle.ls_infer.proofs.Vocabulary.{◌&&◌, ◌<◌, ◌||◌, ◌∙◌, ◌∷◌, ◌≡◌, BlockRange, Interview, IsIn, IsSound, Items, List, Option, Query, TableState, ℕ, [], ap, ap₂, block_place, closure, comes_after, compatible_sets, filter, filter-in, find, find-same, forced_no_by, forced_yes_is, forces, full, good-from, good-to, has, is_forced_by_closures, is_good, is_open, is_open_by, is_open_in, list_any, map, next_question, no_queries, nos, not, queries, queries-in, block_queries, query_before, refl, spaces_of, standing, sym, table_of, true}
 use Rattle.ls_theory.specs.declared.answer.Answer.{Answer}
 use Rattle.ls_infer.proofs.Told.{forces-standing, closed_of-table}
 
@@ -22,7 +22,7 @@ open-by i n r sound count good =
     ∙ ap (λ m. list_any (is_forced_by_closures m f r) (no_queries i.answers)) (sym count) ∙ sym (forced_no_by i r sound (ap (λ m. is_good m r) count ∙ good)))
 
 -- a query of the blocks is open by the table exactly where it is open
-open-told : (i : Interview) (b : BlockRange) (r : Query) → IsSound i → i.count ≡ b.item_count → IsIn r (queries_of b)
+open-told : (i : Interview) (b : BlockRange) (r : Query) → IsSound i → i.count ≡ b.item_count → IsIn r (block_queries b)
     → is_open_in (table_of b (compatible_sets i) (nos i.answers)) r ≡ is_open (spaces_of i) r
 open-told i b r sound count here =
     let f = compatible_sets i in
@@ -33,11 +33,11 @@ open-told i b r sound count here =
 
 pub next-told : (i : Interview) (t : TableState) (last : Option Query) → IsSound i → i.count ≡ t.blocks.item_count → i.block ≡ t.blocks.largest
     → t ≡ table_of t.blocks (compatible_sets i) (nos i.answers)
-    → find (is_open_in t) (filter (comes_after query_before last) (queries_of t.blocks)) ≡ next_question i last
+    → find (is_open_in t) (filter (comes_after query_before last) (block_queries t.blocks)) ≡ next_question i last
 unfolding next_question
 next-told i t last sound count block table =
     let b = t.blocks in
-    ap (λ u. find (is_open_in u) (filter (comes_after query_before last) (queries_of b))) table
-    ∙ find-same (is_open_in (table_of b (compatible_sets i) (nos i.answers))) (is_open (spaces_of i)) (filter (comes_after query_before last) (queries_of b))
-    (λ r c. open-told i b r sound count (filter-in (comes_after query_before last) (queries_of b) r c).0)
+    ap (λ u. find (is_open_in u) (filter (comes_after query_before last) (block_queries b))) table
+    ∙ find-same (is_open_in (table_of b (compatible_sets i) (nos i.answers))) (is_open (spaces_of i)) (filter (comes_after query_before last) (block_queries b))
+    (λ r c. open-told i b r sound count (filter-in (comes_after query_before last) (block_queries b) r c).0)
     ∙ ap₂ (λ m k. find (is_open (spaces_of i)) (filter (comes_after query_before last) (queries m k))) (sym count) (sym block)

@@ -1,5 +1,5 @@
 -- What is outside the closure of a set, and the first open query from a given one on.
-use Rattle.ls_infer.proofs.Vocabulary.{◌&&◌, ◌<◌, ◌∙◌, ◌∷◌, ◌≡◌, ◌≤◌, ArePassing, BlockRange, Bool, Interview, IsGood, IsIn, IsSound, Items, List, None, Query, Some, StandingNo, ℕ, [], and_from, and_parts, ap, ap₂, arith, asked_of, before-by_item, before-by_set, block_before, blocks, blocks-in, closure, compatible_sets, cond, false, false_from_ne_true, find, find-first, find-same, full, good-from, good-to, good_items, has, has-full, has-minus, inl, inr, interior, interior-within, is_good, is_open, is_open_by, least, least-cases, least-none_left, ltb, ltb-false, ltb-true, map, minus, minus-within, never_before, nos, not, not-true, not_from_false, outside_of, queries, queries-in, queries_of, query_before, query_before-asymmetric, query_before-cases, refl, same_truth, slice_get, sorted-queries, spaces_of, standing, suc, sym, true, true_from_ne_false, true≢false, zero}
+use Rattle.ls_infer.proofs.Vocabulary.{◌&&◌, ◌<◌, ◌∙◌, ◌∷◌, ◌≡◌, ◌≤◌, ArePassing, BlockRange, Bool, Interview, IsGood, IsIn, IsSound, Items, List, None, Query, Some, StandingNo, ℕ, [], and_from, and_parts, ap, ap₂, arith, asked_of, before-by_item, before-by_set, block_before, blocks, blocks-in, closure, compatible_sets, cond, false, false_from_ne_true, find, find-first, find-same, full, good-from, good-to, good_items, has, has-full, has-minus, inl, inr, interior, interior-within, is_good, is_open, is_open_by, least, least-cases, least-none_left, ltb, ltb-false, ltb-true, map, minus, minus-within, never_before, nos, not, not-true, not_from_false, outside_of, queries, queries-in, block_queries, query_before, query_before-asymmetric, query_before-cases, refl, same_truth, slice_get, sorted-queries, spaces_of, standing, suc, sym, true, true_from_ne_false, true≢false, zero}
 use Rattle.ls_laws.proofs.Blocks.{in-queries}
 use Rattle.ls_query.proofs.Sorted.{sorted-cases}
 use Rattle.ls_infer.proofs.Outside.{out-parts, out-from}
@@ -90,11 +90,11 @@ some_place p (x ∷ xs) = elim (p x) as (λ b. (i : ℕ) × (cond b (Some x) (fi
 
 pub found_open : (i : Interview) (b : BlockRange) (n : ℕ) (f : List Items) (ss : List StandingNo) (r : Query) → IsSound i → i.count ≡ b.item_count → i.block ≡ b.largest → n ≡ b.item_count
     → f ≡ compatible_sets i → ss ≡ map (standing n (compatible_sets i)) (nos i.answers)
-    → find (λ s. not (query_before s r) && is_open_by n f ss s) (queries_of b) ≡ find (λ s. not (query_before s r) && is_open (spaces_of i) s) (queries i.count i.block)
+    → find (λ s. not (query_before s r) && is_open_by n f ss s) (block_queries b) ≡ find (λ s. not (query_before s r) && is_open (spaces_of i) s) (queries i.count i.block)
 found_open i b n f ss r sound count block items family kept =
     let same : is_open_by n f ss ≡ is_open_by n (compatible_sets i) (map (standing n (compatible_sets i)) (nos i.answers)) = ap₂ (is_open_by n) family kept in
-    ap (λ o. find (λ s. not (query_before s r) && o s) (queries_of b)) same
-    ∙ find-same (λ s. not (query_before s r) && is_open_by n (compatible_sets i) (map (standing n (compatible_sets i)) (nos i.answers)) s) (λ s. not (query_before s r) && is_open (spaces_of i) s) (queries_of b)
+    ap (λ o. find (λ s. not (query_before s r) && o s) (block_queries b)) same
+    ∙ find-same (λ s. not (query_before s r) && is_open_by n (compatible_sets i) (map (standing n (compatible_sets i)) (nos i.answers)) s) (λ s. not (query_before s r) && is_open (spaces_of i) s) (block_queries b)
     (λ c in_queries.
     let good = good-to b.item_count c (queries-in b.item_count b.largest c in_queries).0 in
     ap (λ o. not (query_before c r) && o) (open-by i n c sound (count ∙ sym items) (ap (λ m. is_good m c) items ∙ good)))

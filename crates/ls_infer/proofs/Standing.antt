@@ -1,5 +1,5 @@
 -- What a Yes that comes or goes changes of what is kept of a standing No.
-use Rattle.ls_infer.proofs.Vocabulary.{◌&&◌, ◌+◌, ◌<◌, ◌||◌, ◌∙◌, ◌≡◌, Bool, Breaks-from, Decides-is_same, IsChange, IsFamily, IsGood, IsPart, IsUnionFamily, IsWithin, IsWithin-from, Items, List, No, Query, Some, StandingNo, YesChange, ℕ, among-left, and_from, and_parts, ap, ap₂, breaks, can_grow, cases_Bool, closure, closure_again, closure_before_yes, closure_from_old, closure_grows, closure_holds, closure_stays, closure_widens, empty, enough_for, false, false_from_ne_true, family_sets, full, get_or, good-from, good-to, has, has-meet, images, images-at, images-next, inl, inr, interior, is_among, is_good, is_kept, is_reached, is_same, is_within, is_within-from, left-IsPart, left_by, length, ltb, ltb-true, meet, minus, minus-within, not, not-false, not-true, or_parts, refl, same_set, same_within, slice_get, slice_get-get_or, some_item, standing, subst, sym, true, true≢false, with}
+use Rattle.ls_infer.proofs.Vocabulary.{◌&&◌, ◌+◌, ◌<◌, ◌||◌, ◌∙◌, ◌≡◌, Bool, Breaks-from, Decides-is_same, IsChange, IsFamily, IsGood, IsPart, IsUnionFamily, IsWithin, IsWithin-from, Items, List, No, Query, Some, StandingNo, YesChange, ℕ, among-left, and_from, and_parts, ap, ap₂, breaks, can_grow, cases_Bool, closure, closure_again, closure_before_yes, closure_from_old, closure_grows, closure_holds, closure_stays, closure_widens, empty, enough_for, false, false_from_ne_true, family_sets, full, get_or, good-from, good-to, has, has-meet, images, images-at, images-next, inl, inr, interior, is_among, is_good, is_kept, can_change, is_same, is_within, is_within-from, left-IsPart, left_by, length, ltb, ltb-true, meet, minus, minus-within, not, not-false, not-true, or_parts, refl, same_set, same_within, slice_get, slice_get-get_or, some_item, standing, subst, sym, true, true≢false, with}
 use Rattle.std.proofs.Math.ListN.{set}
 use Rattle.ls_infer.proofs.Kept.{has-enough, with-within}
 use Rattle.ls_infer.proofs.Outside.{with-left, with-cases, outside-member}
@@ -270,7 +270,7 @@ unreached-after n before after r s change good kept e lacks h = elim (cases_Bool
 ]
 
 pub unreached : (n : ℕ) (before after : List Items) (r : Query) (s : StandingNo) (change : YesChange) → IsChange change n r before after → IsFamily n after → is_good n r ≡ true → is_kept n s ≡ true → s ≡ standing n before s.no
-    → is_reached change r s ≡ false → s ≡ standing n after s.no
+    → can_change change r s ≡ false → s ≡ standing n after s.no
 unreached n before after r s YesChange.Added change family good kept e h = elim (cases_Bool (has s.closed r.q)) [
   | inl here ↦ after-closed n before after r s change good kept e here
   | inr out ↦

@@ -1,5 +1,5 @@
 -- What a table tells is what the answers tell.
-use Rattle.ls_infer.proofs.Vocabulary.{◌&&◌, ◌<◌, ◌∙◌, ◌∷◌, ◌≡◌, BlockRange, Interview, IsNumbered, IsSound, Items, Known, List, No, None, Option, Query, Some, StandingNo, TableState, ℕ, [], ap, ap₂, closed_of, closure, compatible_sets, cond, false, filter, first_least, forces, full, get-map, good-from, has, is_forced_by_closures, is_good, is_same, is_within, known, known_is, lt-ltb, map, nos, option_map, option_map_or, position, position-get, refl, sets_of, standing, sym, table_of, told, true, with}
+use Rattle.ls_infer.proofs.Vocabulary.{◌&&◌, ◌<◌, ◌∙◌, ◌∷◌, ◌≡◌, BlockRange, Interview, IsNumbered, IsSound, Items, Known, List, No, None, Option, Query, Some, StandingNo, TableState, ℕ, [], ap, ap₂, closed_of, closure, compatible_sets, cond, false, filter, first_least, forces, full, get-map, good-from, has, is_forced_by_closures, is_good, is_same, is_within, known, known_is, lt-ltb, map, nos, option_map, option_map_or, position, position-get, refl, block_sets, standing, sym, table_of, told, true, with}
 use Rattle.ls_laws.proofs.Numbered.{nos-increasing}
 use Rattle.ls_infer.proofs.Kept.{has-enough}
 use Rattle.ls_infer.proofs.Least.{least_with, least_with-first, least_in_order}
@@ -33,13 +33,13 @@ least-standing n f r ns l =
     ∙ least_with-first (λ a. a.number) (filter (λ a. is_forced_by_closures n f r a.query) ns)
 
 -- the closure that a table keeps
-pub closed_of-table : (b : BlockRange) (f : List Items) (ns : List No) (i : ℕ) (a : Items) → position (is_same a) (sets_of b) ≡ Some i → closed_of (table_of b f ns) a ≡ closure (full b.item_count) f a
-closed_of-table b f ns i a e = rw (e, get-map (closure (full b.item_count) f) (sets_of b) i a (position-get b.item_count b.largest a i e)) refl
+pub closed_of-table : (b : BlockRange) (f : List Items) (ns : List No) (i : ℕ) (a : Items) → position (is_same a) (block_sets b) ≡ Some i → closed_of (table_of b f ns) a ≡ closure (full b.item_count) f a
+closed_of-table b f ns i a e = rw (e, get-map (closure (full b.item_count) f) (block_sets b) i a (position-get b.item_count b.largest a i e)) refl
 
 pub closure_in-table : (b : BlockRange) (f : List Items) (ns : List No) (a : Items)
-    → option_map_or (λ i. closed_of (table_of b f ns) a) (position (is_same a) (sets_of b)) (closure (full b.item_count) f a) ≡ closure (full b.item_count) f a
+    → option_map_or (λ i. closed_of (table_of b f ns) a) (position (is_same a) (block_sets b)) (closure (full b.item_count) f a) ≡ closure (full b.item_count) f a
 closure_in-table b f ns a =
-    elim (position (is_same a) (sets_of b)) as (λ o. position (is_same a) (sets_of b) ≡ o → option_map_or (λ i. closed_of (table_of b f ns) a) o (closure (full b.item_count) f a) ≡ closure (full b.item_count) f a) [
+    elim (position (is_same a) (block_sets b)) as (λ o. position (is_same a) (block_sets b) ≡ o → option_map_or (λ i. closed_of (table_of b f ns) a) o (closure (full b.item_count) f a) ≡ closure (full b.item_count) f a) [
       | None ↦ λ _. refl
       | Some i ↦ λ e. closed_of-table b f ns i a e
     ] refl
@@ -51,14 +51,14 @@ number_of (Some a) = refl
 -- what is told of the closure of a query's set and the least number is what the table tells
 told_is : (t : TableState) (n : ℕ) (f : List Items) (r : Query) (closed : Items) (ns : List No) → is_good t.blocks.item_count r ≡ true → n ≡ t.blocks.item_count
     → t ≡ table_of t.blocks f ns
-    → closed ≡ option_map_or (λ j. closed_of t r.a) (position (is_same r.a) (sets_of t.blocks)) (closure (full n) f r.a)
+    → closed ≡ option_map_or (λ j. closed_of t r.a) (position (is_same r.a) (block_sets t.blocks)) (closure (full n) f r.a)
     → cond (has closed r.q) Known.Yes (option_map_or (λ m. Known.No m) (option_map (λ s. s.no.number) (first_least (λ s. s.no.number) (filter (forces r) t.standing))) Known.Unsettled)
     ≡ told t.blocks.item_count f ns r
 told_is t n f r closed ns good ne te h =
     let b = t.blocks in
     let closed_is : closed ≡ closure (full b.item_count) f r.a =
-    h ∙ ap (λ m. option_map_or (λ j. closed_of t r.a) (position (is_same r.a) (sets_of b)) (closure (full m) f r.a)) ne
-    ∙ ap (λ u. option_map_or (λ j. closed_of u r.a) (position (is_same r.a) (sets_of b)) (closure (full b.item_count) f r.a)) te
+    h ∙ ap (λ m. option_map_or (λ j. closed_of t r.a) (position (is_same r.a) (block_sets b)) (closure (full m) f r.a)) ne
+    ∙ ap (λ u. option_map_or (λ j. closed_of u r.a) (position (is_same r.a) (block_sets b)) (closure (full b.item_count) f r.a)) te
     ∙ closure_in-table b f ns r.a in
     let number =
     ap (λ u. option_map (λ s. s.no.number) (first_least (λ s. s.no.number) (filter (forces r) u.standing))) te
@@ -68,7 +68,7 @@ told_is t n f r closed ns good ne te h =
 
 -- where the closure tells
 pub told_yes : (t : TableState) (n : ℕ) (f : List Items) (r : Query) (closed : Items) → is_good t.blocks.item_count r ≡ true → n ≡ t.blocks.item_count
-    → closed ≡ option_map_or (λ j. closed_of t r.a) (position (is_same r.a) (sets_of t.blocks)) (closure (full n) f r.a) → has closed r.q ≡ true
+    → closed ≡ option_map_or (λ j. closed_of t r.a) (position (is_same r.a) (block_sets t.blocks)) (closure (full n) f r.a) → has closed r.q ≡ true
     → (ns : List No) → t ≡ table_of t.blocks f ns → Known.Yes ≡ told t.blocks.item_count f ns r
 told_yes t n f r closed good ne h here ns te =
     ap (λ b. cond b Known.Yes (option_map_or (λ m. Known.No m) (option_map (λ s. s.no.number) (first_least (λ s. s.no.number) (filter (forces r) t.standing))) Known.Unsettled)) (sym here)
@@ -76,7 +76,7 @@ told_yes t n f r closed good ne h here ns te =
 
 -- where the closure doesn't tell, the least number does
 pub told_number : (t : TableState) (n : ℕ) (f : List Items) (r : Query) (closed : Items) (ss : List StandingNo) (number o : Option ℕ) → is_good t.blocks.item_count r ≡ true → n ≡ t.blocks.item_count
-    → closed ≡ option_map_or (λ j. closed_of t r.a) (position (is_same r.a) (sets_of t.blocks)) (closure (full n) f r.a) → has closed r.q ≡ false
+    → closed ≡ option_map_or (λ j. closed_of t r.a) (position (is_same r.a) (block_sets t.blocks)) (closure (full n) f r.a) → has closed r.q ≡ false
     → number ≡ option_map (λ s. s.no.number) (first_least (λ s. s.no.number) (filter (forces r) ss)) → ss ≡ t.standing → number ≡ o
     → (ns : List No) → t ≡ table_of t.blocks f ns → option_map_or (λ m. Known.No m) o Known.Unsettled ≡ told t.blocks.item_count f ns r
 told_number t n f r closed ss number o good ne h out least same is ns te =

@@ -32,7 +32,7 @@ pub use Rattle.ls_query.proofs.BlockSets.{blocks-in, first-blocks, sorted-blocks
 pub use Rattle.ls_query.proofs.Passing.{ArePassing, first-passing, good_items, next-passing, none-passing, passing-all, passing-end, passing-later, passing-outside}
 pub use Rattle.ls_query.proofs.Placed.{block_place, get-append_left, position-at, position-get}
 pub use Rattle.ls_query.proofs.QuerySets.{asked_of, before-by_item, before-by_set, least-none_left, never_before, queries-in, query_before-asymmetric, query_before-cases, sorted-queries}
-pub use Rattle.ls_query.specs.Blocks.{queries_of, sets_of}
+pub use Rattle.ls_query.specs.Blocks.{block_queries, block_sets}
 pub use Rattle.ls_set.proofs.Ascending.{least-cases, least-none}
 pub use Rattle.ls_set.proofs.Sets.{Decides-is_same, IsWithin-from, and-true, empty-within, has-empty, has-full, has-meet, has-minus, has-single, has-with, has-without, is_within-from, members, minus-within, same_set, same_within, union-within, without-within}
 pub use Rattle.ls_set.proofs.Sizes.{items-within, len-less, len-within}
@@ -43,8 +43,8 @@ pub use Rattle.ls_theory.specs.{BlockRange, Interview, block_before, breaks, clo
 unfoldable pub use Rattle.ls_theory.specs.{blocks, next_question}
 pub use Rattle.ls_theory.specs.declared.known.Known.{Known}
 pub use Rattle.ls_theory.specs.declared.no.No.{No}
-pub use Rattle.ls_infer.specs.Changes.{IsChange, can_grow, is_kept, is_reached, is_stale, most_steps}
-pub use Rattle.ls_infer.specs.Fronts.{AreFirst, IsFront}
+pub use Rattle.ls_infer.specs.Changes.{IsChange, can_change, can_grow, is_kept, is_stale, most_steps_each}
+pub use Rattle.ls_infer.specs.BlockClosures.{AreFirst, IsKeptClosure}
 pub use Rattle.ls_infer.specs.Narrowing.{IsNarrowed, owed}
 pub use Rattle.ls_infer.specs.Search.{IsSearch, is_open_by, outside_of}
 pub use Rattle.ls_infer.specs.Tables.{AreStates, IsKeptFor, TableRoom, TableState, closed_of, enough_for, forces, is_open_in, standing, table_of, told}

@@ -8,7 +8,8 @@ use Rattle.ls_laws.specs.Families.{IsFamily}
 
 -- the spaces of members of the family f of which some member breaks each No
 abbrev pub spaces_within : ℕ → List Items → List No → List (List Items)
-spaces_within n f nos = filter (λ g. is_space (full n) g && list_all (λ a. some_breaks g a.query) nos) (sublists f)
+spaces_within n f nos =
+    filter (λ g. is_space (full n) g && list_all (λ a. some_breaks g a.query) nos) (sublists f)
 
 -- a family with the full set, of which some member breaks each No; the queries of the Nos are good
 pub record FitsNos (n : ℕ) (f : List Items) (nos : List No) : Type 0 where

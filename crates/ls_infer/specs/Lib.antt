@@ -1,6 +1,6 @@
 pub mod Tables
 pub mod Forced
 pub mod Changes
-pub mod Fronts
+pub mod BlockClosures
 pub mod Search
 pub mod Narrowing

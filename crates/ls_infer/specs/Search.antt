@@ -1,6 +1,7 @@
 -- A search for open queries where no closures are kept.
 --     outside_of n f a      the items outside the closure of a
---     is_open_by n f ss r      no closure in the family f decides the query r, and no standing No of which ss are kept
+--     is_open_by n f ss r      no closure in the family f decides the query r,
+--         and no standing No of which ss are kept
 use Rattle.std.specs.Prelude.{ℕ, Bool, not, ◌&&◌, ◌≤◌, ◌≡◌, List}
 use Rattle.std.specs.List.{list_any}
 use Rattle.ls_set.specs.{Items, full, has, minus, most_items}

@@ -4,7 +4,7 @@ ghost use Rattle.std.specs.List.{list_all};
 ghost use Rattle.ls_set.specs.{Items, full, is_good};
 ghost use Rattle.ls_theory.specs.{blocks, closure};
 ghost use Rattle.ls_theory.specs.declared.no.No.{No};
-ghost use Rattle.ls_infer.specs.Changes.{IsChange, is_kept, most_steps};
+ghost use Rattle.ls_infer.specs.Changes.{IsChange, is_kept, most_steps_each};
 ghost use Rattle.ls_infer.specs.Tables.{standing, AreStates};
 
 use crate::standing_no::StandingNo;
@@ -38,10 +38,10 @@ pub fn change_each<I: Interior, L: Ledger>(
         × AreStates (I.members f.now) witnesses.new }
     ensures kept { list_all (is_kept (I.item_count f.now)) kept.new ≡ true }
     ensures cost { steps.new ≤ steps.old
-        + most_steps change (I.item_count f.now) * length kept.old }
+        + most_steps_each change (I.item_count f.now) * length kept.old }
 {
     for s in kept.iter_mut() {
-        if s.is_reached(change, r) {
+        if s.can_change(change, r) {
             *s = s.after(f, closures, change, r, witnesses, steps);
         }
     }

@@ -1,13 +1,14 @@
 // The lists that make up a table.
-ghost use Rattle.std.specs.Prelude.{◌≡◌, ◌+◌, ◌*◌, ◌<◌, ◌≤◌, ℕ, true, List, map, length, count_by, find, slice_get, IfOk};
+ghost use Rattle.std.specs.Prelude.{◌≡◌, ◌+◌, ◌*◌, ◌<◌, ◌≤◌, ℕ, true};
+ghost use Rattle.std.specs.Prelude.{List, map, length, count_by, find, slice_get, IfOk};
 ghost use Rattle.std.specs.List.{list_all, position};
 ghost use Rattle.ls_set.specs.{Items, full, is_good, is_within};
 ghost use Rattle.ls_theory.specs.{block_before, blocks, closure, most_sets};
-ghost use Rattle.ls_query.specs.Blocks.{sets_of};
+ghost use Rattle.ls_query.specs.Blocks.{block_sets};
 ghost use Rattle.ls_infer.specs.Changes.{IsChange, is_stale};
 ghost use Rattle.ls_infer.specs.Tables.{standing, AreStates};
 
-use crate::fronts::{Front, close_block};
+use crate::block_closures::{KeptClosure, close_block};
 use crate::standing_no::StandingNo;
 use crate::witnesses::Witnesses;
 use crate::yes_change::YesChange;
@@ -27,18 +28,18 @@ pub fn closures_of<I: Interior, L: Ledger>(
 ) -> Result<Vec<ItemSet>, AllocError>
     requires { I.item_count f.now ≡ blocks.item_count }
     ensures list { IfOk result (λ v. v.items
-        ≡ map (closure (full (I.item_count f.now)) (I.members f.now)) (sets_of blocks)) }
-    ensures cost { steps.new ≤ steps.old + length (sets_of blocks) }
-    ensures few { length (sets_of blocks) ≤ most_sets }
+        ≡ map (closure (full (I.item_count f.now)) (I.members f.now)) (block_sets blocks)) }
+    ensures cost { steps.new ≤ steps.old + length (block_sets blocks) }
+    ensures few { length (block_sets blocks) ≤ most_sets }
 {
     let mut closures = Vec::new(alloc);
     let mut walk = blocks.walk_from(ItemSet::empty());
-    let mut front = Front::new();
+    let mut kept = KeptClosure::new();
     for _place in 0..blocks.count() {
         if !walk.advance() {
             return Ok(closures);
         }
-        closures.push(close_block(&closures, blocks, &walk, f, &mut front, steps))?;
+        closures.push(close_block(&closures, blocks, &walk, f, &mut kept, steps))?;
     }
     Ok(closures)
 }
@@ -62,7 +63,7 @@ pub fn standing_of<I: Interior, L: Ledger>(
 {
     let mut kept = Vec::new(alloc);
     for answer in answers {
-        kept.push(StandingNo::shared(f, closures, answer, witnesses, steps))?;
+        kept.push(StandingNo::from_closures(f, closures, answer, witnesses, steps))?;
     }
     Ok(kept)
 }
@@ -88,10 +89,10 @@ fn first_stale(change: YesChange, r: &Query, closures: &[ItemSet]) -> Option<usi
 
 // The walk that comes next to the set at the place.
 fn walk_before(blocks: Blocks, place: usize) -> BlockWalk
-    requires { place ≤ length (sets_of blocks) }
+    requires { place ≤ length (block_sets blocks) }
     ensures blocks { result.blocks ≡ blocks }
-    ensures next { find (block_before result.set) (sets_of blocks)
-        ≡ slice_get (sets_of blocks) place }
+    ensures next { find (block_before result.set) (block_sets blocks)
+        ≡ slice_get (block_sets blocks) place }
 {
     let mut walk = blocks.walk_from(ItemSet::empty());
     for _passed in 0..place {
@@ -100,8 +101,8 @@ fn walk_before(blocks: Blocks, place: usize) -> BlockWalk
     walk
 }
 
-/// Makes the closures of the sets of the blocks those after the change of a Yes to `r`, in a step at
-/// most for each that has the items of its A. `f` is the family after the change.
+/// Makes the closures of the sets of the blocks those after the change of a Yes to `r`, in a step
+/// at most for each that has the items of its A. `f` is the family after the change.
 pub fn close_again<I: Interior, L: Ledger>(
     closures: &mut [ItemSet],
     blocks: Blocks,
@@ -112,13 +113,13 @@ pub fn close_again<I: Interior, L: Ledger>(
 )
     requires items { I.item_count f.now ≡ blocks.item_count }
     requires good { is_good (I.item_count f.now) r.now ≡ true }
-    requires each { length closures.old ≡ length (sets_of blocks) }
+    requires each { length closures.old ≡ length (block_sets blocks) }
     requires within { list_all (λ c. is_within c (full (I.item_count f.now))) closures.old ≡ true }
     ensures each { (before : List Items) →
         IsChange change (I.item_count f.now) r.now before (I.members f.now) →
-        closures.old ≡ map (closure (full (I.item_count f.now)) before) (sets_of blocks) →
+        closures.old ≡ map (closure (full (I.item_count f.now)) before) (block_sets blocks) →
         closures.new
-        ≡ map (closure (full (I.item_count f.now)) (I.members f.now)) (sets_of blocks) }
+        ≡ map (closure (full (I.item_count f.now)) (I.members f.now)) (block_sets blocks) }
     ensures within { list_all (λ c. is_within c (full (I.item_count f.now))) closures.new ≡ true }
     ensures cost { steps.new ≤ steps.old + count_by (λ c. is_within r.now.a c) closures.old }
 {
@@ -126,12 +127,12 @@ pub fn close_again<I: Interior, L: Ledger>(
         return;
     };
     let mut walk = walk_before(blocks, start);
-    let mut front = Front::new();
+    let mut kept = KeptClosure::new();
     for place in start..closures.len() {
         walk.advance();
         if is_stale(change, r, &closures[place]) {
             let first = &closures[..place];
-            closures[place] = close_block(first, blocks, &walk, f, &mut front, steps);
+            closures[place] = close_block(first, blocks, &walk, f, &mut kept, steps);
         }
     }
 }

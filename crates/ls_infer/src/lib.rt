@@ -1,15 +1,15 @@
 //! What the standing answers of an interview tell, by the closures of its block sets.
 #![tactic(auto)]
 
+mod block_closures;
 mod breaking;
 mod changing;
 mod closures;
 mod enough;
+mod entailing;
 mod forcing;
-mod fronts;
 mod laws;
 mod narrowing;
-mod reaching;
 mod search;
 mod standing_no;
 mod table;

@@ -61,8 +61,8 @@ pub fn narrow(outside: ItemSet, q: u32, witnesses: &[Witnesses], rest: &mut Rest
 }
 
 // A state with `q` within the given one that lacks more of the rest, where one is found by taking
-// out one item of the rest after another; where `q` falls with some of them, no more are tried. What
-// it lacks is left out of the rest.
+// out one item of the rest after another; where `q` falls with some of them, no more are tried.
+// What it lacks is left out of the rest.
 fn lessen<I: Interior, L: Ledger>(
     f: &I,
     outside: ItemSet,

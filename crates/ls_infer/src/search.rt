@@ -3,9 +3,10 @@ ghost use Rattle.std.specs.Prelude.{◌≡◌, ◌&&◌, ℕ, not, find};
 ghost use Rattle.ls_set.specs.{full, has, is_good};
 ghost use Rattle.ls_set.specs.declared.query.Query.{Query};
 ghost use Rattle.ls_lists.specs.Lists.{IsIn};
-ghost use Rattle.ls_theory.specs.{Interview, block_before, compatible_sets, is_open, nos, queries, query_before, spaces_of};
+ghost use Rattle.ls_theory.specs.{Interview, block_before, compatible_sets, is_open, nos, queries};
+ghost use Rattle.ls_theory.specs.{query_before, spaces_of};
 ghost use Rattle.ls_laws.specs.Forced.{IsSound};
-ghost use Rattle.ls_query.specs.Blocks.{sets_of, queries_of};
+ghost use Rattle.ls_query.specs.Blocks.{block_sets, block_queries};
 ghost use Rattle.ls_infer.specs.Tables.{table_of};
 ghost use Rattle.ls_infer.specs.Search.{IsSearch, outside_of, is_open_by};
 
@@ -76,7 +77,7 @@ impl Search {
     fn open_items<F: Inside>(&mut self, f: &F, standing: &[StandingNo], walk: &BlockWalk) -> ItemSet
         requires items { F.item_count f.now ≡ walk.now.blocks.item_count }
         requires search { IsSearch (F.item_count f.now) (F.members f.now) self.old }
-        requires set { IsIn walk.now.set (sets_of walk.now.blocks) }
+        requires set { IsIn walk.now.set (block_sets walk.now.blocks) }
         ensures open { (q : ℕ) → let r : Query = record { a = walk.now.set; q = q } in
             has result q ≡ (is_good (F.item_count f.now) r
             && is_open_by (F.item_count f.now) (F.members f.now) standing.now r) }
@@ -99,7 +100,7 @@ fn find_after<F: Inside>(
     requires walk { walk.blocks ≡ blocks }
     requires search { IsSearch (F.item_count f.now) (F.members f.now) search }
     ensures { let opens = is_open_by (F.item_count f.now) (F.members f.now) standing.now in
-        result ≡ find (λ s. block_before walk.set s.a && opens s) (queries_of blocks) }
+        result ≡ find (λ s. block_before walk.set s.a && opens s) (block_queries blocks) }
 {
     for _passed in 0..blocks.count() {
         if !walk.advance() {
@@ -120,7 +121,7 @@ impl Table {
     pub fn find_open<F: Inside>(&self, f: &F, blocks: Blocks, first: &Query) -> Option<Query>
         requires items { F.item_count f.now ≡ blocks.item_count }
         requires own { self.now.table.blocks.item_count ≡ blocks.item_count }
-        requires query { IsIn first.now (queries_of blocks) }
+        requires query { IsIn first.now (block_queries blocks) }
         ensures found { (i : Interview) → IsSound i → i.count ≡ blocks.item_count →
             i.block ≡ blocks.largest → F.members f.now ≡ compatible_sets i →
             self.now.table ≡ table_of self.now.table.blocks (compatible_sets i) (nos i.answers) →

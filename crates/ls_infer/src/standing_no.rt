@@ -1,16 +1,17 @@
 // What is kept of a standing answer that is No.
-ghost use Rattle.std.specs.Prelude.{◌≡◌, ◌+◌, ◌<◌, ◌≤◌, ◌==◌, ◌&&◌, ◌||◌, ℕ, List, true, false, not, map, filter};
+ghost use Rattle.std.specs.Prelude.{◌≡◌, ◌+◌, ◌<◌, ◌≤◌, ◌==◌, ◌&&◌, ◌||◌, ℕ};
+ghost use Rattle.std.specs.Prelude.{List, true, false, not, map, filter};
 ghost use Rattle.ls_set.specs.{IsWithin, Items, full, has, is_among, is_good};
 ghost use Rattle.ls_set.specs.declared.query.Query.{Query};
 ghost use Rattle.ls_theory.specs.{blocks, breaks, closure};
 ghost use Rattle.ls_theory.specs.declared.no.No.{No};
-ghost use Rattle.ls_infer.specs.Changes.{IsChange, can_grow, is_kept, is_reached, most_steps};
+ghost use Rattle.ls_infer.specs.Changes.{IsChange, can_change, can_grow, is_kept, most_steps_each};
 ghost use Rattle.ls_infer.specs.Tables.{enough_for, standing, forces, AreStates};
 ghost use Rattle.ls_infer.specs.declared.yes_change.YesChange.TheVariants as YesChange;
 
 use crate::breaking::breaks;
 use crate::enough::{enough_between, enough_for, is_state};
-use crate::reaching::reaching;
+use crate::entailing::items_entailing;
 use crate::witnesses::Witnesses;
 use crate::yes_change::YesChange;
 use ls_interior::{Interior, Steps, closure};
@@ -33,7 +34,7 @@ pub struct StandingNo {
 
 impl StandingNo {
     // What is kept of the answer with its closure and what is enough, in one step.
-    fn of<I: Interior, L: Ledger>(
+    fn from_enough<I: Interior, L: Ledger>(
         f: &I,
         no: No,
         closed: ItemSet,
@@ -61,13 +62,13 @@ impl StandingNo {
     {
         let closed = closure(f, answer.query.a, steps);
         let enough = enough_for(f, closed, answer.query.q, steps);
-        StandingNo::of(f, *answer, closed, enough, steps)
+        StandingNo::from_enough(f, *answer, closed, enough, steps)
     }
 
     // What is kept of the answer with its closure, where those of `known` are enough, in a step at
     // most for each item and one more. Where p is left with those that are known alone, no other
     // item is enough.
-    fn between<I: Interior, L: Ledger>(
+    fn from_known<I: Interior, L: Ledger>(
         f: &I,
         no: No,
         closed: ItemSet,
@@ -103,13 +104,13 @@ impl StandingNo {
             }
         }
         let enough = enough_between(f, closed, q, known, all, witnesses, steps);
-        StandingNo::of(f, no, closed, enough, steps)
+        StandingNo::from_enough(f, no, closed, enough, steps)
     }
 
     /// What is kept of the answer, in a step at most for each item and one more. Items whose
     /// closures, by those that are kept of the block sets, have p are enough without a step, and
     /// what is not enough is shared. So it mostly takes fewer steps than `new`, which takes all.
-    pub fn shared<I: Interior, L: Ledger>(
+    pub fn from_closures<I: Interior, L: Ledger>(
         f: &I,
         closures: &[ItemSet],
         answer: &No,
@@ -126,8 +127,8 @@ impl StandingNo {
     {
         let closed = closure(f, answer.query.a, steps);
         let all = ItemSet::full(f.items());
-        let known = reaching(closures, all, answer.query.q);
-        StandingNo::between(f, *answer, closed, known, witnesses, steps)
+        let known = items_entailing(closures, all, answer.query.q);
+        StandingNo::from_known(f, *answer, closed, known, witnesses, steps)
     }
 
     // What is kept of it with its closure, where what was enough stays so, but is no state.
@@ -168,11 +169,11 @@ impl StandingNo {
                 ..*self
             };
         }
-        StandingNo::of(f, self.no, closed, enough, steps)
+        StandingNo::from_enough(f, self.no, closed, enough, steps)
     }
 
-    // What is kept of it under a Yes to the good query `r` that comes. What was enough stays so, and
-    // where it was a state that does not break `r`, nothing more is.
+    // What is kept of it under a Yes to the good query `r` that comes. What was enough stays so,
+    // and where it was a state that does not break `r`, nothing more is.
     fn after_yes<I: Interior, L: Ledger>(
         &self,
         f: &I,
@@ -206,8 +207,8 @@ impl StandingNo {
             return StandingNo { closed, ..*self };
         }
         let all = ItemSet::full(f.items());
-        let known = reaching(closures, all, self.no.query.q).union(self.enough);
-        StandingNo::between(f, self.no, closed, known, witnesses, steps)
+        let known = items_entailing(closures, all, self.no.query.q).union(self.enough);
+        StandingNo::from_known(f, self.no, closed, known, witnesses, steps)
     }
 
     // Whether what is enough is a state without a Yes to `r` exactly where it is one with it.
@@ -247,12 +248,12 @@ impl StandingNo {
             self.closed
         };
         let q = self.no.query.q;
-        let known = reaching(closures, self.enough, q);
+        let known = items_entailing(closures, self.enough, q);
         let enough = enough_between(f, closed, q, known, self.enough, witnesses, steps);
         if self.keeps_state(r) && self.enough.is_within(enough) {
             return StandingNo { closed, ..*self };
         }
-        StandingNo::of(f, self.no, closed, enough, steps)
+        StandingNo::from_enough(f, self.no, closed, enough, steps)
     }
 
     // Whether more can be enough under a Yes to `r`.
@@ -269,9 +270,9 @@ impl StandingNo {
     }
 
     /// Whether a Yes to `r` that came or was taken back can change what is kept of it.
-    pub fn is_reached(&self, change: YesChange, r: &Query) -> bool
+    pub fn can_change(&self, change: YesChange, r: &Query) -> bool
         requires { r.now.q < PLACES }
-        ensures { result ≡ is_reached change r.now self.now }
+        ensures { result ≡ can_change change r.now self.now }
     {
         match change {
             YesChange::Added => {
@@ -302,7 +303,7 @@ impl StandingNo {
             × ((k : ℕ) → closures.now ≡ map (closure (full n) (I.members f.now)) (blocks n k) →
             result ≡ standing n (I.members f.now) self.now.no) }
         ensures kept { is_kept (I.item_count f.now) result ≡ true }
-        ensures cost { steps.new ≤ steps.old + most_steps change (I.item_count f.now) }
+        ensures cost { steps.new ≤ steps.old + most_steps_each change (I.item_count f.now) }
     {
         match change {
             YesChange::Added => self.after_yes(f, closures, r, witnesses, steps),

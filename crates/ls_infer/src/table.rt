@@ -1,11 +1,12 @@
 // Tables of closures.
-ghost use Rattle.std.specs.Prelude.{◌≡◌, ◌+◌, ◌*◌, ◌<◌, ◌≤◌, ◌==◌, ◌++◌, ◌∷◌, true, not, List, [], length, map, filter, count_by, OnOk, IfOk};
+ghost use Rattle.std.specs.Prelude.{◌≡◌, ◌+◌, ◌*◌, ◌<◌, ◌≤◌, ◌==◌, ◌++◌, ◌∷◌, true, not};
+ghost use Rattle.std.specs.Prelude.{List, [], length, map, filter, count_by, OnOk, IfOk};
 ghost use Rattle.std.specs.List.{list_all};
 ghost use Rattle.ls_set.specs.{Items, is_good, is_within};
 ghost use Rattle.ls_theory.specs.{breaks};
 ghost use Rattle.ls_laws.specs.Spans.{left_by};
 ghost use Rattle.ls_laws.specs.Families.{IsFamily};
-ghost use Rattle.ls_query.specs.Blocks.{sets_of};
+ghost use Rattle.ls_query.specs.Blocks.{block_sets};
 
 mod telling;
 
@@ -60,7 +61,7 @@ impl Model for Table {
 }
 
 impl Table {
-    ghost use Rattle.ls_infer.specs.Changes.{IsChange, most_steps};
+    ghost use Rattle.ls_infer.specs.Changes.{IsChange, most_steps_each};
     ghost use Rattle.ls_theory.specs.{BlockRange};
     ghost use Rattle.ls_infer.specs.Tables.{table_of, standing, AreStates, IsKeptFor};
 
@@ -78,7 +79,7 @@ impl Table {
         requires good { list_all (λ a. is_good (I.item_count f.now) a.query) answers.now ≡ true }
         ensures built { IfOk result (IsKeptFor blocks (I.members f.now) answers.now) }
         ensures cost { steps.new ≤ steps.old
-            + (length (sets_of blocks) + (I.item_count f.now + 1) * length answers.now) }
+            + (length (block_sets blocks) + (I.item_count f.now + 1) * length answers.now) }
     {
         let n = f.items();
         let mut witnesses = no_witnesses(alloc, n, answers.len())?;
@@ -123,7 +124,7 @@ impl Table {
             IsKeptFor b after nos self.new }
         ensures cost { steps.new ≤ steps.old
             + (count_by (λ c. is_within r.now.a c) self.old.table.closures
-            + most_steps change self.old.table.blocks.item_count
+            + most_steps_each change self.old.table.blocks.item_count
             * length self.old.table.standing) }
         ensures blocks { self.new.table.blocks ≡ self.old.table.blocks }
     {
@@ -242,7 +243,7 @@ impl Table {
         ensures cost { steps.new ≤ steps.old + (self.old.table.blocks.item_count + 1) }
     {
         renew(&mut self.witnesses, x.query.q);
-        let kept = StandingNo::shared(f, &self.closures, &x, &mut self.witnesses, steps);
+        let kept = StandingNo::from_closures(f, &self.closures, &x, &mut self.witnesses, steps);
         self.standing.push_reserved(kept);
     }
 

@@ -176,8 +176,8 @@ pub fn reserve_each(kept: &mut [Witnesses], nos: usize) -> Result<(), AllocError
     Ok(())
 }
 
-/// None yet for each of the first `n` items, with equal parts of the turns and the room that so many
-/// standing Nos are worth, unless memory runs out.
+/// None yet for each of the first `n` items, with equal parts of the turns and the room that so
+/// many standing Nos are worth, unless memory runs out.
 pub fn no_witnesses(alloc: Global, n: u32, nos: usize) -> Result<Vec<Witnesses>, AllocError>
     ensures { (f : List Items) → IfOk result (λ v. AreStates f v.items) }
 {

@@ -8,7 +8,7 @@ use Rattle.ls_laws.proofs.Closures.{has-closure, kept_is}
 use Rattle.ls_laws.proofs.Compat.{compat-IsUnionFamily, compat-in_order}
 use Rattle.ls_laws.proofs.Fit.{Fits, IsForcedYes, IsForcedNo, IsSettled, compat_fits, forced_yes, forced_no, left_fits}
 use Rattle.ls_laws.proofs.Settled.{only_compat}
-use Rattle.ls_laws.proofs.Search.{fits-from, fits-is, all_fitting, some_fitting, subsets-IsOn, IsOn-subsets}
+use Rattle.ls_laws.proofs.Search.{fits-from, fits-is, all_fitting, some_fitting, subsets-AreOn, AreOn-subsets}
 use Rattle.ls_laws.proofs.Least.{told-any}
 use Rattle.ls_laws.proofs.Only.{filter_only}
 use Rattle.ls_laws.proofs.Blocks.{some_in_blocks}
@@ -206,7 +206,7 @@ settles i some full_block settled =
     let only = only_compat n f ns g.0 order (compat_family i) g.1 (subst (λ block. IsSettled n block f ns) full_block (settled_is i settled)) in
     filter_only (fits n i.start yeses ns) (subsets n) (subsets_from-in_order 0 n) f (record {
       in_order = order;
-      part = subsets-IsOn n f (compat_family i).small;
+      part = subsets-AreOn n f (compat_family i).small;
       passes = fits-from n i.start yeses ns f ((only f).1 refl);
-      only = λ h k p e. (only h).0 (fits-is n i.start yeses ns h k (IsOn-subsets n h p) e);
+      only = λ h k p e. (only h).0 (fits-is n i.start yeses ns h k (AreOn-subsets n h p) e);
     })

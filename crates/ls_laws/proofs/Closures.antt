@@ -1,5 +1,5 @@
 -- Closures: what they tell of the queries, of what is left without the members that break one, and of the Nos.
-use Rattle.ls_laws.proofs.Vocabulary.{◌&&◌, ◌<◌, ◌||◌, ◌∙◌, ◌∷◌, ◌≡◌, ◌≢◌, Bool, Decides-is_same, IsOn, IsWithin, IsWithin-from, Items, List, Query, ℕ, [], among-here, among-there, and_from, and_parts, ap, ap₂, breaks, closure, empty, eq-eqb, eqb, eqb-true, false, false_from_ne_true, full, has, has-empty, has-full, has-meet, has-minus, has-with, interior, is_among, is_forced_by, is_forced_by_closures, is_same, is_within, is_within-from, left_by, list_any, lt-ltb, meet, minus, not, not-true, not_both_ways, not_from_false, or_left, or_right, outside, refl, same_set, same_truth, some_breaks, sym, true, true_from_ne_false, true≢false, union, with}
+use Rattle.ls_laws.proofs.Vocabulary.{◌&&◌, ◌<◌, ◌||◌, ◌∙◌, ◌∷◌, ◌≡◌, ◌≢◌, Bool, Decides-is_same, AreOn, IsWithin, IsWithin-from, Items, List, Query, ℕ, [], among-here, among-there, and_from, and_parts, ap, ap₂, breaks, closure, empty, eq-eqb, eqb, eqb-true, false, false_from_ne_true, full, has, has-empty, has-full, has-meet, has-minus, has-with, interior, is_among, is_forced_by, is_forced_by_closures, is_same, is_within, is_within-from, left_by, list_any, lt-ltb, meet, minus, not, not-true, not_both_ways, not_from_false, or_left, or_right, outside, refl, same_set, same_truth, some_breaks, sym, true, true_from_ne_false, true≢false, union, with}
 use Rattle.ls_laws.proofs.Interiors.{IsUnionFamily, filter-IsUnionFamily, has-interior, interior-is, IsInterior-interior}
 use Rattle.ls_laws.proofs.Breaks.{IsGood, Breaks-from, breaks-from, breaks-empty, unbroken-union, some_breaks-here, breaker, among-left_from, among-left_parts}
 
@@ -22,7 +22,7 @@ within-complement n k a small = same_truth (is_within k (minus (full n) a)) (is_
     has-minus (full n) a i ∙ and_from (has (full n) i) (not (has a i)) (small i h) (not_from_false (has a i) (sym (ap (λ b. b && has a i) h) ∙ none))))
 
 -- q is in the closure of A where no member breaks (A, q)
-pub has-closure : (n : ℕ) (f : List Items) (r : Query) → IsOn n f → r.q < n → has (closure (full n) f r.a) r.q ≡ not (some_breaks f r)
+pub has-closure : (n : ℕ) (f : List Items) (r : Query) → AreOn n f → r.q < n → has (closure (full n) f r.a) r.q ≡ not (some_breaks f r)
 has-closure n f r small l =
     has-minus (full n) (interior f (minus (full n) r.a)) r.q
     ∙ ap (λ b. b && not (has (interior f (minus (full n) r.a)) r.q)) (has-full n r.q ∙ lt-ltb r.q n l)

@@ -1,12 +1,12 @@
 -- Families, and their interiors: the union of the members within a set is the greatest of them.
-use Rattle.ls_laws.proofs.Vocabulary.{◌&&◌, ◌||◌, ◌∙◌, ◌∷◌, ◌≡◌, Bool, IsOn, IsPart, IsUnionClosed, IsWithin, IsWithin-from, Items, List, ℕ, [], among-filter, among-here, among-subsets, among-there, and_from, and_parts, ap, empty, empty-within, filter, full, has, has-empty, has-union, interior, is_among, is_space, is_union_closed, is_within, is_within-from, list_all, list_any, refl, same_set, same_truth, same_within, subsets, subst, sym, true, union, union-within, unions}
+use Rattle.ls_laws.proofs.Vocabulary.{◌&&◌, ◌||◌, ◌∙◌, ◌∷◌, ◌≡◌, Bool, AreOn, IsPart, IsUnionClosed, IsWithin, IsWithin-from, Items, List, ℕ, [], among-filter, among-here, among-subsets, among-there, and_from, and_parts, ap, empty, empty-within, filter, full, has, has-empty, has-union, interior, is_among, is_space, is_union_closed, is_within, is_within-from, list_all, list_any, refl, same_set, same_truth, same_within, subsets, subst, sym, true, union, union-within, unions}
 use Rattle.ls_laws.proofs.Lists.{every-among, every-from, some-among, some-from, some-filter}
 
 -- ---- families
 
 -- sets of items below n, with the empty set, and with any two members their union; the list needs no order
 pub record IsUnionFamily (n : ℕ) (f : List Items) : Type 0 where
-  pub small : IsOn n f
+  pub small : AreOn n f
   pub holds_empty : is_among f empty ≡ true
   pub holds_unions : IsUnionClosed f
 
@@ -31,7 +31,7 @@ space-from whole f h =
 pub space-to : (whole : Items) (f : List Items) → is_among f empty ≡ true → is_among f whole ≡ true → IsUnionClosed f → is_space whole f ≡ true
 space-to whole f e w u = and_from (is_among f empty && is_among f whole) (is_union_closed f) (and_from (is_among f empty) (is_among f whole) e w) (closed-to f u)
 
-pub family-from : (n : ℕ) (f : List Items) → IsOn n f → is_space (full n) f ≡ true → IsUnionFamily n f
+pub family-from : (n : ℕ) (f : List Items) → AreOn n f → is_space (full n) f ≡ true → IsUnionFamily n f
 family-from n f small h = let s = space-from (full n) f h in record { small = small; holds_empty = s.holds_empty; holds_unions = s.holds_unions }
 
 pub subsets-IsUnionFamily : (n : ℕ) → IsUnionFamily n (subsets n)

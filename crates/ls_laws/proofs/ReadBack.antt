@@ -1,5 +1,5 @@
 -- In a well-graded family a member is the greatest that has no item of its outer fringe, so its fringes tell it.
-use Rattle.ls_laws.proofs.Vocabulary.{◌&&◌, ◌∙◌, ◌≡◌, Bool, Decides-is_same, IsOn, IsWellGraded, Items, List, None, Some, ℕ, absorbed_last, and_from, and_parts, ap, arith, bound, cases_Bool, cases_lt, cond, eq-eqb, eqb, false, filter, filter-both, full, has, has-above, has-minus, has-with, inl, inner_fringe, inr, interior, is_among, is_same, items, le-leb, le-ltb, lt-ltb, members, minus, not, numbers_from, or_right, outer_fringe, refl, set_of, state_of, sym, true, true≢false, union, union-right, with, without, zero-add}
+use Rattle.ls_laws.proofs.Vocabulary.{◌&&◌, ◌∙◌, ◌≡◌, Bool, Decides-is_same, AreOn, IsWellGraded, Items, List, None, Some, ℕ, absorbed_last, and_from, and_parts, ap, arith, bound, cases_Bool, cases_lt, cond, eq-eqb, eqb, false, filter, filter-both, full, has, has-above, has-minus, has-with, inl, inner_fringe, inr, interior, is_among, is_same, items, le-leb, le-ltb, lt-ltb, members, minus, not, numbers_from, or_right, outer_fringe, refl, set_of, state_of, sym, true, true≢false, union, union-right, with, without, zero-add}
 use Rattle.ls_set.proofs.Cursors.{has-set_of-filter}
 use Rattle.ls_laws.proofs.Lists.{find-none, find-one}
 use Rattle.ls_laws.proofs.Interiors.{IsUnionFamily, IsInterior-interior, interior-is}
@@ -22,10 +22,10 @@ unfolding inner_fringe
 has-inner_fringe f k i = has-chosen (λ i. is_among f (without k i)) k i
 
 -- no member has an item past n
-with-small : (n : ℕ) (f : List Items) → IsOn n f → (k : Items) (i : ℕ) → is_among f (with k i) ≡ true → has (full n) i ≡ true
+with-small : (n : ℕ) (f : List Items) → AreOn n f → (k : Items) (i : ℕ) → is_among f (with k i) ≡ true → has (full n) i ≡ true
 with-small n f small k i c = small (with k i) c i (has-with k i i ∙ or_right (has k i) (eqb i i) (eq-eqb i i refl))
 
-pub has-outer_fringe : (n : ℕ) (f : List Items) → IsOn n f → (k : Items) (i : ℕ) → has (outer_fringe n f k) i ≡ (not (has k i) && is_among f (with k i))
+pub has-outer_fringe : (n : ℕ) (f : List Items) → AreOn n f → (k : Items) (i : ℕ) → has (outer_fringe n f k) i ≡ (not (has k i) && is_among f (with k i))
 unfolding outer_fringe
 has-outer_fringe n f small k i =
     has-chosen (λ i. is_among f (with k i)) (minus (full n) k) i

@@ -1,5 +1,5 @@
 -- The families on n items are the lists in order of sets of those items, and the search through them finds each that fits.
-use Rattle.ls_laws.proofs.Vocabulary.{◌&&◌, ◌||◌, ◌↔◌, ◌∙◌, ◌∷◌, ◌≡◌, ◌≢◌, All-append, All-kept, All-list_all, All-map, All-to, AllByRecursion, Bool, Each-among, IsInOrder, IsOn, IsPart, IsWithin-from, Items, List, Query, Start, ℕ, [], among-cases, among-here, among-subsets, among-there, and_from, and_parts, ap, comes_before, comes_before-asymmetric, compat, false, families, fits, fitting_spaces, full, inl, inr, is_among, is_compatible, is_space, is_within, is_within-from, list_all, list_all-All, list_all-append, list_all-filter, list_all-map, map, not, refl, some_breaks, sublists, subsets, subsets_from-in_order, subst, sym, true, true≢false}
+use Rattle.ls_laws.proofs.Vocabulary.{◌&&◌, ◌||◌, ◌↔◌, ◌∙◌, ◌∷◌, ◌≡◌, ◌≢◌, All-append, All-kept, All-list_all, All-map, All-to, AllByRecursion, Bool, Each-among, IsInOrder, AreOn, IsPart, IsWithin-from, Items, List, Query, Start, ℕ, [], among-cases, among-here, among-subsets, among-there, and_from, and_parts, ap, comes_before, comes_before-asymmetric, compat, false, families, fits, fitting_spaces, full, inl, inr, is_among, is_compatible, is_space, is_within, is_within-from, list_all, list_all-All, list_all-append, list_all-filter, list_all-map, map, not, refl, some_breaks, sublists, subsets, subsets_from-in_order, subst, sym, true, true≢false}
 use Rattle.ls_laws.proofs.Lists.{every-among, every-from, not_among, tail_part}
 use Rattle.ls_laws.proofs.Interiors.{space-from, space-to, family-from}
 use Rattle.ls_laws.proofs.Compat.{among-compat}
@@ -62,7 +62,7 @@ fits-from n start yeses nos f h =
     (every-from (is_compatible start yeses) f (λ k c. (and_parts (is_within k (full n)) (is_compatible start yeses k) (sym (among-compat n start yeses k) ∙ h.compatible k c)).1)))
     (All-list_all (some_breaks f) nos h.broken)
 
-pub fits-is : (n : ℕ) (start : Start) (yeses nos : List Query) (f : List Items) → IsInOrder f → IsOn n f → fits n start yeses nos f ≡ true → Fits n (compat n start yeses) nos f
+pub fits-is : (n : ℕ) (start : Start) (yeses nos : List Query) (f : List Items) → IsInOrder f → AreOn n f → fits n start yeses nos f ≡ true → Fits n (compat n start yeses) nos f
 fits-is n start yeses nos f o on h =
     let a = and_parts (is_space (full n) f && list_all (is_compatible start yeses) f) (list_all (some_breaks f) nos) h in
     let b = and_parts (is_space (full n) f) (list_all (is_compatible start yeses) f) a.0 in
@@ -75,18 +75,18 @@ fits-is n start yeses nos f o on h =
       broken = list_all-All (some_breaks f) nos a.1;
     }
 
-pub IsOn-subsets : (n : ℕ) (f : List Items) → IsPart f (subsets n) → IsOn n f
-IsOn-subsets n f part s c = IsWithin-from s (full n) (sym (among-subsets n s) ∙ part s c)
+pub AreOn-subsets : (n : ℕ) (f : List Items) → IsPart f (subsets n) → AreOn n f
+AreOn-subsets n f part s c = IsWithin-from s (full n) (sym (among-subsets n s) ∙ part s c)
 
-pub subsets-IsOn : (n : ℕ) (f : List Items) → IsOn n f → IsPart f (subsets n)
-subsets-IsOn n f on s c = among-subsets n s ∙ is_within-from s (full n) (on s c)
+pub subsets-AreOn : (n : ℕ) (f : List Items) → AreOn n f → IsPart f (subsets n)
+subsets-AreOn n f on s c = among-subsets n s ∙ is_within-from s (full n) (on s c)
 
 -- each of the fitting spaces fits
 pub all_fit : (n : ℕ) (start : Start) (yeses nos : List Query) → AllByRecursion (Fits n (compat n start yeses) nos) (fitting_spaces n start yeses nos)
 unfolding fitting_spaces families
 all_fit n start yeses nos = All-kept (Fits n (compat n start yeses) nos) (fits n start yeses nos) (sublists (subsets n))
     (sublists-each (λ f. fits n start yeses nos f ≡ true → Fits n (compat n start yeses) nos f) (subsets n) (subsets_from-in_order 0 n)
-    (λ f o part. fits-is n start yeses nos f o (IsOn-subsets n f part)))
+    (λ f o part. fits-is n start yeses nos f o (AreOn-subsets n f part)))
 
 -- what each of the fitting spaces passes, as a search and as a statement
 pub all_fitting : (p : List Items → Bool) (n : ℕ) (start : Start) (yeses nos : List Query)
@@ -95,7 +95,7 @@ unfolding fitting_spaces families
 all_fitting p n start yeses nos = (
   λ h f a.
       sym (ap (λ b. not b || p f) (fits-from n start yeses nos f a))
-      ∙ all_sublists-each (λ f. not (fits n start yeses nos f) || p f) (subsets n) (subsets_from-in_order 0 n) (sym (list_all-filter p (fits n start yeses nos) (sublists (subsets n))) ∙ h) f a.in_order (subsets-IsOn n f a.is_family.small),
+      ∙ all_sublists-each (λ f. not (fits n start yeses nos f) || p f) (subsets n) (subsets_from-in_order 0 n) (sym (list_all-filter p (fits n start yeses nos) (sublists (subsets n))) ∙ h) f a.in_order (subsets-AreOn n f a.is_family.small),
   All-to (Fits n (compat n start yeses) nos) p (fitting_spaces n start yeses nos) (all_fit n start yeses nos),
 )
 

@@ -1,5 +1,5 @@
 -- The base of a family, told by any list of its members that spans it.
-use Rattle.ls_laws.proofs.Vocabulary.{◌&&◌, ◌∙◌, ◌≡◌, Decides-is_same, IsInOrder, IsOn, IsPart, Items, List, Spans, ℕ, among-filter, among-subsets, and_from, and_parts, ap, base, cases_Bool, empty, empty-within, false_from_ne_true, filter, full, has, has-union, inl, inr, interior, is_among, is_proper, is_same, is_within, is_within-from, needed, not, not-true, not_from_false, or_cases, same_truth, same_within, spanned, subsets, subsets_from-in_order, subst, sym, true, true≢false, union, union-left, union-right}
+use Rattle.ls_laws.proofs.Vocabulary.{◌&&◌, ◌∙◌, ◌≡◌, Decides-is_same, IsInOrder, AreOn, IsPart, Items, List, Spans, ℕ, among-filter, among-subsets, and_from, and_parts, ap, base, cases_Bool, empty, empty-within, false_from_ne_true, filter, full, has, has-union, inl, inr, interior, is_among, is_proper, is_same, is_within, is_within-from, needed, not, not-true, not_from_false, or_cases, same_truth, same_within, spanned, subsets, subsets_from-in_order, subst, sym, true, true≢false, union, union-left, union-right}
 use Rattle.ls_laws.proofs.Lists.{IsInOrder-filter, same_members}
 use Rattle.ls_laws.proofs.Interiors.{IsUnionFamily, subsets-IsUnionFamily, filter-IsUnionFamily, from-interior, interior-whole, interior-member, interior-among}
 use Rattle.ls_laws.proofs.Atoms.{among-base, base-atom, base-member, base-spans, base-least, atom_within}
@@ -67,7 +67,7 @@ spanned-IsUnionFamily n g = filter-IsUnionFamily n (subsets n) (λ k. is_same (i
     (subsets-IsUnionFamily n)
 
 -- a set of the list is one of them
-pub spanned-has : (n : ℕ) (g : List Items) → IsOn n g → IsPart g (spanned n g)
+pub spanned-has : (n : ℕ) (g : List Items) → AreOn n g → IsPart g (spanned n g)
 spanned-has n g small k c =
     among-spanned n g k ∙ and_from (is_within k (full n)) (is_same (interior g k) k) (is_within-from k (full n) (small k c))
     ((Decides-is_same (interior g k) k).1 (interior-member g k c))
@@ -104,7 +104,7 @@ pub base-needed : (f g : List Items) → IsInOrder f → IsInOrder g → IsPart 
 base-needed f g a b part span = same_list (base f) (needed g) (base-in_order f a) (needed-in_order g b) (base-of f g part span)
 
 -- the base of what a list in order spans
-pub spanned-needed : (n : ℕ) (g : List Items) → IsInOrder g → IsOn n g → base (spanned n g) ≡ needed g
+pub spanned-needed : (n : ℕ) (g : List Items) → IsInOrder g → AreOn n g → base (spanned n g) ≡ needed g
 spanned-needed n g h small = base-needed (spanned n g) g (spanned-in_order n g) h (spanned-has n g small) (spanned-whole n g)
 
 -- what the base of a family spans is the family

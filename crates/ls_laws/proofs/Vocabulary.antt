@@ -29,6 +29,6 @@ pub use Rattle.ls_theory.specs.declared.answer.Answer.{Answer}
 pub use Rattle.ls_theory.specs.declared.no.No.{No}
 pub use Rattle.ls_laws.specs.Families.{IsFamily, IsUnionClosed}
 pub use Rattle.ls_laws.specs.Forced.{FitsAnswers, IsNumbered, IsSound, SomeFits, is_forced_by, is_forced_by_closures, known_by_closures}
-pub use Rattle.ls_laws.specs.Spans.{IsOn, IsPart, Spans, is_double, is_proper, joins, left_by, touches}
+pub use Rattle.ls_laws.specs.Spans.{AreOn, IsPart, Spans, is_double, is_proper, joins, left_by, touches}
 unfoldable pub use Rattle.ls_laws.specs.Spans.{after_yes, needed, spanned}
 pub use Rattle.ls_laws.specs.Walks.{IsWellGraded, LeadsTo}

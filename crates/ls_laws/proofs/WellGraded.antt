@@ -1,5 +1,5 @@
 -- The search for sequences finds those that there are, and atoms at two items are what it fails on.
-use Rattle.ls_laws.proofs.Vocabulary.{◌&&◌, ◌+◌, ◌<◌, ◌↔◌, ◌∙◌, ◌∷◌, ◌≡◌, ◌≢◌, ◌≤◌, Bool, Decides-is_same, IsOn, IsUnionClosed, IsWellGraded, Items, LeadsTo, List, ℕ, [], among-filter, and_from, and_parts, ap, arith, base, bound, bound-has, cases_Bool, cases_eq, cases_lt, differing, empty, eq-eqb, eqb, eqb-true, false_from_ne_true, filter, filter-both, full, has, inl, inr, is_among, is_atom_at, is_double, is_joined, is_learning_space, is_same, is_space, is_well_graded, is_within, items, len, length, list_all, list_any, lt-ltb, ltb, ltb-true, neighbours, not, not-true, not_from_false, numbers_from, refl, same_truth, subst, suc, sym, true, true≢false, zero}
+use Rattle.ls_laws.proofs.Vocabulary.{◌&&◌, ◌+◌, ◌<◌, ◌↔◌, ◌∙◌, ◌∷◌, ◌≡◌, ◌≢◌, ◌≤◌, Bool, Decides-is_same, AreOn, IsUnionClosed, IsWellGraded, Items, LeadsTo, List, ℕ, [], among-filter, and_from, and_parts, ap, arith, base, bound, bound-has, cases_Bool, cases_eq, cases_lt, differing, empty, eq-eqb, eqb, eqb-true, false_from_ne_true, filter, filter-both, full, has, inl, inr, is_among, is_atom_at, is_double, is_joined, is_learning_space, is_same, is_space, is_well_graded, is_within, items, len, length, list_all, list_any, lt-ltb, ltb, ltb-true, neighbours, not, not-true, not_from_false, numbers_from, refl, same_truth, subst, suc, sym, true, true≢false, zero}
 use Rattle.ls_laws.proofs.Lists.{every-among, every-from, some-among, some-from}
 use Rattle.ls_laws.proofs.Interiors.{IsUnionFamily, family-from}
 use Rattle.ls_laws.proofs.Climbs.{graded_by_atoms}
@@ -115,7 +115,7 @@ is_well_graded-atoms f e u =
     ])))
 
 -- a learning space of items below n
-pub learning-parts : (n : ℕ) (f : List Items) → IsOn n f → is_learning_space (full n) f ≡ true → IsUnionFamily n f × IsWellGraded f
+pub learning-parts : (n : ℕ) (f : List Items) → AreOn n f → is_learning_space (full n) f ≡ true → IsUnionFamily n f × IsWellGraded f
 learning-parts n f small h =
     let a = and_parts (is_space (full n) f) (is_well_graded f) h in
     (family-from n f small a.0, (is_well_graded-decides f).0 a.1)

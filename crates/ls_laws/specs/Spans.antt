@@ -1,12 +1,14 @@
 -- What a list of sets spans, and the sets that a base leaves after a Yes.
-use Rattle.std.specs.Prelude.{ℕ, ◌≡◌, Bool, true, not, ◌&&◌, nat_lt, List, [], ◌∷◌, ◌++◌, map, filter, length}
-use Rattle.ls_set.specs.{IsWithin, Items, empty, full, is_among, is_same, is_within, meet, subsets, union}
+use Rattle.std.specs.Prelude.{ℕ, ◌≡◌, Bool, true, not, ◌&&◌, nat_lt, List, [], ◌∷◌, ◌++◌}
+use Rattle.std.specs.Prelude.{map, filter, length}
+use Rattle.ls_set.specs.{IsWithin, Items, empty, full, is_among, is_same, is_within, meet}
+use Rattle.ls_set.specs.{subsets, union}
 use Rattle.ls_set.specs.declared.query.Query.{Query}
 use Rattle.ls_theory.specs.{atom_items, breaks, interior}
 
 -- each set of the list has items below n alone
-abbrev pub IsOn : ℕ → List Items → Type 0
-IsOn n f = (k : Items) → is_among f k ≡ true → IsWithin k (full n)
+abbrev pub AreOn : ℕ → List Items → Type 0
+AreOn n f = (k : Items) → is_among f k ≡ true → IsWithin k (full n)
 
 -- each set of the first list is in the second
 abbrev pub IsPart : List Items → List Items → Type 0
@@ -49,6 +51,7 @@ abbrev pub joins : List Items → List Items → List Items
 joins [] gs = []
 joins (k ∷ ks) gs = map (union k) gs ++ joins ks gs
 
--- the sets of b that do not break r, and each union of one that breaks it with one that has an item of its A
+-- the sets of b that do not break r, and each union of one that breaks it with one
+-- that has an item of its A
 unfoldable pub after_yes : List Items → Query → List Items
 after_yes b r = left_by r b ++ joins (filter (λ k. breaks k r) b) (filter (λ g. touches g r.a) b)

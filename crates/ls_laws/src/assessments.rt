@@ -1,5 +1,6 @@
 // Laws of weights, and of when an assessment is over.
-ghost use Rattle.std.specs.Prelude.{◌≡◌, ◌≢◌, ◌↔◌, ◌+◌, ◌*◌, ℕ, true, false, not, if◌then◌else◌, List, [], ◌∷◌, ◌++◌, filter, length, sum_by};
+ghost use Rattle.std.specs.Prelude.{◌≡◌, ◌≢◌, ◌↔◌, ◌+◌, ◌*◌, ℕ, true, false, not, if◌then◌else◌};
+ghost use Rattle.std.specs.Prelude.{List, [], ◌∷◌, ◌++◌, filter, length, sum_by};
 ghost use Rattle.ls_set.specs.{Items, has};
 ghost use Rattle.ls_theory.specs.declared.ratio.Ratios.{Ratios};
 ghost use Rattle.ls_theory.specs.declared.reply.Reply.{Reply};

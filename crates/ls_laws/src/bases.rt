@@ -2,9 +2,10 @@
 ghost use Rattle.std.specs.Prelude.{◌≡◌, ℕ, true, List, [], filter};
 ghost use Rattle.ls_set.specs.{IsInOrder, Items, full, is_among};
 ghost use Rattle.ls_set.specs.declared.query.Query.{Query};
-ghost use Rattle.ls_theory.specs.{Sets, base, breaks_none, compat, is_space, is_union_closed, unions};
+ghost use Rattle.ls_theory.specs.{Sets, base, breaks_none, compat, is_space, is_union_closed};
+ghost use Rattle.ls_theory.specs.{unions};
 ghost use Rattle.ls_laws.specs.Families.{IsFamily};
-ghost use Rattle.ls_laws.specs.Spans.{IsOn, IsPart, Spans, needed, spanned, left_by, after_yes};
+ghost use Rattle.ls_laws.specs.Spans.{AreOn, IsPart, Spans, needed, spanned, left_by, after_yes};
 
 /// Each member is the union of the base sets within it, no base set is a union of other members,
 /// and a list of members that spans them all has each base set.
@@ -30,11 +31,11 @@ pub fn base_of_spanning()
 /// list tells their base; what the base of a space spans is the space.
 pub fn spanned_by()
     ensures closed { (n : ℕ) (g : List Items) → is_union_closed (spanned n g) ≡ true }
-    ensures holds { (n : ℕ) (g : List Items) → IsOn n g → IsPart g (spanned n g) }
+    ensures holds { (n : ℕ) (g : List Items) → AreOn n g → IsPart g (spanned n g) }
     ensures whole { (n : ℕ) (g : List Items) → Spans g (spanned n g) }
-    ensures base { (n : ℕ) (g : List Items) → IsInOrder g → IsOn n g →
+    ensures base { (n : ℕ) (g : List Items) → IsInOrder g → AreOn n g →
         base (spanned n g) ≡ needed g }
-    ensures of_base { (n : ℕ) (f : List Items) → IsInOrder f → IsOn n f →
+    ensures of_base { (n : ℕ) (f : List Items) → IsInOrder f → AreOn n f →
         is_space (full n) f ≡ true →
         spanned n (base f) ≡ f }
 {}

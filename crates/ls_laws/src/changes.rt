@@ -2,8 +2,10 @@
 ghost use Rattle.std.specs.Prelude.{◌≡◌, ℕ, Bool, true, false, not, ◌&&◌, List, []};
 ghost use Rattle.ls_set.specs.{Items, full, has, is_good, is_within};
 ghost use Rattle.ls_set.specs.declared.query.Query.{Query};
-ghost use Rattle.ls_theory.specs.{Interview, Start, accepted, begun, closure, compat, compatible_sets, is_forced_no, is_forced_yes, is_space, retracted, spaces_of};
-ghost use Rattle.ls_laws.specs.Spans.{IsOn, IsPart, left_by};
+ghost use Rattle.ls_theory.specs.{Interview, Start, accepted, begun, closure, compat};
+ghost use Rattle.ls_theory.specs.{compatible_sets, is_forced_no, is_forced_yes, is_space};
+ghost use Rattle.ls_theory.specs.{retracted, spaces_of};
+ghost use Rattle.ls_laws.specs.Spans.{AreOn, IsPart, left_by};
 ghost use Rattle.ls_laws.specs.Forced.{IsSound, IsNumbered};
 
 /// A Yes leaves the compatible sets that do not break its query, and a No leaves them all. A
@@ -15,7 +17,7 @@ pub fn yes_cuts_compatible_sets()
         compatible_sets (accepted i r false) ≡ compatible_sets i }
     ensures retracted { (i : Interview) (number : ℕ) →
         IsPart (compatible_sets i) (compatible_sets (retracted i number)) }
-    ensures closure { (n : ℕ) (f : List Items) (r : Query) (b : Items) → IsOn n f →
+    ensures closure { (n : ℕ) (f : List Items) (r : Query) (b : Items) → AreOn n f →
         is_space (full n) f ≡ true →
         is_good n r ≡ true →
         (is_within r.a (closure (full n) f b) && not (has (closure (full n) f b) r.q)) ≡ false →

@@ -1,14 +1,18 @@
 // Laws of forced answers.
-ghost use Rattle.std.specs.Prelude.{◌≡◌, ◌<◌, ◌-◌, ◌↔◌, ℕ, true, false, not, ◌&&◌, ◌||◌, ◌==◌, nat_le, max, List, [], ◌∷◌, map, find, Some, None, option_map};
+ghost use Rattle.std.specs.Prelude.{◌≡◌, ◌<◌, ◌-◌, ◌↔◌, ℕ, true, false, not, ◌&&◌, ◌||◌, ◌==◌};
+ghost use Rattle.std.specs.Prelude.{nat_le, max, List, [], ◌∷◌, map, find, Some, None, option_map};
 ghost use Rattle.std.specs.List.{list_any, list_all};
 ghost use Rattle.std.specs.List.Sorted.{IsStrictlyIncreasing};
 ghost use Rattle.ls_set.specs.{Items, full, has, is_good};
 ghost use Rattle.ls_set.specs.declared.query.Query.{Query};
 ghost use Rattle.ls_theory.specs.declared.no.No.{No};
 ghost use Rattle.ls_theory.specs.declared.known.Known.TheVariants as Known;
-ghost use Rattle.ls_theory.specs.{Interview, by, closure, compatible_sets, is_forced_no, is_forced_yes, is_settled, is_space, known, next_question, no_queries, nos, some_breaks, spaces_of};
-ghost use Rattle.ls_laws.specs.Spans.{IsOn, left_by};
-ghost use Rattle.ls_laws.specs.Forced.{SomeFits, IsSound, IsNumbered, FitsAnswers, is_forced_by, is_forced_by_closures, known_by_closures};
+ghost use Rattle.ls_theory.specs.{Interview, by, closure, compatible_sets, is_forced_no};
+ghost use Rattle.ls_theory.specs.{is_forced_yes, is_settled, is_space, known, next_question};
+ghost use Rattle.ls_theory.specs.{no_queries, nos, some_breaks, spaces_of};
+ghost use Rattle.ls_laws.specs.Spans.{AreOn, left_by};
+ghost use Rattle.ls_laws.specs.Forced.{SomeFits, IsSound, IsNumbered, FitsAnswers, is_forced_by};
+ghost use Rattle.ls_laws.specs.Forced.{is_forced_by_closures, known_by_closures};
 
 /// The search through the families is over all spaces that fit: a query is forced Yes exactly where
 /// no family that fits has a member that breaks it, and forced No exactly where each has one.
@@ -26,10 +30,10 @@ pub fn search_is_over_all_spaces()
 /// space breaks a No, closures tell whether the members still break it that are left without those
 /// that break another query.
 pub fn closures_tell()
-    ensures of_query { (n : ℕ) (f : List Items) (r : Query) → IsOn n f → r.q < n →
+    ensures of_query { (n : ℕ) (f : List Items) (r : Query) → AreOn n f → r.q < n →
         has (closure (full n) f r.a) r.q ≡ not (some_breaks f r) }
-    ensures of_no { (n : ℕ) (f : List Items) (r s : Query) → IsOn n f → is_space (full n) f ≡ true →
-        is_good n r ≡ true → s.q < n → some_breaks f s ≡ true →
+    ensures of_no { (n : ℕ) (f : List Items) (r s : Query) → AreOn n f →
+        is_space (full n) f ≡ true → is_good n r ≡ true → s.q < n → some_breaks f s ≡ true →
         is_forced_by f r s ≡ is_forced_by_closures n f r s }
 {}
 

@@ -5,7 +5,8 @@ ghost use Rattle.ls_set.specs.{Items, is_among};
 ghost use Rattle.ls_theory.specs.declared.verdict.Verdict.TheVariants.{NotGraded, Learning};
 ghost use Rattle.ls_theory.specs.Families.{is_union_closed, is_space};
 ghost use Rattle.ls_theory.specs.Bases.{base, is_atom_at, atom_items};
-ghost use Rattle.ls_theory.specs.Verdict.{is_well_graded, is_learning_space, unclosed_pair, double_atom, verdict};
+ghost use Rattle.ls_theory.specs.Verdict.{is_well_graded, is_learning_space, unclosed_pair};
+ghost use Rattle.ls_theory.specs.Verdict.{double_atom, verdict};
 ghost use Rattle.ls_laws.specs.Spans.{is_double};
 ghost use Rattle.ls_laws.specs.Walks.{IsWellGraded};
 

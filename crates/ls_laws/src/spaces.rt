@@ -1,11 +1,13 @@
 // Laws of compatible sets and of projections: which are spaces.
 ghost use Rattle.std.specs.Prelude.{◌≡◌, ℕ, true, List, []};
 ghost use Rattle.std.specs.List.{list_all};
-ghost use Rattle.ls_set.specs.ItemSet.{Items, empty, full, meet, is_within, is_among, IsInOrder, IsWithin};
+ghost use Rattle.ls_set.specs.ItemSet.{Items, empty, full, meet, is_within, is_among};
+ghost use Rattle.ls_set.specs.ItemSet.{IsInOrder, IsWithin};
 ghost use Rattle.ls_set.specs.Query.{is_good};
 ghost use Rattle.ls_set.specs.declared.query.Query.{Query};
-ghost use Rattle.ls_theory.specs.{Free, Interview, Start, compat, compatible_sets, interior, is_space, is_union_closed, projection};
-ghost use Rattle.ls_laws.specs.Spans.{IsOn, left_by};
+ghost use Rattle.ls_theory.specs.{Free, Interview, Start, compat, compatible_sets, interior};
+ghost use Rattle.ls_theory.specs.{is_space, is_union_closed, projection};
+ghost use Rattle.ls_laws.specs.Spans.{AreOn, left_by};
 ghost use Rattle.ls_laws.specs.Forced.{SomeFits};
 
 /// The compatible sets of good queries are a space where the start is free, or its sets are a
@@ -14,7 +16,7 @@ ghost use Rattle.ls_laws.specs.Forced.{SomeFits};
 pub fn compatible_sets_are_a_space()
     ensures in_order { (n : ℕ) (start : Start) (yeses : List Query) →
         IsInOrder (compat n start yeses) }
-    ensures is_on { (n : ℕ) (start : Start) (yeses : List Query) → IsOn n (compat n start yeses) }
+    ensures is_on { (n : ℕ) (start : Start) (yeses : List Query) → AreOn n (compat n start yeses) }
     ensures closed { (n : ℕ) (start : Start) (yeses : List Query) →
         is_union_closed (compat n start yeses) ≡ true }
     ensures free { (n : ℕ) (yeses : List Query) → list_all (is_good n) yeses ≡ true →

@@ -2,11 +2,12 @@
 use Rattle.ls_lines.proofs.Vocabulary.{◌&&◌, ◌∙◌, ◌∷◌, ◌≡◌, Bool, Fixed, Form, IsLine, Keyword, Kind, List, Many, One, Part, Some, Text, ℕ, [], and_parts, ap, bytes_eq, cond, done, false, fixed, forms, no_more, none-some, one, one_more, parts, refl, same_Some, same_text, spelling, subst, suc, sym, true, zero}
 use Rattle.std.specs.List.{filter, list_all, slice_get}
 use Rattle.ls_lines.specs.declared.form.Form.TheVariants as form
-use Rattle.ls_lines.specs.declared.setting_form.SettingForm.TheVariants as setting
-use Rattle.ls_lines.specs.declared.interview_form.InterviewForm.TheVariants as interview
-use Rattle.ls_lines.specs.declared.listing_form.ListingForm.TheVariants as listing
-use Rattle.ls_lines.specs.declared.structure_form.StructureForm.TheVariants as structure
-use Rattle.ls_lines.specs.declared.pupil_form.PupilForm.TheVariants as pupil
+use Rattle.ls_lines.specs.declared.opening.OpeningForm.TheVariants as opening
+use Rattle.ls_lines.specs.declared.file.FileForm.TheVariants as file
+use Rattle.ls_lines.specs.declared.edit.EditForm.TheVariants as edit
+use Rattle.ls_lines.specs.declared.view.ViewForm.TheVariants as view
+use Rattle.ls_lines.specs.declared.setting.SettingForm.TheVariants as setting
+use Rattle.ls_lines.specs.declared.pupil.PupilForm.TheVariants as pupil
 
 -- whether the two may have a line in common: their fixed words agree as far as no `Many` stands before, and so do their lengths
 abbrev clash : List Part → List Part → Bool
@@ -49,11 +50,12 @@ shared ws g h = refl
 alone : (f : Form) → filter (λ g. clash (parts f) (parts g)) forms ≡ f ∷ []
 unfolding parts spelling forms
 alone form.Nothing = refl
-alone (form.Setting setting.Items) = refl
-alone (form.Interview interview.Blocks) = refl
-alone (form.Listing listing.States) = refl
-alone (form.Structure structure.Test) = refl
-alone (form.Pupil pupil.OddsAll) = refl
+alone (form.Opening opening.Items) = refl
+alone (form.File file.Test) = refl
+alone (form.Edit edit.Blocks) = refl
+alone (form.View view.States) = refl
+alone (form.Setting setting.OddsAll) = refl
+alone (form.Pupil pupil.Pupil) = refl
 alone f = refl
 
 -- what a filter keeps has a place in the list, and of a list of which it keeps one thing no other passes

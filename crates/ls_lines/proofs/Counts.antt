@@ -1,11 +1,12 @@
 -- The count of a command that is read is at most 65536.
 use Rattle.ls_lines.proofs.Vocabulary.{◌∷◌, ◌≡◌, ◌≤◌, Command, Form, List, None, Some, Text, ℕ, [], arith, command, command_of, cons_option, count_of, cut, filter_map, forms, most_counted, none-some, option_map, parts, same_Some, slice_get, subst, sym}
 use Rattle.ls_lines.specs.declared.form.Form.TheVariants as form
-use Rattle.ls_lines.specs.declared.setting_form.SettingForm.TheVariants as setting
-use Rattle.ls_lines.specs.declared.interview_form.InterviewForm.TheVariants as interview
-use Rattle.ls_lines.specs.declared.listing_form.ListingForm.TheVariants as listing
-use Rattle.ls_lines.specs.declared.structure_form.StructureForm.TheVariants as structure
-use Rattle.ls_lines.specs.declared.pupil_form.PupilForm.TheVariants as pupil
+use Rattle.ls_lines.specs.declared.opening.OpeningForm.TheVariants as opening
+use Rattle.ls_lines.specs.declared.file.FileForm.TheVariants as file
+use Rattle.ls_lines.specs.declared.edit.EditForm.TheVariants as edit
+use Rattle.ls_lines.specs.declared.view.ViewForm.TheVariants as view
+use Rattle.ls_lines.specs.declared.setting.SettingForm.TheVariants as setting
+use Rattle.ls_lines.specs.declared.pupil.PupilForm.TheVariants as pupil
 use Rattle.ls_lines.proofs.Numbers.{number-within}
 
 -- the command that is read is the command of some form
@@ -25,11 +26,12 @@ made_by_form ws c h = made ws forms c h
 form_count-within : (f : Form) (given : List (List Text)) (n : ℕ) → count_of (command f given) ≡ Some n → n ≤ most_counted
 unfolding command
 form_count-within form.Nothing given n h = absurd (none-some n h)
-form_count-within (form.Setting setting.Items) given n h = absurd (none-some n h)
-form_count-within (form.Interview interview.Blocks) given n h = absurd (none-some n h)
-form_count-within (form.Listing listing.Base) given n h = absurd (none-some n h)
-form_count-within (form.Structure structure.Test) given n h = absurd (none-some n h)
-form_count-within (form.Pupil pupil.OddsAll) given n h = absurd (none-some n h)
+form_count-within (form.Opening opening.Items) given n h = absurd (none-some n h)
+form_count-within (form.File file.Test) given n h = absurd (none-some n h)
+form_count-within (form.Edit edit.Blocks) given n h = absurd (none-some n h)
+form_count-within (form.View view.Base) given n h = absurd (none-some n h)
+form_count-within (form.Setting setting.OddsAll) given n h = absurd (none-some n h)
+form_count-within (form.Pupil pupil.Pupil) given n h = absurd (none-some n h)
 form_count-within f given n h = grind (arith, number-within)
 
 pub count-within : (ws : List Text) (c : Command) (n : ℕ) → command_of ws ≡ Some c → count_of c ≡ Some n → n ≤ most_counted

@@ -1,7 +1,8 @@
 -- A printed command is read back.
-use Rattle.ls_lines.proofs.Vocabulary.{◌∙◌, ◌∷◌, ◌≡◌, Bool, Command, Filling, Fixed, List, Many, None, Number, One, Part, Right, Some, Text, Word, Words, ℕ, [], all_stand, and_parts, ap, arith, bytes_eq, codes, command, command_of, decimal, false, form_of, forms, greatest_number, if◌then◌else◌, is_of, is_plain, is_some, laid_out, leb-true, list_all, map, most_counted, nat_le, nat_list_eq_equiv, never, number_up_to, operands, parts, refl, spelled, spelling, stands_at, true, words, words_joined, words_of}
+use Rattle.ls_lines.proofs.Vocabulary.{◌∙◌, ◌∷◌, ◌≡◌, Bool, Command, Filling, Fixed, Form, List, Many, None, Number, One, Part, Right, Some, Text, Word, Words, ℕ, [], all_stand, and_parts, ap, arith, bytes_eq, codes, command, command_of, decimal, false, forms, greatest_number, if◌then◌else◌, is_of, is_plain, is_some, laid_out, leb-true, list_all, map, most_counted, nat_le, nat_list_eq_equiv, never, number_up_to, parts, refl, spelled, spelled_as, spelling, stands_at, true, words, words_joined, words_of}
 use Rattle.ls_lines.specs.declared.kind.Kind.TheVariants as kind
 use Rattle.ls_lines.specs.declared.command.Command.TheVariants as commands
+use Rattle.ls_lines.specs.declared.view.ViewCommand.TheVariants as views
 use Rattle.ls_lines.proofs.Numbers.{number_up_to-of_decimal}
 use Rattle.ls_lines.proofs.Rewords.{begins, words-line}
 use Rattle.ls_lines.proofs.Recut.{fits_at, all_fit, flat, recut, words-fit}
@@ -51,7 +52,13 @@ fits-all (Fixed v ∷ ps) fs h = rw (nat_list_eq_equiv.refl (spelling v)) (fits-
 fits-all (part ∷ ps) [] h = never h
 fits-all (part ∷ ps) (f ∷ fs) h = let p = and_parts (stands_at part f) (all_stand ps fs) h in rw (fits-one part f p.0) (fits-all ps fs p.1)
 
--- the words of a command at the parts of its form
+-- the form of a command, what stands at its parts that are no fixed words, and its words at each part
+abbrev form_of : Command → Form
+form_of c = (spelled_as c).0
+
+abbrev operands : Command → List Filling
+operands c = (spelled_as c).1
+
 abbrev given_of : Command → List (List Text)
 given_of c = laid_out (parts (form_of c)) (map words_of (operands c))
 
@@ -60,11 +67,11 @@ unfolding is_plain
 fitted c h = fits-all (parts (form_of c)) (operands c) h
 
 rebuilt : (c : Command) → is_plain c ≡ true → command (form_of c) (given_of c) ≡ c
-unfolding is_plain form_of operands parts laid_out command
+unfolding is_plain spelled_as parts laid_out command
 rebuilt commands.Nothing h = refl
-rebuilt (commands.States count None) h = grind (arith, and_parts, count-read)
-rebuilt (commands.Project count None names) h = grind (arith, and_parts, count-read)
-rebuilt (commands.Paths count None) h = grind (arith, and_parts, count-read)
+rebuilt (commands.View (views.States count None)) h = grind (arith, and_parts, count-read)
+rebuilt (commands.View (views.Project count None names)) h = grind (arith, and_parts, count-read)
+rebuilt (commands.View (views.Paths count None)) h = grind (arith, and_parts, count-read)
 rebuilt c h = grind (arith, and_parts, count-read, number-read, right-read)
 
 -- each form but that of nothing begins with a word of its own, which makes no note of the line

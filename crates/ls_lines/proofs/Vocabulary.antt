@@ -21,7 +21,7 @@ pub use Rattle.std.specs.Str.{IsAscii}
 pub use Rattle.ls_lists.proofs.Bools.{never}
 pub use Rattle.ls_lines.specs.Commands.{begins_command, count_of, fits, front, least_from}
 unfoldable pub use Rattle.ls_lines.specs.Commands.{command_of, cut, fault_place, is_begun}
-unfoldable pub use Rattle.ls_lines.specs.Forms.{command, forms, parts, spelling}
+unfoldable pub use Rattle.ls_lines.specs.Forms.{command, forms, parts, spelled_as, spelling}
 pub use Rattle.ls_lines.specs.Grammar.{Completes, IsLine, done, fixed, no_more, one, one_more}
 pub use Rattle.ls_lines.specs.Kinds.{greatest_number, is_cursor_byte, is_from_to, is_name_byte, is_name_up_to, longest_file_name, longest_name, most_counted}
 unfoldable pub use Rattle.ls_lines.specs.Kinds.{is_of}
@@ -30,7 +30,7 @@ unfoldable pub use Rattle.ls_lines.specs.Lines.{lines, words}
 pub use Rattle.ls_lines.specs.Numbers.{is_decimal, is_digit, number_up_to}
 pub use Rattle.ls_lines.specs.Operands.{Filling, Number, Right, Word, Words, filling, shown, with_spaces, words_of}
 pub use Rattle.ls_lines.specs.Printing.{all_stand, stands_at, words_joined}
-unfoldable pub use Rattle.ls_lines.specs.Printing.{form_of, is_plain, laid_out, operands, spelled}
+unfoldable pub use Rattle.ls_lines.specs.Printing.{is_plain, laid_out, spelled}
 pub use Rattle.ls_lines.specs.Reading.{forms_from, initial, may_begin}
 unfoldable pub use Rattle.ls_lines.specs.Reading.{begun_length}
 pub use Rattle.ls_lines.specs.declared.command.Command.{Command}

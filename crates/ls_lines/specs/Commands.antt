@@ -1,5 +1,7 @@
 -- Reading the words of a line as a command, and the place of a fault: both by the table of forms.
-use Rattle.std.specs.Prelude.{ℕ, zero, suc, Bool, true, false, not, if◌then◌else◌, List, [], ◌∷◌, length, take, drop, filter_map, slice_get, bytes_eq, Option, Some, None, option_map}
+use Rattle.std.specs.Prelude.{ℕ, zero, suc, Bool, true, false, not, if◌then◌else◌, bytes_eq}
+use Rattle.std.specs.Prelude.{List, [], ◌∷◌, length, take, drop, filter_map, slice_get}
+use Rattle.std.specs.Prelude.{Option, Some, None, option_map}
 use Rattle.std.specs.List.{list_any, prefix_len}
 use Rattle.std.specs.Option.{option_map_or, option_and_then}
 use Rattle.ls_lines.specs.Lines.{Text}
@@ -8,7 +10,8 @@ use Rattle.ls_lines.specs.Forms.{spelling, parts, command, forms}
 use Rattle.ls_lines.specs.declared.part.Part.{Part}
 use Rattle.ls_lines.specs.declared.part.Part.TheVariants.{Fixed, One, Many}
 use Rattle.ls_lines.specs.declared.command.Command.{Command}
-use Rattle.ls_lines.specs.declared.command.Command.TheVariants.{States, Project, Paths}
+use Rattle.ls_lines.specs.declared.command.Command.TheVariants.{View}
+use Rattle.ls_lines.specs.declared.view.ViewCommand.TheVariants.{States, Project, Paths}
 
 -- whether the word can stand at the part
 abbrev pub fits : Part → Text → Bool
@@ -26,7 +29,9 @@ front part (w ∷ ws) = if fits part w then Some 1 else None
 unfoldable pub cut : List Part → List Text → Option (List (List Text))
 cut [] [] = Some []
 cut [] (w ∷ ws) = None
-cut (part ∷ ps) ws = option_and_then (λ m. option_map (λ given. take m ws ∷ given) (cut ps (drop m ws))) (front part ws)
+cut (part ∷ ps) ws =
+    option_and_then (λ m. option_map (λ given. take m ws ∷ given) (cut ps (drop m ws)))
+    (front part ws)
 
 -- whether some line of the form begins with the words
 unfoldable pub is_begun : List Part → List Text → Bool
@@ -40,9 +45,9 @@ command_of ws = slice_get (filter_map (λ f. option_map (command f) (cut (parts 
 
 -- the count of the command, where it has one
 abbrev pub count_of : Command → Option ℕ
-count_of (States count after) = Some count
-count_of (Project count after names) = Some count
-count_of (Paths count after) = Some count
+count_of (View (States count after)) = Some count
+count_of (View (Project count after names)) = Some count
+count_of (View (Paths count after)) = Some count
 count_of c = None
 
 -- whether some command begins with the words

@@ -1,17 +1,21 @@
 -- The kinds of words that a command takes.
-use Rattle.std.specs.Prelude.{ℕ, Bool, not, ◌&&◌, ◌||◌, ◌==◌, nat_lt, nat_le, length, slice_index, is_some, bytes_eq, codes}
+use Rattle.std.specs.Prelude.{ℕ, Bool, not, ◌&&◌, ◌||◌, ◌==◌, nat_lt, nat_le, is_some}
+use Rattle.std.specs.Prelude.{length, slice_index, bytes_eq, codes}
 use Rattle.std.specs.List.{list_all}
 use Rattle.ls_lines.specs.Lines.{Text}
 use Rattle.ls_lines.specs.Numbers.{number_up_to}
 use Rattle.ls_lines.specs.declared.kind.Kind.{Kind}
-use Rattle.ls_lines.specs.declared.kind.Kind.TheVariants.{Name, Item, File, Count, Number, Cursor, Right}
+use Rattle.ls_lines.specs.declared.kind.Kind.TheVariants.{Name, Item, File, Count, Number}
+use Rattle.ls_lines.specs.declared.kind.Kind.TheVariants.{Cursor, Right}
 
 abbrev pub is_from_to : ℕ → ℕ → ℕ → Bool
 is_from_to low high b = nat_le low b && nat_le b high
 
 -- a letter, a digit, `_`, `-` or `.`
 abbrev pub is_name_byte : ℕ → Bool
-is_name_byte b = is_from_to 65 90 b || is_from_to 97 122 b || is_from_to 48 57 b || b == 95 || b == 45 || b == 46
+is_name_byte b =
+    is_from_to 65 90 b || is_from_to 97 122 b || is_from_to 48 57 b
+    || b == 95 || b == 45 || b == 46
 
 -- from one to the given number of such bytes
 abbrev pub is_name_up_to : ℕ → Text → Bool

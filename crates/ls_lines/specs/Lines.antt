@@ -1,13 +1,15 @@
--- The lines of a script and the words of a line. Bytes are numbers: 9 is a tab, 10 a line feed, 13 a carriage return,
--- 32 a space, 35 `#`, 44 a comma, 58 a colon and 124 a bar.
-use Rattle.std.specs.Prelude.{ℕ, ◌-◌, Bool, ◌||◌, ◌==◌, nat_lt, if◌then◌else◌, List, [], ◌∷◌, length, take, filter, slice_index, flat_map}
+-- The lines of a script and the words of a line. Bytes are numbers: 9 is a tab, 10 a line feed,
+-- 13 a carriage return, 32 a space, 35 `#`, 44 a comma, 58 a colon and 124 a bar.
+use Rattle.std.specs.Prelude.{ℕ, ◌-◌, Bool, ◌||◌, ◌==◌, nat_lt, if◌then◌else◌}
+use Rattle.std.specs.Prelude.{List, [], ◌∷◌, length, take, filter, slice_index, flat_map}
 use Rattle.std.specs.List.{slice_split, prefix_len}
 
 -- a text of a script, as its bytes
 abbrev pub Text : Type 0
 Text = List ℕ
 
--- the lines: what stands between line feeds (what follows the last one is a line too; where it is empty it has no reply)
+-- the lines: what stands between line feeds (what follows the last one is a line too; where it is
+-- empty it has no reply)
 unfoldable pub lines : List ℕ → List (List ℕ)
 lines script = slice_split (λ b. b == 10) script
 
@@ -20,7 +22,8 @@ is_long line = nat_lt longest_line (length line)
 
 -- the line without the one carriage return at its end, if it has one
 abbrev pub without_return : List ℕ → List ℕ
-without_return line = if slice_index line (length line - 1) == 13 then take (length line - 1) line else line
+without_return line =
+    if slice_index line (length line - 1) == 13 then take (length line - 1) line else line
 
 abbrev pub is_blank : ℕ → Bool
 is_blank b = b == 32 || b == 9

@@ -4,7 +4,8 @@ use Rattle.ls_lines.specs.Lines.{Text}
 use Rattle.ls_lines.specs.declared.operand.Operand.{Operand}
 use Rattle.ls_lines.specs.declared.operand.Operand.TheVariants as held
 
--- what a command has at a part of its form that is no fixed word: a word, words, a number, or whether a reply is right
+-- what a command has at a part of its form that is no fixed word: a word, words, a number, or
+-- whether a reply is right
 pub data Filling : Type 0 where
   Word : Text → Filling
   Words : List Text → Filling

@@ -1,5 +1,6 @@
 -- What is read of a line in one pass over its words.
-use Rattle.std.specs.Prelude.{ℕ, ◌+◌, Bool, true, false, ◌==◌, List, [], ◌∷◌, drop, filter, slice_index, slice_index_or}
+use Rattle.std.specs.Prelude.{ℕ, ◌+◌, Bool, true, false, ◌==◌}
+use Rattle.std.specs.Prelude.{List, [], ◌∷◌, drop, filter, slice_index, slice_index_or}
 use Rattle.std.specs.Option.{option_map_or}
 use Rattle.ls_lines.specs.Lines.{Text}
 use Rattle.ls_lines.specs.Forms.{spelling, parts, forms}

@@ -1,125 +1,59 @@
 // Commands.
+ghost use Rattle.std.specs.Prelude.{◌≡◌, map};
+ghost use Rattle.ls_lines.specs.Forms.{spelled_as};
+ghost use Rattle.ls_lines.specs.Operands.{filling};
 
-use crate::{Word, WordList};
+use crate::operand::{Operands, spell};
+use crate::{
+    EditCommand, FileCommand, Form, OpeningCommand, PupilCommand, SettingCommand, ViewCommand,
+};
 
-/// A command with its words.
+/// A command with its words, by its topic.
 #[derive(Drop)]
 pub enum Command {
     /// An empty line or a note.
     Nothing,
-    Items {
-        names: WordList,
-    },
-    LoadItems {
-        file: Word,
-    },
-    StartSurmise {
-        file: Word,
-    },
-    StartBase {
-        file: Word,
-    },
-    Blocks {
-        size: u32,
-    },
-    Yes {
-        names: WordList,
-        item: Word,
-    },
-    No {
-        names: WordList,
-        item: Word,
-    },
-    Retract {
-        number: u64,
-    },
-    Known {
-        names: WordList,
-        item: Word,
-    },
-    Ask,
-    /// A page of at most `count` states: the first ones, or those after a cursor.
-    States {
-        count: u32,
-        after: Option<Word>,
-    },
-    Base,
-    Surmise,
-    Learning,
-    /// A page of at most `count` states of the projection on the named items.
-    Project {
-        count: u32,
-        after: Option<Word>,
-        names: WordList,
-    },
-    ProjectBase {
-        names: WordList,
-    },
-    Test {
-        file: Word,
-    },
-    Fringes {
-        names: WordList,
-    },
-    StateOf {
-        inner: WordList,
-        outer: WordList,
-    },
-    /// A page of at most `count` learning paths: the first ones, or those after a path.
-    Paths {
-        count: u32,
-        after: Option<WordList>,
-    },
-    OddsAll {
-        right: u64,
-        wrong: u64,
-    },
-    OddsItem {
-        item: Word,
-        right: u64,
-        wrong: u64,
-    },
-    RatioAll {
-        right_a: u64,
-        right_b: u64,
-        wrong_a: u64,
-        wrong_b: u64,
-    },
-    RatioItem {
-        item: Word,
-        right_a: u64,
-        right_b: u64,
-        wrong_a: u64,
-        wrong_b: u64,
-    },
-    Limits {
-        budget: u64,
-        share: u64,
-    },
-    Pupil {
-        name: Word,
-    },
-    Question {
-        name: Word,
-    },
-    Reply {
-        name: Word,
-        item: Word,
-        right: bool,
-    },
-    Report {
-        name: Word,
-    },
-    Close {
-        name: Word,
-    },
-    Class {
-        file: Word,
-    },
-    Save {
-        file: Word,
-    },
-    Reopen {
-        file: Word,
-    },
+    Opening(OpeningCommand),
+    File(FileCommand),
+    Edit(EditCommand),
+    View(ViewCommand),
+    Setting(SettingCommand),
+    Pupil(PupilCommand),
+}
+
+impl Command {
+    // The form by which the command is printed, and what stands at those of its parts that are no
+    // fixed words.
+    #[tactic(auto, unfolding(crate::specs::Forms::spelled_as))]
+    pub(crate) fn spelled_as(&self) -> (Form, Operands<'_>)
+        ensures { (result.0, map filling result.1.items) ≡ spelled_as self.now }
+    {
+        match self {
+            Command::Nothing => spell(Form::Nothing, &[]),
+            Command::Opening(command) => {
+                let (form, operands) = command.spelled_as();
+                (Form::Opening(form), operands)
+            }
+            Command::File(command) => {
+                let (form, operands) = command.spelled_as();
+                (Form::File(form), operands)
+            }
+            Command::Edit(command) => {
+                let (form, operands) = command.spelled_as();
+                (Form::Edit(form), operands)
+            }
+            Command::View(command) => {
+                let (form, operands) = command.spelled_as();
+                (Form::View(form), operands)
+            }
+            Command::Setting(command) => {
+                let (form, operands) = command.spelled_as();
+                (Form::Setting(form), operands)
+            }
+            Command::Pupil(command) => {
+                let (form, operands) = command.spelled_as();
+                (Form::Pupil(form), operands)
+            }
+        }
+    }
 }

@@ -1,5 +1,7 @@
 // Cutting a stream into lines.
-ghost use Rattle.std.specs.Prelude.{◌≡◌, ◌<◌, ◌≤◌, ◌+◌, ◌^◌, ℕ, List, [], ◌∷◌, ◌++◌, ◌==◌, length, position, IfOk, IfSome, IfNone, MatchOption, take};
+ghost use Rattle.std.specs.Prelude.{◌≡◌, ◌<◌, ◌≤◌, ◌+◌, ◌^◌, ◌==◌, ℕ};
+ghost use Rattle.std.specs.Prelude.{IfOk, IfSome, IfNone, MatchOption};
+ghost use Rattle.std.specs.Prelude.{List, [], ◌∷◌, ◌++◌, length, position, take};
 ghost use Rattle.ls_lines.specs.Lines.{lines};
 ghost use Rattle.ls_lines.specs.Cutting.{Holds, IsTaken, Ends, ahead};
 
@@ -24,10 +26,10 @@ pub struct Cutter {
 
 impl Model for Cutter {
     ghost use Rattle.std.specs.Prelude.{[], if◌then◌else◌};
-    ghost use Rattle.ls_lines.specs.Cutting.{Cut};
+    ghost use Rattle.ls_lines.specs.Cutting.{CutterState};
     ghost use Rattle.ls_lines.specs.CutterParts.{IsKept};
 
-    ghost Value = { Cut };
+    ghost Value = { CutterState };
 
     ghost view = { λ c. record {
       pending = if c.is_ended then [] else c.bytes.items;

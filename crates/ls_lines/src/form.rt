@@ -4,61 +4,20 @@ ghost use Rattle.ls_lines.specs.Reading.{forms_from};
 ghost use Rattle.std.specs.Str.{IsAscii};
 
 use crate::cut::Cut;
-use crate::{Command, InterviewForm, ListingForm, Part, PupilForm, SettingForm, StructureForm};
+use crate::{Command, EditForm, FileForm, OpeningForm, Part, PupilForm, SettingForm, ViewForm};
 use std::alloc::AllocError;
 
-/// The forms.
+/// The forms of commands, by their topics.
 #[derive(Clone, Copy, PartialEq, Eq)]
 pub enum Form {
     Nothing,
+    Opening(OpeningForm),
+    File(FileForm),
+    Edit(EditForm),
+    View(ViewForm),
     Setting(SettingForm),
-    Interview(InterviewForm),
-    Listing(ListingForm),
-    Structure(StructureForm),
     Pupil(PupilForm),
 }
-
-/// All forms.
-pub const FORMS: [Form; 38] = [
-    Form::Nothing,
-    Form::Setting(SettingForm::Items),
-    Form::Setting(SettingForm::LoadItems),
-    Form::Setting(SettingForm::StartSurmise),
-    Form::Setting(SettingForm::StartBase),
-    Form::Setting(SettingForm::Save),
-    Form::Setting(SettingForm::Reopen),
-    Form::Interview(InterviewForm::Blocks),
-    Form::Interview(InterviewForm::Yes),
-    Form::Interview(InterviewForm::No),
-    Form::Interview(InterviewForm::Retract),
-    Form::Interview(InterviewForm::Known),
-    Form::Interview(InterviewForm::Ask),
-    Form::Listing(ListingForm::States),
-    Form::Listing(ListingForm::StatesUpTo),
-    Form::Listing(ListingForm::StatesAfter),
-    Form::Listing(ListingForm::Base),
-    Form::Listing(ListingForm::Surmise),
-    Form::Listing(ListingForm::Learning),
-    Form::Listing(ListingForm::Project),
-    Form::Listing(ListingForm::ProjectAfter),
-    Form::Listing(ListingForm::ProjectBase),
-    Form::Structure(StructureForm::Test),
-    Form::Structure(StructureForm::Fringes),
-    Form::Structure(StructureForm::StateOf),
-    Form::Structure(StructureForm::Paths),
-    Form::Structure(StructureForm::PathsAfter),
-    Form::Pupil(PupilForm::OddsAll),
-    Form::Pupil(PupilForm::OddsItem),
-    Form::Pupil(PupilForm::RatioAll),
-    Form::Pupil(PupilForm::RatioItem),
-    Form::Pupil(PupilForm::Limits),
-    Form::Pupil(PupilForm::Pupil),
-    Form::Pupil(PupilForm::Question),
-    Form::Pupil(PupilForm::Reply),
-    Form::Pupil(PupilForm::Report),
-    Form::Pupil(PupilForm::Close),
-    Form::Pupil(PupilForm::Class),
-];
 
 impl Form {
     ghost use Rattle.ls_lines.specs.Forms.{parts, command};
@@ -70,10 +29,11 @@ impl Form {
     {
         match self {
             Form::Nothing => &[],
+            Form::Opening(form) => form.parts(),
+            Form::File(form) => form.parts(),
+            Form::Edit(form) => form.parts(),
+            Form::View(form) => form.parts(),
             Form::Setting(form) => form.parts(),
-            Form::Interview(form) => form.parts(),
-            Form::Listing(form) => form.parts(),
-            Form::Structure(form) => form.parts(),
             Form::Pupil(form) => form.parts(),
         }
     }
@@ -84,14 +44,15 @@ impl Form {
         requires { All (λ ws. All IsAscii ws) cut.now }
         ensures { IfOk result (λ c. c ≡ command self cut.now) }
     {
-        match self {
-            Form::Nothing => Ok(Command::Nothing),
-            Form::Setting(form) => form.command(cut),
-            Form::Interview(form) => form.command(cut),
-            Form::Listing(form) => form.command(cut),
-            Form::Structure(form) => form.command(cut),
-            Form::Pupil(form) => form.command(cut),
-        }
+        Ok(match self {
+            Form::Nothing => Command::Nothing,
+            Form::Opening(form) => Command::Opening(form.command(cut)?),
+            Form::File(form) => Command::File(form.command(cut)?),
+            Form::Edit(form) => Command::Edit(form.command(cut)?),
+            Form::View(form) => Command::View(form.command(cut)?),
+            Form::Setting(form) => Command::Setting(form.command(cut)?),
+            Form::Pupil(form) => Command::Pupil(form.command(cut)?),
+        })
     }
 
     // The forms of the lines that may begin with a word of this first byte.
@@ -100,54 +61,51 @@ impl Form {
         ensures { result.now ≡ forms_from byte }
     {
         match byte {
-            b'a' => &[Form::Interview(InterviewForm::Ask)],
-            b'b' => &[
-                Form::Interview(InterviewForm::Blocks),
-                Form::Listing(ListingForm::Base),
-            ],
-            b'c' => &[Form::Pupil(PupilForm::Close), Form::Pupil(PupilForm::Class)],
-            b'f' => &[Form::Structure(StructureForm::Fringes)],
-            b'i' => &[Form::Setting(SettingForm::Items)],
-            b'k' => &[Form::Interview(InterviewForm::Known)],
+            b'a' => &[Form::View(ViewForm::Ask)],
+            b'b' => &[Form::Edit(EditForm::Blocks), Form::View(ViewForm::Base)],
+            b'c' => &[Form::File(FileForm::Class), Form::Pupil(PupilForm::Close)],
+            b'f' => &[Form::View(ViewForm::Fringes)],
+            b'i' => &[Form::Opening(OpeningForm::Items)],
+            b'k' => &[Form::View(ViewForm::Known)],
             b'l' => &[
-                Form::Setting(SettingForm::LoadItems),
-                Form::Listing(ListingForm::Learning),
-                Form::Pupil(PupilForm::Limits),
+                Form::Opening(OpeningForm::LoadItems),
+                Form::View(ViewForm::Learning),
+                Form::Setting(SettingForm::Limits),
             ],
-            b'n' => &[Form::Interview(InterviewForm::No)],
+            b'n' => &[Form::Edit(EditForm::No)],
             b'o' => &[
-                Form::Setting(SettingForm::Reopen),
-                Form::Pupil(PupilForm::OddsAll),
-                Form::Pupil(PupilForm::OddsItem),
+                Form::Opening(OpeningForm::Reopen),
+                Form::Setting(SettingForm::OddsAll),
+                Form::Setting(SettingForm::OddsItem),
             ],
             b'p' => &[
-                Form::Listing(ListingForm::Project),
-                Form::Listing(ListingForm::ProjectAfter),
-                Form::Listing(ListingForm::ProjectBase),
-                Form::Structure(StructureForm::Paths),
-                Form::Structure(StructureForm::PathsAfter),
+                Form::View(ViewForm::Project),
+                Form::View(ViewForm::ProjectAfter),
+                Form::View(ViewForm::ProjectBase),
+                Form::View(ViewForm::Paths),
+                Form::View(ViewForm::PathsAfter),
                 Form::Pupil(PupilForm::Pupil),
             ],
             b'q' => &[Form::Pupil(PupilForm::Question)],
             b'r' => &[
-                Form::Interview(InterviewForm::Retract),
-                Form::Pupil(PupilForm::RatioAll),
-                Form::Pupil(PupilForm::RatioItem),
+                Form::Edit(EditForm::Retract),
+                Form::Setting(SettingForm::RatioAll),
+                Form::Setting(SettingForm::RatioItem),
                 Form::Pupil(PupilForm::Reply),
                 Form::Pupil(PupilForm::Report),
             ],
             b's' => &[
-                Form::Setting(SettingForm::StartSurmise),
-                Form::Setting(SettingForm::StartBase),
-                Form::Setting(SettingForm::Save),
-                Form::Listing(ListingForm::States),
-                Form::Listing(ListingForm::StatesUpTo),
-                Form::Listing(ListingForm::StatesAfter),
-                Form::Listing(ListingForm::Surmise),
-                Form::Structure(StructureForm::StateOf),
+                Form::File(FileForm::StartSurmise),
+                Form::File(FileForm::StartBase),
+                Form::File(FileForm::Save),
+                Form::View(ViewForm::States),
+                Form::View(ViewForm::StatesUpTo),
+                Form::View(ViewForm::StatesAfter),
+                Form::View(ViewForm::Surmise),
+                Form::View(ViewForm::StateOf),
             ],
-            b't' => &[Form::Structure(StructureForm::Test)],
-            b'y' => &[Form::Interview(InterviewForm::Yes)],
+            b't' => &[Form::File(FileForm::Test)],
+            b'y' => &[Form::Edit(EditForm::Yes)],
             _ => &[],
         }
     }

@@ -1,6 +1,7 @@
 // The kinds of words.
 ghost use Rattle.std.specs.Prelude.{◌≡◌};
-ghost use Rattle.ls_lines.specs.Kinds.{is_name_up_to, is_name_byte, is_file, is_cursor, is_cursor_byte};
+ghost use Rattle.ls_lines.specs.Kinds.{is_name_up_to, is_name_byte, is_file};
+ghost use Rattle.ls_lines.specs.Kinds.{is_cursor, is_cursor_byte};
 
 use crate::number::number_up_to;
 

@@ -1,18 +1,41 @@
 // What stands at a part of a form.
-ghost use Rattle.std.specs.Prelude.{◌≡◌, ◌++◌, ◌∷◌, [], OnOk};
+ghost use Rattle.std.specs.Prelude.{◌≡◌, ◌≤◌, ◌++◌, ◌∷◌, [], OnOk, length};
 ghost use Rattle.ls_lines.specs.Operands.{shown, with_spaces};
 
 use crate::{Word, WordList};
+use arrayvec::ArrayVec;
 use std::alloc::{AllocError, Global};
 
 // What a command has at a part of its form that is no fixed word.
-#[derive(Drop)]
+#[derive(Clone, Copy)]
 pub(crate) enum Operand<'a> {
     One(&'a Word),
     Many(&'a WordList),
     Count(u32),
     Number(u64),
     Right(bool),
+}
+
+// The most parts of a form that are no fixed words.
+const MOST_OPERANDS: usize = 5;
+
+// What a command has at those parts, in order. It takes no memory.
+pub(crate) type Operands<'a> = ArrayVec<Operand<'a>, MOST_OPERANDS>;
+
+// What an array has at the places that are free.
+impl Default for Operand<'_> {
+    fn default() -> Self {
+        Operand::Right(false)
+    }
+}
+
+// The form with the operands, which are put into an array.
+pub(crate) fn spell<'a, F>(form: F, operands: &[Operand<'a>]) -> (F, Operands<'a>)
+    requires { length operands.now ≤ MOST_OPERANDS }
+    ensures form { result.0 ≡ form }
+    ensures operands { result.1.items ≡ operands.now }
+{
+    (form, ArrayVec::try_from(operands).unwrap())
 }
 
 impl<'a> Operand<'a> {

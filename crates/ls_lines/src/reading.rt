@@ -1,5 +1,6 @@
 // Reading a line by the table of forms.
-ghost use Rattle.std.specs.Prelude.{◌≡◌, ◌<◌, ◌≤◌, ◌+◌, ℕ, true, [], All, IfOk, IfSome, IsErrOf, None, Some, length, take};
+ghost use Rattle.std.specs.Prelude.{◌≡◌, ◌<◌, ◌≤◌, ◌+◌, ℕ, true, None, Some, IfOk, IfSome, IsErrOf};
+ghost use Rattle.std.specs.Prelude.{[], All, length, take};
 ghost use Rattle.std.specs.Str.{IsAscii};
 ghost use Rattle.ls_lines.specs.Lines.{words, runs, is_note, without_return, longest_line};
 ghost use Rattle.ls_lines.specs.Commands.{fits, front, command_of, fault_place};

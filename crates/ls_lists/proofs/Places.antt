@@ -1,5 +1,5 @@
 -- What stands at a place of a list, and the first place whose element passes.
-use Rattle.ls_lists.proofs.Vocabulary.{◌++◌, ◌+◌, ◌-◌, ◌<◌, ◌∙◌, ◌∷◌, ◌≡◌, ◌≤◌, Bool, List, None, Option, Some, ℕ, [], add-one, ap, ap₂, arith, cases_Bool, cases_lt, cond, drop, drop-append-le, drop-map, drop_all, drop_more, false, get_or, inl, inr, is_some, le-ltb, length, length-append, length-drop, list_any, lt-ltb, ltb, map, map-append, map_push, moved, option_map, position, position_or_len, refl, remove, slice_get, slice_get-map, slice_range, suc, sym, take, take-append-le, take-map, true, true≢false, zero}
+use Rattle.ls_lists.proofs.Vocabulary.{◌++◌, ◌+◌, ◌-◌, ◌<◌, ◌∙◌, ◌∷◌, ◌≡◌, ◌≤◌, Bool, List, None, Option, Some, ℕ, [], add-one, ap, ap₂, arith, cases_Bool, cases_lt, cond, drop, drop-append-le, drop-map, drop_all, drop_more, false, get_or, inl, inr, is_some, le-ltb, length, length-append, length-drop, list_any, lt-ltb, ltb, map, map-append, map_push, shifted, option_map, position, position_or_len, refl, remove, slice_get, slice_get-map, slice_range, suc, sym, take, take-append-le, take-map, true, true≢false, zero}
 use Rattle.std.proofs.lemmas.Bool.Decides.{nat_tests}
 use Rattle.std.proofs.Math.Seq.{take-length, drop-append_seam, take-append_seam}
 use Rattle.ls_lists.proofs.Options.{is_some-mapped}
@@ -115,25 +115,25 @@ first_within p (x ∷ xs) e = grind (arith, first_within p xs)
 
 -- ---- the place in the whole list
 
-pub moved-zero : (o : Option ℕ) → o ≡ moved 0 o
-unfolding moved
+pub moved-zero : (o : Option ℕ) → o ≡ shifted 0 o
+unfolding shifted
 moved-zero None = refl
 moved-zero (Some i) = ap Some (omega arith)
 
-pub moved-one : (n : ℕ) (o : Option ℕ) → moved n (option_map (λ i. 1 + i) o) ≡ moved (n + 1) o
-unfolding moved
+pub moved-one : (n : ℕ) (o : Option ℕ) → shifted n (option_map (λ i. 1 + i) o) ≡ shifted (n + 1) o
+unfolding shifted
 moved-one n None = refl
 moved-one n (Some i) = ap Some (omega arith)
 
 module _ {X : Type 0} (p : X → Bool) (xs : List X) where
-  pub moved-here : (n : ℕ) (d : X) → n < length xs → p (get_or xs n d) ≡ true → moved n (position p (drop n xs)) ≡ Some n
-  unfolding moved
-  moved-here n d lt e = ap (λ l. moved n (position p l)) (drop_more xs n d lt) ∙ ap (moved n) (position-here p (get_or xs n d) (drop (n + 1) xs) e) ∙ ap Some (omega arith)
+  pub moved-here : (n : ℕ) (d : X) → n < length xs → p (get_or xs n d) ≡ true → shifted n (position p (drop n xs)) ≡ Some n
+  unfolding shifted
+  moved-here n d lt e = ap (λ l. shifted n (position p l)) (drop_more xs n d lt) ∙ ap (shifted n) (position-here p (get_or xs n d) (drop (n + 1) xs) e) ∙ ap Some (omega arith)
 
-  pub moved-next : (n : ℕ) (d : X) → n < length xs → p (get_or xs n d) ≡ false → moved n (position p (drop n xs)) ≡ moved (n + 1) (position p (drop (n + 1) xs))
+  pub moved-next : (n : ℕ) (d : X) → n < length xs → p (get_or xs n d) ≡ false → shifted n (position p (drop n xs)) ≡ shifted (n + 1) (position p (drop (n + 1) xs))
   moved-next n d lt e =
-      ap (λ l. moved n (position p l)) (drop_more xs n d lt) ∙ ap (moved n) (position-later p (get_or xs n d) (drop (n + 1) xs) e) ∙ moved-one n (position p (drop (n + 1) xs))
+      ap (λ l. shifted n (position p l)) (drop_more xs n d lt) ∙ ap (shifted n) (position-later p (get_or xs n d) (drop (n + 1) xs) e) ∙ moved-one n (position p (drop (n + 1) xs))
 
-  pub moved-none : (n : ℕ) → length xs ≤ n → moved n (position p (drop n xs)) ≡ None
-  unfolding moved
-  moved-none n le = ap (λ l. moved n (position p l)) (drop_all n xs le) ∙ refl
+  pub moved-none : (n : ℕ) → length xs ≤ n → shifted n (position p (drop n xs)) ≡ None
+  unfolding shifted
+  moved-none n le = ap (λ l. shifted n (position p l)) (drop_all n xs le) ∙ refl

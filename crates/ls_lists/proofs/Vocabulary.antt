@@ -7,4 +7,4 @@ pub use Rattle.std.proofs.lemmas.List.Sums.{sum_by-cons, sum_by_more}
 pub use Rattle.std.proofs.lemmas.Option.{none-some, same_Some, slice_get-map}
 pub use Rattle.std.specs.List.{AllByRecursion, flat_map, join_with_byte, list_all, list_any, position, position_or_len}
 pub use Rattle.ls_lists.specs.Lists.{IsIn, IsRising, IsSorted, gap, images, spaced}
-unfoldable pub use Rattle.ls_lists.specs.Lists.{moved}
+unfoldable pub use Rattle.ls_lists.specs.Lists.{shifted}

@@ -1,5 +1,6 @@
 -- Words for lists: their elements, their order, and how they are joined and written over.
-use Rattle.std.specs.Prelude.{◌≡◌, ◌⊎◌, ℕ, ◌+◌, ◌<◌, Bool, true, List, [], ◌∷◌, ◌++◌, map, take, drop, Option, Some, None}
+use Rattle.std.specs.Prelude.{◌≡◌, ◌⊎◌, ℕ, ◌+◌, ◌<◌, Bool, true, List, [], ◌∷◌, ◌++◌}
+use Rattle.std.specs.Prelude.{map, take, drop, Option, Some, None}
 use Rattle.std.specs.List.{AllByRecursion, flat_map}
 
 -- x is an element of the list
@@ -31,6 +32,6 @@ abbrev pub images : {X Y : Type 0} → (X → Y) → (X → Y) → List X → �
 images g h xs i = map g (take i xs) ++ map h (drop i xs)
 
 -- where the place that was found in what follows the first n elements stands in the whole list
-unfoldable pub moved : ℕ → Option ℕ → Option ℕ
-moved n None = None
-moved n (Some i) = Some (n + i)
+unfoldable pub shifted : ℕ → Option ℕ → Option ℕ
+shifted n None = None
+shifted n (Some i) = Some (n + i)

@@ -1,8 +1,9 @@
 -- Orders of all items, and the zeros behind a list in an array.
-use Rattle.ls_paths.proofs.Vocabulary.{◌++◌, ◌-◌, ◌<◌, ◌∙◌, ◌∷◌, ◌≡◌, ◌≤◌, Bool, Decides-is_same, IsWithin, Items, List, None, Some, ℕ, [], and_from, ap, arith, drop, drop-replicate, empty, eq-eqb, eqb, eqb-true, false, false_from_ne_true, filter, find, first-long, first_growth, full, has, has-full, is_order, is_same, length, length-append, length-drop, length-replicate, length-take-le, lt-ltb, ltb, ltb-true, not, order-parts, reached, reached-all, refl, replicate, set_of, slice_get, slice_get-filter, subst, sym, take, true, true≢false}
+use Rattle.ls_paths.proofs.Vocabulary.{◌++◌, ◌-◌, ◌<◌, ◌∙◌, ◌∷◌, ◌≡◌, ◌≤◌, Bool, Decides-is_same, IsWithin, Items, List, None, Some, ℕ, [], and_from, ap, arith, drop, drop-replicate, empty, eq-eqb, eqb, eqb-true, false, false_from_ne_true, filter, find, first_growth, full, has, has-full, is_order, is_same, length, length-append, length-drop, length-replicate, length-take-le, lt-ltb, ltb, ltb-true, not, grown_to, refl, replicate, set_of, slice_get, slice_get-filter, subst, sym, take, true, true≢false}
 use Rattle.std.specs.List.{All}
 use Rattle.std.proofs.lemmas.List.Elements.{All-from_get_or}
 use Rattle.std.proofs.lemmas.Slice.{drop-append-drop}
+use Rattle.ls_paths.proofs.Levels.{first-long, order-parts, reached-all}
 use Rattle.ls_paths.proofs.Written.{place-small}
 
 -- ---- zeros behind a list
@@ -26,7 +27,7 @@ grown-length most k n f s ys e l =
 
 -- ---- orders of all items
 
-pub order-within : (n : ℕ) (order : List ℕ) → is_order n order ≡ true → IsWithin (reached empty order) (full n)
+pub order-within : (n : ℕ) (order : List ℕ) → is_order n order ≡ true → IsWithin (grown_to empty order) (full n)
 order-within n order h i a = subst (λ (s : Items). has s i ≡ true) (reached-all order ∙ (order-parts n order h).all) a
 
 pub order-small : (n most : ℕ) (order : List ℕ) → n ≤ most → is_order n order ≡ true → IsWithin (set_of order) (full most)

@@ -1,5 +1,8 @@
 -- What a walk has left, once the next growth is looked for.
-use Rattle.ls_paths.proofs.Vocabulary.{◌∙◌, ◌≡◌, Bool, IsLearning, Items, List, MatchBool, None, Some, ℕ, after-next, after-none, ap, empty, false, filter, is_lex_before, is_whole, leaves_below, length, next-is_whole, next-whole, next_growth, paths, paths-in_order, paths-next, paths_left, sym, true, true≢false, whole-parts}
+use Rattle.ls_paths.proofs.Vocabulary.{◌∙◌, ◌≡◌, Bool, Items, List, MatchBool, None, Some, ℕ, ap, empty, false, filter, is_lex_before, is_whole, leaves_below, length, next_growth, paths, paths_left, sym, true, true≢false}
+use Rattle.ls_paths.proofs.Growths.{IsLearning}
+use Rattle.ls_paths.proofs.Levels.{next-is_whole, next-whole, whole-parts}
+use Rattle.ls_paths.proofs.PathOrder.{after-next, after-none, paths-in_order, paths-next}
 
 -- what a walk is after a search for the next growth after an order
 pub record Follows (n : ℕ) (f : List Items) (found : Bool) (order new : List ℕ) : Type 0 where

@@ -1,7 +1,9 @@
 -- Steps of a walk: a list that is written from a place on, and the sets that its items give.
-use Rattle.ls_paths.proofs.Vocabulary.{◌&&◌, ◌++◌, ◌+◌, ◌-◌, ◌<◌, ◌∙◌, ◌∷◌, ◌≡◌, ◌≤◌, Bool, IsWithin, Items, List, None, Option, Some, ℕ, [], and_from, and_parts, ap, append-nil, append_assoc, ap₂, arith, drop, drop_all, empty, eqb-true, false, first_growth, first_next, found-passes, fresh-at, full, get_or, grown-next, has, has-full, has-with, inl, inr, is_among, is_fresh, is_grown, is_next, leaves-found, leaves-passed, leaves_below, length, length-drop, length-set, length-take-le, lt-ltb, ltb-true, members, minus, next-above, next-broken, next-small, next-whole, next_after, next_growth, next_item, not, not_from_false, or_cases, reached, reached-has, reached-next, refl, same_set, set, subst, suc, sym, take, take_all, take_more_set, taken-back, true, with, without, without-within, zero}
+use Rattle.ls_paths.proofs.Vocabulary.{◌&&◌, ◌++◌, ◌+◌, ◌-◌, ◌<◌, ◌∙◌, ◌∷◌, ◌≡◌, ◌≤◌, Bool, IsWithin, Items, List, None, Option, Some, ℕ, [], and_from, and_parts, ap, append-nil, append_assoc, ap₂, arith, drop, drop_all, empty, eqb-true, false, first_growth, first_next, found-passes, full, get_or, has, has-full, has-with, inl, inr, is_among, is_fresh, is_grown, is_next, leaves_below, length, length-drop, length-set, length-take-le, lt-ltb, ltb-true, members, minus, next_item_after, next_growth, next_item, not, not_from_false, or_cases, grown_to, refl, same_set, set, subst, suc, sym, take, take_all, take_more_set, true, with, without, without-within, zero}
 use Rattle.std.proofs.lemmas.Bool.Decides.{nat_tests}
 use borrow.Rule.Slice.PartMut.{put_mid}
+use Rattle.ls_paths.proofs.Added.{next-above, next-small}
+use Rattle.ls_paths.proofs.Levels.{fresh-at, grown-next, leaves-found, leaves-passed, next-broken, next-whole, reached-has, reached-next, taken-back}
 
 -- ---- sets of items below n
 
@@ -41,22 +43,22 @@ without-small n k i small j h = small j (without-within k i j h)
 has-more : (k : Items) (o i : ℕ) → has k i ≡ true → has (with k o) i ≡ true
 has-more k o i h = has-with k o i ∙ rw h refl
 
-reached-more : (k : Items) (order : List ℕ) (i : ℕ) → has k i ≡ true → has (reached k order) i ≡ true
+reached-more : (k : Items) (order : List ℕ) (i : ℕ) → has k i ≡ true → has (grown_to k order) i ≡ true
 reached-more k [] i h = h
 reached-more k (o ∷ os) i h = reached-more (with k o) os i (has-more k o i h)
 
 -- the first items of a list give a part of what all give
-pub reached-part : (k : Items) (order : List ℕ) (j : ℕ) → IsWithin (reached k (take j order)) (reached k order)
+pub reached-part : (k : Items) (order : List ℕ) (j : ℕ) → IsWithin (grown_to k (take j order)) (grown_to k order)
 reached-part k [] zero i h = h
 reached-part k [] (suc j) i h = h
 reached-part k (o ∷ os) zero i h = reached-more k (o ∷ os) i h
 reached-part k (o ∷ os) (suc j) i h = reached-part (with k o) os j i h
 
-pub part-small : (n : ℕ) (order : List ℕ) (j : ℕ) → IsWithin (reached empty order) (full n) → IsWithin (reached empty (take j order)) (full n)
+pub part-small : (n : ℕ) (order : List ℕ) (j : ℕ) → IsWithin (grown_to empty order) (full n) → IsWithin (grown_to empty (take j order)) (full n)
 part-small n order j small i h = small i (reached-part empty order j i h)
 
-pub place-small : (n : ℕ) (order : List ℕ) (j : ℕ) → IsWithin (reached empty order) (full n) → j < length order → get_or order j 0 < n
-place-small n order j small l = item-small n (reached empty (take (j + 1) order)) (get_or order j 0) (part-small n order (j + 1) small) (reached-has empty order j l)
+pub place-small : (n : ℕ) (order : List ℕ) (j : ℕ) → IsWithin (grown_to empty order) (full n) → j < length order → get_or order j 0 < n
+place-small n order j small l = item-small n (grown_to empty (take (j + 1) order)) (get_or order j 0) (part-small n order (j + 1) small) (reached-has empty order j l)
 
 -- ---- a list that is written
 
@@ -80,12 +82,12 @@ written order j next ys post l e =
 
 -- ---- where the next growth leaves a list
 
--- one more item is reached
-pub level-more : (order : List ℕ) (j : ℕ) (k w : Items) → j < length order → k ≡ reached empty (take j order) → w ≡ with k (get_or order j 0) → w ≡ reached empty (take (j + 1) order)
+-- one more item is grown_to
+pub level-more : (order : List ℕ) (j : ℕ) (k w : Items) → j < length order → k ≡ grown_to empty (take j order) → w ≡ with k (get_or order j 0) → w ≡ grown_to empty (take (j + 1) order)
 level-more order j k w l e ww = ww ∙ ap (λ s. with s (get_or order j 0)) e ∙ sym (reached-next empty order j l)
 
 -- all its items could be added so far, and the next cannot
-pub level-found : (n : ℕ) (f : List Items) (order : List ℕ) (j : ℕ) (k : Items) → j < length order → is_grown f empty (take j order) ≡ true → k ≡ reached empty (take j order) → is_among f (with k (get_or order j 0)) ≡ false → next_growth n f order empty ≡ leaves_below n f empty order (j + 1)
+pub level-found : (n : ℕ) (f : List Items) (order : List ℕ) (j : ℕ) (k : Items) → j < length order → is_grown f empty (take j order) ≡ true → k ≡ grown_to empty (take j order) → is_among f (with k (get_or order j 0)) ≡ false → next_growth n f order empty ≡ leaves_below n f empty order (j + 1)
 level-found n f order j k l h e out =
     let next : next_growth n f order empty ≡ leaves_below n f empty order (suc j) = next-broken n f empty order j l h (ap (λ s. is_next f s (get_or order j 0)) (sym e) ∙ closed (not (has k (get_or order j 0))) (is_among f (with k (get_or order j 0))) out) in
     next ∙ ap (leaves_below n f empty order) (let q : suc j ≡ j + 1 = omega arith in q)
@@ -94,7 +96,7 @@ level-found n f order j k l h e out =
     closed true b h = h
     closed false b h = refl
 
-pub level-passed : (f : List Items) (order : List ℕ) (j : ℕ) (k : Items) → j < length order → is_fresh empty order ≡ true → is_grown f empty (take j order) ≡ true → k ≡ reached empty (take j order) → is_among f (with k (get_or order j 0)) ≡ true → is_grown f empty (take (j + 1) order) ≡ true
+pub level-passed : (f : List Items) (order : List ℕ) (j : ℕ) (k : Items) → j < length order → is_fresh empty order ≡ true → is_grown f empty (take j order) ≡ true → k ≡ grown_to empty (take j order) → is_among f (with k (get_or order j 0)) ≡ true → is_grown f empty (take (j + 1) order) ≡ true
 level-passed f order j k l fresh h e in_f =
     let o = get_or order j 0 in
     grown-next f empty order j l h (ap (λ s. is_next f s o) (sym e) ∙ and_from (not (has k o)) (is_among f (with k o)) (not_from_false (has k o) (ap (λ s. has s o) e ∙ fresh-at empty order j fresh l)) in_f)
@@ -103,32 +105,32 @@ pub level-end : (n : ℕ) (f : List Items) (order : List ℕ) (j : ℕ) → leng
 level-end n f order j l h = next-whole n f empty order (ap (is_grown f empty) (sym (take_all j order l)) ∙ h)
 
 -- what can be added gives a member
-pub next-member : (n : ℕ) (f : List Items) (k : Items) (o i : ℕ) → next_after n f k o ≡ Some i → is_among f (with k i) ≡ true
+pub next-member : (n : ℕ) (f : List Items) (k : Items) (o i : ℕ) → next_item_after n f k o ≡ Some i → is_among f (with k i) ≡ true
 next-member n f k o i e = (and_parts (not (has k i)) (is_among f (with k i)) (found-passes (is_next f k) _ i e)).1
 
 -- another item can be taken at the place before the level
-pub leave-at : (n : ℕ) (f : List Items) (order : List ℕ) (j m : ℕ) (k : Items) (next d : ℕ) (new : List ℕ) → m ≡ suc j → k ≡ reached empty (take j order) → next_after n f k (get_or order j 0) ≡ Some next → d ≡ length order - suc j → new ≡ take j order ++ next ∷ first_growth n f d (with k next) → leaves_below n f empty order m ≡ Some new
+pub leave-at : (n : ℕ) (f : List Items) (order : List ℕ) (j m : ℕ) (k : Items) (next d : ℕ) (new : List ℕ) → m ≡ suc j → k ≡ grown_to empty (take j order) → next_item_after n f k (get_or order j 0) ≡ Some next → d ≡ length order - suc j → new ≡ take j order ++ next ∷ first_growth n f d (with k next) → leaves_below n f empty order m ≡ Some new
 leave-at n f order j m k next d new e kk found dd is =
     let long : length (drop (suc j) order) ≡ d = length-drop (suc j) order ∙ sym dd in
-    ap (leaves_below n f empty order) e ∙ leaves-found n f empty order j next (ap (λ s. next_after n f s (get_or order j 0)) (sym kk) ∙ found)
+    ap (leaves_below n f empty order) e ∙ leaves-found n f empty order j next (ap (λ s. next_item_after n f s (get_or order j 0)) (sym kk) ∙ found)
     ∙ ap Some (ap₂ (λ c s. take j order ++ next ∷ first_growth n f c (with s next)) long (sym kk) ∙ sym is)
 
 -- none can
-pub leave-past : (n : ℕ) (f : List Items) (order : List ℕ) (j m : ℕ) (k : Items) → m ≡ suc j → k ≡ reached empty (take j order) → next_after n f k (get_or order j 0) ≡ None → leaves_below n f empty order m ≡ leaves_below n f empty order j
+pub leave-past : (n : ℕ) (f : List Items) (order : List ℕ) (j m : ℕ) (k : Items) → m ≡ suc j → k ≡ grown_to empty (take j order) → next_item_after n f k (get_or order j 0) ≡ None → leaves_below n f empty order m ≡ leaves_below n f empty order j
 leave-past n f order j m k e kk none =
-    ap (leaves_below n f empty order) e ∙ leaves-passed n f empty order j (ap (λ s. next_after n f s (get_or order j 0)) (sym kk) ∙ none)
+    ap (leaves_below n f empty order) e ∙ leaves-passed n f empty order j (ap (λ s. next_item_after n f s (get_or order j 0)) (sym kk) ∙ none)
 
 -- the item before the level is taken back
 pub record TakenBack (n : ℕ) (order was : List ℕ) (j : ℕ) (k out : Items) : Type 0 where
   pub less : get_or was j 0 < n
-  pub set : without k (get_or was j 0) ≡ reached empty (take j order)
+  pub set : without k (get_or was j 0) ≡ grown_to empty (take j order)
   pub outside : with out (get_or was j 0) ≡ minus (full n) (without k (get_or was j 0))
   pub small : IsWithin (without k (get_or was j 0)) (full n)
 
-pub taken-at : (n : ℕ) (order was : List ℕ) (j m : ℕ) (k out : Items) → m ≡ suc j → j < length order → is_fresh empty order ≡ true → was ≡ order → k ≡ reached empty (take m order) → out ≡ minus (full n) k → IsWithin k (full n) → TakenBack n order was j k out
+pub taken-at : (n : ℕ) (order was : List ℕ) (j m : ℕ) (k out : Items) → m ≡ suc j → j < length order → is_fresh empty order ≡ true → was ≡ order → k ≡ grown_to empty (take m order) → out ≡ minus (full n) k → IsWithin k (full n) → TakenBack n order was j k out
 taken-at n order was j m k out e l fresh same set outside small =
     let item : get_or was j 0 ≡ get_or order j 0 = ap (λ (xs : List ℕ). get_or xs j 0) same in
-    let whole : k ≡ reached empty (take (j + 1) order) = set ∙ ap (λ x. reached empty (take x order)) (let q : m ≡ j + 1 = omega arith in q) in
+    let whole : k ≡ grown_to empty (take (j + 1) order) = set ∙ ap (λ x. grown_to empty (take x order)) (let q : m ≡ j + 1 = omega arith in q) in
     let in_k : has k (get_or was j 0) ≡ true = ap₂ has whole item ∙ reached-has empty order j l in
     let less = item-small n k (get_or was j 0) small in_k in
     record {
@@ -140,7 +142,7 @@ taken-at n order was j m k out e l fresh same set outside small =
 
 -- the list with the next item at the place, and the growth behind it
 pub leave-write : (n : ℕ) (f : List Items) (order was : List ℕ) (j m : ℕ) (k : Items) (next : ℕ) (ys : List ℕ) (w : Items)
-    → m ≡ suc j → k ≡ reached empty (take j order) → next_after n f k (get_or order j 0) ≡ Some next → was ≡ order → j < length order → w ≡ with k next
+    → m ≡ suc j → k ≡ grown_to empty (take j order) → next_item_after n f k (get_or order j 0) ≡ Some next → was ≡ order → j < length order → w ≡ with k next
     → (let xs = set was j next in let rest = length xs - (j + 1) in ys ≡ first_growth n f (length (take rest (drop (j + 1) xs))) w → leaves_below n f empty order m ≡ Some (put_mid (j + 1) rest xs ys))
 leave-write n f order was j m k next ys w e kk found same l ww grown =
     let xs = set was j next in

@@ -1,2 +1,4 @@
 pub mod Padded
 pub mod Left
+pub mod Growths
+pub mod Levels

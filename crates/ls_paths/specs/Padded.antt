@@ -21,6 +21,8 @@ padded-listed o h =
     let front = take o.count o.items in
     let fits : o.count ≤ length o.items = omega (arith, h.within, h.long) in
     let len : length front ≡ o.count = length-take-le o.count o.items fits in
-    let items : front ++ replicate (PLACES - length front) 0 ≡ o.items = ap (λ n. front ++ replicate (PLACES - n) 0) len ∙ (ap (λ r. front ++ r) (sym h.rest) ∙ take-append-drop o.count o.items) in
+    let items : front ++ replicate (PLACES - length front) 0 ≡ o.items =
+    ap (λ n. front ++ replicate (PLACES - n) 0) len
+    ∙ (ap (λ r. front ++ r) (sym h.rest) ∙ take-append-drop o.count o.items) in
     let whole : List ℕ → ℕ → Inside = λ xs n. record { items = xs; count = n } in
     ap (λ xs. whole xs (length front)) items ∙ ap (whole o.items) len

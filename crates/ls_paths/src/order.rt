@@ -1,9 +1,10 @@
 // An order of items.
-ghost use Rattle.std.specs.Prelude.{◌≡◌, ◌≤◌, true, None, Some, is_some, length, take, IfSome, MatchBool};
+ghost use Rattle.std.specs.Prelude.{◌≡◌, ◌≤◌, true, None, Some, is_some, length, take};
+ghost use Rattle.std.specs.Prelude.{IfSome, MatchBool};
 ghost use Rattle.ls_set.specs.{IsWithin, empty, full, set_of};
 ghost use Rattle.ls_theory.specs.{is_learning_space, is_order};
-ghost use Rattle.ls_growths.specs.Growths.{first_growth};
-ghost use Rattle.ls_growths.specs.Levels.{reached, is_fresh, leaves_below};
+ghost use Rattle.ls_paths.specs.Growths.{first_growth};
+ghost use Rattle.ls_paths.specs.Levels.{grown_to, is_fresh, leaves_below};
 
 use crate::steps::{grow, leave};
 use ls_interior::Inside;
@@ -98,7 +99,7 @@ impl Order {
         requires fresh { is_fresh empty self.old ≡ true }
         requires fits { length self.old ≤ F.item_count f.now }
         requires level { level ≤ length self.old }
-        requires set { k ≡ reached empty (take level self.old) }
+        requires set { k ≡ grown_to empty (take level self.old) }
         requires small { IsWithin k (full (F.item_count f.now)) }
         ensures { MatchBool result
             (leaves_below (F.item_count f.now) (F.members f.now) empty self.old level

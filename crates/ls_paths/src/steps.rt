@@ -1,9 +1,10 @@
 // Steps of a walk through the learning paths, in place.
-ghost use Rattle.std.specs.Prelude.{◌≡◌, ◌<◌, ◌≤◌, true, None, Some, length, take, IfSome, MatchBool};
+ghost use Rattle.std.specs.Prelude.{◌≡◌, ◌<◌, ◌≤◌, true, None, Some, length, take};
+ghost use Rattle.std.specs.Prelude.{IfSome, MatchBool};
 ghost use Rattle.ls_set.specs.{IsWithin, empty, full, is_among, minus, most_items, with};
 ghost use Rattle.ls_theory.specs.{is_learning_space};
-ghost use Rattle.ls_growths.specs.Growths.{first_next, next_after, first_growth, next_growth};
-ghost use Rattle.ls_growths.specs.Levels.{reached, is_fresh, leaves_below};
+ghost use Rattle.ls_paths.specs.Growths.{first_next, next_item_after, first_growth, next_growth};
+ghost use Rattle.ls_paths.specs.Levels.{grown_to, is_fresh, leaves_below};
 
 use ls_interior::{Inside, is_member};
 use ls_set::ItemSet;
@@ -40,7 +41,7 @@ fn next_item<F: Inside>(f: &F, k: ItemSet, outside: ItemSet, above: u32) -> Opti
     requires outside { outside ≡ minus (full (F.item_count f.now)) k }
     requires small { IsWithin k (full (F.item_count f.now)) }
     requires item { above < F.item_count f.now }
-    ensures value { result ≡ next_after (F.item_count f.now) (F.members f.now) k above }
+    ensures value { result ≡ next_item_after (F.item_count f.now) (F.members f.now) k above }
     ensures place { IfSome result (λ i. i < most_items) }
 {
     let mut item = above;
@@ -78,14 +79,14 @@ pub fn grow<F: Inside>(f: &F, k: ItemSet, outside: ItemSet, order: &mut [u32])
 // after it, and the set of them: all of them, or those up to the first that cannot be added.
 pub fn first_level<F: Inside>(f: &F, order: &[u32]) -> (usize, ItemSet)
     requires fresh { is_fresh empty order.now ≡ true }
-    requires small { IsWithin (reached empty order.now) (full (F.item_count f.now)) }
+    requires small { IsWithin (grown_to empty order.now) (full (F.item_count f.now)) }
     ensures level { result.0 ≤ length order.now }
-    ensures set { result.1 ≡ reached empty (take result.0 order.now) }
+    ensures set { result.1 ≡ grown_to empty (take result.0 order.now) }
     ensures small { IsWithin result.1 (full (F.item_count f.now)) }
     ensures leaves { next_growth (F.item_count f.now) (F.members f.now) order.now empty
         ≡ leaves_below (F.item_count f.now) (F.members f.now) empty order.now result.0 }
 {
-    let _ = f.items();
+    let _ = f.items(); // for the proof
     let mut reached = ItemSet::empty();
     for (place, item) in order.iter().enumerate() {
         reached = reached.with(*item);
@@ -103,7 +104,7 @@ pub fn leave<F: Inside>(f: &F, k: ItemSet, level: usize, order: &mut [u32]) -> b
     requires fresh { is_fresh empty order.old ≡ true }
     requires fits { length order.old ≤ F.item_count f.now }
     requires level { level ≤ length order.old }
-    requires set { k ≡ reached empty (take level order.old) }
+    requires set { k ≡ grown_to empty (take level order.old) }
     requires small { IsWithin k (full (F.item_count f.now)) }
     ensures { MatchBool result
         (leaves_below (F.item_count f.now) (F.members f.now) empty order.old level

@@ -1,8 +1,9 @@
 // A walk through the learning paths of a family.
-ghost use Rattle.std.specs.Prelude.{◌≡◌, ◌<◌, ◌∷◌, [], true, drop, filter, All, IfSome, MatchOption};
+ghost use Rattle.std.specs.Prelude.{◌≡◌, ◌<◌, ◌∷◌, [], true, drop, filter, All};
+ghost use Rattle.std.specs.Prelude.{IfSome, MatchOption};
 ghost use Rattle.ls_set.specs.{full};
 ghost use Rattle.ls_theory.specs.{is_learning_space, is_lex_before, is_order, paths};
-ghost use Rattle.ls_growths.specs.Levels.{is_whole};
+ghost use Rattle.ls_paths.specs.Levels.{is_whole};
 ghost use Rattle.ls_paths.specs.Left.{paths_left};
 
 use crate::order::Order;

@@ -4,13 +4,13 @@ use Rattle.std.proofs.lemmas.Bool.{and_parts}
 use Rattle.ls_set.specs.{IsWithin, Items, full, has}
 use Rattle.ls_set.proofs.Sets.{has-meet}
 use Rattle.ls_theory.specs.{base, projection}
-use Rattle.ls_laws.specs.Spans.{IsOn, spanned}
+use Rattle.ls_laws.specs.Spans.{AreOn, spanned}
 use Rattle.ls_spans.specs.Traces.{meets_with}
 use Rattle.ls_spans.proofs.Traces.{from-meets, projection-of_spanned}
 use Rattle.ls_base.proofs.Spanned.{base-on}
 
-pub meets-on : (n : ℕ) (p : Items) (g made : List Items) → base (spanned n g) ≡ g → made ≡ meets_with p g → IsOn n made
-meets-on n p g made is e = subst (IsOn n) (sym e) (λ k c.
+pub meets-on : (n : ℕ) (p : Items) (g made : List Items) → base (spanned n g) ≡ g → made ≡ meets_with p g → AreOn n made
+meets-on n p g made is e = subst (AreOn n) (sym e) (λ k c.
     let r = from-meets p g k c in
     subst (λ t. IsWithin t (full n)) (sym r.2) (λ i h. base-on n g is r.0 r.1 i (and_parts (has p i) (has r.0 i) (sym (has-meet p r.0 i) ∙ h)).1))
 

@@ -2,5 +2,4 @@ mod Vocabulary
 pub mod Own
 pub mod Named
 pub mod Rows
-pub mod Classes
 pub mod Keeping

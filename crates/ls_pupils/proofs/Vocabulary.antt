@@ -1,33 +1,31 @@
 -- The words that the proofs of this crate cite, passed on from one place.
-pub use Rattle.std.proofs.Common.{◌&&◌, ◌++◌, ◌+◌, ◌<◌, ◌==◌, ◌∙◌, ◌∷◌, ◌≡◌, ◌≤◌, Bool, Err, IfOk, List, None, Ok, OnOk, Option, Result, Some, ℕ, [], ap, ap₂, arith, cond, drop, eq-eqb, eqb-true, false, filter, find, get_or, get_or-set_same, inl, inr, is_some, le-ltb, length, length-append, length-set, map, not, option_map, refl, remove, set, slice_get, subst, suc, sym, take, true, true≢false, unwrap_or, zero}
+pub use Rattle.std.proofs.Common.{◌&&◌, ◌++◌, ◌+◌, ◌<◌, ◌==◌, ◌∙◌, ◌∷◌, ◌≡◌, ◌≤◌, Bool, Err, IfOk, List, None, Ok, OnOk, Option, Result, Some, ℕ, [], ap, ap₂, arith, cond, drop, eq-eqb, eqb-true, false, filter, get_or, inl, inr, is_some, le-ltb, length, length-append, map, not, option_map, refl, remove, set, slice_get, subst, suc, sym, take, true, true≢false, unwrap_or, zero}
 pub use Rattle.std.proofs.lemmas.Bool.{and_from, and_parts, cases_Bool, le-leb, lt-leb}
 pub use Rattle.std.proofs.lemmas.List.{length-map}
-pub use Rattle.std.proofs.lemmas.List.Elements.{All-append, All-drop, All-from_recursion, All-map, All-push, All-set, All-take}
+pub use Rattle.std.proofs.lemmas.List.Elements.{All-append, All-drop, All-push, All-set, All-take}
 pub use Rattle.std.proofs.lemmas.Option.{slice_get-get_or, slice_get_within, unwrap_or-slice_get}
-pub use Rattle.std.proofs.lemmas.Result.{IfOk-weaker, on_ok_weaker}
+pub use Rattle.std.proofs.lemmas.Result.{IfOk-weaker}
 pub use Rattle.std.proofs.lemmas.Slice.Eq.{bytes_eq-Decides, slice_eq-Decides}
 pub use Rattle.std.specs.List.{All, list_all, list_any, position}
 pub use Rattle.std.specs.Prelude.{Decides, bytes_eq}
 pub use Rattle.ls_expert.specs.Starts.{IsStartOn, start_of}
 pub use Rattle.ls_laws.proofs.Families.{compat-IsFamily}
 pub use Rattle.ls_laws.specs.Families.{IsFamily}
-pub use Rattle.ls_laws.specs.Spans.{IsOn}
-pub use Rattle.ls_lists.proofs.Every.{All-given, list_any-map}
+pub use Rattle.ls_lists.proofs.Every.{list_any-map}
 pub use Rattle.ls_lists.proofs.Places.{get-map, map-remove, position-here, position-later}
-pub use Rattle.ls_reply.specs.{asked_of, begin_row, changed, close_row, has_name, most_pupils, new_pupil, pupil_with, replied, reply_row, weighing_refusals, with_pupil}
-pub use Rattle.ls_reply.specs.Sessions.{Pupil}
-pub use Rattle.ls_reply.specs.declared.response.Response.TheVariants.{Agreed, Done, Refused, Shown}
-pub use Rattle.ls_set.proofs.Sets.{Decides-is_same, empty-within}
-pub use Rattle.ls_set.specs.{IsWithin, Items, empty, full, is_among, is_good}
+pub use Rattle.ls_meaning.specs.{asked_of, begin_row, changed, close_row, has_name, most_pupils, new_pupil, pupil_with, replied, reply_row, weighing_refusals, with_pupil, question_shown, shown_of}
+pub use Rattle.ls_meaning.specs.Sessions.{Pupil}
+pub use Rattle.ls_meaning.specs.declared.response.Response.TheVariants.{Agreed, Done, Refused, Shown}
+pub use Rattle.ls_set.proofs.Sets.{Decides-is_same}
+pub use Rattle.ls_set.specs.{Items, is_good}
 unfoldable pub use Rattle.ls_set.specs.{is_same}
 pub use Rattle.ls_set.specs.declared.query.Query.{Query}
-pub use Rattle.ls_theory.specs.{Interview, PupilResult, Row, Start, asked, breaks_none, compat, compatible_sets, fringes, heavy_after, is_same_query, most_states, replies_in, reply_fault, result_from, yes_queries}
-unfoldable pub use Rattle.ls_theory.specs.{class_results, leader}
+pub use Rattle.ls_theory.specs.{Interview, Start, asked, breaks_none, compat, compatible_sets, heavy_after, is_same_query, most_states, reply_fault, yes_queries}
 pub use Rattle.ls_theory.specs.Settings.{Settings}
 pub use Rattle.ls_theory.specs.declared.reply_fault.ReplyFault.{ReplyFault}
 pub use Rattle.ls_weight.proofs.Weighable.{family-weighable}
 pub use Rattle.ls_weight.specs.Weighings.{Weighing}
-pub use Rattle.ls_pupils.specs.Beginning.{IsNewPupil, IsWeighed}
-pub use Rattle.ls_pupils.specs.Cases.{ArePupils, CanTell, IsCase, IsOwnCase, pupil_of, pupils_of}
-pub use Rattle.ls_pupils.specs.Own.{have_own_names, is_named}
+pub use Rattle.ls_pupils.specs.Beginning.{IsNewPupil, RefusesHeavy, begun_row}
+pub use Rattle.ls_pupils.specs.Cases.{case_name, ArePupils, IsCase, IsOwnCase, pupil_of_case, pupils_of, changed_to}
+pub use Rattle.ls_pupils.specs.Own.{have_own_names, is_called}
 pub use Rattle.ls_pupils.specs.declared.cases.PupilCase.{PupilCase}

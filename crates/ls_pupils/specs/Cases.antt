@@ -1,30 +1,37 @@
 -- Pupils as the program keeps them.
---     pupil_of c, pupils_of cs      the pupils of the definitions
+--     pupil_of_case c, pupils_of cs      the pupils of the definitions
+--     case_name c      the name of a case
 --     ArePupils n cs      pupils among n items, each with a name of its own
---     CanTell n r      what is told of pupils speaks of the n items alone
-use Rattle.std.specs.Prelude.{ℕ, ◌≡◌, ◌<◌, ◌≤◌, true, List, map, length, ⊤}
+--     changed_to cs r      the response, and what the pupils became
+use Rattle.std.specs.Prelude.{ℕ, ◌≡◌, ◌≤◌, true, List, map, length}
 use Rattle.std.specs.List.{All, list_all}
-use Rattle.ls_set.specs.{IsWithin, full, is_good, most_items}
+use Rattle.ls_set.specs.{is_good, most_items}
 use Rattle.ls_theory.specs.{compat, most_states}
-use Rattle.ls_theory.specs.declared.asked.Asked.TheVariants.{Item, Over}
-use Rattle.ls_reply.specs.{most_pupils, refusal_items}
+use Rattle.ls_meaning.specs.{Change, most_pupils}
+use Rattle.ls_lines.specs.{Text}
 use Rattle.ls_expert.specs.Starts.{start_of, IsStartOn}
-use Rattle.ls_reply.specs.Sessions.{Pupil}
-use Rattle.ls_reply.specs.declared.response.Response.{Response}
-use Rattle.ls_reply.specs.declared.response.Response.TheVariants as response
-use Rattle.ls_reply.specs.declared.response.Shown.TheVariants as shown
+use Rattle.ls_meaning.specs.Sessions.{Pupil}
+use Rattle.ls_meaning.specs.declared.response.Response.{Response}
 use Rattle.ls_pupils.specs.Own.{have_own_names}
 use Rattle.ls_pupils.specs.declared.cases.PupilCase.{PupilCase}
 
-abbrev pub pupil_of : PupilCase → Pupil
-pupil_of c =
-    record { name = c.name; start = start_of c.start; yeses = c.yes; settings = c.settings; replies = c.pupil.replies }
+abbrev pub case_name : PupilCase → Text
+case_name c = c.name
+
+abbrev pub pupil_of_case : PupilCase → Pupil
+pupil_of_case c = record {
+  name = c.name;
+  start = start_of c.start;
+  yeses = c.yes;
+  settings = c.settings;
+  replies = c.pupil.replies;
+}
 
 abbrev pub pupils_of : List PupilCase → List Pupil
-pupils_of cases = map pupil_of cases
+pupils_of cases = map pupil_of_case cases
 
--- The states of a case are those of its start and Yes queries, which are on n items, and not too many; its settings are those of n items, by which its pupil is
--- assessed.
+-- The states of a case are those of its start and Yes queries, which are on n items, and not too
+-- many; its settings are those of n items, by which its pupil is assessed.
 pub record IsCase (n : ℕ) (c : PupilCase) : Type 0 where
   pub states : c.pupil.states ≡ compat n (start_of c.start) c.yes
   pub few : length c.pupil.states ≤ most_states
@@ -41,15 +48,9 @@ IsOwnCase c = IsCase (length c.settings.ratios) c
 pub record ArePupils (n : ℕ) (cases : List PupilCase) : Type 0 where
   pub few_items : n ≤ most_items
   pub each : All (IsCase n) cases
-  pub own : have_own_names (λ c. c.name) cases ≡ true
+  pub own : have_own_names case_name cases ≡ true
   pub few : length cases ≤ most_pupils
 
--- What is told of pupils speaks of the n items alone: an item that is asked, a report, the states of a class, or a refusal.
-abbrev pub CanTell : ℕ → Response → Type 0
-CanTell n (response.Shown (shown.Asked (Item q))) = q < n
-CanTell n (response.Shown (shown.Asked (Over reason))) = ⊤
-CanTell n (response.Shown (shown.Report outcome fringes)) = IsWithin outcome.state (full n) × IsWithin fringes.inner (full n) × IsWithin fringes.outer (full n)
-CanTell n (response.Shown (shown.Class results)) = All (λ r. IsWithin r.state (full n)) results
-CanTell n (response.Shown what) = ⊥
-CanTell n (response.Refused refusal) = All (λ q. q < n) (refusal_items refusal)
-CanTell n r = ⊤
+-- the response, and what the pupils became
+abbrev pub changed_to : List PupilCase → Response → Change (List Pupil)
+changed_to cases response = record { response = response; next = pupils_of cases }

@@ -1,7 +1,7 @@
 // What is asked of pupils, or done with them.
 ghost use Rattle.std.specs.Prelude.{◌≡◌, length, IfOk, OnOk, OnErr};
-ghost use Rattle.ls_reply.specs.{pupil_row};
-ghost use Rattle.ls_pupils.specs.Cases.{pupils_of, ArePupils, CanTell};
+ghost use Rattle.ls_meaning.specs.{pupil_row};
+ghost use Rattle.ls_pupils.specs.Cases.{pupils_of, ArePupils};
 
 use crate::asking::{close, question, reply, report};
 use crate::beginning::begin;
@@ -10,16 +10,16 @@ use ls_assess::Settings;
 use ls_expert::Inquiry;
 use ls_interior::Steps;
 use ls_lines::Word;
-use ls_reply::{PupilRequest, Response};
+use ls_meaning::{PupilRequest, Response};
 use std::alloc::{AllocError, Global};
 use std::sync::ledger::Ledger;
 
 /// What is asked of the pupil of the name, or done with it. A pupil that begins is one of the
-/// interview, with the settings. Where memory runs out nothing changes.
+/// interview, with the settings; it gets a copy of the name. Where memory runs out nothing changes.
 pub fn attend<L: Ledger>(
     alloc: Global,
     pupils: &mut PupilCases,
-    name: Word,
+    name: &Word,
     what: PupilRequest,
     inquiry: &Inquiry,
     settings: &Settings,
@@ -28,19 +28,18 @@ pub fn attend<L: Ledger>(
     requires pupils { ArePupils inquiry.now.count pupils.old }
     requires items { length settings.now.ratios ≡ inquiry.now.count }
     ensures response { IfOk result (λ r. r ≡ (pupil_row inquiry.now settings.now
-        (pupils_of pupils.old) name what).response) }
+        (pupils_of pupils.old) name.now what).response) }
     ensures next { OnOk result (pupils_of pupils.new ≡ (pupil_row inquiry.now settings.now
-        (pupils_of pupils.old) name what).next) }
+        (pupils_of pupils.old) name.now what).next) }
     ensures pupils { ArePupils inquiry.now.count pupils.new }
-    ensures told { IfOk result (CanTell inquiry.now.count) }
     ensures err { OnErr result (pupils.new ≡ pupils.old) }
 {
     let n = inquiry.items();
     match what {
         PupilRequest::Begin => begin(alloc, pupils, name, inquiry, settings, steps),
-        PupilRequest::Question => Ok(question(n, pupils, &name)),
-        PupilRequest::Reply { item, right } => Ok(reply(n, pupils, &name, item, right)),
-        PupilRequest::Report => Ok(report(n, pupils, &name)),
-        PupilRequest::Close => Ok(close(n, pupils, &name)),
+        PupilRequest::Question => Ok(question(pupils, name)),
+        PupilRequest::Reply { item, right } => Ok(reply(pupils, name, item, right)),
+        PupilRequest::Report => Ok(report(n, pupils, name)),
+        PupilRequest::Close => Ok(close(pupils, name)),
     }
 }

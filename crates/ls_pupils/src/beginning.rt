@@ -1,14 +1,12 @@
 // How a pupil begins.
-ghost use Rattle.std.specs.Prelude.{◌≡◌, ◌<◌, ◌++◌, ◌∷◌, [], true, false, Ok, length, IfSome, IfOk, OnOk, OnErr};
+ghost use Rattle.std.specs.Prelude.{◌≡◌, ◌<◌, true, false, Ok, length, IfSome, IfOk, OnErr};
 ghost use Rattle.std.specs.List.{list_any};
 ghost use Rattle.ls_theory.specs.{compatible_sets, yes_queries};
 ghost use Rattle.ls_expert.specs.Starts.{start_of};
-ghost use Rattle.ls_reply.specs.{begin_row, most_pupils, new_pupil};
-ghost use Rattle.ls_reply.specs.declared.response.Response.TheVariants.{Done};
-ghost use Rattle.ls_pupils.specs.Own.{is_named};
-ghost use Rattle.ls_pupils.specs.Cases.{pupils_of, IsCase, IsOwnCase, ArePupils};
-ghost use Rattle.ls_pupils.specs.Beginning.{IsNewPupil, IsWeighed};
-ghost use Rattle.ls_pupils.specs.declared.cases.PupilCase.{PupilCase as Case};
+ghost use Rattle.ls_meaning.specs.{begin_row, most_pupils};
+ghost use Rattle.ls_pupils.specs.Own.{is_called};
+ghost use Rattle.ls_pupils.specs.Cases.{case_name, pupils_of, IsOwnCase, ArePupils, changed_to};
+ghost use Rattle.ls_pupils.specs.Beginning.{IsCaseOf, IsNewPupil, RefusesHeavy, begun_row};
 
 use crate::cases::{PupilCase, PupilCases};
 use ls_assess::{Pupil, Settings, WeightFault};
@@ -16,7 +14,7 @@ use ls_enum::{ListFault, list_all};
 use ls_expert::{Inquiry, Start};
 use ls_interior::{Counted, Steps};
 use ls_lines::Word;
-use ls_reply::{Refusal, Response};
+use ls_meaning::{Refusal, Response};
 use ls_set::{ItemSet, Query, QueryList};
 use std::alloc::{AllocError, Global};
 use std::sync::ledger::Ledger;
@@ -32,21 +30,20 @@ pub const MOST_STATES: u32 = 65_536;
 pub fn begin<L: Ledger>(
     alloc: Global,
     pupils: &mut PupilCases,
-    name: Word,
+    name: &Word,
     inquiry: &Inquiry,
     settings: &Settings,
     steps: &mut Steps<L>,
 ) -> Result<Response, AllocError>
     requires pupils { ArePupils inquiry.now.count pupils.old }
     requires items { length settings.now.ratios ≡ inquiry.now.count }
-    ensures response { IfOk result (λ r. r ≡ (begin_row inquiry.now settings.now
-        (pupils_of pupils.old) name).response) }
-    ensures next { OnOk result (pupils_of pupils.new ≡ (begin_row inquiry.now settings.now
-        (pupils_of pupils.old) name).next) }
+    ensures row { IfOk result (λ r.
+        begin_row inquiry.now settings.now (pupils_of pupils.old) name.now
+        ≡ changed_to pupils.new r) }
     ensures pupils { ArePupils inquiry.now.count pupils.new }
     ensures err { OnErr result (pupils.new ≡ pupils.old) }
 {
-    if pupils.place(&name).is_some() {
+    if pupils.place(name).is_some() {
         return Ok(Response::Refused(Refusal::PupilStands));
     }
     if pupils.as_slice().len() >= MOST_PUPILS {
@@ -71,18 +68,17 @@ fn new_pupil<L: Ledger>(
     requires items { length settings.now.ratios ≡ inquiry.now.count }
     ensures { IfOk result (IsNewPupil inquiry.now settings.now) }
 {
-    match like(pupils, inquiry) {
-        Some(case) => weighed(case.pupil.again(settings)),
+    match case_like(pupils, inquiry) {
+        Some(case) => unless_heavy(case.pupil.again(settings)),
         None => listed(alloc, inquiry, settings, steps),
     }
 }
 
 // A case with the start and the Yes queries of the interview: one that stands, or the one that was
 // closed last.
-fn like<'a>(pupils: &'a PupilCases, inquiry: &Inquiry) -> Option<&'a PupilCase>
+fn case_like<'a>(pupils: &'a PupilCases, inquiry: &Inquiry) -> Option<&'a PupilCase>
     requires { ArePupils inquiry.now.count pupils.now }
-    ensures { IfSome result (λ c. IsCase inquiry.now.count c.now
-        × (c.now.pupil.states ≡ compatible_sets inquiry.now)) }
+    ensures { IfSome result (λ c. IsCaseOf inquiry.now c.now) }
 {
     match standing_like(pupils, inquiry) {
         Some(case) => Some(case),
@@ -92,20 +88,18 @@ fn like<'a>(pupils: &'a PupilCases, inquiry: &Inquiry) -> Option<&'a PupilCase>
 
 // The case that was closed last, where it has the start and the Yes queries of the interview.
 fn closed_like<'a>(pupils: &'a PupilCases, inquiry: &Inquiry) -> Option<&'a PupilCase>
-    ensures { IfSome result (λ c. IsCase inquiry.now.count c.now
-        × (c.now.pupil.states ≡ compatible_sets inquiry.now)) }
+    ensures { IfSome result (λ c. IsCaseOf inquiry.now c.now) }
 {
     match pupils.closed() {
-        Some(case) if is_own(case, inquiry) => Some(case),
+        Some(case) if is_of_inquiry(case, inquiry) => Some(case),
         _ => None,
     }
 }
 
 // Whether the case has as many items as the interview, and its start and Yes queries.
-fn is_own(case: &PupilCase, inquiry: &Inquiry) -> bool
+fn is_of_inquiry(case: &PupilCase, inquiry: &Inquiry) -> bool
     requires { IsOwnCase case.now }
-    ensures { result ≡ true → IsCase inquiry.now.count case.now
-        × (case.now.pupil.states ≡ compatible_sets inquiry.now) }
+    ensures { result ≡ true → IsCaseOf inquiry.now case.now }
 {
     case.settings.count() == inquiry.items() && is_like(case, inquiry)
 }
@@ -113,8 +107,7 @@ fn is_own(case: &PupilCase, inquiry: &Inquiry) -> bool
 // A case that stands, with the start and the Yes queries of the interview.
 fn standing_like<'a>(pupils: &'a PupilCases, inquiry: &Inquiry) -> Option<&'a PupilCase>
     requires { ArePupils inquiry.now.count pupils.now }
-    ensures { IfSome result (λ c. IsCase inquiry.now.count c.now
-        × (c.now.pupil.states ≡ compatible_sets inquiry.now)) }
+    ensures { IfSome result (λ c. IsCaseOf inquiry.now c.now) }
 {
     pupils.as_slice().iter().find(|case| is_like(case, inquiry))
 }
@@ -165,15 +158,15 @@ fn listed<L: Ledger>(
 {
     let states = Counted::new(inquiry.family());
     match list_all(alloc, &states, MOST_STATES, steps) {
-        Ok(sets) => weighed(Pupil::begin(alloc, inquiry.items(), sets, settings)),
+        Ok(sets) => unless_heavy(Pupil::begin(alloc, inquiry.items(), sets, settings)),
         Err(ListFault::More) => Ok(Err(Refusal::ManyStates)),
         Err(ListFault::Memory(e)) => Err(e),
     }
 }
 
 // The pupil, or the refusal of one that is too heavy.
-fn weighed(begun: Result<Pupil, WeightFault>) -> Result<Result<Pupil, Refusal>, AllocError>
-    ensures { IsWeighed begun result }
+fn unless_heavy(begun: Result<Pupil, WeightFault>) -> Result<Result<Pupil, Refusal>, AllocError>
+    ensures { RefusesHeavy begun result }
 {
     match begun {
         Ok(pupil) => Ok(Ok(pupil)),
@@ -182,28 +175,28 @@ fn weighed(begun: Result<Pupil, WeightFault>) -> Result<Result<Pupil, Refusal>, 
     }
 }
 
-// Puts the pupil last. The number of its states is told.
+// Puts the pupil last, with a copy of the name. The number of its states is told.
 fn keep(
     alloc: Global,
     pupils: &mut PupilCases,
-    name: Word,
+    name: &Word,
     inquiry: &Inquiry,
     settings: &Settings,
     pupil: Pupil,
 ) -> Result<Response, AllocError>
     requires pupil { IsNewPupil inquiry.now settings.now (Ok pupil) }
-    ensures response { IfOk result (λ r. r ≡ Done (length (compatible_sets inquiry.now))) }
-    ensures next { OnOk result (pupils_of pupils.new
-        ≡ pupils_of pupils.old ++ new_pupil name inquiry.now settings.now ∷ []) }
+    ensures row { IfOk result (λ r.
+        begun_row inquiry.now settings.now (pupils_of pupils.old) name.now
+        ≡ changed_to pupils.new r) }
     ensures pupils { ArePupils inquiry.now.count pupils.old → length pupils.old < most_pupils →
-        list_any (is_named (λ (c : Case). c.name) name) pupils.old ≡ false →
+        list_any (is_called case_name name.now) pupils.old ≡ false →
         length settings.now.ratios ≡ inquiry.now.count →
         ArePupils inquiry.now.count pupils.new }
     ensures err { OnErr result (pupils.new ≡ pupils.old) }
 {
     let number = pupil.states().len() as u64;
     pupils.push(PupilCase {
-        name,
+        name: name.copy()?,
         start: inquiry.start().copy()?,
         yes: QueryList::from_slice(alloc, inquiry.yes_queries())?,
         settings: settings.copy()?,

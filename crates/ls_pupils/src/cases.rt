@@ -1,9 +1,11 @@
 // Pupils as a session keeps them.
-ghost use Rattle.std.specs.Prelude.{◌≡◌, ◌<◌, ◌++◌, ◌∷◌, [], ℕ, Some, None, Err, length, position, remove, set, slice_get, IfSome, IfErr, OnOk, OnErr};
+ghost use Rattle.std.specs.Prelude.{◌≡◌, ◌+◌, ◌<◌, ◌++◌, ◌∷◌, [], ℕ, Some, None, Err, length};
+ghost use Rattle.std.specs.Prelude.{position, remove, set, slice_get, IfSome, IfOk, IfErr, OnOk};
+ghost use Rattle.std.specs.Prelude.{OnErr};
 ghost use Rattle.ls_theory.specs.{asked, reply_fault};
 ghost use Rattle.ls_theory.specs.declared.reply_fault.ReplyFault.TheVariants.{WrongItem};
-ghost use Rattle.ls_pupils.specs.Own.{is_named};
-ghost use Rattle.ls_pupils.specs.Cases.{IsOwnCase};
+ghost use Rattle.ls_pupils.specs.Own.{is_called};
+ghost use Rattle.ls_pupils.specs.Cases.{IsOwnCase, case_name};
 ghost use Rattle.ls_pupils.specs.declared.cases.PupilCase.{PupilCase as Case};
 
 use ls_assess::{Pupil, ReplyFault, Settings};
@@ -74,7 +76,7 @@ impl PupilCases {
 
     /// The place of the first case of the name.
     pub fn place(&self, name: &Word) -> Option<usize>
-        ensures { result ≡ position (is_named (λ (c : Case). c.name) name.now) self.now }
+        ensures { result ≡ position (is_called case_name name.now) self.now }
     {
         self.cases
             .iter()
@@ -89,7 +91,8 @@ impl PupilCases {
         let _ = self.cases.remove(place);
     }
 
-    /// Takes out the case at a place, as [`PupilCases::remove`] does, and keeps it beside the others.
+    /// Takes out the case at a place, as [`PupilCases::remove`] does, and keeps it beside the
+    /// others.
     pub fn close(&mut self, place: usize)
         requires place { place < length self.old }
         requires case { (c : Case) → slice_get self.old place ≡ Some c → IsOwnCase c }
@@ -105,9 +108,9 @@ impl PupilCases {
         self.closed.as_ref()
     }
 
-    /// The pupil of the case at a place replies on the item `q`. Where the reply is refused nothing
-    /// changes.
-    pub fn reply(&mut self, place: usize, q: u32, right: bool) -> Result<(), ReplyFault>
+    /// The pupil of the case at a place replies on the item `q`; how many replies it has then is
+    /// told. Where the reply is refused nothing changes.
+    pub fn reply(&mut self, place: usize, q: u32, right: bool) -> Result<usize, ReplyFault>
         requires { place < length self.old }
         ensures ok { (c : Case) → slice_get self.old place ≡ Some c →
             OnOk result (self.new ≡ set self.old place (record c {
@@ -115,6 +118,8 @@ impl PupilCases {
                 replies = c.pupil.replies ++ record { q = q; right = right } ∷ [];
               };
             })) }
+        ensures number { (c : Case) → slice_get self.old place ≡ Some c →
+            IfOk result (λ number. number ≡ length c.pupil.replies + 1) }
         ensures taken { (c : Case) → slice_get self.old place ≡ Some c → OnOk result
             (reply_fault (asked c.pupil.settings c.pupil.states c.pupil.replies) q ≡ None) }
         ensures fault { (c : Case) → slice_get self.old place ≡ Some c → IfErr result (λ e.
@@ -123,6 +128,8 @@ impl PupilCases {
             result ≡ Err (WrongItem asked) → asked < length c.pupil.settings.ratios }
         ensures err { OnErr result (self.new ≡ self.old) }
     {
-        self.cases[place].pupil.reply(q, right)
+        let pupil = &mut self.cases[place].pupil;
+        pupil.reply(q, right)?;
+        Ok(pupil.replies().len())
     }
 }

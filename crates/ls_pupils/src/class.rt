@@ -1,28 +1,26 @@
 // Classes: the pupils of a table, assessed by what it says of them.
 ghost use Rattle.std.specs.Prelude.{◌≡◌, [], length, Ok, IfOk};
 ghost use Rattle.ls_theory.specs.{compatible_sets};
-ghost use Rattle.ls_laws.specs.Spans.{IsOn};
 ghost use Rattle.ls_weight.specs.Weighings.{IsWeighable};
-ghost use Rattle.ls_class.specs.Tables.{class_of};
-ghost use Rattle.ls_reply.specs.{classed_by};
-ghost use Rattle.ls_pupils.specs.Cases.{CanTell};
+ghost use Rattle.ls_files.specs.ClassTables.{class_of};
+ghost use Rattle.ls_meaning.specs.{classed_by};
 
 use crate::beginning::MOST_STATES;
 use ls_assess::{Settings, WeightFault};
-use ls_class::{ClassFault, ClassTable};
+use ls_class::{ClassFault, ClassTable, OpenGate, run_class};
 use ls_domain::Domain;
 use ls_enum::{ListFault, list_all};
 use ls_expert::Inquiry;
 use ls_interior::{Counted, Steps};
-use ls_replay::{OpenGate, run_class};
-use ls_reply::{Refusal, Response, Shown};
+use ls_meaning::{Refusal, Response, Shown};
 use ls_set::SetList;
 use std::alloc::{AllocError, Global};
 use std::sync::ledger::Ledger;
 use std::thread::Threads;
 
-/// `class FILE`, where the file was fetched: what is known of the pupils of the class that its bytes
-/// give, each assessed over the compatible sets of the interview; or why there are no results.
+/// `class FILE`, where the file was fetched: what is known of the pupils of the class that its
+/// bytes give, each assessed over the compatible sets of the interview; or why there are no
+/// results.
 pub fn assess_class<R: Threads + Sync, L: Ledger>(
     rt: &R,
     alloc: Global,
@@ -33,10 +31,9 @@ pub fn assess_class<R: Threads + Sync, L: Ledger>(
     steps: &mut Steps<L>,
 ) -> Result<Response, AllocError>
     requires { length settings.now.ratios ≡ inquiry.now.count }
-    ensures response { IfOk result (λ r.
+    ensures { IfOk result (λ r.
         r ≡ classed_by settings.now (compatible_sets inquiry.now) []
         (class_of domain.now bytes.now)) }
-    ensures told { IfOk result (CanTell inquiry.now.count) }
 {
     match ClassTable::from_csv(alloc, domain, bytes) {
         Ok(table) => replay(rt, alloc, inquiry, settings, &table, steps),
@@ -55,9 +52,8 @@ fn replay<R: Threads + Sync, L: Ledger>(
     steps: &mut Steps<L>,
 ) -> Result<Response, AllocError>
     requires { length settings.now.ratios ≡ inquiry.now.count }
-    ensures response { IfOk result (λ r.
+    ensures { IfOk result (λ r.
         r ≡ classed_by settings.now (compatible_sets inquiry.now) [] (Ok table.now)) }
-    ensures told { IfOk result (CanTell inquiry.now.count) }
 {
     let states = Counted::new(inquiry.family());
     match list_all(alloc, &states, MOST_STATES, steps) {
@@ -77,10 +73,7 @@ fn replay_over<R: Threads + Sync>(
     table: &ClassTable,
 ) -> Result<Response, AllocError>
     requires weighable { IsWeighable n states.now settings.now }
-    requires small { IsOn n states.now }
-    ensures response { IfOk result (λ r.
-        r ≡ classed_by settings.now states.now [] (Ok table.now)) }
-    ensures told { IfOk result (CanTell n) }
+    ensures { IfOk result (λ r. r ≡ classed_by settings.now states.now [] (Ok table.now)) }
 {
     match run_class(rt, alloc, &OpenGate, n, states, settings, table) {
         Ok(results) => Ok(Response::Shown(Shown::Class(results))),

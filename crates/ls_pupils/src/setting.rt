@@ -1,18 +1,15 @@
 // How settings change.
-ghost use Rattle.std.specs.Prelude.{◌≡◌, ℕ, length};
-ghost use Rattle.ls_reply.specs.{setting_row};
-ghost use Rattle.ls_meanings.specs.Asked.{IsSettingOn};
-ghost use Rattle.ls_pupils.specs.Cases.{CanTell};
+ghost use Rattle.std.specs.Prelude.{◌≡◌, length};
+ghost use Rattle.ls_meaning.specs.{IsSettingOn, setting_row};
 
 use ls_assess::Settings;
-use ls_reply::{Refusal, Response, Setting};
+use ls_meaning::{Refusal, Response, Setting};
 
 /// `odds`, `ratio` and `limits`
 pub fn set(settings: &mut Settings, setting: Setting) -> Response
     requires { IsSettingOn (length settings.old.ratios) setting }
     ensures response { result ≡ (setting_row settings.old setting).response }
     ensures next { settings.new ≡ (setting_row settings.old setting).next }
-    ensures told { (n : ℕ) → CanTell n result }
     ensures items { length settings.new.ratios ≡ length settings.old.ratios }
 {
     let changed = match setting {

@@ -25,7 +25,7 @@ pub use Rattle.ls_set.specs.declared.query.Query.{Query}
 pub use Rattle.ls_theory.specs.{BlockRange, comes_after, is_lex_before, most_sets}
 unfoldable pub use Rattle.ls_theory.specs.{block_before, blocks, is_too_wide, made, queries, query_before}
 pub use Rattle.ls_theory.specs.declared.block_fault.BlockFault.TheVariants.{BadBlock, TooWide}
-pub use Rattle.ls_query.specs.Blocks.{AreBounded, sets_of}
+pub use Rattle.ls_query.specs.Blocks.{AreBounded, block_sets}
 unfoldable pub use Rattle.ls_query.specs.Blocks.{choose}
 pub use Rattle.ls_query.specs.Moves.{HasNoMove, IsGreatest, IsLastMove, moved}
-pub use Rattle.ls_query.specs.Places.{after_of}
+pub use Rattle.ls_query.specs.Places.{count_after}

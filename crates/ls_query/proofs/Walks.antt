@@ -1,5 +1,5 @@
 -- Walks through the sets of blocks: the greatest item of a set, and the step by it.
-use Rattle.ls_query.proofs.Vocabulary.{◌+◌, ◌-◌, ◌<◌, ◌∙◌, ◌≡◌, ◌≤◌, AreBounded, BlockRange, Bool, HasNoMove, IsGreatest, IsLastMove, IsWithin, Items, None, Option, Some, ℕ, add-one, ap, arith, block_before, blocks, cases_Bool, cases_order, empty, false, false_from_ne_true, find, find-is, full, has, has-empty, has-full, inl, inr, keep_before, len, len-empty, lt-ltb, ltb-true, members, minus, moved, nat_tests, refl, same_set, sets_of, suc, sym, true, true≢false, union, with, without, zero}
+use Rattle.ls_query.proofs.Vocabulary.{◌+◌, ◌-◌, ◌<◌, ◌∙◌, ◌≡◌, ◌≤◌, AreBounded, BlockRange, Bool, HasNoMove, IsGreatest, IsLastMove, IsWithin, Items, None, Option, Some, ℕ, add-one, ap, arith, block_before, blocks, cases_Bool, cases_order, empty, false, false_from_ne_true, find, find-is, full, has, has-empty, has-full, inl, inr, keep_before, len, len-empty, lt-ltb, ltb-true, members, minus, moved, nat_tests, refl, same_set, block_sets, suc, sym, true, true≢false, union, with, without, zero}
 use Rattle.std.specs.Option.{MatchOption, SomeIff}
 use Rattle.ls_query.specs.Walks.{topped, IsWalk}
 use Rattle.ls_query.proofs.BlockSets.{IsOfBlocks, blocks-in, sorted-blocks}
@@ -138,5 +138,5 @@ top-is b others (suc i) None w none = absurd (none (omega arith))
 top-is b others (suc i) (Some j) w some = ap (with others) (let e = some.1 in omega arith)
 
 -- what is found in the blocks is one of their sets
-pub found-of_blocks : (b : BlockRange) (before : Items → Bool) (a : Items) → find before (sets_of b) ≡ Some a → IsOfBlocks b.item_count b.largest a
-found-of_blocks b before a e = blocks-in b.item_count b.largest a (find-is block_before before (sets_of b) a (sorted-blocks b.item_count b.largest) before-asymmetric e).0
+pub found-of_blocks : (b : BlockRange) (before : Items → Bool) (a : Items) → find before (block_sets b) ≡ Some a → IsOfBlocks b.item_count b.largest a
+found-of_blocks b before a e = blocks-in b.item_count b.largest a (find-is block_before before (block_sets b) a (sorted-blocks b.item_count b.largest) before-asymmetric e).0

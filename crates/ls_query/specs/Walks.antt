@@ -14,7 +14,8 @@ abbrev pub topped : Items → ℕ → Items
 topped others zero = others
 topped others (suc i) = with others i
 
--- the items below end are of the blocks, the others are below the greatest, and they are fewer than a set of the blocks may have
+-- the items below end are of the blocks, the others are below the greatest, and they are fewer
+-- than a set of the blocks may have
 pub record IsWalk (b : BlockRange) (others : Items) (end : ℕ) : Type 0 where
   pub few : b.item_count ≤ most_items
   pub sizes : b.largest ≤ b.item_count

@@ -41,7 +41,7 @@ impl Model for Blocks {
 impl Blocks {
     ghost use Rattle.ls_theory.specs.{made, most_sets};
     ghost use Rattle.ls_theory.specs.declared.block_fault.BlockFault.TheVariants.{Memory};
-    ghost use Rattle.ls_query.specs.Blocks.{sets_of, queries_of};
+    ghost use Rattle.ls_query.specs.Blocks.{block_sets, block_queries};
 
     /// The sets of 1 to `k` of `n` items. `BadBlock` comes exactly where `k` is 0, or above both 1
     /// and `n - 1`; then `TooWide` exactly where they are more than 400,000, with the least size up
@@ -70,7 +70,7 @@ impl Blocks {
 
     /// How many sets there are.
     pub fn count(&self) -> u32
-        ensures value { result ≡ length (sets_of self.now) }
+        ensures value { result ≡ length (block_sets self.now) }
         ensures few { result ≤ most_sets }
     {
         count_sets(self.n, self.k).unwrap()
@@ -80,7 +80,7 @@ impl Blocks {
     /// one need not be of the blocks.
     pub fn next_set(&self, after: Option<ItemSet>) -> Option<ItemSet>
         requires { ForSome after (λ a. IsWithin a (full self.now.item_count)) }
-        ensures { result ≡ find (comes_after block_before after) (sets_of self.now) }
+        ensures { result ≡ find (comes_after block_before after) (block_sets self.now) }
     {
         match after {
             Some(a) => set_after(self.n, self.k, a),
@@ -103,7 +103,7 @@ impl Blocks {
     /// The place of a set among the sets of the blocks, counted from 0, or `None` where it is not
     /// one of them.
     pub fn place_of(&self, a: ItemSet) -> Option<u32>
-        ensures { result ≡ position (is_same a) (sets_of self.now) }
+        ensures { result ≡ position (is_same a) (block_sets self.now) }
     {
         placing::place_of(self.n, self.k, a)
     }
@@ -113,7 +113,7 @@ impl Blocks {
     pub fn next_query(&self, after: Option<&Query>) -> Option<Query>
         requires { ForSome after (λ r. is_good self.now.item_count r.now ≡ true) }
         ensures { let last = option_map (λ r. r.now) after.entry in
-            result ≡ find (comes_after query_before last) (queries_of self.now) }
+            result ≡ find (comes_after query_before last) (block_queries self.now) }
     {
         match after {
             Some(r) => query_after(self.n, self.k, *r),

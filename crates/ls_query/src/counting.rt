@@ -1,5 +1,6 @@
 // How many sets of the first sizes there are.
-ghost use Rattle.std.specs.Prelude.{◌≡◌, ◌<◌, ◌≤◌, ◌+◌, ◌*◌, ℕ, length, find, IfOk, OnOk, Ok, Err, None, Some};
+ghost use Rattle.std.specs.Prelude.{◌≡◌, ◌<◌, ◌≤◌, ◌+◌, ◌*◌, ℕ, length, find, IfOk, OnOk};
+ghost use Rattle.std.specs.Prelude.{Ok, Err, None, Some};
 ghost use Rattle.ls_set.specs.{numbers_from};
 ghost use Rattle.ls_theory.specs.{blocks, is_too_wide, most_sets};
 ghost use Rattle.ls_query.specs.Blocks.{choose};

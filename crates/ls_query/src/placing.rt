@@ -4,7 +4,7 @@ ghost use Rattle.std.specs.List.{position};
 ghost use Rattle.ls_set.specs.{IsWithin, full, is_same, items, len};
 ghost use Rattle.ls_theory.specs.{blocks, most_sets};
 ghost use Rattle.ls_query.specs.Blocks.{choose};
-ghost use Rattle.ls_query.specs.Places.{after_of};
+ghost use Rattle.ls_query.specs.Places.{count_after};
 
 use crate::counting::{count_sets, of_next_size};
 use ls_set::{ItemSet, PLACES};
@@ -29,7 +29,7 @@ fn count_after(n: u32, a: ItemSet) -> u32
     requires items { n ≤ PLACES }
     requires within { IsWithin a (full n) }
     requires few { (m j : ℕ) → m ≤ n → j ≤ len a → choose m j ≤ most_sets }
-    ensures { result ≡ after_of n (items a) }
+    ensures { result ≡ count_after n (items a) }
 {
     let mut after = 0;
     let mut left = a.len();

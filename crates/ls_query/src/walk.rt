@@ -1,8 +1,9 @@
 // A walk through the sets of blocks.
-ghost use Rattle.std.specs.Prelude.{◌≡◌, ◌<◌, ◌≤◌, true, false, Some, None, find, IfSome, MatchOption, if◌then◌else◌};
+ghost use Rattle.std.specs.Prelude.{◌≡◌, ◌<◌, ◌≤◌, true, false, Some, None, find, IfSome};
+ghost use Rattle.std.specs.Prelude.{MatchOption, if◌then◌else◌};
 ghost use Rattle.ls_set.specs.{IsWithin, empty, full, len, with};
 ghost use Rattle.ls_theory.specs.{block_before};
-ghost use Rattle.ls_query.specs.Blocks.{AreBounded, sets_of};
+ghost use Rattle.ls_query.specs.Blocks.{AreBounded, block_sets};
 ghost use Rattle.ls_query.specs.Moves.{IsGreatest};
 
 use crate::blocks::Blocks;
@@ -96,7 +97,7 @@ impl BlockWalk {
 
     /// Goes on to the next set of the blocks. Past the last it stays, and says so by `false`.
     pub fn advance(&mut self) -> bool
-        ensures next { find (block_before self.old.set) (sets_of self.old.blocks)
+        ensures next { find (block_before self.old.set) (block_sets self.old.blocks)
             ≡ (if result then Some self.new.set else None) }
         ensures blocks { self.new.blocks ≡ self.old.blocks }
         ensures last { result ≡ false → self.new ≡ self.old }

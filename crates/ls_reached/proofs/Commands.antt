@@ -1,5 +1,7 @@
 -- A command keeps a session whole where it has a domain.
-use Rattle.ls_reached.proofs.Vocabulary.{◌++◌, ◌∙◌, ◌∷◌, ◌≡◌, Bool, Calls, Effect, Err, Fetched, IsDomain, IsKept, IsWhole, List, None, Ok, Option, Refusal, Result, Session, Some, StartFile, Text, ℕ, [], ap, asked_effect, bytes_fetched, command, command_effect, command_of, cond, cons_option, cut, drop, false, file_effect, filter_map, forms, front, has_domain, is_long, is_name, is_of, line_effect, names_of_table, names_of_words, one, opened_by, option_map, parts, refl, request_effect, request_of, session_of, session_text, slice_get, slice_index_or, start_row, started, started_by, stores, subst, take, true, unnamed_at, unnamed_places, words, words_effect, ⊤}
+use Rattle.ls_reached.proofs.Vocabulary.{◌++◌, ◌∙◌, ◌∷◌, ◌≡◌, Bool, Calls, Effect, Err, Fetched, IsDomain, IsKept, IsWhole, List, None, Ok, Option, Refusal, Result, Session, Some, StartFile, Text, ℕ, [], ap, bytes_fetched, command, command_effect, command_of, cond, cons_option, cut, drop, false, filter_map, forms, front, has_domain, is_long, is_name, is_of, line_effect, names_of_table, names_of_words, one, opened_by, option_map, parts, refl, session_of, session_text, slice_get, slice_index_or, start_row, started, started_by, stores, subst, take, true, words, words_effect, ⊤}
+use Rattle.ls_meaning.specs.{edit_of, file_effect, in_domain, opening_row, pupil_of, setting_of, unless_unnamed}
+use Rattle.ls_lines.specs.{pupil_name}
 use Rattle.std.proofs.lemmas.Option.{none-some, same_Some}
 use Rattle.ls_lines.specs.declared.kind.Kind.{Kind}
 use Rattle.ls_lines.specs.declared.kind.Kind.TheVariants.{Name}
@@ -8,22 +10,22 @@ use Rattle.ls_lines.specs.declared.part.Part.{Part}
 use Rattle.ls_lines.specs.declared.part.Part.TheVariants.{Fixed, One}
 use Rattle.ls_lines.specs.declared.form.Form.{Form}
 use Rattle.ls_lines.specs.declared.form.Form.TheVariants as form
-use Rattle.ls_lines.specs.declared.setting_form.SettingForm.TheVariants as setting
-use Rattle.ls_lines.specs.declared.interview_form.InterviewForm.TheVariants as interview
-use Rattle.ls_lines.specs.declared.listing_form.ListingForm.TheVariants as listing
-use Rattle.ls_lines.specs.declared.structure_form.StructureForm.TheVariants as structure
-use Rattle.ls_lines.specs.declared.pupil_form.PupilForm.TheVariants as pupil_form
+use Rattle.ls_lines.specs.declared.pupil.PupilForm.TheVariants as pupil_form
+use Rattle.ls_lines.specs.declared.opening.OpeningCommand.{OpeningCommand}
+use Rattle.ls_lines.specs.declared.opening.OpeningCommand.TheVariants as openings
+use Rattle.ls_lines.specs.declared.file.FileCommand.{FileCommand}
+use Rattle.ls_lines.specs.declared.file.FileCommand.TheVariants as files
+use Rattle.ls_lines.specs.declared.pupil.PupilCommand.{PupilCommand}
+use Rattle.ls_lines.specs.declared.pupil.PupilCommand.TheVariants as pupils
 use Rattle.ls_lines.specs.declared.command.Command.{Command}
 use Rattle.ls_lines.specs.declared.command.Command.TheVariants as command
 use Rattle.ls_domain.specs.declared.domain_fault.DomainFault.{DomainFault}
 use Rattle.ls_domain.proofs.Readings.{names_of_words-read, names_of_table-read}
-use Rattle.ls_saved.specs.declared.cause.Cause.{Cause}
-use Rattle.ls_saved.proofs.Inverse.{chosen, map-some, then-some}
-use Rattle.ls_saved.proofs.Read.{read_whole}
-use Rattle.ls_reply.specs.declared.request.Request.{Request}
-use Rattle.ls_reply.specs.declared.request.Request.TheVariants.{View, Edit, Setting, Pupil}
-use Rattle.ls_reply.specs.declared.request.StartFile.TheVariants as start_file
-use Rattle.ls_reply.specs.declared.request.PupilRequest.TheVariants as pupil
+use Rattle.ls_files.specs.declared.cause.Cause.{Cause}
+use Rattle.ls_store.proofs.Inverse.{chosen, map-some, then-some}
+use Rattle.ls_store.proofs.Read.{read_whole}
+use Rattle.ls_meaning.specs.declared.request.StartFile.TheVariants as start_file
+use Rattle.ls_meaning.specs.declared.request.PupilRequest.TheVariants as pupil
 use Rattle.ls_reached.proofs.Refusals.{changed-holds, none-both}
 use Rattle.ls_reached.proofs.Interviews.{started-whole, edited-whole, start-whole, set-whole}
 use Rattle.ls_reached.proofs.Pupils.{pupils-whole}
@@ -32,7 +34,7 @@ use Rattle.ls_reached.proofs.Pupils.{pupils-whole}
 
 -- the name of a pupil that begins is a name
 abbrev IsNamed : Command → Type 0
-IsNamed (command.Pupil name) = is_name name ≡ true
+IsNamed (command.Pupil (pupils.Pupil name)) = is_name name ≡ true
 IsNamed c = ⊤
 
 -- the words at the first part, and those at the others
@@ -62,11 +64,15 @@ form-named (form.Pupil pupil_form.Pupil) ws given e =
     let b = cut-parts (One Name) [] (drop a.many ws) a.rest a.others in
     subst (λ all. is_name (one all 1) ≡ true) (ap (λ rest. take a.many ws ∷ rest) b.is ∙ a.is) (one-word Name (drop a.many ws) b.many b.first)
 form-named form.Nothing ws given e = tt
-form-named (form.Setting setting.Items) ws given e = tt
-form-named (form.Interview interview.Blocks) ws given e = tt
-form-named (form.Listing listing.States) ws given e = tt
-form-named (form.Structure structure.Test) ws given e = tt
-form-named f ws given e = tt
+form-named (form.Opening f) ws given e = tt
+form-named (form.File f) ws given e = tt
+form-named (form.Edit f) ws given e = tt
+form-named (form.View f) ws given e = tt
+form-named (form.Setting f) ws given e = tt
+form-named (form.Pupil pupil_form.Question) ws given e = tt
+form-named (form.Pupil pupil_form.Reply) ws given e = tt
+form-named (form.Pupil pupil_form.Report) ws given e = tt
+form-named (form.Pupil pupil_form.Close) ws given e = tt
 
 -- the command that is read is the command of some form
 read-named : (ws : List Text) (fs : List Form) (c : Command) → slice_get (filter_map (λ f. option_map (command f) (cut (parts f) ws)) fs) 0 ≡ Some c → IsNamed c
@@ -91,54 +97,56 @@ opened-kept : (s : Session) (refusals : List Refusal) (reading : Result Session 
 opened-kept s refusals (Ok read) kept whole = changed-holds IsKept s read (refusals ++ []) _ kept (λ e some. whole read refl)
 opened-kept s refusals (Err cause) kept whole = changed-holds IsKept s s (refusals ++ _ ∷ []) _ kept (λ e. kept)
 
+opening-kept : (s : Session) (calls : Calls) (c : OpeningCommand) → IsKept s → IsKept (opening_row s calls c).next
+opening-kept s calls (openings.Items names) kept = started-kept s _ (names_of_words names) kept (λ read e. (names_of_words-read names read e).0)
+opening-kept s calls (openings.LoadItems file) kept =
+    let bytes = bytes_fetched (calls.file file) in started-kept s _ (names_of_table bytes) kept (λ read e. (names_of_table-read bytes read e).0)
+opening-kept s calls (openings.Reopen file) kept = let bytes = bytes_fetched (calls.file file) in opened-kept s _ (session_of bytes) kept (read_whole bytes)
+
 -- ---- what needs one
 
-requested-kept : (s : Session) (r : Request) → IsWhole s → ((name : Text) → r ≡ Pupil name pupil.Begin → is_name name ≡ true) → IsWhole (request_effect s r).session
-requested-kept s (View view) h named = h
-requested-kept s (Edit edit) h named = edited-whole s h edit
-requested-kept s (Setting what) h named = set-whole s h what
-requested-kept s (Pupil name what) h named = pupils-whole s h name what (λ e. named name (ap (Pupil name) e))
+stored-whole : (s : Session) (refusals : List Refusal) (name : Text) (bytes : List ℕ) → IsWhole s → IsWhole (stores s refusals name bytes).session
+stored-whole s [] name bytes h = h
+stored-whole s (refusal ∷ refusals) name bytes h = h
 
-asked-kept : (s : Session) (places : List ℕ) (r : Option Request) → IsKept s → (places ≡ [] → has_domain s ≡ true) → ((name : Text) → r ≡ Some (Pupil name pupil.Begin) → is_name name ≡ true) → IsKept (asked_effect s places r).session
-asked-kept s places None kept domain named = kept
-asked-kept s (place ∷ places) (Some r) kept domain named = kept
-asked-kept s [] (Some r) kept domain named = λ some. requested-kept s r (kept (domain refl)) (λ name e. named name (ap Some e))
+file-whole : (s : Session) (calls : Calls) (c : FileCommand) → IsWhole s → IsWhole (file_effect s calls c).session
+file-whole s calls (files.StartSurmise file) h = start-whole s h start_file.Surmise (calls.file file)
+file-whole s calls (files.StartBase file) h = start-whole s h start_file.Base (calls.file file)
+file-whole s calls (files.Test file) h = h
+file-whole s calls (files.Class file) h = h
+file-whole s calls (files.Save file) h = stored-whole s _ file (session_text s) h
 
-all-named : (s : Session) (c : Command) → unnamed_at s c ≡ [] → has_domain s ≡ true
-all-named s c = by (has_domain s)
-  where
-    by : (b : Bool) → cond b (unnamed_places s.names c) (0 ∷ []) ≡ [] → b ≡ true
-    by true e = refl
-    by false e = absurd (cc e)
+-- where a word names no item nothing changes
+unless-whole : (s : Session) (places : List ℕ) (e : Effect) → IsWhole s → IsWhole e.session → IsWhole (unless_unnamed s places e).session
+unless-whole s [] e h whole = whole
+unless-whole s (place ∷ places) e h whole = h
+
+begins-named : (names : List Text) (c : PupilCommand) → IsNamed (command.Pupil c) → pupil_of names c ≡ pupil.Begin → is_name (pupil_name c) ≡ true
+begins-named names (pupils.Pupil name) named e = named
+begins-named names (pupils.Question name) named e = absurd (cc e)
+begins-named names (pupils.Reply name item right) named e = absurd (cc e)
+begins-named names (pupils.Report name) named e = absurd (cc e)
+begins-named names (pupils.Close name) named e = absurd (cc e)
 
 either-kept : (b : Bool) (x y : Effect) → (b ≡ true → IsKept x.session) → IsKept y.session → IsKept (cond b x y).session
 either-kept true x y first second = first refl
 either-kept false x y first second = second
 
-started-at : (s : Session) (kind : StartFile) (fetched : Fetched) → IsKept s → IsKept (file_effect s (start_row kind s fetched)).session
-started-at s kind fetched kept = either-kept (has_domain s) _ _ (λ e some. start-whole s (kept e) kind fetched) kept
-
-stored-kept : (s : Session) (refusals : List Refusal) (name : Text) (bytes : List ℕ) → IsKept s → IsKept (stores s refusals name bytes).session
-stored-kept s [] name bytes kept = kept
-stored-kept s (refusal ∷ refusals) name bytes kept = kept
+in_domain-kept : (s : Session) (e : Effect) → IsKept s → (IsWhole s → IsWhole e.session) → IsKept (in_domain s e).session
+in_domain-kept s e kept whole = either-kept (has_domain s) e _ (λ some other. whole (kept some)) kept
 
 -- ---- commands and lines
 
 command-kept : (s : Session) (calls : Calls) (c : Command) → IsKept s → IsNamed c → IsKept (command_effect s calls c).session
 unfolding command_effect
 command-kept s calls command.Nothing kept named = kept
-command-kept s calls (command.Items names) kept named = started-kept s _ (names_of_words names) kept (λ read e. (names_of_words-read names read e).0)
-command-kept s calls (command.LoadItems file) kept named =
-    let bytes = bytes_fetched (calls.file file) in started-kept s _ (names_of_table bytes) kept (λ read e. (names_of_table-read bytes read e).0)
-command-kept s calls (command.Reopen file) kept named = let bytes = bytes_fetched (calls.file file) in opened-kept s _ (session_of bytes) kept (read_whole bytes)
-command-kept s calls (command.StartSurmise file) kept named = started-at s start_file.Surmise (calls.file file) kept
-command-kept s calls (command.StartBase file) kept named = started-at s start_file.Base (calls.file file) kept
-command-kept s calls (command.Test file) kept named = kept
-command-kept s calls (command.Class file) kept named = kept
-command-kept s calls (command.Save file) kept named = either-kept (has_domain s) _ _ (λ e. stored-kept s _ file (session_text s) kept) kept
-command-kept s calls (command.Pupil name) kept named =
-    asked-kept s _ (Some (Pupil name pupil.Begin)) kept (all-named s (command.Pupil name)) (λ other e. subst (λ w. is_name w ≡ true) (let same : name ≡ other = cc e in same) named)
-command-kept s calls c kept named = asked-kept s (unnamed_at s c) (request_of s.names c) kept (all-named s c) (λ name e. absurd (cc e))
+command-kept s calls (command.Opening c) kept named = opening-kept s calls c kept
+command-kept s calls (command.File c) kept named = in_domain-kept s _ kept (file-whole s calls c)
+command-kept s calls (command.Edit c) kept named = in_domain-kept s _ kept (λ h. unless-whole s _ _ h (edited-whole s h (edit_of s.names c)))
+command-kept s calls (command.View c) kept named = in_domain-kept s _ kept (λ h. unless-whole s _ _ h h)
+command-kept s calls (command.Setting c) kept named = in_domain-kept s _ kept (λ h. unless-whole s _ _ h (set-whole s h (setting_of s.names c)))
+command-kept s calls (command.Pupil c) kept named =
+    in_domain-kept s _ kept (λ h. unless-whole s _ _ h (pupils-whole s h (pupil_name c) (pupil_of s.names c) (begins-named s.names c named)))
 
 words-kept : (s : Session) (calls : Calls) (ws : List Text) (o : Option Command) → IsKept s → ((c : Command) → o ≡ Some c → IsNamed c) → IsKept (words_effect s calls ws o).session
 words-kept s calls ws None kept named = kept

@@ -7,11 +7,11 @@ use Rattle.ls_theory.specs.Settings.{Settings, are_ratios, are_limits, are_setti
 use Rattle.ls_settings.proofs.Kept.{list_all-replicate}
 use Rattle.ls_expert.specs.Held as held
 use Rattle.ls_expert.proofs.Holding.{made-one, standing-begun, standing-blocks, standing-start}
-use Rattle.ls_reply.specs.declared.refusal.Refusal.TheVariants as refusal_of
-use Rattle.ls_reply.specs.declared.request.Edit.{Edit}
-use Rattle.ls_reply.specs.declared.request.Edit.TheVariants as edit
-use Rattle.ls_reply.specs.declared.request.Setting.{Setting}
-use Rattle.ls_reply.specs.declared.request.Setting.TheVariants as setting
+use Rattle.ls_meaning.specs.declared.response.Refusal.TheVariants as refusal_of
+use Rattle.ls_meaning.specs.declared.request.Edit.{Edit}
+use Rattle.ls_meaning.specs.declared.request.Edit.TheVariants as edit
+use Rattle.ls_meaning.specs.declared.request.Setting.{Setting}
+use Rattle.ls_meaning.specs.declared.request.Setting.TheVariants as setting
 use Rattle.ls_reached.proofs.Refusals.{changed-holds, none-both, not-refused, no-fault}
 use Rattle.ls_reached.proofs.Starts.{start-from_file, start-laws}
 

@@ -9,12 +9,12 @@ use Rattle.ls_theory.specs.declared.asked.Asked.TheVariants.{Item, Over}
 use Rattle.ls_theory.specs.declared.reply.Reply.{Reply}
 use Rattle.ls_theory.specs.declared.reply_fault.ReplyFault.{ReplyFault}
 use Rattle.ls_expert.proofs.AnswerLists.{all-told}
-use Rattle.ls_saved.proofs.Answers.{apart-from}
-use Rattle.ls_saved.proofs.Sound.{apart-distinct}
-use Rattle.ls_reply.specs.Sessions.{Session, Pupil, pupil_states}
-use Rattle.ls_reply.specs.declared.refusal.Refusal.TheVariants as refusal_of
-use Rattle.ls_reply.specs.declared.request.PupilRequest.{PupilRequest}
-use Rattle.ls_reply.specs.declared.request.PupilRequest.TheVariants as pupil
+use Rattle.ls_store.proofs.WrittenAnswers.{apart-from}
+use Rattle.ls_store.proofs.Sound.{apart-distinct}
+use Rattle.ls_meaning.specs.Sessions.{Session, Pupil, pupil_states}
+use Rattle.ls_meaning.specs.declared.response.Refusal.TheVariants as refusal_of
+use Rattle.ls_meaning.specs.declared.request.PupilRequest.{PupilRequest}
+use Rattle.ls_meaning.specs.declared.request.PupilRequest.TheVariants as pupil
 use Rattle.ls_reached.proofs.Refusals.{changed-holds, none-both, not-refused, no-fault}
 
 -- ---- names

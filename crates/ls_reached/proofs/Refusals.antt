@@ -1,6 +1,6 @@
 -- What it means that nothing refuses a change.
 use Rattle.ls_reached.proofs.Vocabulary.{◌++◌, ◌∷◌, ◌≡◌, Bool, List, None, Option, Refusal, Some, [], changed, false, refl, refuse, refuse_fault, true}
-use Rattle.ls_reply.specs.declared.response.Response.{Response}
+use Rattle.ls_meaning.specs.declared.response.Response.{Response}
 
 -- what holds of the part as it was, and of what it would become where nothing refuses it, holds after the change
 pub changed-holds : {A : Type 0} (P : A → Type 0) (old next : A) (refusals : List Refusal) (response : Response) → P old → (refusals ≡ [] → P next) → P (changed old refusals response next).next

@@ -6,7 +6,7 @@ use Rattle.ls_theory.specs.declared.base_fault.BaseFault.{BaseFault}
 use Rattle.ls_theory.specs.declared.base_fault.BaseFault.TheVariants.{NotSpanning, Past}
 use Rattle.ls_theory.specs.declared.surmise_fault.SurmiseFault.{SurmiseFault}
 use Rattle.ls_theory.specs.declared.surmise_fault.SurmiseFault.TheVariants.{BadJson, UnknownItem}
-use Rattle.ls_laws.specs.Spans.{IsOn}
+use Rattle.ls_laws.specs.Spans.{AreOn}
 use Rattle.ls_laws.proofs.Families.{compat-IsFamily}
 use Rattle.ls_laws.proofs.BaseStarts.{compat-base}
 use Rattle.ls_clauses.specs.Starts as laws
@@ -18,17 +18,17 @@ use Rattle.ls_files.specs.SurmiseFiles.{Table, table_of, is_table_named, row_und
 use Rattle.ls_files.specs.declared.family_fault.FamilyFault.{FamilyFault}
 use Rattle.ls_family.proofs.Fitting.{sets-fit, each-fits}
 use Rattle.ls_surmise.proofs.Files.{clauses-on, row-named}
-use Rattle.ls_saved.proofs.Starts.{base-small}
-use Rattle.ls_saved.proofs.Surmises.{narrow-read}
-use Rattle.ls_reply.specs.declared.request.StartFile.TheVariants as start_file
+use Rattle.ls_store.proofs.WrittenStarts.{base-small}
+use Rattle.ls_store.proofs.Surmises.{narrow-read}
+use Rattle.ls_meaning.specs.declared.request.StartFile.TheVariants as start_file
 
 -- ---- surmise functions
 
-table-clauses : (names : List Text) (table : Table) → is_table_named names table ≡ true → AllByRecursion (IsOn (length names)) (clauses_in names table)
+table-clauses : (names : List Text) (table : Table) → is_table_named names table ≡ true → AllByRecursion (AreOn (length names)) (clauses_in names table)
 unfolding is_table_named clauses_in
 table-clauses names table named =
     let own = λ (w : Text). map (items_of names) (row_under table w) in
-    All-map (IsOn (length names)) own names (All-given (λ w. IsOn (length names) (own w)) (λ w. clauses-on names (row_under table w) (row-named names table w named)) names)
+    All-map (AreOn (length names)) own names (All-given (λ w. AreOn (length names) (own w)) (λ w. clauses-on names (row_under table w) (row-named names table w named)) names)
 
 table-length : (names : List Text) (table : Table) → length (clauses_in names table) ≡ length names
 unfolding clauses_in
@@ -58,7 +58,7 @@ spanning None r sets e = e
 spanning (Some q) r sets e = absurd (cc e)
 
 -- the base of a base is that base
-base-again : (n : ℕ) (sets made : List Items) → IsOn n sets → based n sets ≡ Ok made → based n made ≡ Ok made
+base-again : (n : ℕ) (sets made : List Items) → AreOn n sets → based n sets ≡ Ok made → based n made ≡ Ok made
 base-again n sets made small e =
     let f = compat n (Sets sets) [] in
     let cover = based-cover n sets made small e in
@@ -78,7 +78,7 @@ by-base : (n : ℕ) (r : Result (List Items) BaseFault) (start : Start) → ((ma
 by-base n (Ok made) start again e = subst (IsStart n) (let same : Sets made ≡ start = cc e in same) (again made refl)
 by-base n (Err fault) start again e = absurd (cc e)
 
-by-sets : (n : ℕ) (r : Result (List Items) FamilyFault) (start : Start) → ((sets : List Items) → r ≡ Ok sets → IsOn n sets) → start_of_sets n r ≡ Ok start → IsStart n start
+by-sets : (n : ℕ) (r : Result (List Items) FamilyFault) (start : Start) → ((sets : List Items) → r ≡ Ok sets → AreOn n sets) → start_of_sets n r ≡ Ok start → IsStart n start
 by-sets n (Ok sets) start small e = by-base n (based n sets) start (λ made. base-again n sets made (small sets refl)) e
 by-sets n (Err fault) start small e = absurd (cc e)
 

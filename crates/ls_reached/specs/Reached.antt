@@ -3,8 +3,8 @@
 --     IsReached s      some lines reach the session from the one that a script begins with
 --     IsKept s      where the session has a domain, it is whole
 use Rattle.std.specs.Prelude.{◌≡◌, ℕ, true, List, [], ◌∷◌}
-use Rattle.ls_saved.specs.{IsWhole}
-use Rattle.ls_reply.specs.{Calls, Session, has_domain, line_effect, started}
+use Rattle.ls_store.specs.{IsWhole}
+use Rattle.ls_meaning.specs.{Calls, Session, has_domain, line_effect, started}
 
 -- a line, with what its calls on the folder give
 pub record Called : Type 0 where

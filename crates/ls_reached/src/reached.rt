@@ -1,8 +1,10 @@
 // The law of the sessions that scripts reach.
 ghost use Rattle.std.specs.Prelude.{◌≡◌, ℕ, true, List, Ok};
-ghost use Rattle.ls_saved.specs.{IsWhole, session_of, session_text};
+ghost use Rattle.ls_files.specs.{session_of, session_text};
+ghost use Rattle.ls_store.specs.{IsWhole};
 ghost use Rattle.ls_edge.specs.Files.{Folder};
-ghost use Rattle.ls_reply.specs.{Calls, Marked, Session, begun_over, has_domain, line_effect, world_after};
+ghost use Rattle.ls_meaning.specs.{Calls, Marked, Session, begun_over, has_domain, line_effect};
+ghost use Rattle.ls_meaning.specs.{world_after};
 ghost use Rattle.ls_reached.specs.Reached.{IsReached, IsKept};
 
 /// A line keeps a session whole where it has a domain, whatever its calls on the folder give. So

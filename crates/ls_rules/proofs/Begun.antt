@@ -1,5 +1,5 @@
 -- The first round: looking at the rules whose sets A begin outside a set.
-use Rattle.ls_rules.proofs.Vocabulary.{◌&&◌, ◌∙◌, ◌∷◌, ◌≡◌, All-kept, AllByRecursion, AreFollowed, AreSingles, Breaks-from, CoversSets, Decides-is_same, Each-both, Follows, IsAwake, IsGood, IsIndexOf, IsWithin, IsWithin-from, Items, List, None, Option, PlaceList, Query, Round, Settling, Some, ℕ, [], and-false, and_from, ap, ap₂, arith, asked_alone, breaks, breaks_none, cases_Bool, cases_eq, each, empty, false, false_from_ne_true, filter, first_of, fold, good-from, has, has-empty, has-meet, inl, inr, is_good, is_same, is_within, least, least-cases, list_all, list_all-All, look, look_at, lose_all, map, meet, members, minus, nat_tests, option_map_or, places_at, refl, same_set, same_within, set_at, several, single, subst, sym, true, true≢false, union, with, without}
+use Rattle.ls_rules.proofs.Vocabulary.{◌&&◌, ◌∙◌, ◌∷◌, ◌≡◌, All-kept, AllByRecursion, AreFollowed, AreSingles, Breaks-from, CoversSets, Decides-is_same, Each-both, IsFollower, IsAwake, IsGood, IsIndexOf, IsWithin, IsWithin-from, Items, List, None, Option, PlaceList, Query, Round, Settling, Some, ℕ, [], and-false, and_from, ap, ap₂, arith, asked_alone, breaks, breaks_none, cases_Bool, cases_eq, each, empty, false, false_from_ne_true, filter, first_of, fold, good-from, has, has-empty, has-meet, inl, inr, is_good, is_same, is_within, least, least-cases, list_all, list_all-All, look, look_at, lose_all, map, meet, members, minus, nat_tests, option_map_or, places_at, refl, same_set, same_within, set_at, several, single, subst, sym, true, true≢false, union, with, without}
 use Rattle.ls_rules.proofs.Alone.{several-is, asked-has, asked-out}
 use Rattle.ls_rules.proofs.Rounds.{After, After-more, After-lose, After-looks, looks-keep, looks-break_at, none_of_part, meets_rule, no_item, no_least, kept, turned, look-unbroken}
 
@@ -116,7 +116,7 @@ whole k s a e = same_within s.kept k a.within (λ i h. elim (cases_Bool (has s.k
 -- ---- an item whose rules are passed over
 
 -- where the set of the item has no item that is kept, the item of a rule that begins with it is not kept
-head_gone : (heads : List Items) (r : Query) (i : ℕ) (k : Items) → meet (set_at heads i) k ≡ empty → Follows heads (first_of (several r.a)) r.q → has (first_of (several r.a)) i ≡ true → has k r.q ≡ false
+head_gone : (heads : List Items) (r : Query) (i : ℕ) (k : Items) → meet (set_at heads i) k ≡ empty → IsFollower heads (first_of (several r.a)) r.q → has (first_of (several r.a)) i ≡ true → has k r.q ≡ false
 head_gone heads r i k e h f =
     let here = h i f in
     false_from_ne_true (has k r.q) (λ x.
@@ -134,5 +134,5 @@ pub passed : (rules : List Query) (starts : List PlaceList) (heads : List Items)
 passed rules starts heads i s index headed e =
     let none = (Decides-is_same (meet (set_at heads i) s.kept) empty).0 e in
     let p = λ (r : Query). has (first_of (several r.a)) i in
-    let gone = each {P = λ r. Follows heads (first_of (several r.a)) r.q} {Q = λ r. p r ≡ true → has s.kept r.q ≡ false} (λ r h f. head_gone heads r i s.kept none h f) rules headed in
+    let gone = each {P = λ r. IsFollower heads (first_of (several r.a)) r.q} {Q = λ r. p r ≡ true → has s.kept r.q ≡ false} (λ r h f. head_gone heads r i s.kept none h f) rules headed in
     sym (turned rules (λ r. first_of (several r.a)) starts i (places_at starts i) s (look_at rules (places_at starts i) s) index refl refl ∙ looks-none s (filter p rules) (All-kept (λ r. has s.kept r.q ≡ false) p rules gone))

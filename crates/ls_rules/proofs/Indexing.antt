@@ -1,5 +1,5 @@
 -- Places of sets by their items: after a push and a removal, and the rules at the places of an item.
-use Rattle.ls_rules.proofs.Vocabulary.{◌&&◌, ◌++◌, ◌+◌, ◌-◌, ◌<◌, ◌∙◌, ◌∷◌, ◌≡◌, ◌≢◌, ◌≤◌, All, All-append, AllByRecursion, AreFollowed, Bool, Covers, Follows, Grows, IsIndexOf, IsIndexed, IsWithin, Items, List, PlaceList, Query, ℕ, [], add-zero, and-false, and-true, and_from, and_parts, ap, ap₂, arith, asked_alone, cases_Bool, cases_eq, cases_lt, cond, drop, each, empty, eq-eqb, false, filter, first_of, get_or, get_or-set_other, get_or-set_same, get_or_past, good-from, has, has-empty, has-without, inl, inr, is_good, is_same, le-ltb, least_spare, length, length-map, list_all, list_all-remove, lowered, lt-ltb, map, map-append, members, most_items, nat_tests, ne_eqb, no_places, not, places_at, places_from, refl, remove, rules_at, set, set_at, several, single, spare_at, spare_within, subst, suc, sym, true, true≢false, union, with, without, without-within, zero, zero-add}
+use Rattle.ls_rules.proofs.Vocabulary.{◌&&◌, ◌++◌, ◌+◌, ◌-◌, ◌<◌, ◌∙◌, ◌∷◌, ◌≡◌, ◌≢◌, ◌≤◌, All, All-append, AllByRecursion, AreFollowed, Bool, Covers, IsFollower, Grows, IsIndexOf, IsIndexed, IsWithin, Items, List, PlaceList, Query, ℕ, [], add-zero, and-false, and-true, and_from, and_parts, ap, ap₂, arith, asked_alone, cases_Bool, cases_eq, cases_lt, cond, drop, each, empty, eq-eqb, false, filter, first_of, get_or, get_or-set_other, get_or-set_same, get_or_past, good-from, has, has-empty, has-without, inl, inr, is_good, is_same, le-ltb, least_spare, length, length-map, list_all, list_all-remove, lowered, lt-ltb, map, map-append, members, most_items, nat_tests, ne_eqb, no_places, not, places_at, places_from, refl, remove, rules_at, set, set_at, several, single, spare_at, spare_within, subst, suc, sym, true, true≢false, union, with, without, without-within, zero, zero-add}
 use Rattle.std.proofs.lemmas.List.Elements.{All-cons, All-nil}
 use Rattle.std.proofs.lemmas.List.Folds.{list_all-append}
 use Rattle.ls_lists.proofs.Places.{map-remove, at_place}
@@ -132,8 +132,8 @@ followed-put sets i q l = rw (get_or-set_same sets i (with (set_at sets i) q) em
 followed-grows : (part : Query → Items) (old new : List Items) (rules : List Query) → Grows old new → AreFollowed old part rules → AreFollowed new part rules
 followed-grows part old new rules g h = each (λ r f i a. g i r.q (f i a)) rules h
 
-followed-push : (part : Query → Items) (old new : List Items) (rules : List Query) (r : Query) → Grows old new → AreFollowed old part rules → Follows new (part r) r.q → AreFollowed new part (rules ++ r ∷ [])
-followed-push part old new rules r g h f = All-append (λ (r : Query). Follows new (part r) r.q) rules (r ∷ []) (followed-grows part old new rules g h) (f, tt)
+followed-push : (part : Query → Items) (old new : List Items) (rules : List Query) (r : Query) → Grows old new → AreFollowed old part rules → IsFollower new (part r) r.q → AreFollowed new part (rules ++ r ∷ [])
+followed-push part old new rules r g h f = All-append (λ (r : Query). IsFollower new (part r) r.q) rules (r ∷ []) (followed-grows part old new rules g h) (f, tt)
 
 followed-remove : (part : Query → Items) (sets : List Items) (rules : List Query) (m : ℕ) → AreFollowed sets part rules → AreFollowed sets part (remove rules m)
 followed-remove part sets [] zero h = tt
@@ -148,14 +148,14 @@ pub IsIndexed-push : (n : ℕ) (rules : List Query) (r : Query) (rest first : It
     → ((i : ℕ) → set_at singles' i ≡ cond (is_same r.a (single i)) (with (set_at singles i) r.q) (set_at singles i)) → length singles' ≡ length singles
     → ((i : ℕ) → places_at wakes' i ≡ cond (has rest i) (places_at wakes i ++ place ∷ []) (places_at wakes i)) → length wakes' ≡ length wakes
     → ((i : ℕ) → places_at starts' i ≡ cond (has first i) (places_at starts i ++ place ∷ []) (places_at starts i)) → length starts' ≡ length starts
-    → Follows heads' first r.q → Grows heads heads' → length heads' ≡ length heads
+    → IsFollower heads' first r.q → Grows heads heads' → length heads' ≡ length heads
     → IsIndexed n (rules ++ r ∷ []) singles' wakes' starts' heads'
 IsIndexed-push n rules r rest first place wakes starts wakes' starts' singles singles' heads heads' a good m f p t tl w wl s sl led grows hl = record {
   good = list_all-append (is_good n) rules (r ∷ []) ∙ and_from (list_all (is_good n) rules) (is_good n r && true) a.good (and-true (is_good n r) ∙ good);
   singles_are = AreSingles-push rules r singles singles' a.singles_are t;
   wakes_are = more_places rules (λ r. several r.a) r wakes wakes' a.wakes_are (λ i. w i ∙ ap₂ (λ (k : Items) q. cond (has k i) (places_at wakes i ++ q ∷ []) (places_at wakes i)) m p);
   starts_are = more_places rules (λ r. first_of (several r.a)) r starts starts' a.starts_are (λ i. s i ∙ ap₂ (λ (k : Items) q. cond (has k i) (places_at starts i ++ q ∷ []) (places_at starts i)) (f ∙ ap first_of m) p);
-  headed = followed-push (λ r. first_of (several r.a)) heads heads' rules r grows a.headed (subst (λ k. Follows heads' k r.q) (f ∙ ap first_of m) led);
+  headed = followed-push (λ r. first_of (several r.a)) heads heads' rules r grows a.headed (subst (λ k. IsFollower heads' k r.q) (f ∙ ap first_of m) led);
   few_wakes = rw wl a.few_wakes;
   few_starts = rw sl a.few_starts;
   singles_reach = rw (sl, tl) a.singles_reach;

@@ -6,12 +6,12 @@ use Rattle.ls_set.specs.declared.query.Query.{Query}
 use Rattle.ls_rules.specs.Sets.{set_at}
 
 -- the item q follows each item of the set
-abbrev pub Follows : List Items → Items → ℕ → Type 0
-Follows sets s q = (i : ℕ) → has s i ≡ true → has (set_at sets i) q ≡ true
+abbrev pub IsFollower : List Items → Items → ℕ → Type 0
+IsFollower sets s q = (i : ℕ) → has s i ≡ true → has (set_at sets i) q ≡ true
 
 -- of each rule the item q follows each item of that part of the rule; others may follow too
 abbrev pub AreFollowed : List Items → (Query → Items) → List Query → Type 0
-AreFollowed sets part rules = AllByRecursion (λ r. Follows sets (part r) r.q) rules
+AreFollowed sets part rules = AllByRecursion (λ r. IsFollower sets (part r) r.q) rules
 
 -- no set has lost an item
 abbrev pub Grows : List Items → List Items → Type 0

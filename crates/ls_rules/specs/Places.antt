@@ -1,5 +1,6 @@
 -- For each item, the places of the sets of a list that have it.
-use Rattle.std.specs.Prelude.{ℕ, suc, ◌-◌, ◌≡◌, ◌==◌, nat_lt, false, not, if◌then◌else◌, min, List, [], ◌∷◌, map, filter, length, slice_index_or}
+use Rattle.std.specs.Prelude.{ℕ, suc, ◌-◌, ◌≡◌, ◌==◌, nat_lt, false, not, if◌then◌else◌, min}
+use Rattle.std.specs.Prelude.{List, [], ◌∷◌, map, filter, length, slice_index_or}
 use Rattle.ls_set.specs.{Items, has}
 
 -- places, and how many more fit without memory
@@ -28,7 +29,8 @@ lowered place ps = map (lower place) (filter (λ p. not (p == place)) ps)
 -- the places of the sets that have the item, where the first set has place p
 abbrev pub places_from : ℕ → List Items → ℕ → List ℕ
 places_from p [] i = []
-places_from p (k ∷ ks) i = if has k i then p ∷ places_from (suc p) ks i else places_from (suc p) ks i
+places_from p (k ∷ ks) i =
+    if has k i then p ∷ places_from (suc p) ks i else places_from (suc p) ks i
 
 -- each item has the places of those of the sets that have it
 abbrev pub IsIndexOf : List PlaceList → List Items → Type 0
@@ -43,6 +45,7 @@ abbrev pub least_spare : List PlaceList → ℕ → ℕ
 least_spare [] m = m
 least_spare (l ∷ ls) m = min l.spare (least_spare ls m)
 
--- how many more places fit everywhere, and at most m; none where some of the n items has no list yet
+-- how many more places fit everywhere, and at most m; none where some of the n items
+-- has no list yet
 abbrev pub spare_within : ℕ → List PlaceList → ℕ → ℕ
 spare_within n ls m = if nat_lt (length ls) n then 0 else least_spare ls m

@@ -1,7 +1,9 @@
 -- Rules that are looked at again where an item of theirs fell out.
-use Rattle.std.specs.Prelude.{ℕ, ◌≤◌, ◌≡◌, Bool, true, false, if◌then◌else◌, Option, None, Some, List, length, map, slice_get, fold}
+use Rattle.std.specs.Prelude.{ℕ, ◌≤◌, ◌≡◌, Bool, true, false, if◌then◌else◌, Option, None, Some}
+use Rattle.std.specs.Prelude.{List, length, map, slice_get, fold}
 use Rattle.std.specs.List.{AllByRecursion, list_all, filter_map}
-use Rattle.ls_set.specs.{IsWithin, Items, empty, has, is_good, meet, minus, most_items, union, with, without}
+use Rattle.ls_set.specs.{IsWithin, Items, empty, has, is_good, meet, minus, most_items, union}
+use Rattle.ls_set.specs.{with, without}
 use Rattle.ls_set.specs.declared.query.Query.{Query}
 use Rattle.ls_theory.specs.{breaks, breaks_none}
 use Rattle.ls_rules.specs.Followers.{AreFollowed}
@@ -34,22 +36,28 @@ lose_all s set = record { kept = minus s.kept set; fallen = union s.fallen (meet
 abbrev pub lost_with : List Items → Items → ℕ → Items
 lost_with singles kept i = if has kept i then empty else set_at singles i
 
--- an item wakes its rules: by those of the item alone items fall out together, then the others are looked at
+-- an item wakes its rules: by those of the item alone items fall out together,
+-- then the others are looked at
 abbrev pub wake : List Query → List Items → List PlaceList → ℕ → Round → Round
-wake rules singles wakes i s = look_at rules (places_at wakes i) (lose_all s (lost_with singles s.kept i))
+wake rules singles wakes i s =
+    look_at rules (places_at wakes i) (lose_all s (lost_with singles s.kept i))
 
 -- if the kept set breaks the rule, then an item of its A has fallen out and was not looked at since
 abbrev pub IsAwake : Round → Query → Type 0
 IsAwake s r = breaks s.kept r ≡ true → (i : ℕ) × (has r.a i ≡ true) × (has s.fallen i ≡ true)
 
--- the items that fell out wake every rule that is broken, and nothing of a set within the first that breaks no rule was lost
+-- the items that fell out wake every rule that is broken, and nothing of a set within the first
+-- that breaks no rule was lost
 pub record Settling (rules : List Query) (from : Items) (s : Round) : Type 0 where
   pub within : IsWithin s.kept from
   pub awake : AllByRecursion (IsAwake s) rules
   pub greatest : (t : Items) → breaks_none rules t ≡ true → IsWithin t from → IsWithin t s.kept
 
--- the rules can be asked about n items. The items of those with one item in A are kept by that item; of the others there are kept the places of their sets A, and of the least items of these, and for these their items
-pub record IsIndexed (n : ℕ) (rules : List Query) (singles : List Items) (wakes starts : List PlaceList) (heads : List Items) : Type 0 where
+-- the rules can be asked about n items. The items of those with one item in A are kept
+-- by that item; of the others there are kept the places of their sets A, and of the least items
+-- of these, and for these their items
+pub record IsIndexed (n : ℕ) (rules : List Query) (singles : List Items)
+    (wakes starts : List PlaceList) (heads : List Items) : Type 0 where
   pub good : list_all (is_good n) rules ≡ true
   pub singles_are : AreSingles singles rules
   pub wakes_are : IsIndexOf wakes (map (λ r. several r.a) rules)
@@ -74,7 +82,11 @@ IsKeeping keep from to s true = (s ≡ to) × (IsWithin keep from.kept → IsWit
 
 -- no set within the first that has all of keep breaks no rule
 abbrev pub NoneKeeps : List Query → Items → Items → Type 0
-NoneKeeps rules from keep = (t : Items) → breaks_none rules t ≡ true → IsWithin t from → IsWithin keep t → ⊥
+NoneKeeps rules from keep = (t : Items)
+    → breaks_none rules t ≡ true
+    → IsWithin t from
+    → IsWithin keep t
+    → ⊥
 
 -- the greatest set within the first that breaks no rule, where it has all of keep
 abbrev pub SettlesKeeping : List Query → Items → Items → Option Items → Type 0

@@ -2,7 +2,7 @@
 ghost use Rattle.std.specs.Prelude.{◌≡◌, ℕ, ◌<◌, ◌≤◌, [], true, not, length, OnOk};
 ghost use Rattle.ls_set.specs.{empty, has, is_same, meet};
 ghost use Rattle.ls_rules.specs.Sets.{set_at};
-ghost use Rattle.ls_rules.specs.Followers.{Follows, Grows};
+ghost use Rattle.ls_rules.specs.Followers.{Grows, IsFollower};
 
 use crate::sets::Sets;
 use ls_set::{ItemSet, PLACES};
@@ -29,7 +29,7 @@ impl Model for Followers {
 fn push_each(sets: &mut Sets, set: ItemSet, q: u32)
     requires room { (i : ℕ) → has set i ≡ true → i < length sets.old }
     requires item { q < PLACES }
-    ensures follows { Follows sets.new set q }
+    ensures follows { IsFollower sets.new set q }
     ensures grows { Grows sets.old sets.new }
     ensures len { length sets.new ≡ length sets.old }
 {
@@ -65,7 +65,7 @@ impl Followers {
     pub fn push(&mut self, set: ItemSet, q: u32)
         requires room { (i : ℕ) → has set i ≡ true → i < length self.old }
         requires item { q < PLACES }
-        ensures follows { Follows self.new set q }
+        ensures follows { IsFollower self.new set q }
         ensures grows { Grows self.old self.new }
         ensures len { length self.new ≡ length self.old }
     {

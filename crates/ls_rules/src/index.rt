@@ -1,5 +1,6 @@
 // For each item, the places of the sets of a list that have it.
-ghost use Rattle.std.specs.Prelude.{◌≡◌, ℕ, ◌<◌, ◌≤◌, ◌++◌, ◌∷◌, [], true, if◌then◌else◌, length, OnOk};
+ghost use Rattle.std.specs.Prelude.{◌≡◌, ℕ, ◌<◌, ◌≤◌, ◌++◌, ◌∷◌, [], true, if◌then◌else◌};
+ghost use Rattle.std.specs.Prelude.{length, OnOk};
 ghost use Rattle.ls_set.specs.{has};
 ghost use Rattle.ls_rules.specs.Places.{lowered, places_at, Covers, spare_at, spare_within};
 

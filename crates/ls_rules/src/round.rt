@@ -15,8 +15,8 @@ impl Round {
     ghost use Rattle.ls_theory.specs.{breaks};
     ghost use Rattle.ls_rules.specs.Waking.{look, lose_all};
 
-    /// Whether the kept set breaks the rule. Most sets have an item of most sets A, so that is asked
-    /// first: a test that mostly ends the same way costs least.
+    /// Whether the kept set breaks the rule. Most sets have an item of most sets A, so that is
+    /// asked first: a test that mostly ends the same way costs least.
     #[tactic(auto, unfolding(ls_set::specs::ItemSet::is_same))]
     pub fn breaks(&self, rule: &Query) -> bool
         requires { rule.now.q < PLACES }

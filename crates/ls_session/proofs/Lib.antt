@@ -1,3 +1,8 @@
 mod Vocabulary
-pub mod Beginning
-pub mod Following
+mod Decided
+mod Fetched
+mod Stored
+mod Meant
+mod Sayable
+mod Steps
+mod Trailed

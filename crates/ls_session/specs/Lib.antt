@@ -1,3 +1,6 @@
+pub mod States
+pub mod Readings
+pub mod Decides
+pub mod Standing
 pub mod Follows
 pub mod Faults
-pub mod Courses

@@ -3,9 +3,9 @@ ghost use Rattle.std.specs.Prelude.{◌≡◌, true, List, ℕ, [], length, IfOk
 ghost use Rattle.std.specs.declared.option.Option.{Option};
 ghost use Rattle.ls_edge.specs.Files.{Folder};
 ghost use Rattle.ls_lines.specs.{is_long};
-ghost use Rattle.ls_reply.specs.{Calls, Session as State, answers, line_effect, started};
-ghost use Rattle.ls_reply.specs.declared.response.Response.TheVariants.{Silence};
-ghost use Rattle.ls_texts.specs.Rooms.{Ends, no_reply};
+ghost use Rattle.ls_meaning.specs.{Calls, Session as State, answers, line_effect, started};
+ghost use Rattle.ls_meaning.specs.declared.response.Response.TheVariants.{Silence};
+ghost use Rattle.ls_write.specs.Rooms.{Ends, no_reply};
 ghost use Rattle.ls_session.specs.Follows.{Follows, MovesSink};
 
 use crate::StepFault;
@@ -13,9 +13,8 @@ use crate::decider::Decider;
 use ls_edge::{Shelf, Sink, SinkFault};
 use ls_interior::Steps;
 use ls_lines::{LONGEST_LINE, is_note};
-use ls_reply::Refusal;
-use ls_texts::Room;
-use ls_writing::put_refusal;
+use ls_meaning::Refusal;
+use ls_write::{Room, put_refusal};
 use std::alloc::{AllocError, Global};
 use std::marker::{Brand, Model};
 use std::sync::ledger::{Blank, Ledger};
@@ -39,12 +38,12 @@ fn is_passed(line: &[u8]) -> bool
 }
 
 impl Model for Session {
-    ghost use Rattle.ls_reply.specs.{Session as State};
-    ghost use Rattle.ls_session.specs.Courses.{standing_session, IsIdle};
+    ghost use Rattle.ls_meaning.specs.{Session as State};
+    ghost use Rattle.ls_session.specs.Standing.{standing_session, IsIdle};
 
     ghost Value = { State };
 
-    ghost view = { λ s. standing_session s.decider.course };
+    ghost view = { λ s. standing_session s.decider.state };
 
     ghost invariant = { λ s. IsIdle s.room };
 }

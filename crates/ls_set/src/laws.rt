@@ -1,7 +1,11 @@
 // The laws of sets: what the words that contracts cite mean.
-ghost use Rattle.std.specs.Prelude.{◌≡◌, ◌≢◌, ◌<◌, ◌↔◌, ◌==◌, ◌&&◌, ◌||◌, not, nat_lt, ℕ, true, false, Contains, Some, length};
+ghost use Rattle.std.specs.Prelude.{◌≡◌, ◌≢◌, ◌<◌, ◌↔◌, ◌==◌, ◌&&◌, ◌||◌, not, nat_lt};
+ghost use Rattle.std.specs.Prelude.{ℕ, true, false, Contains, Some, length};
 ghost use Rattle.std.specs.List.Sorted.{IsStrictlyIncreasing};
-ghost use Rattle.ls_set.specs.ItemSet.{Items, has, empty, full, with, without, union, meet, minus, keep_before, is_same, is_within, IsWithin, items, len, least, next_item, comes_before, DiffersFirstAt, subsets, IsInOrder, is_among, most_items};
+ghost use Rattle.ls_set.specs.ItemSet.{Items, has, empty, full, with, without, union, meet, minus};
+ghost use Rattle.ls_set.specs.ItemSet.{keep_before, is_same, is_within, IsWithin, items, len};
+ghost use Rattle.ls_set.specs.ItemSet.{least, next_item, comes_before, DiffersFirstAt, subsets};
+ghost use Rattle.ls_set.specs.ItemSet.{IsInOrder, is_among, most_items};
 
 use crate::item_set::PLACES;
 

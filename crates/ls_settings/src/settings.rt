@@ -1,8 +1,10 @@
 // The settings of an assessment.
-ghost use Rattle.std.specs.Prelude.{◌≡◌, ◌<◌, ◌≤◌, true, not, length, slice_index_or, is_err, IfOk, OnOk, OnErr};
+ghost use Rattle.std.specs.Prelude.{◌≡◌, ◌<◌, ◌≤◌, true, not, length, slice_index_or, is_err, IfOk};
+ghost use Rattle.std.specs.Prelude.{OnOk, OnErr};
 ghost use Rattle.std.specs.List.{list_all};
 ghost use Rattle.ls_theory.specs.Weights.{no_ratios, ratio_for};
-ghost use Rattle.ls_theory.specs.Settings.{is_ratio, are_ratios, are_limits, odds, standard, with_all, with_item, with_limits, greatest, heavy_after};
+ghost use Rattle.ls_theory.specs.Settings.{is_ratio, are_ratios, are_limits, odds, standard};
+ghost use Rattle.ls_theory.specs.Settings.{with_all, with_item, with_limits, greatest, heavy_after};
 ghost use Rattle.ls_settings.specs.Allowed.{IsAllowed};
 
 use crate::bad_setting::BadSetting;

@@ -2,7 +2,7 @@
 use Rattle.ls_shell.proofs.Vocabulary.{◌++◌, ◌-◌, ◌||◌, ◌∙◌, ◌∷◌, ◌≡◌, ◌≤◌, ◌⊎◌, Answers, AnswersEnded, AnswersWhole, Appends, Bool, Calls, Effect, Folder, HasAnswered, Holds, IsAnswered, IsBegun, IsTaken, LeavesFiles, List, Marked, None, Rose, Run, Session, Some, StopsAt, TakesAndStops, World, ℕ, [], ahead, ahead-lines, answers, ap, append-nil, append_assoc, appends_keep, appends_more, appends_none, arith, bare_lines, bare_lines-append, begun_over, bytes_of, calls_of, command, command_effect, command_of, cut, drop, effect_at, false, folder_with, forms, goes_on, inl, inr, is_begun, is_of, is_refusal, line_effect, lines, marked, parts, refl, refuses, refuses-snoc, replies, replies-snoc, reply_at, reply_of, spelling, started, subst, sym, take, true, words, world_after, world_after-snoc, world_next}
 use Rattle.std.proofs.Math.Bool.{or-false}
 use Rattle.std.specs.declared.option.Option.{Option}
-use Rattle.ls_reply.specs.declared.response.Response.TheVariants.{Silence}
+use Rattle.ls_meaning.specs.declared.response.Response.TheVariants.{Silence}
 use Rattle.ls_shell.proofs.Past.{past_place}
 use Rattle.ls_shell.proofs.Rises.{few-snoc, few-none}
 

@@ -1,6 +1,6 @@
 -- What words ask for: no script but that of the input, where there is none.
 use Rattle.ls_shell.proofs.Vocabulary.{◌∷◌, ◌≡◌, Bool, Drill, File, Input, List, Mode, None, Option, Some, Text, ℕ, [], bytes_eq, codes, cond, false, is_file, is_from_to, map, refl, true}
-use Rattle.ls_words.specs.Modes.{mode_of, mode_of_option, file, drill, number_of, most_drilled}
+use Rattle.ls_words.specs.Modes.{mode_of, mode_of_option, file, drill, read_number, most_drilled}
 
 no_file : (name : Text) → file name ≡ Some Input → ⊥
 no_file name e = elim (is_file name) as (λ b. cond b (Some (File name)) None ≡ Some Input → ⊥) [ true ↦ λ e. cc e | false ↦ λ e. cc e ] e
@@ -12,9 +12,9 @@ no_drill (Some n) None e = cc e
 
 no_option : (option value : Text) → mode_of_option option value ≡ Some Input → ⊥
 no_option option value e =
-    elim (bytes_eq option (codes "--script")) as (λ b. cond b (file value) (cond (bytes_eq option (codes "--drill")) (drill (number_of value) (Some 1)) None) ≡ Some Input → ⊥) [
+    elim (bytes_eq option (codes "--script")) as (λ b. cond b (file value) (cond (bytes_eq option (codes "--drill")) (drill (read_number value) (Some 1)) None) ≡ Some Input → ⊥) [
       | true ↦ λ e. no_file value e
-      | false ↦ λ e. elim (bytes_eq option (codes "--drill")) as (λ b. cond b (drill (number_of value) (Some 1)) None ≡ Some Input → ⊥) [ true ↦ λ e. no_drill (number_of value) (Some 1) e | false ↦ λ e. cc e ] e
+      | false ↦ λ e. elim (bytes_eq option (codes "--drill")) as (λ b. cond b (drill (read_number value) (Some 1)) None ≡ Some Input → ⊥) [ true ↦ λ e. no_drill (read_number value) (Some 1) e | false ↦ λ e. cc e ] e
     ] e
 
 either : (a b : Bool) (x y : Option Mode) → (x ≡ Some Input → ⊥) → (y ≡ Some Input → ⊥) → cond a x (cond b y None) ≡ Some Input → ⊥
@@ -28,7 +28,7 @@ input-none [] e = refl
 input-none (option ∷ []) e = absurd (cc e)
 input-none (option ∷ value ∷ []) e = absurd (no_option option value e)
 input-none (first ∷ value ∷ second ∷ []) e = absurd (cc e)
-input-none (first ∷ value ∷ second ∷ other ∷ []) e = absurd (either _ _ (drill (number_of value) (number_of other)) (drill (number_of other) (number_of value)) (no_drill (number_of value) (number_of other)) (no_drill (number_of other) (number_of value)) e)
+input-none (first ∷ value ∷ second ∷ other ∷ []) e = absurd (either _ _ (drill (read_number value) (read_number other)) (drill (read_number other) (read_number value)) (no_drill (read_number value) (read_number other)) (no_drill (read_number other) (read_number value)) e)
 input-none (first ∷ value ∷ second ∷ other ∷ word ∷ words) e = absurd (cc e)
 
 pub none-mapped : {X Y : Type 0} (f : X → Y) (xs : List X) → map f xs ≡ [] → xs ≡ []

@@ -1,5 +1,5 @@
 -- The script of a named file, by what was fetched; and a run over a script that is there whole.
-use Rattle.ls_shell.proofs.Vocabulary.{◌++◌, ◌∙◌, ◌∷◌, ◌≡◌, ◌≤◌, AllocError, AnswersFile, AnswersGiven, AnswersNamed, AnswersScript, AnswersWhole, Bool, Done, Err, FetchFault, FetchedFrom, Fetches, FewMarks, Folder, GivesBytes, HasAnswered, InputLong, IsErrAnd, IsErrOf, LeavesAll, List, Marked, MatchResult, Memory, NoMemory, NoScript, None, Ok, Option, ReadFault, Refused, Result, Rose, Some, Status, Stays, StepFault, StopsAt, Text, Usage, Vec, Write, WriteFault, ℕ, [], ap, arith, cond, false, given, le-ltb, length, lines, longest_file, ltb, refl, subst, sym, true}
+use Rattle.ls_shell.proofs.Vocabulary.{◌++◌, ◌∙◌, ◌∷◌, ◌≡◌, ◌≤◌, AllocError, AnswersFile, AnswersGiven, AnswersNamed, AnswersScript, AnswersWhole, Bool, Done, Err, FetchFault, FetchedFrom, Fetches, FewMarks, Folder, GivesBytes, HasAnswered, InputLong, IsErrAnd, IsErrOf, LeavesAll, List, Marked, MatchResult, Memory, NoMemory, NoScript, None, Ok, Option, ReadFault, Refused, Result, Rose, Some, Status, FolderStays, StepFault, StopsAt, Text, Usage, Vec, Write, WriteFault, ℕ, [], ap, arith, cond, false, given, le-ltb, length, lines, longest_file, ltb, refl, subst, sym, true}
 use Rattle.std.specs.declared.alloc.Global.{Global}
 use Rattle.std.specs.FinMap as map
 use Rattle.ls_edge.specs.declared.traits.FetchFault.TheVariants as fetch
@@ -91,7 +91,7 @@ module _ (m : Folder) (left : Option Folder) (before then now : ℕ) (l : before
   }
 
 -- a told folder stays
-pub stays-told : (old new : Option Folder) (m : Folder) → Stays old new → old ≡ Some m → new ≡ Some m
+pub stays-told : (old new : Option Folder) (m : Folder) → FolderStays old new → old ≡ Some m → new ≡ Some m
 stays-told None new m h e = absurd (cc e)
 stays-told (Some k) new m h e = h ∙ e
 

@@ -14,7 +14,8 @@ use Rattle.ls_shell.specs.Progress.{StopsAt}
 use Rattle.ls_shell.specs.Runs.{AnswersWhole}
 use Rattle.ls_shell.specs.declared.status.Status.{Status}
 use Rattle.ls_shell.specs.declared.status.Status.TheVariants.{Done, Refused, ReadFault}
-use Rattle.ls_shell.specs.declared.status.Status.TheVariants.{WriteFault, InputLong, NoMemory, NoScript}
+use Rattle.ls_shell.specs.declared.status.Status.TheVariants.{WriteFault, InputLong, NoMemory}
+use Rattle.ls_shell.specs.declared.status.Status.TheVariants.{NoScript}
 
 -- the words ask for a file's script
 abbrev pub IsFile : Mode → Type 0
@@ -77,7 +78,8 @@ AnswersGiven (Err (fetch.Memory e)) folder left shelf_before shelf_now before af
 abbrev pub AnswersNamed : Text → Folder → Option Folder → ℕ → ℕ
     → Option (List ℕ) → Option (List ℕ) → Status → Type 0
 AnswersNamed name folder left shelf_before shelf_now before after status =
-    AnswersGiven (given (map.get folder name)) folder left shelf_before shelf_now before after status
+    AnswersGiven (given (map.get folder name)) folder left shelf_before shelf_now before after
+    status
 
 -- the text of a drill was written, or a front of it where the sink failed or memory ran out
 abbrev pub WritesDrill : List ℕ → Option (List ℕ) → Option (List ℕ) → ℕ → ℕ → Status → Type 0

@@ -6,7 +6,8 @@ use Rattle.std.specs.Io.KnownBytes.{Appends, Keeps}
 use Rattle.ls_edge.specs.Causes.{Rose, AppendsFront}
 use Rattle.ls_edge.specs.Files.{Folder}
 use Rattle.ls_lines.specs.{Holds, ahead, lines}
-use Rattle.ls_reply.specs.{Marked, World, bare_lines, begun_over, count_marks, is_refusal, refuses, replies, reply_at, world_after, world_next}
+use Rattle.ls_meaning.specs.{Marked, World, bare_lines, begun_over, count_marks, is_refusal}
+use Rattle.ls_meaning.specs.{refuses, replies, reply_at, world_after, world_next}
 use Rattle.ls_shell.specs.declared.run.Run.{Run}
 
 -- the marks are no more than the rise of the shelf's count, where its counter is not at its

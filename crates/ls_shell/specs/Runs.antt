@@ -6,7 +6,7 @@ use Rattle.std.specs.Io.KnownBytes.{Appends, Consumes, IsAtEnd}
 use Rattle.ls_edge.specs.Causes.{Rose}
 use Rattle.ls_edge.specs.Files.{Folder}
 use Rattle.ls_lines.specs.{lines}
-use Rattle.ls_reply.specs.{Marked, bare_lines, begun_over, refuses}
+use Rattle.ls_meaning.specs.{Marked, bare_lines, begun_over, refuses}
 use Rattle.ls_session.specs.declared.step_fault.StepFault.{StepFault}
 use Rattle.ls_session.specs.declared.step_fault.StepFault.TheVariants as step
 use Rattle.ls_shell.specs.declared.run_fault.RunFault.{RunFault}

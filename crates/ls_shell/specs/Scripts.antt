@@ -5,7 +5,7 @@ use Rattle.std.specs.Io.KnownBytes.{Appends}
 use Rattle.ls_edge.specs.Causes.{Rose, AppendsFront}
 use Rattle.ls_edge.specs.Files.{Folder}
 use Rattle.ls_lines.specs.{lines}
-use Rattle.ls_reply.specs.{final_folder, is_some_refused, transcript}
+use Rattle.ls_meaning.specs.{final_folder, is_some_refused, transcript}
 use Rattle.ls_shell.specs.Progress.{StopsAt}
 use Rattle.ls_shell.specs.Runs.{longest_script, AnswersWhole}
 use Rattle.ls_shell.specs.declared.status.Status.{Status}

@@ -2,7 +2,7 @@
 ghost use Rattle.std.specs.Prelude.{◌≡◌, ◌≢◌, ◌<◌, ◌≤◌, ◌^◌, length, Some, IfOk, OnErr, IsErrOf};
 ghost use Rattle.std.specs.Io.KnownBytes.{Keeps};
 ghost use Rattle.ls_edge.specs.Causes.{Rose};
-ghost use Rattle.ls_edge.specs.Files.{Folder, Stays};
+ghost use Rattle.ls_edge.specs.Files.{Folder, FolderStays};
 ghost use Rattle.ls_lines.specs.{lines};
 ghost use Rattle.ls_shell.specs.Progress.{IsFresh, StopsAt};
 ghost use Rattle.ls_shell.specs.Runs.{IsExtended, AnswersWhole};
@@ -56,11 +56,12 @@ pub fn answer_named<R: Threads + Sync, K: Sink, H: Shelf>(
         (H.faults shelf.old) (H.faults shelf.new) (K.written out.old) (K.written out.new) result }
 
     // Status 3, 5 and 7: nothing is written, and the files are as they were.
-    ensures read_fault { result ≡ Status.ReadFault → Rose (H.faults shelf.old) (H.faults shelf.new) }
+    ensures read_fault { result ≡ Status.ReadFault
+        → Rose (H.faults shelf.old) (H.faults shelf.new) }
     ensures unread { (result ≡ Status.Done → ⊥) → (result ≡ Status.Refused → ⊥)
         → (result ≡ Status.WriteFault → ⊥) → (result ≡ Status.NoMemory → ⊥)
         → Keeps (K.written out.old) (K.written out.new)
-        × Stays (H.files shelf.old) (H.files shelf.new) }
+        × FolderStays (H.files shelf.old) (H.files shelf.new) }
 
     ensures write_fault { result ≡ Status.WriteFault → Rose (K.faults out.old) (K.faults out.new) }
     ensures understood { result ≢ Status.Usage }

@@ -4,7 +4,7 @@ ghost use Rattle.std.specs.Prelude.{IfOk, OnOk, OnErr, IsErrOf};
 ghost use Rattle.std.specs.declared.option.Option.{Option};
 ghost use Rattle.ls_edge.specs.Files.{Folder};
 ghost use Rattle.ls_lines.specs.{ended_of, kept, lines};
-ghost use Rattle.ls_reply.specs.{line_effect};
+ghost use Rattle.ls_meaning.specs.{line_effect};
 ghost use Rattle.ls_session.specs.Follows.{Follows, MovesSink};
 
 use ls_edge::{Shelf, Sink};

@@ -1,5 +1,6 @@
 // The top call.
-ghost use Rattle.std.specs.Prelude.{◌≡◌, ◌≢◌, ◌<◌, ◌≤◌, ◌++◌, [], List, ℕ, Some, None, IfSome, false, true, length, map};
+ghost use Rattle.std.specs.Prelude.{◌≡◌, ◌≢◌, ◌<◌, ◌≤◌, ◌++◌, [], List, ℕ, Some, None, IfSome};
+ghost use Rattle.std.specs.Prelude.{false, true, length, map};
 ghost use Rattle.std.specs.FinMap as map;
 ghost use Rattle.std.specs.Io.KnownBytes.{Keeps};
 ghost use Rattle.ls_edge.specs.Files.{Folder, longest_file};
@@ -57,7 +58,8 @@ fn status_after(ended: Result<bool, RunFault>) -> Status
 
 /// The program, by the words after its name. Without any it answers the script that the source has;
 /// `--script NAME` answers the one that the file of the name has, and `--drill N`, optionally with
-/// `--number S`, runs a drill. Other words are answered by the usage line. It says how the run ended.
+/// `--number S`, runs a drill. Other words are answered by the usage line. It says how the run
+/// ended.
 pub fn lspace<R: Threads + Sync, S: Source, K: Sink, H: Shelf>(
     rt: &R,
     alloc: Global,
@@ -67,7 +69,7 @@ pub fn lspace<R: Threads + Sync, S: Source, K: Sink, H: Shelf>(
     shelf: &mut H,
 ) -> Status
     // Every script is answered by the transcript that it has over the folder's files, unless memory
-    // runs out.
+    // runs out. It follows from `complete`, where no call on the folder failed.
     ensures headline { words.now ≡ [] → (script : List ℕ) (folder : Folder)
         → S.left src.old ≡ Some script → H.files shelf.old ≡ Some folder
         → TakesFew script (S.left src.new)
@@ -86,7 +88,8 @@ pub fn lspace<R: Threads + Sync, S: Source, K: Sink, H: Shelf>(
         → MarksScript folder script (H.files shelf.new) (H.faults shelf.old) (H.faults shelf.new)
         (K.written out.old) (K.written out.new) result }
 
-    // The script of a named file is answered in the same way.
+    // The script of a named file is answered in the same way. It follows from `named_status`, where
+    // no call on the folder failed.
     ensures named { (name : Text) → mode_of (map (λ w. w.now) words.now) ≡ Some (File name)
         → (script : List ℕ) (folder : Folder) → H.files shelf.old ≡ Some folder
         → map.get folder name ≡ Some script → length script ≤ longest_file

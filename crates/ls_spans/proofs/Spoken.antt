@@ -1,5 +1,5 @@
 -- Which sets and items a verdict speaks of.
-use Rattle.ls_spans.proofs.Vocabulary.{◌&&◌, ◌++◌, ◌<◌, ◌∙◌, ◌∷◌, ◌≡◌, BaseVerdict, Bool, IsOn, IsPart, IsWithin, Items, List, None, Option, Some, ℕ, [], among-here, among-there, and_from, and_parts, ap, arith, atom_items, base, base-member, base_verdict, bound, cases_Bool, closed-pair, cond, double-found, double_atom, empty, false, filter, find, full, graded-space, has, has-meet, inl, inner_fringe, inr, is_among, is_atom_at, is_double, is_same, is_space, is_union_closed, is_well_graded, items, items-below, length, list_all, list_any, map, members, not, numbers_from, outer_fringe, pairs, projection, projection-from, refl, state_of, subst, suc, sym, true, true≢false, unclosed_pair, union, verdict, verdict_from, with, with_base, without, zero}
+use Rattle.ls_spans.proofs.Vocabulary.{◌&&◌, ◌++◌, ◌<◌, ◌∙◌, ◌∷◌, ◌≡◌, BaseVerdict, Bool, AreOn, IsPart, IsWithin, Items, List, None, Option, Some, ℕ, [], among-here, among-there, and_from, and_parts, ap, arith, atom_items, base, base-member, base_verdict, bound, cases_Bool, closed-pair, cond, double-found, double_atom, empty, false, filter, find, full, graded-space, has, has-meet, inl, inner_fringe, inr, is_among, is_atom_at, is_double, is_same, is_space, is_union_closed, is_well_graded, items, items-below, length, list_all, list_any, map, members, not, numbers_from, outer_fringe, pairs, projection, projection-from, refl, state_of, subst, suc, sym, true, true≢false, unclosed_pair, union, verdict, verdict_from, with, with_base, without, zero}
 use Rattle.std.specs.Prelude.{slice_index}
 use Rattle.ls_theory.specs.declared.verdict.BaseVerdict.TheVariants as of_base
 use Rattle.ls_theory.specs.declared.verdict.Verdict.TheVariants.{NoEmpty, NoFull, NotGraded, Learning}
@@ -36,7 +36,7 @@ module _ (n : ℕ) (f : List Items) where
       let here = at-index (has k) (atom_items f k) (kept (has k) (λ q. is_atom_at f q k) (items k) all) i l in
       grind (arith, members, w, here)
 
-  double-on : IsOn n f → list_any (is_double f) (base f) ≡ true → let k = double_atom f in IsDoubleOn n k (slice_index (atom_items f k) 0) (slice_index (atom_items f k) 1)
+  double-on : AreOn n f → list_any (is_double f) (base f) ≡ true → let k = double_atom f in IsDoubleOn n k (slice_index (atom_items f k) 0) (slice_index (atom_items f k) 1)
   double-on on h =
       let k = double_atom f in
       let found = double-found f h in
@@ -48,7 +48,7 @@ module _ (n : ℕ) (f : List Items) where
         second_item = atom-item k w 1 two;
       }
 
-  pub base_verdict-on : (whole : Items) → IsOn n f → is_space whole f ≡ true → IsBaseVerdictOn n (base_verdict f)
+  pub base_verdict-on : (whole : Items) → AreOn n f → is_space whole f ≡ true → IsBaseVerdictOn n (base_verdict f)
   base_verdict-on whole on space =
       let k = double_atom f in
       elim (cases_Bool (is_well_graded f)) [
@@ -90,7 +90,7 @@ found-passes p q (x ∷ xs) all y e =
       | false ↦ λ h. found-passes p q xs parts.1 y h
     ] e
 
-module _ (n : ℕ) (f : List Items) (on : IsOn n f) where
+module _ (n : ℕ) (f : List Items) (on : AreOn n f) where
   unclosed-on : (o : Option (Items × Items)) → unclosed_pair f ≡ o → is_among f empty ≡ true → is_among f (full n) ≡ true → IsVerdictOn n (verdict_from f o)
   unclosed-on (Some p) e a b =
       let both = and_parts (is_among f p.0) (is_among f p.1) (found-passes (λ p. not (is_among f (union p.0 p.1))) (are_among f) (pairs f) (pairs-among f f (λ k m. m)) p e) in
@@ -117,7 +117,7 @@ module _ (n : ℕ) (f : List Items) (on : IsOn n f) where
 
 -- ---- fringes, states and bases of projections
 
-module _ (n : ℕ) (f : List Items) (on : IsOn n f) where
+module _ (n : ℕ) (f : List Items) (on : AreOn n f) where
   pub inner-within : (k : Items) → IsWithin k (full n) → IsWithin (inner_fringe f k) (full n)
   inner-within k w = λ i h. w i (and_parts (has k i) (is_among f (without k i)) (sym (has-inner_fringe f k i) ∙ h)).0
 
@@ -137,7 +137,7 @@ module _ (n : ℕ) (f : List Items) (on : IsOn n f) where
         | false ↦ λ h. among-there k x xs (found-among p xs k h)
       ] e
 
-pub projection-within : (n : ℕ) (p : Items) (f : List Items) → IsWithin p (full n) → IsOn n (projection n p f)
+pub projection-within : (n : ℕ) (p : Items) (f : List Items) → IsWithin p (full n) → AreOn n (projection n p f)
 projection-within n p f w = λ k m.
     let from = projection-from n p f k m in
     subst (λ s. IsWithin s (full n)) (sym from.2) (λ i h. w i (and_parts (has p i) (has from.0 i) (sym (has-meet p from.0 i) ∙ h)).0)

@@ -1,5 +1,5 @@
 -- Projections: the meets of the sets that span a family span its projection, and its interiors are meets of interiors.
-use Rattle.ls_spans.proofs.Vocabulary.{◌∙◌, ◌∷◌, ◌≡◌, Decides-is_same, IsInOrder, IsInOrder-filter, IsOn, IsPart, IsWithin, Items, List, Spans, ℕ, [], among-cases, among-filter, among-here, among-subsets, among-there, and_from, and_parts, ap, ap₂, arith, base, base-needed, base-of, cases_Bool, empty, from-interior, full, has, has-meet, inl, inr, interior, interior-whole, is_among, is_same, is_within-from, list_any, meet, members, minus, needed, projection, projection-from, refl, same_members, same_set, same_within, some-among, spanned, spanned-has, spanned-in_order, spanned-same, spanned-whole, subsets, subsets_from-in_order, subst, sym, to-interior, true, true≢false, union}
+use Rattle.ls_spans.proofs.Vocabulary.{◌∙◌, ◌∷◌, ◌≡◌, Decides-is_same, IsInOrder, IsInOrder-filter, AreOn, IsPart, IsWithin, Items, List, Spans, ℕ, [], among-cases, among-filter, among-here, among-subsets, among-there, and_from, and_parts, ap, ap₂, arith, base, base-needed, base-of, cases_Bool, empty, from-interior, full, has, has-meet, inl, inr, interior, interior-whole, is_among, is_same, is_within-from, list_any, meet, members, minus, needed, projection, projection-from, refl, same_members, same_set, same_within, some-among, spanned, spanned-has, spanned-in_order, spanned-same, spanned-whole, subsets, subsets_from-in_order, subst, sym, to-interior, true, true≢false, union}
 use Rattle.ls_laws.specs.Families.{IsFamily}
 use Rattle.ls_laws.proofs.Families.{family_sets, spanned-IsFamily}
 use Rattle.ls_clauses.proofs.Spanning.{spans-same, part-same}
@@ -25,7 +25,7 @@ meet-grows : (p s t : Items) → IsWithin s t → IsWithin (meet p s) (meet p t)
 meet-grows p s t w i h = let x = and_parts (has p i) (has s i) (sym (has-meet p s i) ∙ h) in has-meet p t i ∙ and_from (has p i) (has t i) x.0 (w i x.1)
 
 -- the meet with a member, whose items are below n, is in the projection
-pub among-trace : (n : ℕ) (p : Items) (f : List Items) (k : Items) → IsOn n f → is_among f k ≡ true → is_among (projection n p f) (meet p k) ≡ true
+pub among-trace : (n : ℕ) (p : Items) (f : List Items) (k : Items) → AreOn n f → is_among f k ≡ true → is_among (projection n p f) (meet p k) ≡ true
 among-trace n p f k on c =
     among-filter (λ s. list_any (λ k. is_same s (meet p k)) f) (subsets n) (meet p k)
     ∙ and_from (is_among (subsets n) (meet p k)) (list_any (λ l. is_same (meet p k) (meet p l)) f)
@@ -46,14 +46,14 @@ projection-spans n p f g span k c =
       has-meet p x.0 q ∙ and_from (has p q) (has x.0 q) b.0 x.3,
     ))
 
-pub projection-part : (n : ℕ) (p : Items) (f g : List Items) → IsOn n f → IsPart g f → IsPart (meets_with p g) (projection n p f)
+pub projection-part : (n : ℕ) (p : Items) (f g : List Items) → AreOn n f → IsPart g f → IsPart (meets_with p g) (projection n p f)
 projection-part n p f g on part s c =
     let r = from-meets p g s c in
     ap (is_among (projection n p f)) r.2 ∙ among-trace n p f r.0 on (part r.0 r.1)
 
 -- ---- interiors
 
-pub projection-interior : (n : ℕ) (p : Items) (f : List Items) (s : Items) → IsOn n f
+pub projection-interior : (n : ℕ) (p : Items) (f : List Items) (s : Items) → AreOn n f
     → interior (projection n p f) s ≡ meet p (interior f (union s (minus (full n) p)))
 projection-interior n p f s on = same_within (interior (projection n p f) s) (meet p (interior f wide))
     (λ i h.
@@ -106,11 +106,11 @@ projection-spanned n p f g family part span =
     let same = spanned-same n (projection n p f) (meets_with p g) (family_sets n (projection n p f) traced) (projection-part n p f g family.small part) (projection-spans n p f g span) in
     same_members (projection n p f) (spanned n (meets_with p g)) traced.in_order (spanned-in_order n (meets_with p g)) (λ k c. same k ∙ c) (λ k c. sym (same k) ∙ c)
 
-pub projection-base_of : (n : ℕ) (p : Items) (f g : List Items) → IsOn n f → IsPart g f → Spans g f
+pub projection-base_of : (n : ℕ) (p : Items) (f g : List Items) → AreOn n f → IsPart g f → Spans g f
     → (k : Items) → is_among (base (projection n p f)) k ≡ is_among (needed (meets_with p g)) k
 projection-base_of n p f g on part span = base-of (projection n p f) (meets_with p g) (projection-part n p f g on part) (projection-spans n p f g span)
 
-pub projection-base : (n : ℕ) (p : Items) (f g sorted : List Items) → IsOn n f → IsPart g f → Spans g f → IsInOrder sorted
+pub projection-base : (n : ℕ) (p : Items) (f g sorted : List Items) → AreOn n f → IsPart g f → Spans g f → IsInOrder sorted
     → ((k : Items) → is_among sorted k ≡ is_among (meets_with p g) k) → base (projection n p f) ≡ needed sorted
 projection-base n p f g sorted on part span order same =
     base-needed (projection n p f) sorted (IsInOrder-filter (λ s. list_any (λ k. is_same s (meet p k)) f) (subsets n) (subsets_from-in_order 0 n)) order
@@ -118,5 +118,5 @@ projection-base n p f g sorted on part span order same =
     (spans-same (projection n p f) (meets_with p g) sorted same (projection-spans n p f g span))
 
 -- of the unions of a list
-pub projection-of_spanned : (n : ℕ) (p : Items) (g : List Items) → IsOn n g → projection n p (spanned n g) ≡ spanned n (meets_with p g)
+pub projection-of_spanned : (n : ℕ) (p : Items) (g : List Items) → AreOn n g → projection n p (spanned n g) ≡ spanned n (meets_with p g)
 projection-of_spanned n p g on = projection-spanned n p (spanned n g) g (spanned-IsFamily n g) (spanned-has n g on) (spanned-whole n g)

@@ -11,7 +11,7 @@ pub use Rattle.ls_laws.proofs.Judged.{closed-pair, double-found, graded-space, v
 pub use Rattle.ls_laws.proofs.Lists.{IsInOrder-filter, every-among, every-from, find-none, same_members, some-among, some-from}
 pub use Rattle.ls_laws.proofs.Projecting.{projection-from}
 pub use Rattle.ls_laws.proofs.Spans.{base-needed, base-of, spanned-has, spanned-in_order, spanned-same, spanned-whole}
-pub use Rattle.ls_laws.specs.Spans.{IsOn, IsPart, Spans, is_double, is_proper, needed, spanned, touches, union_below}
+pub use Rattle.ls_laws.specs.Spans.{AreOn, IsPart, Spans, is_double, is_proper, needed, spanned, touches, union_below}
 pub use Rattle.ls_set.proofs.Members.{Each-among, among-append, among-cases, among-filter, among-here, among-there}
 pub use Rattle.ls_set.proofs.Order.{among-subsets, comes_before-asymmetric, comes_before-at, comes_before-irreflexive, subsets_from-in_order}
 pub use Rattle.ls_set.proofs.Sets.{Decides-is_same, IsWithin-from, both_ways, has-empty, has-meet, has-minus, has-with, is_within-from, members, same_set, same_within, union-empty_right, union-left, union_assoc}

@@ -2,7 +2,8 @@
 use Rattle.std.specs.Prelude.{ℕ, ◌<◌, ⊤}
 use Rattle.ls_set.specs.{IsWithin, Items, full}
 use Rattle.ls_theory.specs.declared.verdict.Verdict.{Verdict}
-use Rattle.ls_theory.specs.declared.verdict.Verdict.TheVariants.{NoEmpty, NoFull, NotClosed, NotGraded, Learning}
+use Rattle.ls_theory.specs.declared.verdict.Verdict.TheVariants.{NoEmpty, NoFull, NotClosed}
+use Rattle.ls_theory.specs.declared.verdict.Verdict.TheVariants.{NotGraded, Learning}
 use Rattle.ls_theory.specs.declared.verdict.BaseVerdict.{BaseVerdict}
 use Rattle.ls_theory.specs.declared.verdict.BaseVerdict.TheVariants as of_base
 

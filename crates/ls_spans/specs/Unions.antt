@@ -1,5 +1,6 @@
 -- The test whether a list is closed under union, by any sets that span it.
-use Rattle.std.specs.Prelude.{ℕ, ◌≡◌, Bool, true, false, not, ◌&&◌, List, find, Option, option_map, unwrap_or}
+use Rattle.std.specs.Prelude.{ℕ, ◌≡◌, Bool, true, false, not, ◌&&◌, List, find}
+use Rattle.std.specs.Prelude.{Option, option_map, unwrap_or}
 use Rattle.std.specs.List.{list_any, list_all}
 use Rattle.ls_set.specs.{Items, empty, has, is_among, is_within, union, with}
 use Rattle.ls_laws.specs.Spans.{touches}
@@ -16,9 +17,11 @@ is_closed_with g f = list_all (λ k. list_all (λ b. is_among f (union k b)) g) 
 abbrev pub first_partner : List Items → Items → Items
 first_partner f k = unwrap_or (find (is_missing f k) f) empty
 
--- the first member whose union with a set of g is missing, and the first member whose union with that one is
+-- the first member whose union with a set of g is missing, and the first member
+-- whose union with that one is
 abbrev pub unclosed_pair_by : List Items → List Items → Option (Items × Items)
-unclosed_pair_by g f = option_map (λ k. (k, first_partner f k)) (find (λ k. list_any (is_missing f k) g) f)
+unclosed_pair_by g f =
+    option_map (λ k. (k, first_partner f k)) (find (λ k. list_any (is_missing f k) g) f)
 
 -- ---- by fewer unions
 

@@ -32,4 +32,5 @@ verdict_by_unions whole f =
     let b = needed f in
     if not (is_among f empty) then NoEmpty
     else (if not (is_among f whole) then NoFull
-    else option_map_or (λ p. NotClosed p.0 p.1) (unclosed_pair_by b f) (with_base b (graded_by b b)))
+    else option_map_or (λ p. NotClosed p.0 p.1) (unclosed_pair_by b f)
+    (with_base b (graded_by b b)))

@@ -6,7 +6,8 @@ ghost use Rattle.ls_theory.specs.Families.{is_union_closed, is_space};
 ghost use Rattle.ls_theory.specs.Bases.{base, is_atom_at, atoms_at, atom_items};
 ghost use Rattle.ls_theory.specs.Verdict.{base_verdict, unclosed_pair, verdict};
 ghost use Rattle.ls_laws.specs.Spans.{IsPart, Spans, union_below, needed, spanned};
-ghost use Rattle.ls_spans.specs.Unions.{is_missing, is_closed_with, unclosed_pair_by, lacks_apart, IsGrown};
+ghost use Rattle.ls_spans.specs.Unions.{is_missing, is_closed_with, unclosed_pair_by};
+ghost use Rattle.ls_spans.specs.Unions.{lacks_apart, IsGrown};
 ghost use Rattle.ls_spans.specs.Verdicts.{own_by, graded_by, verdict_by_unions};
 
 /// A list is closed under union exactly where the union of each member with each set of any members

@@ -1,10 +1,11 @@
 -- Queries of which no two are the same, one more at a time.
-use Rattle.ls_store.proofs.Vocabulary.{◌&&◌, ◌++◌, ◌+◌, ◌<◌, ◌||◌, ◌∙◌, ◌∷◌, ◌≡◌, Bool, List, Query, ℕ, [], ap, apart-distinct, are_apart, cond, drop, drop-next, false, get_or, is_same_query, length, list_any, not, query_order, refl, same-by_query_order, same_queries, sym, take, take-append-drop, take_more, true}
+use Rattle.ls_store.proofs.Vocabulary.{◌&&◌, ◌++◌, ◌+◌, ◌<◌, ◌||◌, ◌∙◌, ◌∷◌, ◌≡◌, Bool, List, Query, ℕ, [], ap, are_apart, cond, drop, drop-next, false, get_or, is_same_query, length, list_any, not, query_order, refl, same-by_query_order, same_queries, sym, take, take-append-drop, take_more, true}
 use Rattle.std.specs.Ordering.{is_eq}
 use Rattle.std.proofs.Math.Bool.{and-false}
 use Rattle.std.proofs.lemmas.List.Folds.{list_any-append}
 use Rattle.std.proofs.lemmas.Map.Keys.{IsDistinct-push}
-use Rattle.ls_saved.proofs.Answers.{apart-from}
+use Rattle.ls_store.proofs.WrittenAnswers.{apart-from}
+use Rattle.ls_store.proofs.Sound.{apart-distinct}
 
 -- one more, which none of the others is
 one-more : (queries : List Query) (r : Query) → are_apart is_same_query queries ≡ true → list_any (is_same_query r) queries ≡ false

@@ -1,8 +1,10 @@
 -- How the parts of a session go on one after another.
-use Rattle.ls_store.proofs.Vocabulary.{◌∙◌, ◌≡◌, Data, Err, IfErr, Interview, IsErrAnd, IsSessionFault, List, None, Ok, Option, Pupil, Ratios, Result, Session, Settings, Some, Start, Text, Version, ℕ, ap, are_made, at-sound, at_key, block-sound, codes, interview-sound, interview_chain, length, or_cause, read_block, read_interview, read_limits, read_names, read_object, read_odds, read_pupils, read_start, read_version, session_from, session_of, settings_chain, settings_from, subst, sym, true}
-use Rattle.ls_saved.specs.declared.cause.Cause.{Cause}
-use Rattle.ls_saved.specs.declared.cause.Cause.TheVariants as cause
+use Rattle.ls_store.proofs.Vocabulary.{◌∙◌, ◌≡◌, Data, Err, IfErr, Interview, IsErrAnd, IsSessionFault, List, None, Ok, Option, Pupil, Ratios, Result, Session, Settings, Some, Start, Text, Version, ℕ, ap, are_made, at_key, codes, interview_chain, length, or_cause, read_block, read_interview, read_limits, read_names, read_object, read_odds, read_pupils, read_start, read_version, session_from, session_of, settings_chain, settings_from, subst, sym, true}
+use Rattle.ls_files.specs.declared.cause.Cause.{Cause}
+use Rattle.ls_files.specs.declared.cause.Cause.TheVariants as cause
 use Rattle.ls_store.specs.declared.fault.SessionFault.{SessionFault}
+use Rattle.ls_store.proofs.Read.{at-sound, interview-sound}
+use Rattle.ls_store.proofs.Sound.{block-sound}
 
 none : {X : Type 0} (c : Cause) (o : Option X) (next : X → Result Session Cause) → None ≡ o → or_cause c o next ≡ Err c
 none c o next e = ap (λ o. or_cause c o next) (sym e)

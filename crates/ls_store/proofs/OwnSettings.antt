@@ -1,5 +1,7 @@
 -- The settings that an object has.
-use Rattle.ls_store.proofs.Vocabulary.{◌&&◌, ◌∙◌, ◌≡◌, Data, List, None, Option, Ratios, Settings, Some, Version, ℕ, and_parts, ap, are_limits, are_ratios, at-sound, at_key, codes, eqb, eqb-true, length, list_all, number_value, option_map, option_zip, pair_value, read_limits, read_odds, read_settings, refl, settings-sound, settings_from, sym, true}
+use Rattle.ls_store.proofs.Vocabulary.{◌&&◌, ◌∙◌, ◌≡◌, Data, List, None, Option, Ratios, Settings, Some, Version, ℕ, and_parts, ap, are_limits, are_ratios, at_key, codes, eqb, eqb-true, length, list_all, number_value, option_map, option_zip, pair_value, read_limits, read_odds, read_settings, refl, settings_from, sym, true}
+use Rattle.ls_store.proofs.Read.{at-sound}
+use Rattle.ls_store.proofs.Sound.{settings-sound}
 
 pub record AreRead (n : ℕ) (limits : ℕ × ℕ) (ratios : List Ratios) : Type 0 where
   pub count : length ratios ≡ n

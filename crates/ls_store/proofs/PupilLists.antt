@@ -1,8 +1,9 @@
 -- Lists of pupils: which are read, and in which a name comes twice or which are too long.
-use Rattle.ls_store.proofs.Vocabulary.{◌&&◌, ◌++◌, ◌+◌, ◌<◌, ◌||◌, ◌∙◌, ◌∷◌, ◌≡◌, ◌≤◌, ArePupils, Bool, Data, IsRead, List, None, Option, Pupil, PupilCase, Some, ℕ, [], and_from, and_parts, ap, append_assoc, ap₂, are_apart, are_pupils, as_array, bytes_eq, cases_Bool, cond, drop, false, get_or, have_own_names, inl, inr, is_named, items_view, le-leb, leb, length, length-map, list_any, lt-leb, map, map_push, most_pupils, name_of, not, only_if, option_and_then, option_map, pupil_of, pupils_of, read-last, read-next, read-none, read_each, read_list, refl, subst, suc, sym, true, view}
+use Rattle.ls_store.proofs.Vocabulary.{◌&&◌, ◌++◌, ◌+◌, ◌<◌, ◌||◌, ◌∙◌, ◌∷◌, ◌≡◌, ◌≤◌, ArePupils, Bool, Data, List, None, Option, Pupil, PupilCase, Some, ℕ, [], and_from, and_parts, ap, append_assoc, ap₂, are_apart, are_pupils, as_array, bytes_eq, cases_Bool, cond, drop, false, get_or, have_own_names, inl, inr, is_called, items_view, le-leb, leb, length, length-map, list_any, lt-leb, map, map_push, most_pupils, case_name, not, only_if, option_and_then, option_map, pupil_of_case, pupils_of, read_each, read_list, refl, subst, suc, sym, true, view}
 use Rattle.std.proofs.lemmas.Slice.Eq.{bytes_eq-Decides}
 use Rattle.serde_json.specs.declared.value.Value.{Value}
 use Rattle.ls_set.proofs.Sets.{and-false}
+use Rattle.ls_store.proofs.Walks.{IsRead, read-last, read-next, read-none}
 
 abbrev names_of : List Pupil → List (List ℕ)
 names_of ps = map (λ p. p.name) ps
@@ -17,20 +18,20 @@ swapped a b = same_sym a b _ _ refl refl
 
 -- ---- names that differ
 
-any-swapped : (w : List ℕ) (cases : List PupilCase) → list_any (is_named name_of w) cases ≡ list_any (bytes_eq w) (names_of (pupils_of cases))
+any-swapped : (w : List ℕ) (cases : List PupilCase) → list_any (is_called case_name w) cases ≡ list_any (bytes_eq w) (names_of (pupils_of cases))
 any-swapped w [] = refl
 any-swapped w (c ∷ cases) = ap₂ (λ a b. a || b) (swapped c.name w) (any-swapped w cases)
 
-own-apart : (cases : List PupilCase) → have_own_names name_of cases ≡ true → are_apart bytes_eq (names_of (pupils_of cases)) ≡ true
+own-apart : (cases : List PupilCase) → have_own_names case_name cases ≡ true → are_apart bytes_eq (names_of (pupils_of cases)) ≡ true
 own-apart [] h = refl
 own-apart (c ∷ cases) h =
-    let parts = and_parts (not (list_any (is_named name_of c.name) cases)) (have_own_names name_of cases) h in
+    let parts = and_parts (not (list_any (is_called case_name c.name) cases)) (have_own_names case_name cases) h in
     and_from (not (list_any (bytes_eq c.name) (names_of (pupils_of cases)))) (are_apart bytes_eq (names_of (pupils_of cases)))
     (ap not (sym (any-swapped c.name cases)) ∙ parts.0) (own-apart cases parts.1)
 
 pub pupils-stand : (n : ℕ) (cases : List PupilCase) → ArePupils n cases → are_pupils (pupils_of cases) ≡ true
 pupils-stand n cases h =
-    let few : length (pupils_of cases) ≤ most_pupils = rw (length-map cases pupil_of) h.few in
+    let few : length (pupils_of cases) ≤ most_pupils = rw (length-map cases pupil_of_case) h.few in
     and_from (leb (length (pupils_of cases)) most_pupils) (are_apart bytes_eq (names_of (pupils_of cases)))
     (le-leb (length (pupils_of cases)) most_pupils few) (own-apart cases h.own)
 
@@ -44,13 +45,13 @@ any-there q (c ∷ before) p after h = or_right (q c.name) _ (any-there q before
     or_right true b h = refl
     or_right false b h = h
 
-repeats : (before : List PupilCase) (p : Pupil) (after : List Pupil) → list_any (is_named name_of p.name) before ≡ true → are_apart bytes_eq (names_of (pupils_of before ++ p ∷ after)) ≡ false
+repeats : (before : List PupilCase) (p : Pupil) (after : List Pupil) → list_any (is_called case_name p.name) before ≡ true → are_apart bytes_eq (names_of (pupils_of before ++ p ∷ after)) ≡ false
 repeats [] p after h = absurd (cc h)
 repeats (c ∷ before) p after h =
     elim (cases_Bool (bytes_eq c.name p.name)) [
       | inl e ↦ rw (any-there (bytes_eq c.name) before p after e) refl
       | inr e ↦
-          let rest : list_any (is_named name_of p.name) before ≡ true = rw e at h in
+          let rest : list_any (is_called case_name p.name) before ≡ true = rw e at h in
           ap (λ b. not (list_any (bytes_eq c.name) (names_of (pupils_of before ++ p ∷ after))) && b) (repeats before p after rest) ∙ and-false _
     ]
 
@@ -63,7 +64,7 @@ not_kept ps h = sym (ap (λ b. cond b (Some ps) None) h)
 -- ---- the walk
 
 module _ (f : Data → Option Pupil) (cases : List PupilCase) (values : List Value) (i : ℕ) (value : Value) (whole : Option (List Pupil)) (within : i < length values) (at : value ≡ get_or values i value) where
-  repeated : (p : Pupil) → f (view value) ≡ Some p → list_any (is_named name_of p.name) cases ≡ true → IsRead f (pupils_of cases) (drop i values) whole → None ≡ only_if are_pupils whole
+  repeated : (p : Pupil) → f (view value) ≡ Some p → list_any (is_called case_name p.name) cases ≡ true → IsRead f (pupils_of cases) (drop i values) whole → None ≡ only_if are_pupils whole
   repeated p is named h = told (read_each f (items_view (drop (i + 1) values))) (read-next f (pupils_of cases) p values i value whole within at is h)
     where
       told : (o : Option (List Pupil)) → option_map (λ ys. (pupils_of cases ++ p ∷ []) ++ ys) o ≡ whole → None ≡ only_if are_pupils whole
@@ -73,7 +74,7 @@ module _ (f : Data → Option Pupil) (cases : List PupilCase) (values : List Val
           not_kept ps (refused ps (repeats cases p ys named)) ∙ ap (λ l. only_if are_pupils (Some l)) (sym (append_assoc (pupils_of cases) (p ∷ []) ys)) ∙ ap (only_if are_pupils) e
 
   -- an entry that is no pupil, or whose name comes twice
-  pub none-next : ((p : Pupil) → f (view value) ≡ Some p → list_any (is_named name_of p.name) cases ≡ true) → IsRead f (pupils_of cases) (drop i values) whole → None ≡ only_if are_pupils whole
+  pub none-next : ((p : Pupil) → f (view value) ≡ Some p → list_any (is_called case_name p.name) cases ≡ true) → IsRead f (pupils_of cases) (drop i values) whole → None ≡ only_if are_pupils whole
   none-next named h = told (f (view value)) refl
     where
       told : (o : Option Pupil) → f (view value) ≡ o → None ≡ only_if are_pupils whole
@@ -82,10 +83,10 @@ module _ (f : Data → Option Pupil) (cases : List PupilCase) (values : List Val
 
 -- one more pupil
 pub next-read : (f : Data → Option Pupil) (cases new : List PupilCase) (c : PupilCase) (values : List Value) (i : ℕ) (value : Value) (whole : Option (List Pupil)) → i < length values → value ≡ get_or values i value
-    → f (view value) ≡ Some (pupil_of c) → new ≡ cases ++ c ∷ [] → IsRead f (pupils_of cases) (drop i values) whole → IsRead f (pupils_of new) (drop (i + 1) values) whole
+    → f (view value) ≡ Some (pupil_of_case c) → new ≡ cases ++ c ∷ [] → IsRead f (pupils_of cases) (drop i values) whole → IsRead f (pupils_of new) (drop (i + 1) values) whole
 next-read f cases new c values i value whole within at is more h =
-    subst (λ (ps : List Pupil). IsRead f ps (drop (i + 1) values) whole) (sym (ap pupils_of more ∙ map_push pupil_of cases c))
-    (read-next f (pupils_of cases) (pupil_of c) values i value whole within at is h)
+    subst (λ (ps : List Pupil). IsRead f ps (drop (i + 1) values) whole) (sym (ap pupils_of more ∙ map_push pupil_of_case cases c))
+    (read-next f (pupils_of cases) (pupil_of_case c) values i value whole within at is h)
 
 -- the end
 pub all-read : (n : ℕ) (f : Data → Option Pupil) (cases : List PupilCase) (values : List Value) (i : ℕ) (whole : Option (List Pupil)) → length values ≤ i → ArePupils n cases → IsRead f (pupils_of cases) (drop i values) whole

@@ -1,5 +1,5 @@
 -- The names of pupils that are read, among those that stand.
-use Rattle.ls_store.proofs.Vocabulary.{◌∙◌, ◌≡◌, Bool, Data, IfSome, List, None, Option, Pupil, PupilCase, Query, Reply, Settings, Some, Start, Text, Version, ℕ, ap, as_str, at_key, codes, cond, false, is_named, is_pupil, is_some, is_some-position, list_any, name_of, only_if, option_map, option_zip, position, pupil_from, pupil_of, read_course, read_pupil, read_settings, read_start, subst, sym, true}
+use Rattle.ls_store.proofs.Vocabulary.{◌∙◌, ◌≡◌, Bool, Data, IfSome, List, None, Option, Pupil, PupilCase, Query, Reply, Settings, Some, Start, Text, Version, ℕ, ap, as_str, at_key, codes, cond, false, is_called, is_pupil, is_some, is_some-position, list_any, case_name, only_if, option_map, option_zip, position, pupil_from, pupil_of_case, read_course, read_pupil, read_settings, read_start, subst, sym, true}
 
 -- ---- the name of a pupil is the one that stands in its object
 
@@ -21,13 +21,13 @@ module _ (v : Version) (n : ℕ) (d : Data) (name : Text) (named : at_key (codes
       (ap (λ (o : Option Text). only_if (is_pupil n) (option_map pupil_from (option_zip (option_zip o (read_settings v n d)) rest))) (sym named) ∙ h)
 
   -- a case has the name
-  pub name-there : (p : Pupil) → true ≡ is_some (position (is_named name_of name) cases) → read_pupil v n d ≡ Some p → list_any (is_named name_of p.name) cases ≡ true
+  pub name-there : (p : Pupil) → true ≡ is_some (position (is_called case_name name) cases) → read_pupil v n d ≡ Some p → list_any (is_called case_name p.name) cases ≡ true
   name-there p there h =
-      subst (λ (w : List ℕ). list_any (is_named name_of w) cases ≡ true) (name-read p h) (sym (there ∙ is_some-position (is_named name_of name) cases))
+      subst (λ (w : List ℕ). list_any (is_called case_name w) cases ≡ true) (name-read p h) (sym (there ∙ is_some-position (is_called case_name name) cases))
 
   -- no case has it
-  pub name-free : (found : Option PupilCase) → false ≡ is_some (position (is_named name_of name) cases) → option_map pupil_of found ≡ read_pupil v n d
-      → IfSome found (λ c. list_any (is_named name_of c.name) cases ≡ false)
+  pub name-free : (found : Option PupilCase) → false ≡ is_some (position (is_called case_name name) cases) → option_map pupil_of_case found ≡ read_pupil v n d
+      → IfSome found (λ c. list_any (is_called case_name c.name) cases ≡ false)
   name-free None free h = tt
   name-free (Some c) free h =
-      subst (λ (w : List ℕ). list_any (is_named name_of w) cases ≡ false) (name-read (pupil_of c) (sym h)) (sym (free ∙ is_some-position (is_named name_of name) cases))
+      subst (λ (w : List ℕ). list_any (is_called case_name w) cases ≡ false) (name-read (pupil_of_case c) (sym h)) (sym (free ∙ is_some-position (is_called case_name name) cases))

@@ -1,14 +1,17 @@
 -- Parts of a session that are read one after another.
---     IsSessionFault answer fault      the fault is the cause why bytes are no session, or memory ran out
---     GoesOn chain result      what was read goes on along the chain, or the chain ends with the fault
+--     IsSessionFault answer fault      the fault is the cause why bytes are no session, or memory
+--         ran out
+--     GoesOn chain result      what was read goes on along the chain, or the chain ends with the
+--         fault
 use Rattle.std.specs.Prelude.{ℕ, ◌≡◌, Result, Ok, Err, codes, ⊤}
 use Rattle.serde_json.specs.Data.{Data}
 use Rattle.ls_theory.specs.Settings.{Settings}
 use Rattle.ls_theory.specs.{Interview}
-use Rattle.ls_saved.specs.declared.cause.Cause.{Cause}
-use Rattle.ls_saved.specs.declared.cause.Cause.TheVariants as cause
-use Rattle.ls_saved.specs.declared.version.Version.{Version}
-use Rattle.ls_saved.specs.{Session, at_key, or_cause, read_block, read_interview, read_limits, read_odds, read_start, settings_from}
+use Rattle.ls_files.specs.declared.cause.Cause.{Cause}
+use Rattle.ls_files.specs.declared.cause.Cause.TheVariants as cause
+use Rattle.ls_files.specs.declared.version.Version.{Version}
+use Rattle.ls_files.specs.{Session, at_key, or_cause, read_block, read_interview, read_limits}
+use Rattle.ls_files.specs.{read_odds, read_start, settings_from}
 use Rattle.ls_store.specs.declared.fault.SessionFault.{SessionFault}
 use Rattle.ls_store.specs.declared.fault.SessionFault.TheVariants.{BadSession, Memory}
 

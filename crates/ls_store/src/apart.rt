@@ -5,8 +5,9 @@ ghost use Rattle.std.specs.Cmp.Rules.{comparing};
 ghost use Rattle.std.specs.Ordering.{as_partial_cmp};
 ghost use Rattle.std.specs.Cmp.{partial_equiv_from_equiv};
 ghost use Rattle.ls_theory.specs.{is_same_query};
-ghost use Rattle.ls_saved.specs.{are_apart};
-ghost use Rattle.ls_store.specs.QueryOrders.{query_order, query_order-total, query_order-partial, same-by_query_order, same_queries};
+ghost use Rattle.ls_files.specs.{are_apart};
+ghost use Rattle.ls_store.specs.QueryOrders.{query_order, query_order-total, query_order-partial};
+ghost use Rattle.ls_store.specs.QueryOrders.{same-by_query_order, same_queries};
 
 use ls_set::Query;
 use std::alloc::{AllocError, Global};

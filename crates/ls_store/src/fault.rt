@@ -1,5 +1,5 @@
 // Why a session is not read.
-use ls_saved::Cause;
+use ls_files::Cause;
 use std::alloc::AllocError;
 use thiserror::Error;
 

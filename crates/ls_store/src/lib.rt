@@ -1,19 +1,30 @@
-//! Saved sessions in code: the parts of a session are printed, and read again.
+//! Saved sessions in code: the parts of a session are printed, and read again. What is written for
+//! a whole session is read as that session.
 #![tactic(auto)]
 
 mod apart;
+mod blocks;
 mod fault;
+mod inquiries;
+mod laws;
 mod members;
+mod names;
+mod objects;
 mod parts;
 mod printing;
+mod pupil_values;
 mod pupils;
+mod readers;
 mod reading;
 mod replaying;
 mod saved;
+mod starts;
 mod values;
 
 pub use fault::SessionFault;
-pub use ls_saved::Cause;
+pub use laws::{sessions_are_read_back, tests_tell_what_stands};
+pub use ls_files::Cause;
+pub use ls_pupils::PupilCases;
 pub use parts::Parts;
 pub use printing::print_parts;
 pub use reading::read_parts;

@@ -3,14 +3,18 @@ ghost use Rattle.std.specs.Prelude.{◌≡◌, ◌<◌, ◌≤◌, codes, option
 ghost use Rattle.serde_json.specs.Find.{as_str};
 ghost use Rattle.serde_json.specs.View.{view};
 ghost use Rattle.ls_expert.specs.Starts.{start_of, IsStartOn};
-ghost use Rattle.ls_saved.specs.Readers.{at_key};
-ghost use Rattle.ls_saved.specs.Parts.{read_block, read_limits, read_names, read_odds, read_start, read_version};
+ghost use Rattle.ls_files.specs.Readers.{at_key};
+ghost use Rattle.ls_files.specs.Parts.{read_block, read_limits, read_names, read_odds, read_start};
+ghost use Rattle.ls_files.specs.Parts.{read_version};
 
+use crate::blocks::read_block;
+use crate::names::read_names;
+use crate::readers::{read_limits, read_odds, read_version};
+use crate::starts::read_start;
 use ls_domain::Domain;
 use ls_expert::Start;
+use ls_files::Version;
 use ls_lines::Word;
-use ls_restore::{read_block, read_start};
-use ls_saved::{Version, read_limits, read_names, read_odds, read_version};
 use ls_set::PLACES;
 use ls_settings::{Ratios, Settings};
 use serde_json::Value;

@@ -1,16 +1,15 @@
 // The text of a session.
 ghost use Rattle.std.specs.Prelude.{◌≡◌, length, IfOk};
 ghost use Rattle.serde_json.specs.View.{view};
-ghost use Rattle.ls_saved.specs.{session_text, session_value};
+ghost use Rattle.ls_files.specs.{session_text, session_value};
 ghost use Rattle.ls_pupils.specs.Cases.{pupils_of, ArePupils};
 
-use crate::values::{pupils_value, start_value};
+use crate::names::names_value;
+use crate::pupil_values::{pupils_value, start_value};
+use crate::values::{SessionParts, answers_value, limits_value, odds_value, session_object};
 use ls_domain::Domain;
 use ls_expert::Inquiry;
 use ls_pupils::PupilCases;
-use ls_saved::{
-    SessionParts, answers_value, limits_value, names_value, odds_value, session_object,
-};
 use ls_settings::Settings;
 use serde_json::Value;
 use std::alloc::{AllocError, Global};

@@ -1,5 +1,6 @@
 // Reading the pupils of a session.
-ghost use Rattle.std.specs.Prelude.{◌≡◌, ◌<◌, ◌≤◌, ◌&&◌, false, true, Ok, Some, None, codes, option_map, IfOk, IfSome};
+ghost use Rattle.std.specs.Prelude.{◌≡◌, ◌<◌, ◌≤◌, ◌&&◌, false, true, Ok, Some, None, codes};
+ghost use Rattle.std.specs.Prelude.{option_map, IfOk, IfSome};
 ghost use Rattle.std.specs.List.{list_all, list_any};
 ghost use Rattle.serde_json.specs.Find.{as_str};
 ghost use Rattle.serde_json.specs.View.{view};
@@ -7,19 +8,20 @@ ghost use Rattle.ls_set.specs.{is_good};
 ghost use Rattle.ls_theory.specs.{is_same_query};
 ghost use Rattle.ls_domain.specs.Domains.{is_name};
 ghost use Rattle.ls_files.specs.SurmiseFiles.{read_list};
-ghost use Rattle.ls_saved.specs.{Pupil, are_apart, at_key, read_pupil, read_pupils, read_query, read_reply, read_settings};
-ghost use Rattle.ls_pupils.specs.Own.{is_named};
-ghost use Rattle.ls_pupils.specs.Cases.{pupil_of, pupils_of, IsCase, ArePupils};
-ghost use Rattle.ls_pupils.specs.declared.cases.PupilCase.{PupilCase as Case};
+ghost use Rattle.ls_files.specs.{Pupil, are_apart, at_key, read_pupil, read_pupils, read_query};
+ghost use Rattle.ls_files.specs.{read_reply, read_settings};
+ghost use Rattle.ls_pupils.specs.Own.{is_called};
+ghost use Rattle.ls_pupils.specs.Cases.{case_name, pupil_of_case, pupils_of, IsCase, ArePupils};
 
 use crate::apart::are_apart;
 use crate::members::{own_limits, own_name, own_odds, own_start};
+use crate::readers::{read_queries, read_replies};
 use crate::replaying::pupil_after;
 use ls_assess::Reply;
+use ls_files::Version;
 use ls_interior::Steps;
 use ls_lines::{Kind, Word};
 use ls_pupils::{MOST_PUPILS, PupilCase, PupilCases};
-use ls_saved::{Version, read_queries, read_replies};
 use ls_set::{PLACES, Query, QueryList};
 use ls_settings::Settings;
 use serde_json::Value;
@@ -102,7 +104,7 @@ fn read_case<L: Ledger>(
     requires few { n ≤ PLACES }
     requires name { at_key (codes "name") as_str (view object.now) ≡ Some name }
     ensures value { IfOk result (λ found.
-        option_map pupil_of found ≡ read_pupil version n (view object.now)) }
+        option_map pupil_of_case found ≡ read_pupil version n (view object.now)) }
     ensures case { IfOk result (λ found. IfSome found (IsCase n)) }
 {
     let Some(settings) = own_settings(alloc, version, n, object)? else {
@@ -145,13 +147,13 @@ fn next_case<L: Ledger>(
     requires some { 0 < n }
     requires few { n ≤ PLACES }
     ensures value { IfOk result (λ found. IfSome found (λ c.
-        read_pupil version n (view object.now) ≡ Some (pupil_of c))) }
+        read_pupil version n (view object.now) ≡ Some (pupil_of_case c))) }
     ensures case { IfOk result (λ found. IfSome found (IsCase n)) }
     ensures own { IfOk result (λ found. IfSome found (λ c.
-        list_any (is_named (λ (e : Case). e.name) c.name) earlier.now ≡ false)) }
+        list_any (is_called case_name c.name) earlier.now ≡ false)) }
     ensures none { (p : Pupil) → result ≡ Ok None →
         read_pupil version n (view object.now) ≡ Some p →
-        list_any (is_named (λ (e : Case). e.name) p.name) earlier.now ≡ true }
+        list_any (is_called case_name p.name) earlier.now ≡ true }
 {
     let Some(name) = own_name(alloc, object)? else {
         return Ok(None);

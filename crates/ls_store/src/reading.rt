@@ -1,19 +1,20 @@
 // Reading a session.
 ghost use Rattle.std.specs.Prelude.{◌≡◌, ◌<◌, ◌≤◌, length, Ok, IfOk, IfErr};
 ghost use Rattle.serde_json.specs.View.{view};
-ghost use Rattle.ls_saved.specs.{session_from, session_of};
+ghost use Rattle.ls_files.specs.{session_from, session_of};
 ghost use Rattle.ls_pupils.specs.Cases.{ArePupils};
 ghost use Rattle.ls_store.specs.Chains.{GoesOn, IsSessionFault, interview_chain, settings_chain};
 ghost use Rattle.ls_store.specs.Stored.{session_of_parts};
 
 use crate::fault::SessionFault;
+use crate::inquiries::read_inquiry;
 use crate::members::{own_block, own_domain, own_limits, own_odds, own_start, own_version};
+use crate::objects::read_object;
 use crate::parts::Parts;
 use crate::pupils::own_pupils;
 use ls_expert::Inquiry;
+use ls_files::{Cause, Version};
 use ls_interior::Steps;
-use ls_restore::read_inquiry;
-use ls_saved::{Cause, Version, read_object};
 use ls_set::PLACES;
 use ls_settings::Settings;
 use serde_json::Value;

@@ -1,11 +1,12 @@
 // Pupils of saved sessions: their states are listed, and their replies are given once more.
-ghost use Rattle.std.specs.Prelude.{◌≡◌, ◌<◌, ◌≤◌, ◌&&◌, [], true, length, nat_le, is_none, is_some, Some, IfOk, IfSome};
+ghost use Rattle.std.specs.Prelude.{◌≡◌, ◌<◌, ◌≤◌, ◌&&◌, [], true, length, nat_le, is_none};
+ghost use Rattle.std.specs.Prelude.{is_some, Some, IfOk, IfSome};
 ghost use Rattle.std.specs.List.{list_all};
 ghost use Rattle.ls_set.specs.{is_good};
 ghost use Rattle.ls_theory.specs.{compat, heavy_after, most_states};
 ghost use Rattle.ls_weight.specs.Weighings.{IsWeighable};
 ghost use Rattle.ls_expert.specs.Starts.{start_of, IsStartOn};
-ghost use Rattle.ls_saved.specs.{follow, only_if};
+ghost use Rattle.ls_files.specs.{follow, only_if};
 
 use ls_assess::{Pupil, Reply, Settings, WeightFault};
 use ls_enum::{ListFault, list_all};

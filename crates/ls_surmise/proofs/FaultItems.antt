@@ -1,5 +1,5 @@
 -- The items that a flaw names are items.
-use Rattle.ls_surmise.proofs.Vocabulary.{◌+◌, ◌<◌, ◌==◌, ◌∙◌, ◌∷◌, ◌≡◌, All, Bool, Comparable, IsOn, Items, List, NoClause, None, NotClosed, Option, Reflexive, Some, SurmiseFault, ℕ, [], all_clauses, among-all, among-at, are_comparable, arith, bound, clause_at, clauses_of, comparable_at, comparable_in, cond, false, find, first_some, flaw, has, has-full, has_clause_within, inl, inr, items, lacking_in, length, ltb-true, no_clause, not, numbers_from, option_map, option_or, places_after, places_of, refl, subst, suc, surmise_items, sym, true, unclosed_at, unclosed_in, zero}
+use Rattle.ls_surmise.proofs.Vocabulary.{◌+◌, ◌<◌, ◌==◌, ◌∙◌, ◌∷◌, ◌≡◌, All, Bool, Comparable, AreOn, Items, List, NoClause, None, NotClosed, Option, Reflexive, Some, SurmiseFault, ℕ, [], all_clauses, among-all, among-at, are_comparable, arith, bound, clause_at, clauses_of, comparable_at, comparable_in, cond, false, find, first_some, flaw, has, has-full, has_clause_within, inl, inr, items, lacking_in, length, ltb-true, no_clause, not, numbers_from, option_map, option_or, places_after, places_of, refl, subst, suc, surmise_items, sym, true, unclosed_at, unclosed_in, zero}
 use Rattle.ls_lists.specs.Lists.{IsIn}
 use Rattle.ls_lists.proofs.Elements.{filter-in}
 use Rattle.ls_laws.proofs.Listed.{numbers-in}
@@ -43,7 +43,7 @@ below n q c = let r = numbers-in 0 n q c in let l = r.1 in omega arith
 
 -- ---- the four searches
 
-module _ (n : ℕ) (clauses : List (List Items)) (small : IsOn n (all_clauses clauses)) (fault : SurmiseFault) where
+module _ (n : ℕ) (clauses : List (List Items)) (small : AreOn n (all_clauses clauses)) (fault : SurmiseFault) where
   bare : no_clause n clauses ≡ Some fault → AreItems n fault
   bare e =
       let m = map-found NoClause (find (λ q. length (clauses_of clauses q) == 0) (numbers_from 0 n)) fault e in

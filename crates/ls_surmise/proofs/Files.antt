@@ -1,5 +1,5 @@
 -- The surmise function of a file, step by step; and the items that a fault names.
-use Rattle.ls_surmise.proofs.Vocabulary.{◌&&◌, ◌<◌, ◌∙◌, ◌∷◌, ◌≡◌, BadJson, BaseState, Bool, Comparable, Err, IsOn, IsSurmiseFaultOf, IsSurmiseOf, IsWideOf, IsWithin, Items, List, Memory, NoClause, None, NotClosed, Ok, Option, Reflexive, Result, Some, SurmiseFault, Table, Text, UnknownItem, Wide, ℕ, [], all_clauses, among-append, among-cases, and_parts, ap, are_named, base, bytes_eq, clauses_from, clauses_in, clauses_read, cond, empty-within, false, family, flaw, full, in_order, inl, inr, is_among, is_some, is_some-position, is_table_named, item_of-some, items, length, list_all, lookup, map, option_map_or, option_or, or_cases, position-lt, refl, result_ok, row_under, spanned, subst, suc, surmise_from, surmise_in, surmise_of, sym, table_of, true, true≢false, wide, with-within}
+use Rattle.ls_surmise.proofs.Vocabulary.{◌&&◌, ◌<◌, ◌∙◌, ◌∷◌, ◌≡◌, BadJson, BaseState, Bool, Comparable, Err, AreOn, IsSurmiseFaultOf, IsSurmiseOf, IsWideOf, IsWithin, Items, List, Memory, NoClause, None, NotClosed, Ok, Option, Reflexive, Result, Some, SurmiseFault, Table, Text, UnknownItem, Wide, ℕ, [], all_clauses, among-append, among-cases, and_parts, ap, are_named, base, bytes_eq, clauses_from, clauses_in, clauses_read, cond, empty-within, false, family, flaw, full, in_order, inl, inr, is_among, is_some, is_some-position, is_table_named, item_of-some, items, length, list_all, lookup, map, option_map_or, option_or, or_cases, position-lt, refl, result_ok, row_under, spanned, subst, suc, surmise_from, surmise_in, surmise_of, sym, table_of, true, true≢false, wide, with-within}
 use Rattle.std.specs.Prelude.{unwrap_or}
 use Rattle.ls_domain.specs.Meanings.{is_named, number_of, item_of, items_of}
 use Rattle.ls_surmise.proofs.Orderings.{put-surmise}
@@ -79,7 +79,7 @@ clause-on names (w ∷ ws) h =
     below None e s = absurd (true≢false (sym s ∙ ap is_some e))
     below (Some i) e s = subst (λ k. k < length names) (sym (item_of-some names w i e)) (position-lt (bytes_eq w) names i e)
 
-pub clauses-on : (names : List Text) (wss : List (List Text)) → are_named names wss ≡ true → IsOn (length names) (map (items_of names) wss)
+pub clauses-on : (names : List Text) (wss : List (List Text)) → are_named names wss ≡ true → AreOn (length names) (map (items_of names) wss)
 clauses-on names [] h k c = absurd (true≢false (sym c))
 clauses-on names (ws ∷ wss) h k c =
     let p = and_parts (list_all (is_named names) ws) (are_named names wss) h in
@@ -99,7 +99,7 @@ row-named names (row ∷ table) w h = step (bytes_eq w row.0) (and_parts (is_nam
     step true here later = here
     step false here later = later
 
-all-on : (n : ℕ) (h : Text → List Items) → ((w : Text) → IsOn n (h w)) → (ws : List Text) → IsOn n (all_clauses (map h ws))
+all-on : (n : ℕ) (h : Text → List Items) → ((w : Text) → AreOn n (h w)) → (ws : List Text) → AreOn n (all_clauses (map h ws))
 all-on n h each [] k c = absurd (true≢false (sym c))
 all-on n h each (w ∷ ws) k c =
     elim (or_cases (is_among (h w) k) (is_among (all_clauses (map h ws)) k) (sym (among-append (h w) (all_clauses (map h ws)) k) ∙ c)) [
@@ -136,16 +136,16 @@ read-each names bytes clauses e =
     let r = read-from names bytes clauses e in
     ap length (sym r.is) ∙ length-mapped (λ w. map (items_of names) (row_under r.table w)) names
 
-pub read-on : (names : List Text) (bytes : List ℕ) (clauses : List (List Items)) → clauses_read names bytes ≡ Ok clauses → IsOn (length names) (all_clauses clauses)
+pub read-on : (names : List Text) (bytes : List ℕ) (clauses : List (List Items)) → clauses_read names bytes ≡ Ok clauses → AreOn (length names) (all_clauses clauses)
 unfolding clauses_in is_table_named
 read-on names bytes clauses e =
     let r = read-from names bytes clauses e in
-    subst (λ (cs : List (List Items)). IsOn (length names) (all_clauses cs)) r.is
+    subst (λ (cs : List (List Items)). AreOn (length names) (all_clauses cs)) r.is
     (all-on (length names) (λ w. map (items_of names) (row_under r.table w)) (λ w. clauses-on names (row_under r.table w) (row-named names r.table w r.named)) names)
 
 -- ---- what is made of clauses
 
-pub made : (n : ℕ) (clauses put : List (List Items)) (b : BaseState) → length clauses ≡ n → IsOn n (all_clauses clauses) → flaw n clauses ≡ None
-    → b.item_count ≡ n → family b ≡ spanned n (all_clauses clauses) → base (family b) ≡ b.sets → ((m : ℕ) → IsOn m (all_clauses clauses) → put ≡ map (in_order m) clauses) → IsSurmiseOf b put
+pub made : (n : ℕ) (clauses put : List (List Items)) (b : BaseState) → length clauses ≡ n → AreOn n (all_clauses clauses) → flaw n clauses ≡ None
+    → b.item_count ≡ n → family b ≡ spanned n (all_clauses clauses) → base (family b) ≡ b.sets → ((m : ℕ) → AreOn m (all_clauses clauses) → put ≡ map (in_order m) clauses) → IsSurmiseOf b put
 made n clauses put b each small none items members is_base is =
     subst (λ (cs : List (List Items)). IsSurmiseOf b cs) (sym (is n small)) (put-surmise n clauses b each small none items members is_base)

@@ -1,5 +1,5 @@
 -- Sets put in order, and the base of the clauses that are put in order.
-use Rattle.ls_surmise.proofs.Vocabulary.{◌++◌, ◌+◌, ◌<◌, ◌∙◌, ◌∷◌, ◌≡◌, ◌≤◌, BaseState, Bool, Clauses, Err, IsInOrder, IsInOrder-filter, IsOn, IsPutInOrder, IsSurmise, IsSurmiseOf, Items, List, None, Ok, Option, Sets, Some, Wide, ℕ, [], all_clauses, among-all, among-filter, among-subsets, and_from, and_parts, ap, ap₂, arith, base, based, clause-within, clauses_of, compat, compat-spanned, cond, false, family, first_missing, flaw, flawless-ordered, from-all, full, get_or, has_clause_within, in_order, is_among, is_same, is_within-from, le-ltb, length, limited, lt-ltb, map, map-append, most_base_sets, option_map_or, refl, result_ok, same_members, same_truth, spanned, subsets, subsets_from-in_order, subst, suc, sym, take, take_more, true, wide, within-clause, zero}
+use Rattle.ls_surmise.proofs.Vocabulary.{◌++◌, ◌+◌, ◌<◌, ◌∙◌, ◌∷◌, ◌≡◌, ◌≤◌, BaseState, Bool, Clauses, Err, IsInOrder, IsInOrder-filter, AreOn, IsPutInOrder, IsSurmise, IsSurmiseOf, Items, List, None, Ok, Option, Sets, Some, Wide, ℕ, [], all_clauses, among-all, among-filter, among-subsets, and_from, and_parts, ap, ap₂, arith, base, based, clause-within, clauses_of, compat, compat-spanned, cond, false, family, first_missing, flaw, flawless-ordered, from-all, full, get_or, has_clause_within, in_order, is_among, is_same, is_within-from, le-ltb, length, limited, lt-ltb, map, map-append, most_base_sets, option_map_or, refl, result_ok, same_members, same_truth, spanned, subsets, subsets_from-in_order, subst, suc, sym, take, take_more, true, wide, within-clause, zero}
 use Rattle.std.specs.Prelude.{nat_lt, unwrap_or}
 use Rattle.std.proofs.lemmas.List.Elements.{filter_agree}
 use Rattle.ls_theory.specs.declared.base_fault.BaseFault.TheVariants.{NotSpanning, Past}
@@ -9,7 +9,7 @@ use Rattle.ls_base.proofs.Below.{interior-same}
 
 -- ---- sets in order
 
-among-in_order : (n : ℕ) (sets : List Items) (k : Items) → IsOn n sets → is_among (in_order n sets) k ≡ is_among sets k
+among-in_order : (n : ℕ) (sets : List Items) (k : Items) → AreOn n sets → is_among (in_order n sets) k ≡ is_among sets k
 among-in_order n sets k small = same_truth (is_among (in_order n sets) k) (is_among sets k)
     (λ h. (and_parts (is_among (subsets n) k) (is_among sets k) (sym (among-filter (is_among sets) (subsets n) k) ∙ h)).1)
     (λ h. among-filter (is_among sets) (subsets n) k ∙ and_from (is_among (subsets n) k) (is_among sets k) (among-subsets n k ∙ is_within-from k (full n) (small k h)) h)
@@ -18,7 +18,7 @@ in_order-ordered : (n : ℕ) (sets : List Items) → IsInOrder (in_order n sets)
 in_order-ordered n sets = IsInOrder-filter (is_among sets) (subsets n) (subsets_from-in_order 0 n)
 
 -- the same sets in the order are those that the definition lists
-pub put-is : (n : ℕ) (sets put : List Items) → IsInOrder put → ((k : Items) → is_among put k ≡ is_among sets k) → IsOn n sets → put ≡ in_order n sets
+pub put-is : (n : ℕ) (sets put : List Items) → IsInOrder put → ((k : Items) → is_among put k ≡ is_among sets k) → AreOn n sets → put ≡ in_order n sets
 put-is n sets put order same small =
     same_members put (in_order n sets) order (in_order-ordered n sets)
     (λ k c. among-in_order n sets k small ∙ sym (same k) ∙ c)
@@ -37,7 +37,7 @@ own-at [] i own l at = absurd (omega arith)
 own-at (c ∷ cs) zero own l at = at
 own-at (c ∷ cs) (suc i) own l at = own-at cs i own (omega arith) at
 
-pub on-at : (n : ℕ) (cs : List (List Items)) (i : ℕ) (own : List Items) → i < length cs → own ≡ get_or cs i own → IsOn n (all_clauses cs) → IsOn n own
+pub on-at : (n : ℕ) (cs : List (List Items)) (i : ℕ) (own : List Items) → i < length cs → own ≡ get_or cs i own → AreOn n (all_clauses cs) → AreOn n own
 on-at n cs i own l at small k c = small k (among-all cs i k (ap (λ (o : List Items). is_among o k) (sym (own-at cs i own l at)) ∙ c))
 
 -- ---- the base of the distinct clauses
@@ -81,12 +81,12 @@ order-at n [] q = tt
 order-at n (own ∷ cs) zero = in_order-ordered n own
 order-at n (own ∷ cs) (suc q) = order-at n cs q
 
-same-at : (n : ℕ) (cs : List (List Items)) (q : ℕ) → ((p : ℕ) → IsOn n (clauses_of cs p)) → (k : Items) → is_among (clauses_of (map (in_order n) cs) q) k ≡ is_among (clauses_of cs q) k
+same-at : (n : ℕ) (cs : List (List Items)) (q : ℕ) → ((p : ℕ) → AreOn n (clauses_of cs p)) → (k : Items) → is_among (clauses_of (map (in_order n) cs) q) k ≡ is_among (clauses_of cs q) k
 same-at n [] q small k = refl
 same-at n (own ∷ cs) zero small k = among-in_order n own k (small 0)
 same-at n (own ∷ cs) (suc q) small k = same-at n cs q (λ p. small (suc p)) k
 
-put-in_order : (n : ℕ) (cs : List (List Items)) → ((q : ℕ) → IsOn n (clauses_of cs q)) → IsPutInOrder cs (map (in_order n) cs)
+put-in_order : (n : ℕ) (cs : List (List Items)) → ((q : ℕ) → AreOn n (clauses_of cs q)) → IsPutInOrder cs (map (in_order n) cs)
 put-in_order n cs small = record { as_many = length-put n cs; in_order = order-at n cs; same = λ q. same-at n cs q small }
 
 all-same : (cs put : List (List Items)) → IsPutInOrder cs put → (k : Items) → is_among (all_clauses put) k ≡ is_among (all_clauses cs) k
@@ -95,7 +95,7 @@ all-same cs put is k = same_truth (is_among (all_clauses put) k) (is_among (all_
     (λ c. let o = from-all cs k c in among-all put o.0 k (is.same o.0 k ∙ o.1))
 
 -- put in order they are a surmise function, with the base of all of them
-pub put-surmise : (n : ℕ) (cs : List (List Items)) (b : BaseState) → length cs ≡ n → IsOn n (all_clauses cs) → flaw n cs ≡ None
+pub put-surmise : (n : ℕ) (cs : List (List Items)) (b : BaseState) → length cs ≡ n → AreOn n (all_clauses cs) → flaw n cs ≡ None
     → b.item_count ≡ n → family b ≡ spanned n (all_clauses cs) → base (family b) ≡ b.sets → IsSurmiseOf b (map (in_order n) cs)
 put-surmise n cs b each small none count members is_base =
     let own_small = λ (q : ℕ) (k : Items) (c : is_among (clauses_of cs q) k ≡ true). small k (among-all cs q k c) in
@@ -114,5 +114,5 @@ put-within cs put is r s = same_truth (has_clause_within put r s) (has_clause_wi
     (λ h. let x = clause-within put r s h in within-clause cs r s x.0 (sym (is.same r x.0) ∙ x.1) x.2)
     (λ h. let x = clause-within cs r s h in within-clause put r s x.0 (is.same r x.0 ∙ x.1) x.2)
 
-pub searched : (n : ℕ) (cs put : List (List Items)) → put ≡ map (in_order n) cs → IsOn n (all_clauses cs) → IsPutInOrder cs put
+pub searched : (n : ℕ) (cs put : List (List Items)) → put ≡ map (in_order n) cs → AreOn n (all_clauses cs) → IsPutInOrder cs put
 searched n cs put e small = subst (IsPutInOrder cs) (sym e) (put-in_order n cs (λ q k c. small k (among-all cs q k c)))

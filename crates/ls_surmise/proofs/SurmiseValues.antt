@@ -1,5 +1,5 @@
 -- The value of a surmise function is read from its text.
-use Rattle.ls_surmise.proofs.Vocabulary.{◌∷◌, ◌≡◌, ◌≤◌, All-given, AllByRecursion, Data, IsUtf8, IsUtf8-are_ascii, Items, List, Members, Some, Text, ℕ, [], arith, clause_value, depth, each, is_name, is_name-utf8, items, items_depth, list_all, list_all-All, list_value, map, member, members_depth, members_from, name_of, names_of_set, no_members, refl, string, suc, surmise_text, surmise_value, true, value_of, values_of, zero, ⊤}
+use Rattle.ls_surmise.proofs.Vocabulary.{◌∷◌, ◌≡◌, ◌≤◌, All-given, AllByRecursion, Data, IsUtf8, IsUtf8-are_ascii, Items, List, Members, Some, Text, ℕ, [], arith, clause_value, depth, each, filter, has, is_name, is_name-utf8, items_depth, length, list_all, list_all-All, list_value, map, member, members_depth, members_from, name_of, names_of_set, no_members, numbers_from, refl, string, suc, surmise_text, surmise_value, true, value_of, values_of, zero, ⊤}
 use Rattle.ls_surmise.proofs.PutMembers.{EachMember, each-members, sorted-members, put_all-sorted}
 use Rattle.ls_surmise.proofs.PlainValues.{IsPlain, ArePlain, MembersArePlain, value_of-compact_text}
 
@@ -24,7 +24,7 @@ names-utf8 names (i ∷ is) h = (name-utf8 names i h, names-utf8 names is h)
 
 clause-plain : (names : List Text) → AllByRecursion IsUtf8 names → (c : Items) → IsPlain (clause_value names c)
 unfolding names_of_set
-clause-plain names h c = texts-plain (map (name_of names) (items c)) (names-utf8 names (items c) h)
+clause-plain names h c = texts-plain (names_of_set names c) (names-utf8 names (filter (has c) (numbers_from 0 (length names))) h)
 
 members-plain : (ms : Members) → EachMember IsUtf8 IsPlain ms → MembersArePlain ms
 members-plain no_members h = tt

@@ -1,5 +1,5 @@
 -- The words that the proofs of this crate cite, passed on from one place.
-pub use Rattle.std.proofs.Common.{◌&&◌, ◌++◌, ◌+◌, ◌-◌, ◌<◌, ◌==◌, ◌||◌, ◌∙◌, ◌∷◌, ◌≡◌, ◌≤◌, Bool, Equal, Err, Global, Greater, IfOk, IsUtf8, Less, List, None, Ok, Option, Ordering, Result, Some, String, ℕ, [], ap, append-nil, append_assoc, ap₂, arith, bytes_eq, codes, cond, drop, drop-cons, false, find, get_or, inl, inr, is_eq, is_some, le-ltb, length, length-drop, lt-ltb, ltb, ltb-true, map, max, nat_cmp, not, option_and_then, option_map, refl, rules, string_bytes, subst, suc, sym, take, true, true≢false, unwrap_or, zero}
+pub use Rattle.std.proofs.Common.{◌&&◌, ◌++◌, ◌+◌, ◌-◌, ◌<◌, ◌==◌, ◌||◌, ◌∙◌, ◌∷◌, ◌≡◌, ◌≤◌, Bool, Equal, Err, Global, Greater, IfOk, IsUtf8, Less, List, None, Ok, Option, Ordering, Result, Some, String, ℕ, [], ap, append-nil, append_assoc, ap₂, arith, bytes_eq, codes, cond, drop, drop-cons, false, filter, find, get_or, inl, inr, is_eq, is_some, le-ltb, length, length-drop, lt-ltb, ltb, ltb-true, map, max, nat_cmp, not, option_and_then, option_map, refl, rules, string_bytes, subst, suc, sym, take, true, true≢false, unwrap_or, zero}
 pub use Rattle.std.proofs.lemmas.Bool.{and_from, and_parts, cases_eq, cases_order, false_from_ne_true, not-true, or_cases, or_right}
 pub use Rattle.std.proofs.lemmas.Bool.Decides.{nat_tests}
 pub use Rattle.std.proofs.lemmas.Cmp.{nat_list_cmp_total, nat_list_eq_equiv}
@@ -22,14 +22,14 @@ pub use Rattle.ls_clauses.proofs.Clauses.{all-small, among-all, base-clauses, ba
 pub use Rattle.ls_clauses.proofs.Flaws.{flawless-ordered, none-comparable, surmise-flawless}
 pub use Rattle.ls_clauses.proofs.Places.{among-at, in_order-at, place-of}
 pub use Rattle.ls_clauses.specs.Surmise.{IsPutInOrder, IsSurmise}
-pub use Rattle.ls_domain.proofs.Numbers.{is_name-utf8, is_named-none, is_named-some, item_of-some, listed-below, with-within}
+pub use Rattle.ls_domain.proofs.Numbers.{is_name-utf8, is_named-none, is_named-some, item_of-some, with-within}
 pub use Rattle.ls_domain.specs.Domains.{IsDomain, is_name}
 pub use Rattle.ls_domain.specs.Texts.{name_of}
 unfoldable pub use Rattle.ls_domain.specs.Texts.{names_of_set}
 pub use Rattle.ls_files.specs.SurmiseFiles.{IsSurmiseFaultOf, Table, are_named, clause_value, in_order, list_value, read_clauses, read_each, read_list, read_members, read_table, row_under, surmise_in, surmise_items, surmise_value, value_of, wide}
 unfoldable pub use Rattle.ls_files.specs.SurmiseFiles.{clauses_in, is_table_named, members_from, surmise_from, surmise_of, surmise_text, table_of}
 pub use Rattle.ls_laws.proofs.Lists.{IsInOrder-filter, same_members, some-among}
-pub use Rattle.ls_laws.specs.Spans.{IsOn}
+pub use Rattle.ls_laws.specs.Spans.{AreOn}
 unfoldable pub use Rattle.ls_laws.specs.Spans.{spanned}
 pub use Rattle.ls_lines.specs.{Text}
 pub use Rattle.ls_lists.proofs.Bools.{back_in, same_truth}

@@ -1,5 +1,8 @@
--- What is read of the value of a surmise file, step by step: whether its names are those of items, and then the clauses of each item.
-use Rattle.std.specs.Prelude.{ℕ, Bool, true, false, ◌&&◌, if◌then◌else◌, List, [], map, length, Option, Some, None, is_some, unwrap_or, option_and_then, Result, Ok, Err}
+-- What is read of the value of a surmise file, step by step: whether its names are those of items,
+-- and then the clauses of each item.
+use Rattle.std.specs.Prelude.{ℕ, Bool, true, false, ◌&&◌, if◌then◌else◌, List, [], map, length}
+use Rattle.std.specs.Prelude.{Option, Some, None, is_some, unwrap_or, option_and_then}
+use Rattle.std.specs.Prelude.{Result, Ok, Err}
 use Rattle.std.specs.List.{list_all}
 use Rattle.std.specs.Option.{option_map_or}
 use Rattle.serde_json.specs.Data.{Data, Members, no_members, member}
@@ -27,7 +30,10 @@ read_sets names d = read_list (read_clause names) d
 -- each key is an item's name, with such an array
 abbrev pub are_known : List Text → Members → Bool
 are_known names no_members = true
-are_known names (member k d ms) = is_named names k && is_some (read_sets names d) && are_known names ms
+are_known names (member k d ms) =
+    is_named names k
+    && is_some (read_sets names d)
+    && are_known names ms
 
 abbrev pub is_known : List Text → Data → Bool
 is_known names d = option_map_or (are_known names) (as_object d) false
@@ -43,7 +49,8 @@ read_all names d = map (read_own names d) (numbers_from 0 (length names))
 -- ---- as they are defined
 
 abbrev pub clauses_from : List Text → Table → Result (List (List Items)) SurmiseFault
-clauses_from names table = if is_table_named names table then Ok (clauses_in names table) else Err UnknownItem
+clauses_from names table =
+    if is_table_named names table then Ok (clauses_in names table) else Err UnknownItem
 
 -- the clauses of each item as they stand in a file, or the first fault of its form
 abbrev pub clauses_read : List Text → List ℕ → Result (List (List Items)) SurmiseFault

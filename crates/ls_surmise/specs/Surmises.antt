@@ -1,5 +1,6 @@
 -- Surmise functions: what contracts see of them, and which one a base gives.
-use Rattle.std.specs.Prelude.{ℕ, ◌<◌, ◌≡◌, false, List, [], length, slice_index_or, Option, Some, Result, Ok, Err, ⊤}
+use Rattle.std.specs.Prelude.{ℕ, ◌<◌, ◌≡◌, false, List, [], length, slice_index_or, Option, Some}
+use Rattle.std.specs.Prelude.{Result, Ok, Err, ⊤}
 use Rattle.std.specs.Option.{option_map_or}
 use Rattle.ls_set.specs.{Items, empty}
 use Rattle.ls_theory.specs.Starts.{Clauses}
@@ -28,11 +29,16 @@ pub record IsSurmiseOf (b : BaseState) (clauses : List (List Items)) : Type 0 wh
 
 -- of any two sets of the list neither lies within the other
 abbrev pub AreApart : List Items → Type 0
-AreApart sets = (i j : ℕ) → i < j → j < length sets → are_comparable (slice_index_or sets i empty) (slice_index_or sets j empty) ≡ false
+AreApart sets = (i j : ℕ)
+    → i < j
+    → j < length sets
+    → are_comparable (slice_index_or sets i empty) (slice_index_or sets j empty) ≡ false
 
 -- the clauses that a base gives, each item being in some set: those of an item are the atoms at it
 abbrev pub surmised : BaseState → Result (List (List Items)) FromFault
-surmised b = option_map_or (λ q. Err (NotSpanning q)) (first_missing b.item_count b.sets) (Ok (clauses_at b.item_count (family b)))
+surmised b =
+    option_map_or (λ q. Err (NotSpanning q)) (first_missing b.item_count b.sets)
+    (Ok (clauses_at b.item_count (family b)))
 
 -- the fault is that of the definition, unless memory ran out
 abbrev pub IsFromFaultOf : Result (List (List Items)) FromFault → FromFault → Type 0

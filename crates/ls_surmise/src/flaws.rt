@@ -1,7 +1,9 @@
 // What is wrong with clauses that are read.
 ghost use Rattle.std.specs.Prelude.{◌≡◌, ◌<◌, ◌≤◌, true, length};
 ghost use Rattle.ls_set.specs.{IsInOrder, most_items, numbers_from};
-ghost use Rattle.ls_theory.specs.Clauses.{clauses_of, has_clause_within, first_some, no_clause, lacking_in, unclosed_at, unclosed_in, comparable_at, comparable_in, flaw, are_comparable};
+ghost use Rattle.ls_theory.specs.Clauses.{clauses_of, has_clause_within, first_some, no_clause};
+ghost use Rattle.ls_theory.specs.Clauses.{lacking_in, unclosed_at, unclosed_in, comparable_at};
+ghost use Rattle.ls_theory.specs.Clauses.{comparable_in, flaw, are_comparable};
 ghost use Rattle.ls_clauses.specs.Surmise.{IsPutInOrder};
 ghost use Rattle.ls_surmise.specs.Surmises.{AreApart};
 
@@ -66,7 +68,6 @@ fn has_clause_within(clauses: &[SetList], ordered: &[SetList], r: u32, set: Item
     requires { IsPutInOrder clauses.now ordered.now }
     ensures { result ≡ has_clause_within clauses.now r set }
 {
-    let _ = clauses;
     has_within(clauses_of(ordered, r), set)
 }
 

@@ -1,7 +1,7 @@
 // Clauses in the order of sets, and the base of distinct ones.
 ghost use Rattle.std.specs.Prelude.{◌≡◌, ◌≤◌, ℕ, None, Err, Ok, map, IfOk, IfErr, OnOk};
 ghost use Rattle.ls_theory.specs.{all_clauses, base};
-ghost use Rattle.ls_laws.specs.Spans.{IsOn, spanned};
+ghost use Rattle.ls_laws.specs.Spans.{AreOn, spanned};
 ghost use Rattle.ls_base.specs.Bases.{family};
 ghost use Rattle.ls_files.specs.SurmiseFiles.{in_order, wide};
 ghost use Rattle.ls_surmise.specs.Surmises.{IsWideOf};
@@ -13,7 +13,7 @@ use std::alloc::{AllocError, Global};
 
 // The sets of items below `n` in the order of sets, each once.
 fn put_sets(alloc: Global, sets: &[ItemSet]) -> Result<SetList, AllocError>
-    ensures { IfOk result (λ list. (n : ℕ) → IsOn n sets.now → list ≡ in_order n sets.now) }
+    ensures { IfOk result (λ list. (n : ℕ) → AreOn n sets.now → list ≡ in_order n sets.now) }
 {
     let mut put = Vec::from_slice(alloc, sets)?;
     put_in_order(&mut put);
@@ -26,7 +26,7 @@ fn put_sets(alloc: Global, sets: &[ItemSet]) -> Result<SetList, AllocError>
 
 /// The clauses of each item in the order of sets, each once.
 pub(crate) fn put_clauses(alloc: Global, clauses: &[SetList]) -> Result<Vec<SetList>, AllocError>
-    ensures { IfOk result (λ v. (n : ℕ) → IsOn n (all_clauses clauses.now) →
+    ensures { IfOk result (λ v. (n : ℕ) → AreOn n (all_clauses clauses.now) →
         v.items ≡ map (in_order n) clauses.now) }
 {
     let mut put = Vec::new(alloc);
@@ -50,9 +50,13 @@ fn all_clauses(alloc: Global, clauses: &[SetList]) -> Result<Vec<ItemSet>, Alloc
 
 /// The base of the unions of all clauses, unless there are more distinct ones than a base may have
 /// sets: they are then told by their number.
-pub(crate) fn base_of(alloc: Global, n: u32, clauses: &[SetList]) -> Result<Base, SurmiseFault>
+pub(crate) fn base_of_clauses(
+    alloc: Global,
+    n: u32,
+    clauses: &[SetList],
+) -> Result<Base, SurmiseFault>
     requires few_items { n ≤ PLACES }
-    requires is_on { IsOn n (all_clauses clauses.now) }
+    requires is_on { AreOn n (all_clauses clauses.now) }
     ensures few { OnOk result (wide n clauses.now ≡ None) }
     ensures item_count { IfOk result (λ b. b.item_count ≡ n) }
     ensures members { IfOk result (λ b. family b ≡ spanned n (all_clauses clauses.now)) }

@@ -3,7 +3,7 @@ ghost use Rattle.std.specs.Prelude.{◌≡◌, length, IfOk, OnOk};
 ghost use Rattle.serde_json.specs.View.{view, members_view};
 ghost use Rattle.serde_json.specs.Data.{put};
 ghost use Rattle.ls_set.specs.{IsWithin, full};
-ghost use Rattle.ls_laws.specs.Spans.{IsOn};
+ghost use Rattle.ls_laws.specs.Spans.{AreOn};
 ghost use Rattle.ls_files.specs.SurmiseFiles.{clause_value, list_value, members_from, surmise_text};
 
 use crate::Surmise;
@@ -27,7 +27,7 @@ fn clause_value(alloc: Global, d: &Domain, clause: ItemSet) -> Result<Value, All
 
 // The clauses of an item, in their order.
 fn clauses_value(alloc: Global, d: &Domain, clauses: &[ItemSet]) -> Result<Value, AllocError>
-    requires { IsOn (length d.now) clauses.now }
+    requires { AreOn (length d.now) clauses.now }
     ensures { IfOk result (λ v. view v ≡ list_value (clause_value d.now) clauses.now) }
 {
     let mut values = Vec::new(alloc);

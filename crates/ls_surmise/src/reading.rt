@@ -1,10 +1,13 @@
 // The clauses of a surmise file, as they stand.
-ghost use Rattle.std.specs.Prelude.{◌≡◌, ◌<◌, ◌&&◌, Ok, is_some, length, option_map, option_and_then, IfOk, IfErr, IfSome};
+ghost use Rattle.std.specs.Prelude.{◌≡◌, ◌<◌, ◌&&◌, Ok, is_some, length, option_map};
+ghost use Rattle.std.specs.Prelude.{option_and_then, IfOk, IfErr, IfSome};
 ghost use Rattle.serde_json.specs.View.{view};
 ghost use Rattle.serde_json.specs.Find.{as_str};
 ghost use Rattle.ls_domain.specs.Meanings.{is_named, number_of};
-ghost use Rattle.ls_files.specs.SurmiseFiles.{read_list, read_clauses, read_table, value_of, IsSurmiseFaultOf};
-ghost use Rattle.ls_surmise.specs.Reading.{read_clause, read_sets, is_known, read_own, read_all, clauses_read};
+ghost use Rattle.ls_files.specs.SurmiseFiles.{read_list, read_clauses, read_table};
+ghost use Rattle.ls_files.specs.SurmiseFiles.{value_of, IsSurmiseFaultOf};
+ghost use Rattle.ls_surmise.specs.Reading.{read_clause, read_sets, is_known, read_own};
+ghost use Rattle.ls_surmise.specs.Reading.{read_all, clauses_read};
 
 use ls_domain::Domain;
 use ls_set::{ItemSet, PLACES, SetList};

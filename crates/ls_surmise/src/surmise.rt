@@ -4,14 +4,15 @@ ghost use Rattle.std.specs.List.{All};
 ghost use Rattle.ls_set.specs.{Items, is_among, most_items};
 ghost use Rattle.ls_theory.specs.{all_clauses, base, clauses_at, clauses_of};
 ghost use Rattle.ls_base.specs.Bases.{family};
-ghost use Rattle.ls_laws.specs.Spans.{IsOn};
+ghost use Rattle.ls_laws.specs.Spans.{AreOn};
 ghost use Rattle.ls_clauses.specs.Surmise.{IsSurmise};
-ghost use Rattle.ls_files.specs.SurmiseFiles.{surmise_from, surmise_of, surmise_items, IsSurmiseFaultOf};
+ghost use Rattle.ls_files.specs.SurmiseFiles.{surmise_from, surmise_of, surmise_items};
+ghost use Rattle.ls_files.specs.SurmiseFiles.{IsSurmiseFaultOf};
 ghost use Rattle.ls_surmise.specs.Surmises.{met_by, surmised, IsFromFaultOf};
 
 use crate::fault::FromFault;
 use crate::flaws::flaw;
-use crate::ordering::{base_of, put_clauses};
+use crate::ordering::{base_of_clauses, put_clauses};
 use crate::reading::read_file;
 use ls_base::Base;
 use ls_domain::Domain;
@@ -86,7 +87,7 @@ impl Surmise {
         ensures members { IfOk result (λ s. met_by s ≡ family base.now) }
         ensures fault { IfErr result (IsFromFaultOf (surmised base.now)) }
     {
-        let _ = base.sets();
+        let _ = base.sets(); // for the proof
         let all = ItemSet::full(base.items());
         if let Some(item) = all.minus(base.inside(all)).least() {
             return Err(FromFault::NotSpanning { item });
@@ -118,14 +119,14 @@ impl Surmise {
     }
 
     /// The surmise function of the clauses of each of `n` items in turn. Those of an item may stand
-    /// in any order, and are put in order. The error is the first of these: an item has no clause; a
-    /// clause lacks its item; a clause has an item of which no clause lies within it; of two clauses
-    /// of an item one lies within the other; there are more distinct clauses than a base may have
-    /// sets; or memory ran out.
+    /// in any order, and are put in order. The error is the first of these: an item has no clause;
+    /// a clause lacks its item; a clause has an item of which no clause lies within it; of two
+    /// clauses of an item one lies within the other; there are more distinct clauses than a base
+    /// may have sets; or memory ran out.
     pub fn from_clauses(alloc: Global, n: u32, clauses: &[SetList]) -> Result<Surmise, SurmiseFault>
         requires few { n ≤ most_items }
         requires items { length clauses.now ≡ n }
-        requires within { IsOn n (all_clauses clauses.now) }
+        requires within { AreOn n (all_clauses clauses.now) }
         ensures clauses { IfOk result (λ s. surmise_from n clauses.now ≡ Ok s.clauses) }
         ensures item_count { IfOk result (λ s. s.item_count ≡ n) }
         ensures surmise { IfOk result (λ s. IsSurmise s.item_count s.clauses) }
@@ -138,7 +139,7 @@ impl Surmise {
         if let Some(fault) = flaw(n, clauses, &ordered) {
             return Err(fault);
         }
-        let base = base_of(alloc, n, clauses)?;
+        let base = base_of_clauses(alloc, n, clauses)?;
         Ok(Surmise {
             base,
             clauses: ordered,

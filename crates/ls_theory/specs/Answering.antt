@@ -1,13 +1,16 @@
 -- Answering: which answers an interview takes, and why it does not take the others.
 --     refusal i r is_yes      why the interview does not take the answer to r, if it does not
-use Rattle.std.specs.Prelude.{ℕ, ◌≡◌, Bool, true, false, ◌&&◌, ◌||◌, ◌==◌, nat_lt, nat_le, if◌then◌else◌, length, find, Option, Some, None, ⊤}
+use Rattle.std.specs.Prelude.{ℕ, ◌≡◌, Bool, true, false, ◌&&◌, ◌||◌, ◌==◌, nat_lt, nat_le}
+use Rattle.std.specs.Prelude.{if◌then◌else◌, length, find, Option, Some, None, ⊤}
 use Rattle.std.specs.Option.{option_map}
 use Rattle.ls_set.specs.{is_good, is_same}
 use Rattle.ls_set.specs.declared.query.Query.{Query}
 use Rattle.ls_theory.specs.declared.answer.Answer.{Answer}
 use Rattle.ls_theory.specs.declared.known.Known.{Known}
 use Rattle.ls_theory.specs.declared.answer_fault.AnswerFault.{AnswerFault}
-use Rattle.ls_theory.specs.declared.answer_fault.AnswerFault.TheVariants.{BadQuery, Repeat, ForcedYes, ForcedNo, Full, Memory}
+use Rattle.ls_theory.specs.declared.answer_fault.AnswerFault.TheVariants.{BadQuery, Repeat}
+use Rattle.ls_theory.specs.declared.answer_fault.AnswerFault.TheVariants.{ForcedYes, ForcedNo}
+use Rattle.ls_theory.specs.declared.answer_fault.AnswerFault.TheVariants.{Full, Memory}
 use Rattle.ls_theory.specs.Interviews.{Interview}
 use Rattle.ls_theory.specs.Forced.{known}
 
@@ -47,7 +50,8 @@ abbrev pub first_fault : Option AnswerFault → Option AnswerFault → Option An
 first_fault (Some fault) other = Some fault
 first_fault None other = other
 
--- The first of these that holds: the query is not good; it was answered; the answers force the other reply; there is no room.
+-- The first of these that holds: the query is not good; it was answered;
+-- the answers force the other reply; there is no room.
 abbrev pub refusal : Interview → Query → Bool → Option AnswerFault
 refusal i r is_yes =
     first_fault (if is_good i.count r then None else Some BadQuery)
@@ -56,6 +60,6 @@ refusal i r is_yes =
     (if is_full i then Some Full else None)))
 
 -- the fault is the one that is found, unless memory ran out
-abbrev pub IsFaultOf : Option AnswerFault → AnswerFault → Type 0
-IsFaultOf found (Memory e) = ⊤
-IsFaultOf found fault = found ≡ Some fault
+abbrev pub IsAnswerFault : Option AnswerFault → AnswerFault → Type 0
+IsAnswerFault found (Memory e) = ⊤
+IsAnswerFault found fault = found ≡ Some fault

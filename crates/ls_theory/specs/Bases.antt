@@ -1,8 +1,10 @@
 -- Atoms and bases of a family, and the base of listed sets.
-use Rattle.std.specs.Prelude.{ℕ, suc, Bool, not, ◌&&◌, nat_lt, if◌then◌else◌, List, [], map, filter, find, length, take, Option, option_map, Result, Ok, Err}
+use Rattle.std.specs.Prelude.{ℕ, suc, Bool, not, ◌&&◌, nat_lt, if◌then◌else◌, List, []}
+use Rattle.std.specs.Prelude.{map, filter, find, length, take, Option, option_map, Result, Ok, Err}
 use Rattle.std.specs.List.{list_any}
 use Rattle.std.specs.Option.{option_map_or}
-use Rattle.ls_set.specs.{Items, full, has, is_same, is_within, items, least, minus, numbers_from, set_of}
+use Rattle.ls_set.specs.{Items, full, has, is_same, is_within, items, least, minus}
+use Rattle.ls_set.specs.{numbers_from, set_of}
 use Rattle.ls_set.specs.declared.query.Query.{Query}
 use Rattle.ls_theory.specs.declared.base_fault.BaseFault.{BaseFault}
 use Rattle.ls_theory.specs.declared.base_fault.BaseFault.TheVariants.{NotSpanning, Past}
@@ -44,7 +46,8 @@ pub record Peak : Type 0 where
 unfoldable pub peak : ℕ → ℕ → Start → List Query → Option Peak
 peak limit n start yeses =
     let size = base_size n start yeses in
-    option_map (λ j. record { position = j; count = size j }) (find (λ j. nat_lt limit (size j)) (numbers_from 0 (suc (length yeses))))
+    option_map (λ j. record { position = j; count = size j })
+    (find (λ j. nat_lt limit (size j)) (numbers_from 0 (suc (length yeses))))
 
 -- the most sets of a base that an interview keeps
 abbrev pub most_base_sets : ℕ
@@ -66,4 +69,6 @@ limited sets = if nat_lt most_base_sets (length sets) then Err (Past (length set
 
 -- the base of all unions of the sets, each of the n items being in some set
 abbrev pub based : ℕ → List Items → Result (List Items) BaseFault
-based n sets = option_map_or (λ q. Err (NotSpanning q)) (first_missing n sets) (limited (base (compat n (Sets sets) [])))
+based n sets =
+    option_map_or (λ q. Err (NotSpanning q)) (first_missing n sets)
+    (limited (base (compat n (Sets sets) [])))

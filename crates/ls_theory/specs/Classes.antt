@@ -22,7 +22,8 @@ turn right (Over reason) replies = replies
 -- the replies after m more turns
 unfoldable pub replies_in : ℕ → Settings → List Items → Items → List Reply → List Reply
 replies_in zero s f right replies = replies
-replies_in (suc m) s f right replies = replies_in m s f right (turn right (asked s f replies) replies)
+replies_in (suc m) s f right replies =
+    replies_in m s f right (turn right (asked s f replies) replies)
 
 -- a pupil's line of the results
 pub record PupilResult : Type 0 where
@@ -31,12 +32,20 @@ pub record PupilResult : Type 0 where
   pub reason : Reason
   pub state : Items
 
--- the number of replies when the assessment is over, the reason (by share, or else by budget), and the leader
+-- the number of replies when the assessment is over, the reason (by share, or else
+-- by budget), and the leader
 abbrev pub result_from : Settings → List Items → List ℕ → List Reply → PupilResult
 result_from s f name replies =
     let reason = if has_share s f replies then Share else Budget in
-    record { name = name; replies = length replies; reason = reason; state = leader s.ratios replies f }
+    record {
+      name = name;
+      replies = length replies;
+      reason = reason;
+      state = leader s.ratios replies f;
+    }
 
--- the results of a class, in the order of the table; each pupil begins with no replies and has at most `budget` turns
+-- the results of a class, in the order of the table; each pupil begins with no replies
+-- and has at most `budget` turns
 unfoldable pub class_results : Settings → List Items → List Row → List PupilResult
-class_results s f table = map (λ row. result_from s f row.name (replies_in s.budget s f row.right [])) table
+class_results s f table =
+    map (λ row. result_from s f row.name (replies_in s.budget s f row.right [])) table

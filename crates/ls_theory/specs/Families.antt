@@ -1,4 +1,5 @@
--- Families, which are lists of distinct sets in the order; knowledge spaces, interiors and closures.
+-- Families, which are lists of distinct sets in the order; knowledge spaces,
+-- interiors and closures.
 use Rattle.std.specs.Prelude.{ℕ, Bool, ◌&&◌, List, [], ◌∷◌, filter}
 use Rattle.std.specs.List.{list_all}
 use Rattle.ls_set.specs.{Items, empty, is_among, is_within, minus, subsets, union}
@@ -17,7 +18,8 @@ families n = sublists (subsets n)
 abbrev pub is_union_closed : List Items → Bool
 is_union_closed f = list_all (λ k. list_all (λ l. is_among f (union k l)) f) f
 
--- a space on the items of `whole`, of which its sets consist: it holds the empty set and `whole`, and is closed under union
+-- a space on the items of `whole`, of which its sets consist: it holds the empty set and `whole`,
+-- and is closed under union
 abbrev pub is_space : Items → List Items → Bool
 is_space whole f = is_among f empty && is_among f whole && is_union_closed f
 

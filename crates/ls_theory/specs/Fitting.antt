@@ -9,9 +9,13 @@ use Rattle.ls_theory.specs.Families.{families, is_space}
 use Rattle.ls_theory.specs.Interviews.{Interview, yes_queries, no_queries}
 use Rattle.ls_theory.specs.Compatible.{is_compatible}
 
--- a space whose members are compatible, and of which some member breaks each query that was answered No
+-- a space whose members are compatible, and of which some member breaks each query
+-- that was answered No
 abbrev pub fits : ℕ → Start → List Query → List Query → List Items → Bool
-fits n start yeses nos f = is_space (full n) f && list_all (is_compatible start yeses) f && list_all (some_breaks f) nos
+fits n start yeses nos f =
+    is_space (full n) f
+    && list_all (is_compatible start yeses) f
+    && list_all (some_breaks f) nos
 
 -- all spaces that fit
 unfoldable pub fitting_spaces : ℕ → Start → List Query → List Query → List (List Items)

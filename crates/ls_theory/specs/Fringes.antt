@@ -17,4 +17,5 @@ fringes n f k = record { inner = inner_fringe f k; outer = outer_fringe n f k }
 
 -- the member whose two fringes are the given ones
 unfoldable pub state_of : ℕ → List Items → Items → Items → Option Items
-state_of n f inner outer = find (λ k. is_same (inner_fringe f k) inner && is_same (outer_fringe n f k) outer) f
+state_of n f inner outer =
+    find (λ k. is_same (inner_fringe f k) inner && is_same (outer_fringe n f k) outer) f

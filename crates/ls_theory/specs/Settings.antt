@@ -1,11 +1,14 @@
--- Settings of assessments: which can be set, how they begin and change, and when they are too heavy.
-use Rattle.std.specs.Prelude.{ℕ, suc, ◌*◌, ◌^◌, Bool, ◌&&◌, ◌==◌, nat_lt, nat_le, max, List, [], ◌∷◌, find, length, set, replicate, Option}
+-- Settings of assessments: which can be set, how they begin and change,
+-- and when they are too heavy.
+use Rattle.std.specs.Prelude.{ℕ, suc, ◌*◌, ◌^◌, Bool, ◌&&◌, ◌==◌, nat_lt, nat_le, max}
+use Rattle.std.specs.Prelude.{List, [], ◌∷◌, find, length, set, replicate, Option}
 use Rattle.std.specs.List.{list_all}
 use Rattle.ls_set.specs.{numbers_from}
 use Rattle.ls_theory.specs.declared.ratio.Ratio.{Ratio}
 use Rattle.ls_theory.specs.declared.ratio.Ratios.{Ratios}
 
--- the ratios of each item in turn; the most replies; and the share that ends an assessment, in hundredths
+-- the ratios of each item in turn; the most replies; and the share that ends an assessment,
+-- in hundredths
 pub record Settings : Type 0 where
   pub ratios : List Ratios
   pub budget : ℕ
@@ -29,7 +32,10 @@ are_limits budget share = is_between 1 40 budget && is_between 51 99 share
 
 -- settings of n items
 abbrev pub are_settings : ℕ → Settings → Bool
-are_settings n s = length s.ratios == n && list_all are_ratios s.ratios && are_limits s.budget s.share
+are_settings n s =
+    length s.ratios == n
+    && list_all are_ratios s.ratios
+    && are_limits s.budget s.share
 
 -- ---- how they begin and change
 
@@ -39,7 +45,11 @@ odds z = record { a = z; b = 1 }
 
 -- odds 8 and 8 for each of n items, at most 30 replies, and the share 90
 abbrev pub standard : ℕ → Settings
-standard n = record { ratios = replicate n (record { right = odds 8; wrong = odds 8 }); budget = 30; share = 90 }
+standard n = record {
+  ratios = replicate n (record { right = odds 8; wrong = odds 8 });
+  budget = 30;
+  share = 90;
+}
 
 -- each item has the ratios
 abbrev pub with_all : Settings → Ratios → Settings
@@ -63,7 +73,8 @@ abbrev pub greatest : List Ratios → ℕ
 greatest [] = 0
 greatest (r ∷ rs) = max (max r.right.a r.wrong.a) (greatest rs)
 
--- the total of so many states passes 2 ^ 120 after r replies that all multiply by the greatest number
+-- the total of so many states passes 2 ^ 120 after r replies that all multiply
+-- by the greatest number
 abbrev pub is_heavy : Settings → ℕ → ℕ → Bool
 is_heavy s count r = nat_lt (2 ^ 120) (count * greatest s.ratios ^ r)
 

@@ -10,9 +10,10 @@ pub data Start : Type 0 where
   Clauses : List (List Items) → Start
   Sets : List Items → Start
 
--- Every set meets the free start. A set meets clauses where each of its items has a clause within the set.
--- It meets listed sets where it is the union of those within it.
+-- Every set meets the free start. A set meets clauses where each of its items has a clause
+-- within the set. It meets listed sets where it is the union of those within it.
 abbrev pub meets : Start → Items → Bool
 meets Free k = true
-meets (Clauses clauses) k = list_all (λ q. list_any (λ c. is_within c k) (slice_index_or clauses q [])) (items k)
+meets (Clauses clauses) k =
+    list_all (λ q. list_any (λ c. is_within c k) (slice_index_or clauses q [])) (items k)
 meets (Sets sets) k = is_same (interior sets k) k

@@ -1,9 +1,11 @@
 -- Well-gradedness, learning spaces, and the verdict on a family.
-use Rattle.std.specs.Prelude.{ℕ, zero, suc, Bool, not, ◌&&◌, ◌==◌, nat_lt, if◌then◌else◌, List, filter, find, length, slice_index, Option, Some, None, unwrap_or}
+use Rattle.std.specs.Prelude.{ℕ, zero, suc, Bool, not, ◌&&◌, ◌==◌, nat_lt, if◌then◌else◌, List}
+use Rattle.std.specs.Prelude.{filter, find, length, slice_index, Option, Some, None, unwrap_or}
 use Rattle.std.specs.List.{list_any, list_all}
 use Rattle.ls_set.specs.{Items, differing, empty, is_among, is_same, len, union}
 use Rattle.ls_theory.specs.declared.verdict.Verdict.{Verdict}
-use Rattle.ls_theory.specs.declared.verdict.Verdict.TheVariants.{NoEmpty, NoFull, NotClosed, NotGraded, Learning}
+use Rattle.ls_theory.specs.declared.verdict.Verdict.TheVariants.{NoEmpty, NoFull, NotClosed}
+use Rattle.ls_theory.specs.declared.verdict.Verdict.TheVariants.{NotGraded, Learning}
 use Rattle.ls_theory.specs.declared.verdict.BaseVerdict.{BaseVerdict}
 use Rattle.ls_theory.specs.declared.verdict.BaseVerdict.TheVariants as base_verdict_of
 use Rattle.ls_theory.specs.Words.{pairs}
@@ -19,7 +21,8 @@ unfoldable pub is_joined : List Items → ℕ → Items → Items → Bool
 is_joined f zero k l = is_same k l
 is_joined f (suc m) k l = list_any (λ j. is_joined f m j l) (neighbours f k)
 
--- well graded: any two members are joined in as many steps as there are items in exactly one of them
+-- well graded: any two members are joined in as many steps as there are items
+-- in exactly one of them
 unfoldable pub is_well_graded : List Items → Bool
 is_well_graded f = list_all (λ k. list_all (λ l. is_joined f (len (differing k l)) k l) f) f
 
@@ -35,12 +38,16 @@ unclosed_pair f = find (λ p. not (is_among f (union p.0 p.1))) (pairs f)
 abbrev pub double_atom : List Items → Items
 double_atom f = unwrap_or (find (λ k. nat_lt 1 (length (atom_items f k))) (base f)) empty
 
--- whether a space is a learning space; if not, a base set with the two least items at which it is an atom
+-- whether a space is a learning space; if not, a base set with the two least items
+-- at which it is an atom
 abbrev pub base_verdict : List Items → BaseVerdict
 base_verdict f =
     let k = double_atom f in
-    if is_well_graded f then base_verdict_of.Learning
-    else base_verdict_of.NotGraded k (slice_index (atom_items f k) 0) (slice_index (atom_items f k) 1)
+    if is_well_graded f
+    then base_verdict_of.Learning
+    else base_verdict_of.NotGraded k
+    (slice_index (atom_items f k) 0)
+    (slice_index (atom_items f k) 1)
 
 -- the verdict on a space with the base b
 abbrev pub with_base : List Items → BaseVerdict → Verdict

@@ -1,5 +1,6 @@
 -- Weights of states after replies: the multiplicative rule, with prior 1.
-use Rattle.std.specs.Prelude.{ℕ, Bool, not, if◌then◌else◌, List, map, filter, slice_index_or, sum_by}
+use Rattle.std.specs.Prelude.{ℕ, Bool, not, if◌then◌else◌, List, map, filter, slice_index_or}
+use Rattle.std.specs.Prelude.{sum_by}
 use Rattle.ls_set.specs.{Items, has}
 use Rattle.ls_theory.specs.declared.ratio.Ratio.{Ratio}
 use Rattle.ls_theory.specs.declared.ratio.Ratios.{Ratios}
@@ -16,7 +17,9 @@ no_ratios = let one : Ratio = record { a = 1; b = 1 } in record { right = one; w
 
 -- the item's ratio for the reply
 abbrev pub ratio_for : List Ratios → Reply → Ratio
-ratio_for ratios r = let own = slice_index_or ratios r.q no_ratios in if r.right then own.right else own.wrong
+ratio_for ratios r =
+    let own = slice_index_or ratios r.q no_ratios in
+    if r.right then own.right else own.wrong
 
 -- what one reply multiplies a set's weight by
 abbrev pub factor : List Ratios → Items → Reply → ℕ

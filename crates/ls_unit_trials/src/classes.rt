@@ -5,11 +5,10 @@ ghost use Rattle.ls_weight.specs.Weighings.{IsWeighable};
 
 use crate::gates::{Counting, Meeting, Timing, time_used};
 use crate::tally::Tally;
-use ls_class::ClassTable;
+use ls_class::{ClassTable, Gate, run_class};
 use ls_domain::Domain;
 use ls_enum::{ListFault, list_all};
 use ls_interior::{Counted, Free, Steps};
-use ls_replay::{Gate, run_class};
 use ls_set::{PLACES, SetList};
 use ls_settings::Settings;
 use ls_weight::WeightFault;

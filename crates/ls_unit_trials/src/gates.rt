@@ -1,5 +1,5 @@
 // Gates that note which pupils pass, or when.
-use ls_replay::Gate;
+use ls_class::Gate;
 use std::alloc::{AllocError, Global};
 use std::sync::atomic::{AtomicBool, AtomicU64, Ordering};
 use std::time::CpuClock;

@@ -1,4 +1,5 @@
-//! Trials of objects in memory, of the calls that the program doesn't make, of limits that no script reaches, and of the
+//! Trials of objects in memory, of the calls that the program doesn't make, of limits that no
+//! script reaches, and of the
 //! threads of a class. It has tests alone; worked rows of definitions are computed in proofs/.
 #![tactic(auto)]
 

@@ -1,6 +1,3 @@
 mod Vocabulary
-mod Shown
-pub mod Replying
-mod Listing
 mod OnBases
-pub mod Saying
+mod Viewing

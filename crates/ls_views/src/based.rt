@@ -2,24 +2,23 @@
 ghost use Rattle.std.specs.Prelude.{◌≡◌, true, IfOk};
 ghost use Rattle.std.specs.Option.{option_map_or};
 ghost use Rattle.ls_set.specs.{IsWithin, full};
-ghost use Rattle.ls_theory.specs.{is_order, is_space, projection, state_of, yes_queries};
+ghost use Rattle.ls_theory.specs.{base_verdict, is_order, is_space, projection, state_of};
+ghost use Rattle.ls_theory.specs.{yes_queries};
 ghost use Rattle.ls_theory.specs.Bases as bases;
-ghost use Rattle.ls_theory.specs.{base_verdict};
 ghost use Rattle.ls_base.specs.Bases.{family};
 ghost use Rattle.ls_base.specs.Followed.{IsFollowed};
-ghost use Rattle.ls_meanings.specs.Asked.{IsOn};
-ghost use Rattle.ls_reply.specs.declared.response.Response.TheVariants as response;
-ghost use Rattle.ls_reply.specs.declared.response.Shown.TheVariants as shown;
-ghost use Rattle.ls_reply.specs.{learned, paths_shown, state_shown, view_row};
+ghost use Rattle.ls_meaning.specs.declared.response.Response.TheVariants as response;
+ghost use Rattle.ls_meaning.specs.declared.response.Shown.TheVariants as shown;
+ghost use Rattle.ls_meaning.specs.{IsViewOn, learned, paths_shown, state_shown, view_row};
 ghost use Rattle.ls_views.specs.Views.{is_based, based_on};
 
 use ls_base::{Base, Followed};
 use ls_expert::Inquiry;
 use ls_fringe::state_of;
 use ls_interior::Inside;
+use ls_meaning::{Refusal, Response, Shown, View};
 use ls_paths::Order;
 use ls_project::project_base;
-use ls_reply::{Refusal, Response, Shown, View};
 use ls_set::{ItemList, ItemSet, SetList};
 use ls_space::test_base;
 use ls_theory::BaseVerdict;
@@ -34,12 +33,12 @@ pub fn decide_based(
     asked: View,
 ) -> Result<Response, AllocError>
     requires based { is_based asked ≡ true }
-    requires on { IsOn inquiry.now.count asked }
+    requires on { IsViewOn inquiry.now.count asked }
     requires followed { let i = inquiry.now in
         IsFollowed i.count i.start (yes_queries i.answers) followed.now }
     ensures { IfOk result (λ r. r ≡ view_row inquiry.now asked) }
 {
-    let _ = inquiry.standing();
+    let _ = inquiry.standing(); // it is sound
     match followed {
         Followed::Within(base) => show(alloc, base, asked),
         Followed::Past { position, count } => Ok(Response::Refused(Refusal::Past {
@@ -52,13 +51,16 @@ pub fn decide_based(
 // What is shown of the family of a base.
 fn show(alloc: Global, base: &Base, asked: View) -> Result<Response, AllocError>
     requires based { is_based asked ≡ true }
-    requires on { IsOn base.now.item_count asked }
+    requires on { IsViewOn base.now.item_count asked }
     requires space { is_space (full base.now.item_count) (family base.now) ≡ true }
     ensures { IfOk result (λ r. r ≡ based_on base.now.item_count (family base.now) asked) }
 {
     match asked {
-        View::Base => Ok(Response::Shown(Shown::Base)),
+        View::Base => Ok(Response::Shown(Shown::Base {
+            sets: SetList::from_slice(alloc, base.sets())?,
+        })),
         View::Surmise => Ok(Response::Shown(Shown::Surmise {
+            base: SetList::from_slice(alloc, base.sets())?,
             atoms: base.atom_sets()?,
         })),
         View::Learning => Ok(Response::Shown(Shown::Learning(test_base(base)))),

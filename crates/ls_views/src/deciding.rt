@@ -1,14 +1,14 @@
 // What is shown of an interview, decided.
 ghost use Rattle.std.specs.Prelude.{◌≡◌, ◌≤◌, ◌+◌, false};
 ghost use Rattle.ls_set.specs.{IsWithin, full};
-ghost use Rattle.ls_meanings.specs.Asked.{IsOn};
-ghost use Rattle.ls_reply.specs.{fringes_row, known_row, project_row, states_row, view_row};
+ghost use Rattle.ls_meaning.specs.{IsViewOn, fringes_row, known_row, project_row, states_row};
+ghost use Rattle.ls_meaning.specs.{view_row};
 ghost use Rattle.ls_views.specs.Views.{is_based, view_steps};
 
 use ls_expert::{AnswerFault, BadQuery, Inquiry};
 use ls_fringe::fringes;
 use ls_interior::{Steps, is_member};
-use ls_reply::{Refusal, Response, Shown, View};
+use ls_meaning::{Refusal, Response, Shown, View};
 use ls_set::{CursorFault, ItemSet, Query};
 use std::sync::ledger::Ledger;
 
@@ -31,7 +31,7 @@ pub fn is_based(view: &View) -> bool
 /// at most one counted interior for a query, and none for the others.
 pub fn decide<L: Ledger>(inquiry: &Inquiry, view: &View, steps: &mut Steps<L>) -> Response
     requires other { is_based view.now ≡ false }
-    requires on { IsOn inquiry.now.count view.now }
+    requires on { IsViewOn inquiry.now.count view.now }
     ensures response { result ≡ view_row inquiry.now view.now }
     ensures cost { steps.new ≤ steps.old + view_steps view.now }
 {

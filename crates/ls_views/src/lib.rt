@@ -1,13 +1,10 @@
-//! What commands show of an interview: it is decided first, and then said.
+//! What commands show of an interview, decided; and the whole reply to a command that shows it.
 #![tactic(auto)]
 
 mod based;
 mod deciding;
 mod reading;
-mod showing;
-mod walking;
 
 pub use based::decide_based;
 pub use deciding::{decide, is_based};
-pub use reading::{put_response, view};
-pub use showing::put_shown;
+pub use reading::view;

@@ -19,4 +19,4 @@ pub use Rattle.ls_theory.specs.declared.reply.Reply.{Reply}
 pub use Rattle.ls_weight.specs.Rows.{AreRows, StateList, agreeing_with, agrees_in, cell_of, has_in, row_at, state_at, width_of}
 pub use Rattle.ls_weight.specs.Sums.{cells_with, table_cells}
 unfoldable pub use Rattle.ls_weight.specs.Sums.{sum_below}
-pub use Rattle.ls_weight.specs.Weighings.{IsWeighable, IsWeighed, KeptSums, Weighing}
+pub use Rattle.ls_weight.specs.Weighings.{AreKeptSums, IsWeighable, KeptSums, Weighing}

@@ -1,5 +1,7 @@
 -- Sets of items as rows of bytes: digit q % 8 of byte q / 8 is 1 where item q is in the set.
-use Rattle.std.specs.Prelude.{ℕ, ◌+◌, ◌*◌, ◌/◌, ◌%◌, ◌<◌, ◌≡◌, ◌≤◌, Bool, not, ◌&&◌, ◌==◌, if◌then◌else◌, List, length, take, drop, slice_index, slice_index_or, count_by, map}
+use Rattle.std.specs.Prelude.{ℕ, ◌+◌, ◌*◌, ◌/◌, ◌%◌, ◌<◌, ◌≡◌, ◌≤◌, Bool, not, ◌&&◌, ◌==◌}
+use Rattle.std.specs.Prelude.{if◌then◌else◌, List, length, take, drop, slice_index, slice_index_or}
+use Rattle.std.specs.Prelude.{count_by, map}
 use Rattle.std.specs.Int.{bit_at}
 use Rattle.std.specs.List.{range_with_len}
 use Rattle.ls_set.specs.{Items, empty, has, most_items}
@@ -26,12 +28,16 @@ agrees_in row r = if r.right then has_in row r.q else not (has_in row r.q)
 -- the rows of the states, of n items
 pub record AreRows (n : ℕ) (states : List Items) (bytes : List ℕ) : Type 0 where
   pub each : length bytes ≡ width_of n * length states
-  pub digits : (i q : ℕ) → i < length states → q < n → has_in (row_at bytes (width_of n) i) q ≡ has (slice_index_or states i empty) q
+  pub digits : (i q : ℕ)
+      → i < length states
+      → q < n
+      → has_in (row_at bytes (width_of n) i) q ≡ has (slice_index_or states i empty) q
 
 -- the weights of the first m states that agree with the reply and have the byte v in group g
 abbrev pub cell_of : List ℕ → ℕ → Reply → List ℕ → ℕ → ℕ → ℕ → ℕ
-cell_of bytes width r weights m g v =
-    sum_below m (λ i. let row = row_at bytes width i in if agrees_in row r && slice_index row g == v then slice_index weights i else 0)
+cell_of bytes width r weights m g v = sum_below m (λ i.
+    let row = row_at bytes width i in
+    if agrees_in row r && slice_index row g == v then slice_index weights i else 0)
 
 -- ---- listed states, with rows
 
@@ -40,7 +46,8 @@ pub record StateList : Type 0 where
   pub item_count : ℕ
   pub states : List Items
 
--- there are not too many items or states; the bytes are the rows of the states; and it is counted how many have each item
+-- there are not too many items or states; the bytes are the rows of the states;
+-- and it is counted how many have each item
 pub record IsRowed (s : StateList) (bytes counted : List ℕ) : Type 0 where
   pub few_items : s.item_count ≤ most_items
   pub few_states : length s.states ≤ most_states
@@ -53,5 +60,6 @@ state_at states i = slice_index_or states i empty
 
 -- the weights of the states that agree with the reply and have the item
 abbrev pub agreeing_with : List Items → Reply → List ℕ → ℕ → ℕ
-agreeing_with states r weights q =
-    sum_below (length states) (λ i. let k = state_at states i in if agrees k r && has k q then slice_index weights i else 0)
+agreeing_with states r weights q = sum_below (length states) (λ i.
+    let k = state_at states i in
+    if agrees k r && has k q then slice_index weights i else 0)

@@ -1,5 +1,6 @@
 -- The weights of listed states after replies, as contracts see them.
-use Rattle.std.specs.Prelude.{ℕ, ◌*◌, ◌≡◌, ◌<◌, ◌≤◌, true, List, map, length, nat_lt, slice_index, None}
+use Rattle.std.specs.Prelude.{ℕ, ◌*◌, ◌≡◌, ◌<◌, ◌≤◌, true, List, map, length, nat_lt}
+use Rattle.std.specs.Prelude.{slice_index, None}
 use Rattle.std.specs.List.{list_all, IsFirstMaxByKey}
 use Rattle.ls_set.specs.{IsInOrder, Items, full, is_within, most_items}
 use Rattle.ls_theory.specs.declared.reply.Reply.{Reply}
@@ -15,7 +16,8 @@ pub record Weighing : Type 0 where
   pub states : List Items
   pub replies : List Reply
 
--- what can be weighed: some items, but not too many, with the ratios of each; and some states of them, but not too many, in the order
+-- what can be weighed: some items, but not too many, with the ratios of each;
+-- and some states of them, but not too many, in the order
 pub record IsWeighable (n : ℕ) (states : List Items) (s : Settings) : Type 0 where
   pub some_items : 0 < n
   pub few_items : n ≤ most_items
@@ -25,7 +27,8 @@ pub record IsWeighable (n : ℕ) (states : List Items) (s : Settings) : Type 0 w
   pub in_order : IsInOrder states
   pub within : list_all (λ k. is_within k (full n)) states ≡ true
 
--- what is kept: the weights, the mass of each item, the total, the place of the first greatest weight, the cells of the tables, and for how many replies there is room
+-- what is kept: the weights, the mass of each item, the total, the place of the first greatest
+-- weight, the cells of the tables, and for how many replies there is room
 pub record KeptSums : Type 0 where
   pub weights : List ℕ
   pub masses : List ℕ
@@ -34,8 +37,10 @@ pub record KeptSums : Type 0 where
   pub cells : ℕ
   pub room : ℕ
 
--- the weights and sums are those of the states, of `count` items, which can be weighed and are not too heavy; the replies are on items, and there are no more than the budget, for which there is room
-pub record IsWeighed (count : ℕ) (w : Weighing) (kept : KeptSums) : Type 0 where
+-- the weights and sums are those of the states, of `count` items, which can be weighed
+-- and are not too heavy; the replies are on items, and there are no more than the budget,
+-- for which there is room
+pub record AreKeptSums (count : ℕ) (w : Weighing) (kept : KeptSums) : Type 0 where
   pub items : count ≡ length w.settings.ratios
   pub weighable : IsWeighable (length w.settings.ratios) w.states w.settings
   pub allowed : IsAllowed w.settings
@@ -45,7 +50,9 @@ pub record IsWeighed (count : ℕ) (w : Weighing) (kept : KeptSums) : Type 0 whe
   pub room : w.settings.budget ≤ kept.room
   pub weights : kept.weights ≡ map (weight w.settings.ratios w.replies) w.states
   pub each_mass : length kept.masses ≡ length w.settings.ratios
-  pub masses : (q : ℕ) → q < length w.settings.ratios → slice_index kept.masses q ≡ mass w.settings.ratios w.replies w.states q
+  pub masses : (q : ℕ)
+      → q < length w.settings.ratios
+      → slice_index kept.masses q ≡ mass w.settings.ratios w.replies w.states q
   pub total : kept.total ≡ total w.settings.ratios w.replies w.states
   pub heaviest : IsFirstMaxByKey (λ v. v) kept.weights (length kept.weights) kept.heaviest
   pub cells : kept.cells ≡ table_cells * width_of (length w.settings.ratios)

@@ -1,5 +1,6 @@
 // The masses after a reply, from the tables of a pass.
-ghost use Rattle.std.specs.Prelude.{◌≡◌, ◌+◌, ◌-◌, ◌*◌, ◌/◌, ◌%◌, ◌<◌, ◌≤◌, ◌^◌, ◌==◌, ℕ, if◌then◌else◌, length, slice_index, sum};
+ghost use Rattle.std.specs.Prelude.{◌≡◌, ◌+◌, ◌-◌, ◌*◌, ◌/◌, ◌%◌, ◌<◌, ◌≤◌, ◌^◌, ◌==◌, ℕ};
+ghost use Rattle.std.specs.Prelude.{if◌then◌else◌, length, slice_index, sum};
 ghost use Rattle.std.specs.Int.{bit_at};
 ghost use Rattle.ls_weight.specs.Sums.{table_cells, cells_with};
 ghost use Rattle.ls_weight.specs.Rows.{width_of, row_at};

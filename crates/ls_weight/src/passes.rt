@@ -1,5 +1,6 @@
 // One pass over the states for a reply.
-ghost use Rattle.std.specs.Prelude.{◌≡◌, ◌+◌, ◌*◌, ◌/◌, ◌<◌, ◌≤◌, ◌^◌, ◌&&◌, ◌==◌, ℕ, if◌then◌else◌, length, slice_index, sum, All};
+ghost use Rattle.std.specs.Prelude.{◌≡◌, ◌+◌, ◌*◌, ◌/◌, ◌<◌, ◌≤◌, ◌^◌, ◌&&◌, ◌==◌, ℕ};
+ghost use Rattle.std.specs.Prelude.{if◌then◌else◌, length, slice_index, sum, All};
 ghost use Rattle.ls_weight.specs.Sums.{table_cells};
 ghost use Rattle.ls_weight.specs.Rows.{agrees_in, row_at, cell_of};
 

@@ -1,5 +1,7 @@
 // Listed states, with their items as rows of bytes.
-ghost use Rattle.std.specs.Prelude.{◌≡◌, ◌+◌, ◌*◌, ◌/◌, ◌%◌, ◌<◌, ◌≤◌, ◌^◌, ℕ, if◌then◌else◌, length, drop, take, map, slice_index, sum, count_by, All, IfOk, OnOk};
+ghost use Rattle.std.specs.Prelude.{◌≡◌, ◌+◌, ◌*◌, ◌/◌, ◌%◌, ◌<◌, ◌≤◌, ◌^◌, ℕ, if◌then◌else◌};
+ghost use Rattle.std.specs.Prelude.{length, drop, take, map, slice_index, sum, count_by, All};
+ghost use Rattle.std.specs.Prelude.{IfOk, OnOk};
 ghost use Rattle.std.specs.List.{range_with_len};
 ghost use Rattle.ls_set.specs.{has, most_items};
 ghost use Rattle.ls_theory.specs.{agrees, most_states};

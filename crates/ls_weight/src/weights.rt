@@ -1,5 +1,6 @@
 // The weights of listed states after replies.
-ghost use Rattle.std.specs.Prelude.{◌≡◌, ◌<◌, ◌≤◌, ◌++◌, ◌∷◌, ◌^◌, [], ℕ, length, slice_get, nat_lt, true, Some, None, Err, IfOk, OnOk};
+ghost use Rattle.std.specs.Prelude.{◌≡◌, ◌<◌, ◌≤◌, ◌++◌, ◌∷◌, ◌^◌, [], ℕ, length, slice_get};
+ghost use Rattle.std.specs.Prelude.{nat_lt, true, Some, None, Err, IfOk, OnOk};
 ghost use Rattle.std.specs.List.{list_all};
 ghost use Rattle.ls_set.specs.{Items};
 ghost use Rattle.ls_theory.specs.{heavy_after, leader, mass, total, weight};
@@ -38,7 +39,7 @@ pub struct Weights {
 
 impl Model for Weights {
     ghost use Rattle.std.specs.Prelude.{length, vec_capacity};
-    ghost use Rattle.ls_weight.specs.Weighings.{Weighing, IsWeighed};
+    ghost use Rattle.ls_weight.specs.Weighings.{Weighing, AreKeptSums};
 
     ghost Value = { Weighing };
 
@@ -48,7 +49,7 @@ impl Model for Weights {
       replies = w.replies.items;
     } };
 
-    ghost invariant = { λ w. IsWeighed w.rows.value.item_count
+    ghost invariant = { λ w. AreKeptSums w.rows.value.item_count
         (record {
           settings = w.settings;
           states = w.rows.value.states;

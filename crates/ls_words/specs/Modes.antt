@@ -1,6 +1,7 @@
--- What the words after the program's name ask for. An option and its value are two words, the value directly after the
--- option; the word after an option is its value whatever it is.
-use Rattle.std.specs.Prelude.{ℕ, ◌<◌, ◌≤◌, ◌&&◌, if◌then◌else◌, List, [], ◌∷◌, bytes_eq, codes, Option, Some, None, ⊤}
+-- What the words after the program's name ask for. An option and its value are two words,
+-- the value directly after the option; the word after an option is its value whatever it is.
+use Rattle.std.specs.Prelude.{ℕ, ◌<◌, ◌≤◌, ◌&&◌, if◌then◌else◌, List, [], ◌∷◌, bytes_eq, codes}
+use Rattle.std.specs.Prelude.{Option, Some, None, ⊤}
 use Rattle.ls_lines.specs.{Text, greatest_number, is_file, is_from_to, number_up_to}
 use Rattle.ls_words.specs.declared.mode.Mode.{Mode}
 use Rattle.ls_words.specs.declared.mode.Mode.TheVariants.{Input, File, Drill}
@@ -10,8 +11,8 @@ abbrev pub file : Text → Option Mode
 file name = if is_file name then Some (File name) else None
 
 -- the number that a word is, in decimal without a leading zero, where it is at most the greatest
-abbrev pub number_of : Text → Option ℕ
-number_of word = number_up_to greatest_number word
+abbrev pub read_number : Text → Option ℕ
+read_number word = number_up_to greatest_number word
 
 -- the most items that a drill has
 abbrev pub most_drilled : ℕ
@@ -26,14 +27,16 @@ drill n number = None
 abbrev pub mode_of_option : Text → Text → Option Mode
 mode_of_option option value =
     if bytes_eq option (codes "--script") then file value
-    else if bytes_eq option (codes "--drill") then drill (number_of value) (Some 1)
+    else if bytes_eq option (codes "--drill") then drill (read_number value) (Some 1)
     else None
 
 -- what two options and their values ask for: `--drill N` and `--number S`, in either order
 abbrev pub mode_of_options : Text → Text → Text → Text → Option Mode
 mode_of_options first value second other =
-    if bytes_eq first (codes "--drill") && bytes_eq second (codes "--number") then drill (number_of value) (number_of other)
-    else if bytes_eq first (codes "--number") && bytes_eq second (codes "--drill") then drill (number_of other) (number_of value)
+    if bytes_eq first (codes "--drill") && bytes_eq second (codes "--number")
+    then drill (read_number value) (read_number other)
+    else if bytes_eq first (codes "--number") && bytes_eq second (codes "--drill")
+    then drill (read_number other) (read_number value)
     else None
 
 -- what the words ask for, if they have a form: no word, one option with its value, or two

@@ -4,7 +4,7 @@ ghost use Rattle.std.specs.Option.{ForSome};
 ghost use Rattle.ls_lines.specs.{greatest_number};
 ghost use Rattle.ls_words.specs.Modes.{mode_of, mode_of_option, mode_of_options, IsInRange};
 ghost use Rattle.ls_words.specs.declared.mode.Mode.TheVariants.{Input};
-ghost use Rattle.ls_words.specs.Modes.{file, drill, number_of};
+ghost use Rattle.ls_words.specs.Modes.{file, drill, read_number};
 
 use crate::{Mode, WordsFault};
 use ls_lines::{Kind, Word};
@@ -38,7 +38,7 @@ fn read_option(alloc: Global, option: &str, value: &str) -> Result<Mode, WordsFa
 {
     match option {
         "--script" => file(alloc, value),
-        "--drill" => drill(number_of(value), Some(1)),
+        "--drill" => drill(read_number(value), Some(1)),
         _ => Err(WordsFault::Usage),
     }
 }
@@ -52,8 +52,8 @@ fn read_options(first: &str, value: &str, second: &str, other: &str) -> Result<M
         ↔ (mode_of_options first.now value.now second.now other.now ≡ None) }
 {
     match (first, second) {
-        ("--drill", "--number") => drill(number_of(value), number_of(other)),
-        ("--number", "--drill") => drill(number_of(other), number_of(value)),
+        ("--drill", "--number") => drill(read_number(value), read_number(other)),
+        ("--number", "--drill") => drill(read_number(other), read_number(value)),
         _ => Err(WordsFault::Usage),
     }
 }
@@ -90,8 +90,8 @@ fn drill(n: Option<u32>, number: Option<u32>) -> Result<Mode, WordsFault>
 
 // The number that a word is, in decimal without a leading zero, where it is at most the greatest.
 #[tactic(auto, unfolding(ls_lines::specs::Kinds::is_of))]
-fn number_of(word: &str) -> Option<u32>
-    ensures value { result ≡ number_of word.now }
+fn read_number(word: &str) -> Option<u32>
+    ensures value { result ≡ read_number word.now }
     ensures few { IfSome result (λ k. k ≤ greatest_number) }
 {
     if !Kind::Number.takes(word.as_bytes()) {

@@ -1,12 +1,14 @@
 // What a table tells of queries.
-ghost use Rattle.std.specs.Prelude.{◌≡◌, ◌+◌, ◌<◌, ◌≤◌, ◌&&◌, ℕ, true, List, Some, length, filter, find, slice_get};
+ghost use Rattle.std.specs.Prelude.{◌≡◌, ◌+◌, ◌<◌, ◌≤◌, ◌&&◌, ℕ, true};
+ghost use Rattle.std.specs.Prelude.{List, Some, length, filter, find, slice_get};
 ghost use Rattle.std.specs.List.{position};
 ghost use Rattle.std.specs.Option.{ForSome, option_map, option_map_or};
 ghost use Rattle.ls_set.specs.{IsWithin, Items, full, has, is_good, is_same};
-ghost use Rattle.ls_theory.specs.{Interview, block_before, closure, comes_after, compatible_sets, known, next_question, nos, query_before};
+ghost use Rattle.ls_theory.specs.{Interview, block_before, closure, comes_after, compatible_sets};
+ghost use Rattle.ls_theory.specs.{known, next_question, nos, query_before};
 ghost use Rattle.ls_theory.specs.declared.no.No.{No};
 ghost use Rattle.ls_laws.specs.Forced.{IsSound, IsNumbered};
-ghost use Rattle.ls_query.specs.Blocks.{sets_of, queries_of};
+ghost use Rattle.ls_query.specs.Blocks.{block_sets, block_queries};
 
 use crate::forcing::{forcing, unforced};
 use crate::table::Table;
@@ -31,7 +33,7 @@ impl Table {
     fn closure_in<I: Interior, L: Ledger>(&self, f: &I, a: ItemSet, steps: &mut Steps<L>) -> ItemSet
         requires count { I.item_count f.now ≡ self.now.table.blocks.item_count }
         requires within { IsWithin a (full self.now.table.blocks.item_count) }
-        ensures value { let place = position (is_same a) (sets_of self.now.table.blocks) in
+        ensures value { let place = position (is_same a) (block_sets self.now.table.blocks) in
             let found = closure (full (I.item_count f.now)) (I.members f.now) a in
             result ≡ option_map_or (λ i. closed_of self.now.table a) place found }
         ensures cost { steps.new ≤ steps.old + 1 }
@@ -70,10 +72,10 @@ impl Table {
         }
     }
 
-    // The items q for which the query (A, q) is open, where the walk has come to the block set A, at
-    // the place. The standing No at the hint is asked first.
+    // The items q for which the query (A, q) is open, where the walk has come to the block set A,
+    // at the place. The standing No at the hint is asked first.
     fn open_items(&self, place: u32, walk: &BlockWalk, hint: &mut usize) -> ItemSet
-        requires { slice_get (sets_of self.now.table.blocks) place ≡ Some walk.now.set }
+        requires { slice_get (block_sets self.now.table.blocks) place ≡ Some walk.now.set }
         ensures { (q : ℕ) → has result q
             ≡ (is_good self.now.table.blocks.item_count (record { a = walk.now.set; q = q })
             && is_open_in self.now.table (record { a = walk.now.set; q = q })) }
@@ -90,10 +92,10 @@ impl Table {
     // The first open query from the place on, where the walk has come to the set before it.
     fn open_from(&self, start: u32, mut walk: BlockWalk) -> Option<Query>
         requires walk { walk.blocks ≡ self.now.table.blocks }
-        requires place { find (block_before walk.set) (sets_of self.now.table.blocks)
-            ≡ slice_get (sets_of self.now.table.blocks) start }
+        requires place { find (block_before walk.set) (block_sets self.now.table.blocks)
+            ≡ slice_get (block_sets self.now.table.blocks) start }
         ensures { result ≡ find (λ s. block_before walk.set s.a && is_open_in self.now.table s)
-            (queries_of self.now.table.blocks) }
+            (block_queries self.now.table.blocks) }
     {
         let mut hint = 0;
         for place in start..self.blocks.count() {
@@ -110,7 +112,7 @@ impl Table {
         requires { ForSome after (λ r. is_good self.now.table.blocks.item_count r.now ≡ true) }
         ensures { let last = option_map (λ r. r.now) after.entry in
             result ≡ find (is_open_in self.now.table)
-            (filter (comes_after query_before last) (queries_of self.now.table.blocks)) }
+            (filter (comes_after query_before last) (block_queries self.now.table.blocks)) }
     {
         let Some(r) = after else {
             return self.open_from(0, self.blocks.walk_from(ItemSet::empty()));

@@ -1,4 +1,4 @@
-use Rattle.ls_base.proofs.Vocabulary.{◌+◌, ◌-◌, ◌∙◌, All, All-weaker, AreAskable, Entry, IfSome, IsAskable, IsTrail, ap, arith, option_map_or, reached, set, subst, sym, take}
+use Rattle.ls_base.proofs.Vocabulary.{◌+◌, ◌-◌, ◌∙◌, All, All-weaker, AreAskable, Entry, IfSome, IsAskable, IsTrail, ap, arith, option_map_or, followed_count, set, subst, sym, take}
 use Rattle.ls_base.proofs.Trails.{last-read, last-same, last-set, last-push, trail-set, trail-push}
 use Rattle.ls_base.proofs.trail.follow_next.Goals as goal
 
@@ -59,6 +59,6 @@ returns-clause-reached c =
     let es = c.args.entries.now.items in
     let e = c.index-last.result.now in
     let z : Entry = record { first = e.last + 1; last = e.last + 1; followed = c.in_ok-followed.followed } in
-    ap reached c.in_ok-push.ensures.items
+    ap followed_count c.in_ok-push.ensures.items
     ∙ ap (λ o. option_map_or (λ (e : Entry). e.last) o 0) (last-push es z)
     ∙ ap (λ o. option_map_or (λ (e : Entry). e.last) o 0 + 1) (sym (last-read es (c.len-place.result - 1) e c.requires.begun (omega arith) c.index-last.ensures))

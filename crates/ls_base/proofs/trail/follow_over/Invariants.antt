@@ -1,4 +1,4 @@
-use Rattle.ls_base.proofs.Vocabulary.{◌<◌, ◌≡◌, AreAskable, IsTrail, Start, ℕ, begins_at_none, length, reached}
+use Rattle.ls_base.proofs.Vocabulary.{◌<◌, ◌≡◌, AreAskable, IsTrail, Start, ℕ, begins_at_none, length, followed_count}
 use Rattle.ls_base.proofs.trail.follow_over.Given as goal
 
 abbrev pub invariant-loop-place : goal.invariant-loop-place
@@ -7,5 +7,5 @@ invariant-loop-place l = record {
   askable : AreAskable l.yeses l.entries.items;
   begins : begins_at_none l.entries.items ≡ begins_at_none l.initial.entries.items;
   begun : 0 < length l.entries.items;
-  reached : reached l.entries.items ≡ l.place;
+  reached : followed_count l.entries.items ≡ l.place;
 }

@@ -9,8 +9,8 @@ count_filled-filled-requires g c =
     let d = subst (IsDrill c.args.n) (sym drill) (drilled-is c.args.n c.args.s) in
     record { single = d.block; few = omega arith }
 
-pub base_of-requires : goal.base_of-requires
-base_of-requires g c =
+pub base_of_states-requires : goal.base_of_states-requires
+base_of_states-requires g c =
     let drill : c.in_ok-inquiry.inquiry ≡ drilled c.args.n c.args.s = c.in_ok-inquiry.ensures ∙ ap (λ (o : HiddenOrder). drilled o.item_count o.number) c.in_ok-hidden.ensures in
     let d = subst (IsDrill c.args.n) (sym drill) (drilled-is c.args.n c.args.s) in
     record { drill = record { items = refl; start = d.start; block = d.block; single = d.single }; few = omega arith }

@@ -1,5 +1,5 @@
-use Rattle.ls_enum.proofs.Vocabulary.{◌+◌, ◌∙◌, ◌≡◌, AreFronts, arith, false, find-any, has, rules, subst, sym, true}
-use Rattle.ls_enum.specs.declared.fronts.Fronts.{Fronts}
+use Rattle.ls_enum.proofs.Vocabulary.{◌+◌, ◌∙◌, ◌≡◌, AreWidest, arith, false, find-any, has, rules, subst, sym, true}
+use Rattle.ls_enum.specs.declared.widest.WidestMembers.{WidestMembers}
 use Rattle.ls_enum.proofs.Successors.{none_from_end}
 use Rattle.ls_enum.proofs.Seeking.{IsSought, first-sought, next-has, none-has, next-lacks, none-lacks, none-above, count-has, count-lacks}
 use Rattle.ls_enum.proofs.forward.go_forward.Goals as goal
@@ -11,7 +11,7 @@ loop-i-init g c =
     let f = g.I.Interior.members c.args.f.now in
     record {
       sought = first-sought n f c.args.word c.first-member.result (g.met.I.Interior.is_family c.args.f.now) (find-any f ∙ c.first-member.ensures.first);
-      fronts = c.requires.fronts;
+      widest = c.requires.widest;
       cost = omega arith;
     }
 
@@ -44,12 +44,12 @@ loop-i-preserved g c =
           let held : has c.loop-i.member i ≡ true = cc in
           let more = count-has c.args.word i here in
           let next : IsSought f c.args.word (i + 1) c.if-has.member = subst (IsSought f c.args.word (i + 1)) (sym w.member-is) (next-has f c.args.word c.loop-i.member i sought here held) in
-          record { sought = next; fronts = subst (λ (x : Fronts). AreFronts f x.held.items) (sym w.fronts-is) (w.push_at.ensures f c.loop-i.invariant.fronts sought.front); cost = omega arith }
+          record { sought = next; widest = subst (λ (x : WidestMembers). AreWidest f x.held.items) (sym w.widest-is) (w.push_at.ensures f c.loop-i.invariant.widest sought.widest); cost = omega arith }
       | else-has+else-eq+in-Some w ↦
           let here : has c.args.word i ≡ false = sym c.has.ensures ∙ w.if-has.false in
           let same = count-lacks c.args.word i here in
           let next : IsSought f c.args.word (i + 1) c.if-has.member = subst (IsSought f c.args.word (i + 1)) (sym w.member-is) (next-lacks n f c.args.word c.loop-i.member w.keep_before-before.result w.in-Some.next i w.interior_without.result (g.met.I.Interior.is_family c.args.f.now) sought here w.keep_before-before.ensures w.interior_without.ensures.value w.in-Some.is) in
-          record { sought = next; fronts = subst (λ (x : Fronts). AreFronts f x.held.items) (sym w.fronts-is) c.loop-i.invariant.fronts; cost = omega arith }
+          record { sought = next; widest = subst (λ (x : WidestMembers). AreWidest f x.held.items) (sym w.widest-is) c.loop-i.invariant.widest; cost = omega arith }
     ]
 
 pub returns-clause-none : goal.returns-clause-none

@@ -1,18 +1,18 @@
 use Rattle.ls_enum.proofs.Vocabulary.{◌-◌, ◌∙◌, ◌≡◌, IsWithin, arith, full, subst, sym}
 use Rattle.ls_enum.proofs.Successors.{none_after}
-use Rattle.ls_enum.proofs.Reaches.{failed-reach, found-reach, small-reach, front-reach}
+use Rattle.ls_enum.proofs.Filled.{failed-filled, found-filled, small-filled, widest-filled}
 use Rattle.ls_enum.proofs.Seeking.{count-passed}
 use Rattle.ls_enum.proofs.successor.next_by.Goals as goal
 
 pub loop-i-init : goal.loop-i-init
-loop-i-init g c = record { none = c.fill-end.ensures.none; fronts = c.fill-end.ensures.fronts; cost = c.fill-end.ensures.cost }
+loop-i-init g c = record { none = c.fill-end.ensures.none; widest = c.fill-end.ensures.widest; cost = c.fill-end.ensures.cost }
 
 pub returns-in-Some-clause-next : goal.returns-in-Some-clause-next
 returns-in-Some-clause-next g c =
     let n = g.I.Interior.item_count c.args.f.now in
     let f = g.I.Interior.members c.args.f.now in
     let i = c.loop-i.i - 1 in
-    found-reach n f c.args.word c.in-Some.inside i (g.met.I.Interior.is_family c.args.f.now) (sym c.if-has.true ∙ c.has.ensures)
+    found-filled n f c.args.word c.in-Some.inside i (g.met.I.Interior.is_family c.args.f.now) (sym c.if-has.true ∙ c.has.ensures)
     (λ t m d l. c.loop-i.invariant.none t m d (omega arith)) c.in-Some.ensures.value
 
 pub returns-in-Some-clause-small : goal.returns-in-Some-clause-small
@@ -21,17 +21,17 @@ returns-in-Some-clause-small g c = λ k e.
     let f = g.I.Interior.members c.args.f.now in
     let i = c.loop-i.i - 1 in
     let same : c.in-Some.inside ≡ k = cc in
-    subst (λ t. IsWithin t (full n)) same (small-reach n f c.args.word c.in-Some.inside i c.requires.small c.in-Some.ensures.value)
+    subst (λ t. IsWithin t (full n)) same (small-filled n f c.args.word c.in-Some.inside i c.requires.small c.in-Some.ensures.value)
 
 pub returns-in-Some-clause-cost : goal.returns-in-Some-clause-cost
 returns-in-Some-clause-cost g c = let passed = count-passed c.args.word c.loop-i.i (omega arith) (sym c.has.ensures ∙ c.if-has.true) in omega arith
 
-pub returns-in-Some-clause-fronts : goal.returns-in-Some-clause-fronts
-returns-in-Some-clause-fronts g c =
+pub returns-in-Some-clause-widest : goal.returns-in-Some-clause-widest
+returns-in-Some-clause-widest g c =
     let n = g.I.Interior.item_count c.args.f.now in
     let f = g.I.Interior.members c.args.f.now in
     let i = c.loop-i.i - 1 in
-    c.push.ensures f c.in-Some.ensures.fronts (front-reach n f c.args.word c.in-Some.inside i (g.met.I.Interior.is_family c.args.f.now) c.in-Some.ensures.value)
+    c.push.ensures f c.in-Some.ensures.widest (widest-filled n f c.args.word c.in-Some.inside i (g.met.I.Interior.is_family c.args.f.now) c.in-Some.ensures.value)
 
 pub loop-i-preserved-in_default : goal.loop-i-preserved-in_default
 loop-i-preserved-in_default g c = record {
@@ -39,8 +39,8 @@ loop-i-preserved-in_default g c = record {
       let n = g.I.Interior.item_count c.args.f.now in
       let f = g.I.Interior.members c.args.f.now in
       let i = c.loop-i.i - 1 in
-      failed-reach n f c.args.word i c.inside_reach.result (g.met.I.Interior.is_family c.args.f.now) c.in_default.is c.inside_reach.ensures.value (λ t m d l. c.loop-i.invariant.none t m d (omega arith));
-  fronts = c.inside_reach.ensures.fronts;
+      failed-filled n f c.args.word i c.inside_filled.result (g.met.I.Interior.is_family c.args.f.now) c.in_default.is c.inside_filled.ensures.value (λ t m d l. c.loop-i.invariant.none t m d (omega arith));
+  widest = c.inside_filled.ensures.widest;
   cost = let passed = count-passed c.args.word c.loop-i.i (omega arith) (sym c.has.ensures ∙ c.if-has.true) in omega arith;
 }
 

@@ -1,4 +1,4 @@
-use Rattle.ls_family.proofs.Vocabulary.{◌∙◌, IsFaultOf, [], ap, arith, common_steps, found_from, lines}
+use Rattle.ls_family.proofs.Vocabulary.{◌∙◌, IsFamilyFault, [], ap, arith, common_steps, found_from, lines}
 use Rattle.ls_family.proofs.Rows.{read_on, left, left-less, line-good, line-bad}
 use Rattle.ls_family.proofs.family.found_in.Goals as goal
 
@@ -9,7 +9,7 @@ returns-in_err-take_line-clause-fault c =
     let row = c.loop-text.row in
     let reading = found_from names [] 1 (lines c.args.bytes.now) in
     let so_far = c.loop-text.invariant.so_far ∙ ap (read_on names found row) c.in-Some.is in
-    let told : IsFaultOf reading c.in_err-take_line.field-0.0 = line-bad names found row c.in-Some.rest.now c.first_line.result.0.now c.first_line.result.1 reading c.read_line.result c.in_err-take_line.field-0.0 c.first_line.ensures so_far c.read_line.ensures c.in_err-take_line.ensures.fault in
+    let told : IsFamilyFault reading c.in_err-take_line.field-0.0 = line-bad names found row c.in-Some.rest.now c.first_line.result.0.now c.first_line.result.1 reading c.read_line.result c.in_err-take_line.field-0.0 c.first_line.ensures so_far c.read_line.ensures c.in_err-take_line.ensures.fault in
     grind (arith, common_steps, told)
 
 pub loop-text-preserved : goal.loop-text-preserved

@@ -1,7 +1,7 @@
 use Rattle.ls_infer.proofs.Vocabulary.{◌<◌, ◌∙◌, ◌≡◌, ◌≤◌, Items, List, No, ap, arith, common_steps, get_or, images-end, is_kept, length, length-map, list_all-set, list_all_at, map, standing, sym, true, true_from_ne_false, true≢false}
 use Rattle.ls_infer.proofs.Standing.{standing-at, standing-next, unreached}
 use Rattle.ls_infer.proofs.changing.change_each.Goals as goal
-use Rattle.ls_infer.proofs.changing.change_each.Goals.{then-is_reached, else-is_reached}
+use Rattle.ls_infer.proofs.changing.change_each.Goals.{then-can_change, else-can_change}
 
 pub loop-s-preserved : goal.loop-s-preserved
 loop-s-preserved g c =
@@ -14,8 +14,8 @@ loop-s-preserved g c =
     let placed = λ (before : List Items) (nos : List No) (e : c.args.kept.now ≡ map (standing n before) nos).
     let l : i < length nos = omega (arith, c.loop-s-test.true, ap length e, length-map nos (standing n before)) in l in
     let is_one_kept : is_kept n x ≡ true = true_from_ne_false (is_kept n x) (λ h. true≢false (sym v.kept ∙ list_all_at (is_kept n) ys i c.s-item.result (omega (arith, c.loop-s-test.true, c.loop-s.auto.kept)) h)) in
-    elim c.if-is_reached.branch [
-      | then-is_reached w ↦ rw (w.kept-is, w.witnesses-is, w.steps-is) (record {
+    elim c.if-can_change.branch [
+      | then-can_change w ↦ rw (w.kept-is, w.witnesses-is, w.steps-is) (record {
         kept = list_all-set (is_kept n) ys i w.after.result v.kept w.after.ensures.kept;
         made = λ before k nos change closed states e.
             let so = v.made before k nos change closed states e in
@@ -23,12 +23,12 @@ loop-s-preserved g c =
             (standing-next n before after nos ys i x w.after.result (placed before nos e) so.0 (ap (get_or ys i) c.s-item.is) (λ _. new.1 k closed), new.0);
         cost = grind (arith, common_steps, v.cost, w.after.ensures.cost);
       })
-      | else-is_reached w ↦ rw (w.kept-is, w.witnesses-is, w.steps-is) (record {
+      | else-can_change w ↦ rw (w.kept-is, w.witnesses-is, w.steps-is) (record {
         kept = list_all-set (is_kept n) ys i x v.kept is_one_kept;
         made = λ before k nos change closed states e.
             let so = v.made before k nos change closed states e in (
               standing-next n before after nos ys i x x (placed before nos e) so.0 (ap (get_or ys i) c.s-item.is)
-                  (λ old. unreached n before after c.args.r.now x c.args.change change (g.met.I.Interior.is_family c.args.f.now) c.requires.good is_one_kept old (sym c.is_reached.ensures ∙ w.if-is_reached.false)),
+                  (λ old. unreached n before after c.args.r.now x c.args.change change (g.met.I.Interior.is_family c.args.f.now) c.requires.good is_one_kept old (sym c.can_change.ensures ∙ w.if-can_change.false)),
               so.1,
             );
         cost = grind (arith, common_steps, v.cost);

@@ -1,4 +1,4 @@
-use Rattle.ls_infer.proofs.Vocabulary.{◌*◌, ◌+◌, ◌≡◌, ◌≤◌, AreStates, IsChange, Items, List, No, ℕ, blocks, closure, full, images, is_kept, list_all, map, most_steps, standing, true}
+use Rattle.ls_infer.proofs.Vocabulary.{◌*◌, ◌+◌, ◌≡◌, ◌≤◌, AreStates, IsChange, Items, List, No, ℕ, blocks, closure, full, images, is_kept, list_all, map, most_steps_each, standing, true}
 use Rattle.ls_infer.proofs.changing.change_each.Given as goal
 
 -- those so far are what is kept after the change, those that are left are as they were, the states that are kept, and the steps
@@ -9,5 +9,5 @@ invariant-loop-s g l = record {
       → l.closures ≡ map (closure (full (g.I.Interior.item_count l.f)) (g.I.Interior.members l.f)) (blocks (g.I.Interior.item_count l.f) k)
       → AreStates (g.I.Interior.members l.f) l.initial.witnesses → l.initial.kept ≡ map (standing (g.I.Interior.item_count l.f) before) nos
       → (l.kept ≡ images (standing (g.I.Interior.item_count l.f) (g.I.Interior.members l.f)) (standing (g.I.Interior.item_count l.f) before) nos l.s-index) × AreStates (g.I.Interior.members l.f) l.witnesses;
-  cost : l.steps ≤ l.fn.steps + most_steps l.change (g.I.Interior.item_count l.f) * l.s-index;
+  cost : l.steps ≤ l.fn.steps + most_steps_each l.change (g.I.Interior.item_count l.f) * l.s-index;
 }

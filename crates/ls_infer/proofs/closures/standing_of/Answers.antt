@@ -12,8 +12,8 @@ loop-answer-preserved g c =
     record {
       list = λ states.
           let so = v.list states in
-          let new = c.shared.ensures.value so.0 in
+          let new = c.from_closures.ensures.value so.0 in
           (new.0, λ k closed. c.in_ok-push.ensures.items ∙ ap₂ (λ l x. l ++ x ∷ []) (so.1 k closed) (new.1 k closed) ∙ mapped-next (standing n f) c.args.answers.now i a at);
       left = grind (arith, common_steps, v.left);
-      cost = grind (arith, common_steps, v.cost, c.shared.ensures.cost);
+      cost = grind (arith, common_steps, v.cost, c.from_closures.ensures.cost);
     }

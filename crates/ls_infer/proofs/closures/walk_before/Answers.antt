@@ -1,4 +1,4 @@
-use Rattle.ls_infer.proofs.Vocabulary.{◌<◌, ◌∙◌, ◌≡◌, ap, arith, empty-within, full, len-empty, length, sets_of, slice_get}
+use Rattle.ls_infer.proofs.Vocabulary.{◌<◌, ◌∙◌, ◌≡◌, ap, arith, empty-within, full, len-empty, length, block_sets, slice_get}
 use Rattle.ls_infer.proofs.Places.{first_place, next_place, came-within}
 use Rattle.ls_infer.proofs.closures.walk_before.Goals as goal
 
@@ -20,7 +20,7 @@ loop-passed-preserved c =
     let i = c.loop-passed._passed in
     let v = c.loop-passed.invariant in
     let set = c.advance.new.self.set in
-    let inside : i < length (sets_of b) = omega (arith, c.requires, c.loop-passed-test.true) in
+    let inside : i < length (block_sets b) = omega (arith, c.requires, c.loop-passed-test.true) in
     record {
       of_blocks = c.advance.ensures.blocks ∙ v.of_blocks;
       place = next_place b.item_count b.largest i set (came-within b c.loop-passed.walk.blocks i c.loop-passed.walk.set set c.advance.result v.of_blocks v.place c.advance.ensures.next inside);
@@ -29,4 +29,4 @@ loop-passed-preserved c =
 pub returns-clause-next : goal.returns-clause-next
 returns-clause-next c =
     let all : c.loop-passed._passed ≡ c.args.place = omega arith in
-    c.loop-passed.invariant.place ∙ ap (slice_get (sets_of c.args.blocks)) all
+    c.loop-passed.invariant.place ∙ ap (slice_get (block_sets c.args.blocks)) all

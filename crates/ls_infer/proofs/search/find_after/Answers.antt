@@ -1,15 +1,15 @@
-use Rattle.ls_infer.proofs.Vocabulary.{◌+◌, ◌∙◌, ◌≡◌, ◌≤◌, ArePassing, IsIn, Some, ap, arith, asked_of, block_before, first-passing, get-in, is_open_by, length, none-passing, passing-end, refl, sets_of, slice_get, slice_get_past, subst, sym}
+use Rattle.ls_infer.proofs.Vocabulary.{◌+◌, ◌∙◌, ◌≡◌, ◌≤◌, ArePassing, IsIn, Some, ap, arith, asked_of, block_before, first-passing, get-in, is_open_by, length, none-passing, passing-end, refl, block_sets, slice_get, slice_get_past, subst, sym}
 use Rattle.ls_infer.proofs.Places.{next_place, came-to, came-past}
 use Rattle.ls_infer.proofs.Searching.{some_place}
 use Rattle.ls_infer.proofs.search.find_after.Goals as goal
 
 pub loop-passed-init : goal.loop-passed-init
 loop-passed-init g c =
-    let first = some_place (block_before c.args.walk.set) (sets_of c.args.blocks) in
+    let first = some_place (block_before c.args.walk.set) (block_sets c.args.blocks) in
     record {
       of_blocks = c.requires.walk;
       search = c.requires.search;
-      place = (first.0, first.1 ∙ ap (slice_get (sets_of c.args.blocks)) (omega arith));
+      place = (first.0, first.1 ∙ ap (slice_get (block_sets c.args.blocks)) (omega arith));
       passed = refl;
     }
 
@@ -31,8 +31,8 @@ open_items-requires-clause-set g c =
     let v = c.loop-passed.invariant in
     let set = c.advance.new.self.set in
     let i = v.place.0 + c.loop-passed._passed in
-    let at : slice_get (sets_of b) i ≡ Some set = came-to b c.loop-passed.walk.blocks i c.loop-passed.walk.set set c.advance.result v.of_blocks v.place.1 c.advance.ensures.next c.if-not-advance.false in
-    subst (λ e. IsIn set (sets_of e)) (sym (c.advance.ensures.blocks ∙ v.of_blocks)) (get-in (sets_of b) i set at)
+    let at : slice_get (block_sets b) i ≡ Some set = came-to b c.loop-passed.walk.blocks i c.loop-passed.walk.set set c.advance.result v.of_blocks v.place.1 c.advance.ensures.next c.if-not-advance.false in
+    subst (λ e. IsIn set (block_sets e)) (sym (c.advance.ensures.blocks ∙ v.of_blocks)) (get-in (block_sets b) i set at)
 
 pub returns-in-Some : goal.returns-in-Some
 returns-in-Some g c =
@@ -43,7 +43,7 @@ returns-in-Some g c =
     let last = c.loop-passed.walk.set in
     let set = c.advance.new.self.set in
     let i = v.place.0 + c.loop-passed._passed in
-    let at : slice_get (sets_of b) i ≡ Some set = came-to b c.loop-passed.walk.blocks i last set c.advance.result v.of_blocks v.place.1 c.advance.ensures.next c.if-not-advance.false in
+    let at : slice_get (block_sets b) i ≡ Some set = came-to b c.loop-passed.walk.blocks i last set c.advance.result v.of_blocks v.place.1 c.advance.ensures.next c.if-not-advance.false in
     let those = subst (λ m. ArePassing m opens set c.open_items.result) c.requires.items c.open_items.ensures.open in
     ap (λ s. Some (asked_of s c.in-Some.q)) c.set.ensures.set
     ∙ sym (v.passed ∙ first-passing b.item_count b.largest opens last set c.open_items.result c.in-Some.q (v.place.1 ∙ at) those (sym c.least.ensures.value ∙ c.in-Some.is))
@@ -57,12 +57,12 @@ loop-passed-preserved g c =
     let last = c.loop-passed.walk.set in
     let set = c.advance.new.self.set in
     let i = v.place.0 + c.loop-passed._passed in
-    let at : slice_get (sets_of b) i ≡ Some set = came-to b c.loop-passed.walk.blocks i last set c.advance.result v.of_blocks v.place.1 c.advance.ensures.next c.if-not-advance.false in
+    let at : slice_get (block_sets b) i ≡ Some set = came-to b c.loop-passed.walk.blocks i last set c.advance.result v.of_blocks v.place.1 c.advance.ensures.next c.if-not-advance.false in
     let those = subst (λ m. ArePassing m opens set c.open_items.result) c.requires.items c.open_items.ensures.open in
     record {
       of_blocks = c.advance.ensures.blocks ∙ v.of_blocks;
       search = c.open_items.ensures.search;
-      place = (v.place.0, next_place b.item_count b.largest i set at ∙ ap (slice_get (sets_of b)) (omega arith));
+      place = (v.place.0, next_place b.item_count b.largest i set at ∙ ap (slice_get (block_sets b)) (omega arith));
       passed = v.passed ∙ none-passing b.item_count b.largest opens last set c.open_items.result (v.place.1 ∙ at) those (sym c.least.ensures.value ∙ c.in_default.is);
     }
 
@@ -71,5 +71,5 @@ returns g c =
     let b = c.args.blocks in
     let v = c.loop-passed.invariant in
     let opens = is_open_by (g.F.Inside.item_count c.args.f.now) (g.F.Inside.members c.args.f.now) c.args.standing.now in
-    let past : length (sets_of b) ≤ v.place.0 + c.loop-passed._passed = omega (arith, c.count-passed-end.ensures.value, c.loop-passed-test.false) in
-    sym (v.passed ∙ passing-end b.item_count b.largest opens c.loop-passed.walk.set (v.place.1 ∙ slice_get_past (sets_of b) (v.place.0 + c.loop-passed._passed) past))
+    let past : length (block_sets b) ≤ v.place.0 + c.loop-passed._passed = omega (arith, c.count-passed-end.ensures.value, c.loop-passed-test.false) in
+    sym (v.passed ∙ passing-end b.item_count b.largest opens c.loop-passed.walk.set (v.place.1 ∙ slice_get_past (block_sets b) (v.place.0 + c.loop-passed._passed) past))

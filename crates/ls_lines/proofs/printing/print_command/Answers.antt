@@ -5,6 +5,6 @@ use Rattle.ls_lines.proofs.printing.print_command.Goals as goal
 pub returns : goal.returns
 unfolding spelled
 returns c =
-    let text : c.in_ok-text.text.items ≡ with_spaces (spelled c.args.command.now) = rw (c.in_ok-text.ensures, c.parts.ensures, c.form_of.ensures, c.deref.ensures.value, shown-filling, c.in_ok-operands.ensures) refl in
+    let text : c.in_ok-text.text.items ≡ with_spaces (spelled c.args.command.now) = rw (c.in_ok-text.ensures, c.parts.ensures, c.as_slice.ensures.value, shown-filling, ← c.spelled_as-form.ensures) refl in
     let long : vec_len c.in_ok-text.text ≡ length c.in_ok-text.text.items = search rules in
     c.pop.ensures.rest ∙ rw text (trimmed (spelled c.args.command.now) (vec_len c.in_ok-text.text) (long ∙ ap length text))

@@ -1,4 +1,5 @@
-use Rattle.ls_paths.proofs.Vocabulary.{◌∙◌, IsWithin, Items, PLACES, ap, arith, empty, full, get_or, reached, reached-all, reached-next, subst, sym, take_all, with}
+use Rattle.ls_paths.proofs.Vocabulary.{◌∙◌, IsWithin, Items, PLACES, ap, arith, empty, full, get_or, grown_to, subst, sym, take_all, with}
+use Rattle.ls_paths.proofs.Levels.{reached-all, reached-next}
 use Rattle.ls_paths.proofs.Written.{place-small}
 use Rattle.ls_paths.proofs.order.set_of.Goals as goal
 
@@ -17,4 +18,4 @@ loop-item-preserved c =
 pub returns-clause-value : goal.returns-clause-value
 returns-clause-value c =
     let items = c.args.items.now in
-    c.loop-item.invariant ∙ ap (reached empty) (take_all c.loop-item.item-index items (omega arith)) ∙ reached-all items
+    c.loop-item.invariant ∙ ap (grown_to empty) (take_all c.loop-item.item-index items (omega arith)) ∙ reached-all items

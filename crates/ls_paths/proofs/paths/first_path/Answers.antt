@@ -1,4 +1,7 @@
-use Rattle.ls_paths.proofs.Vocabulary.{empty, first-whole, first_growth, learning-from, paths-begin, whole-order}
+use Rattle.ls_paths.proofs.Vocabulary.{empty, first_growth}
+use Rattle.ls_paths.proofs.Growths.{learning-from}
+use Rattle.ls_paths.proofs.Levels.{first-whole, whole-order}
+use Rattle.ls_paths.proofs.PathOrder.{paths-begin}
 use Rattle.ls_paths.proofs.paths.first_path.Goals as goal
 
 pub returns-clause-order : goal.returns-clause-order

@@ -1,4 +1,6 @@
-use Rattle.ls_paths.proofs.Vocabulary.{◌∙◌, ◌≡◌, ap, false, filter, is_lex_before, is_order, learning-from, paths, paths_left, sym, true, whole-order}
+use Rattle.ls_paths.proofs.Vocabulary.{◌∙◌, ◌≡◌, ap, false, filter, is_lex_before, is_order, paths, paths_left, sym, true}
+use Rattle.ls_paths.proofs.Growths.{learning-from}
+use Rattle.ls_paths.proofs.Levels.{whole-order}
 use Rattle.ls_paths.proofs.Padding.{find-first_left, find-none_left}
 use Rattle.ls_paths.proofs.paths.next_path.Goals as goal
 

@@ -1,4 +1,6 @@
-use Rattle.ls_paths.proofs.Vocabulary.{◌∙◌, ap, arith, learning-from, least, least-begin, least-found, least-last, least-none, least-passed, next-small, outside-small, rules, sym}
+use Rattle.ls_paths.proofs.Vocabulary.{◌∙◌, ap, arith, least, rules, sym}
+use Rattle.ls_paths.proofs.Added.{least-begin, least-found, least-last, least-none, least-passed, next-small, outside-small}
+use Rattle.ls_paths.proofs.Growths.{learning-from}
 use Rattle.ls_paths.proofs.Written.{outside-next, goes-up, asked-of, with-small}
 use Rattle.ls_paths.proofs.steps.least_item.Goals as goal
 

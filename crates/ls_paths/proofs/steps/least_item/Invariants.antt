@@ -1,4 +1,5 @@
-use Rattle.ls_paths.proofs.Vocabulary.{◌-◌, ◌<◌, Least}
+use Rattle.ls_paths.proofs.Vocabulary.{◌-◌, ◌<◌}
+use Rattle.ls_paths.proofs.Added.{Least}
 use Rattle.ls_paths.proofs.steps.least_item.Given as goal
 
 -- no item below can be added

@@ -1,4 +1,4 @@
-use Rattle.ls_paths.proofs.Vocabulary.{◌-◌, ◌∙◌, ◌≡◌, List, None, Some, ℕ, ap, arith, full, get_or, minus, next_after, refl, sym}
+use Rattle.ls_paths.proofs.Vocabulary.{◌-◌, ◌∙◌, ◌≡◌, List, None, Some, ℕ, ap, arith, full, get_or, minus, next_item_after, refl, sym}
 use Rattle.ls_paths.proofs.Written.{outside-less, taken-at, leave-past, leave-write, next-member}
 use Rattle.ls_paths.proofs.steps.leave.Goals as goal
 
@@ -69,7 +69,7 @@ grow-requires-clause-member g c =
     let inv = c.loop-place.invariant in
     let back = taken-at n order c.loop-place.order j c.loop-place.place c.loop-place.reached c.loop-place.outside (omega arith) (omega arith) c.requires.fresh inv.same inv.set inv.outside inv.small in
     let f = g.F.Inside.members c.args.f.now in
-    let found : next_after n f c.without-reached.result (get_or order j 0) ≡ Some c.in-Some.next = ap (next_after n f c.without-reached.result) (ap (λ (xs : List ℕ). get_or xs j 0) (sym inv.same)) ∙ sym c.next_item.ensures.value ∙ c.in-Some.is in
+    let found : next_item_after n f c.without-reached.result (get_or order j 0) ≡ Some c.in-Some.next = ap (next_item_after n f c.without-reached.result) (ap (λ (xs : List ℕ). get_or xs j 0) (sym inv.same)) ∙ sym c.next_item.ensures.value ∙ c.in-Some.is in
     rw c.with.ensures (next-member n f c.without-reached.result (get_or order j 0) c.in-Some.next found)
 
 pub returns-in-Some : goal.returns-in-Some
@@ -80,7 +80,7 @@ returns-in-Some g c =
     let inv = c.loop-place.invariant in
     let back = taken-at n order c.loop-place.order j c.loop-place.place c.loop-place.reached c.loop-place.outside (omega arith) (omega arith) c.requires.fresh inv.same inv.set inv.outside inv.small in
     let f = g.F.Inside.members c.args.f.now in
-    let found : next_after n f c.without-reached.result (get_or order j 0) ≡ Some c.in-Some.next = ap (next_after n f c.without-reached.result) (ap (λ (xs : List ℕ). get_or xs j 0) (sym inv.same)) ∙ sym c.next_item.ensures.value ∙ c.in-Some.is in
+    let found : next_item_after n f c.without-reached.result (get_or order j 0) ≡ Some c.in-Some.next = ap (next_item_after n f c.without-reached.result) (ap (λ (xs : List ℕ). get_or xs j 0) (sym inv.same)) ∙ sym c.next_item.ensures.value ∙ c.in-Some.is in
     inv.passed ∙ leave-write n f order c.loop-place.order j c.loop-place.place c.without-reached.result c.in-Some.next c.grow.new.order c.with.result (omega arith) (c.without-reached.ensures ∙ back.set) found inv.same (omega arith) c.with.ensures c.grow.ensures
 
 pub loop-place-preserved : goal.loop-place-preserved
@@ -91,7 +91,7 @@ loop-place-preserved g c =
     let inv = c.loop-place.invariant in
     let back = taken-at n order c.loop-place.order j c.loop-place.place c.loop-place.reached c.loop-place.outside (omega arith) (omega arith) c.requires.fresh inv.same inv.set inv.outside inv.small in
     let f = g.F.Inside.members c.args.f.now in
-    let none : next_after n f c.without-reached.result (get_or order j 0) ≡ None = ap (next_after n f c.without-reached.result) (ap (λ (xs : List ℕ). get_or xs j 0) (sym inv.same)) ∙ sym c.next_item.ensures.value ∙ c.in_default.is in
+    let none : next_item_after n f c.without-reached.result (get_or order j 0) ≡ None = ap (next_item_after n f c.without-reached.result) (ap (λ (xs : List ℕ). get_or xs j 0) (sym inv.same)) ∙ sym c.next_item.ensures.value ∙ c.in_default.is in
     record {
       passed = inv.passed ∙ leave-past n f order j c.loop-place.place c.without-reached.result (omega arith) (c.without-reached.ensures ∙ back.set) none;
       same = inv.same;

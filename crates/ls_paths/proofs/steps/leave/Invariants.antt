@@ -1,4 +1,4 @@
-use Rattle.ls_paths.proofs.Vocabulary.{◌≡◌, IsWithin, empty, full, leaves_below, minus, reached, take}
+use Rattle.ls_paths.proofs.Vocabulary.{◌≡◌, IsWithin, empty, full, leaves_below, minus, grown_to, take}
 use Rattle.ls_paths.proofs.steps.leave.Given as goal
 
 -- no growth leaves the list from the place on
@@ -9,7 +9,7 @@ invariant-loop-place g l =
     record {
       passed : leaves_below n f empty l.fn.order l.level ≡ leaves_below n f empty l.fn.order l.place;
       same : l.order ≡ l.fn.order;
-      set : l.reached ≡ reached empty (take l.place l.fn.order);
+      set : l.reached ≡ grown_to empty (take l.place l.fn.order);
       outside : l.outside ≡ minus (full n) l.reached;
       small : IsWithin l.reached (full n);
     }

@@ -1,4 +1,5 @@
-use Rattle.ls_paths.proofs.Vocabulary.{◌∙◌, above-found, above-none, above-passed, next-small, sym}
+use Rattle.ls_paths.proofs.Vocabulary.{◌∙◌, sym}
+use Rattle.ls_paths.proofs.Added.{above-found, above-none, above-passed, next-small}
 use Rattle.ls_paths.proofs.Written.{outside-next, goes-up, asked-of, with-small}
 use Rattle.ls_paths.proofs.steps.next_item.Goals as goal
 

@@ -1,4 +1,4 @@
-use Rattle.ls_pupils.proofs.Vocabulary.{◌∙◌, List, PupilCase, Some, ap, get_or, pupil_of, sym}
+use Rattle.ls_pupils.proofs.Vocabulary.{◌∙◌, List, PupilCase, Some, ap, get_or, pupil_of_case, sym}
 use Rattle.ls_pupils.proofs.Named.{named-at, not_named, index-is}
 use Rattle.ls_pupils.proofs.asking.case_of.Goals as goal
 
@@ -11,4 +11,4 @@ returns-in-Some-clause-pupil c =
     let cases = c.args.pupils.now in
     let at = named-at name cases c.in-Some.place (sym c.place.ensures ∙ c.in-Some.is) in
     let is = index-is name cases c.in-Some.place c.index-as_slice-place.result at (c.index-as_slice-place.is ∙ ap (λ (l : List PupilCase). get_or l c.in-Some.place c.index-as_slice-place.result) c.as_slice.ensures) in
-    ap (λ x. Some (pupil_of x)) is ∙ sym at.found
+    ap (λ x. Some (pupil_of_case x)) is ∙ sym at.found

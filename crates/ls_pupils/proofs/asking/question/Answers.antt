@@ -1,8 +1,14 @@
-use Rattle.ls_pupils.proofs.Vocabulary.{◌<◌, ◌∙◌, ap, length, subst}
-use Rattle.ls_pupils.proofs.Rows.{told-asked}
+use Rattle.ls_pupils.proofs.Vocabulary.{◌∙◌, Shown, ap, question_shown, shown_of, sym}
+use Rattle.ls_pupils.proofs.Rows.{asked-same}
+use Rattle.ls_meaning.specs.declared.response.Shown.TheVariants as shown
 use Rattle.ls_pupils.proofs.asking.question.Goals as goal
 
-pub returns-in-Some-clause-told : goal.returns-in-Some-clause-told
-returns-in-Some-clause-told c =
-    let case = c.in-Some.ensures.case c.args.n c.requires in
-    told-asked c.args.n c.question.result (λ q e. subst (λ m. q < m) (ap (λ s. length s.ratios) case.settings ∙ case.items) (c.question.ensures.item q e))
+pub returns-in-None : goal.returns-in-None
+returns-in-None c = λ n are. ap (shown_of (question_shown n)) c.in-None.ensures.pupil
+
+pub returns-in-Some : goal.returns-in-Some
+returns-in-Some c = λ n are.
+    let case = c.in-Some.case.now in
+    ap (λ a. Shown (shown.Asked a))
+    (c.question.ensures.value ∙ sym (asked-same n case (c.in-Some.ensures.case n are)))
+    ∙ ap (shown_of (question_shown n)) c.in-Some.ensures.pupil

@@ -1,5 +1,5 @@
 use Rattle.ls_pupils.proofs.Vocabulary.{◌∙◌, ◌≡◌, ◌≤◌, IfOk-weaker, IsFamily, Items, List, None, OnOk, Some, Weighing, [], ap, breaks_none, compat, compat-IsFamily, compatible_sets, family-weighable, filter, heavy_after, length, most_states, subst, sym, yes_queries}
-use Rattle.ls_pupils.proofs.Rows.{weighed-new}
+use Rattle.ls_pupils.proofs.Rows.{refuses_heavy-new}
 use Rattle.ls_pupils.proofs.beginning.listed.Given as given
 use Rattle.ls_pupils.proofs.beginning.listed.Goals as goal
 
@@ -21,9 +21,9 @@ pub returns-in-Ok : goal.returns-in-Ok
 returns-in-Ok g c =
     let same = sets_are g c.before.before in
     let s = c.args.settings.now in
-    weighed-new c.args.inquiry.now s c.begin.result c.weighed.result
+    refuses_heavy-new c.args.inquiry.now s c.begin.result c.unless_heavy.result
     (subst (λ (f : List Items). length f ≤ most_states) same (few_sets g c.before.before))
     (IfOk-weaker c.begin.result _ _ (λ p e. e ∙ ap (λ (f : List Items). let w : Weighing = record { settings = s; states = f; replies = [] } in w) same) c.begin.ensures.ok)
     (subst (λ (f : List Items). OnOk c.begin.result (heavy_after s (length f) ≡ None)) same c.begin.ensures.light)
     (λ r e. subst (λ (f : List Items). heavy_after s (length f) ≡ Some r) same (c.begin.ensures.heavy r e))
-    c.weighed.ensures
+    c.unless_heavy.ensures

@@ -17,6 +17,3 @@ replay_over-requires-clause-weighable g c =
     let i = c.args.inquiry.now in
     let count = c.items.ensures.count in
     λ _ _. rw count (family-weighable i.count c.in-Ok.sets c.args.settings.now (family g c) (rw count at c.items.ensures.some) (rw count at c.items.ensures.few) c.requires (few_sets g c))
-
-pub replay_over-requires-clause-small : goal.replay_over-requires-clause-small
-replay_over-requires-clause-small g c = λ _ _. rw c.items.ensures.count (family g c).small

@@ -1,4 +1,4 @@
-use Rattle.ls_saved.proofs.RoundTrip.{read_back}
+use Rattle.ls_store.proofs.RoundTrip.{read_back}
 use Rattle.ls_reached.proofs.Commands.{line-kept}
 use Rattle.ls_reached.proofs.Reaching.{reached-kept, script-reaches}
 use Rattle.ls_reached.proofs.reached.reached_sessions_are_whole.Goals as goal

@@ -1,4 +1,5 @@
-use Rattle.ls_store.proofs.Vocabulary.{◌≡◌, ArePupils, IsRead, drop, length, pupils_of, read_list, read_pupil, view}
+use Rattle.ls_store.proofs.Vocabulary.{◌≡◌, ArePupils, drop, length, pupils_of, read_list, read_pupil, view}
+use Rattle.ls_store.proofs.Walks.{IsRead}
 use Rattle.ls_store.proofs.pupils.read_cases.Given as goal
 
 abbrev pub invariant-loop-entry : goal.invariant-loop-entry

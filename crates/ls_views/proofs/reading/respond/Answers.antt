@@ -1,21 +1,35 @@
-use Rattle.ls_views.proofs.Vocabulary.{◌<◌, ◌∙◌, ◌≡◌, CanSay, IfOk-weaker, IsAskedOn, Some, answers, ap, arith, followed_sets, length, request_of, session_with, subst, sym}
-use Rattle.ls_reply.specs.declared.request.Request.TheVariants as request
-use Rattle.ls_views.proofs.Replying.{reading-effect}
-use Rattle.ls_views.proofs.Saying.{can-view, followed-base}
+use Rattle.ls_views.proofs.Vocabulary.{◌<◌, ◌∙◌, CanSay, Err, IfOk-weaker, Refused, ResolvesInMemory, answers, ap, arith, length, session_with, subst, sym, unnamed, view_item_words, view_of, view_row}
+use Rattle.ls_resolve.specs.declared.unnamed.ResolveFault.{ResolveFault}
+use Rattle.ls_meaning.specs.declared.response.Refusal.TheVariants.{Unnamed}
+use Rattle.ls_write.proofs.Showing.{can-view}
+use Rattle.ls_views.proofs.Viewing.{shows-row, tells-place}
 use Rattle.ls_views.proofs.reading.respond.Goals as goal
 
-pub returns-in-Ok-Some-View-clause-response : goal.returns-in-Ok-Some-View-clause-response
-returns-in-Ok-Some-View-clause-response g c = λ old calls.
-    let s = session_with old c.args.domain.now c.args.inquiry.now in
-    let some : 0 < length c.args.domain.now = omega (arith, c.count.ensures.value, c.count.ensures.some) in
-    let v = c.in-Ok-Some-View.view in
-    let asked : request_of c.args.domain.now c.args.command.now ≡ Some (request.View v) = sym c.in-Ok-Some-View.ensures.request ∙ c.in-Ok-Some-View.field-0-is ∙ ap Some c.in-Ok-Some-View.field-0-0-is in
-    IfOk-weaker c.show.result _ _ (λ r e. reading-effect s calls c.args.command.now v c.requires.reading some c.requires.named asked ∙ ap (answers s) (sym e)) c.show.ensures.response
-
-pub returns-in-Ok-Some-View-clause-said : goal.returns-in-Ok-Some-View-clause-said
-returns-in-Ok-Some-View-clause-said g c =
-    let names = c.args.domain.now in
+pub returns-in-Ok-clause-response : goal.returns-in-Ok-clause-response
+returns-in-Ok-clause-response g c = λ old calls.
     let i = c.args.inquiry.now in
-    let v = c.in-Ok-Some-View.view in
-    IfOk-weaker c.show.result _ _ (λ r e. subst (CanSay names i (followed_sets c.args.followed.now)) (sym e)
-    (can-view names i (followed_sets c.args.followed.now) c.requires.items c.standing.ensures.standing.sound v (subst (IsAskedOn (length c.args.domain.now)) (c.in-Ok-Some-View.field-0-is ∙ ap Some c.in-Ok-Some-View.field-0-0-is) c.in-Ok-Some-View.ensures.on) (λ based. followed-base c.args.inquiry.now c.args.followed.now c.requires.followed))) c.show.ensures.response
+    let s = session_with old c.args.domain.now i in
+    let some : 0 < length c.args.domain.now = omega (arith, c.count.ensures.value, c.count.ensures.some) in
+    let resolved = c.in-Ok.ensures.resolves in
+    IfOk-weaker c.show.result _ _
+    (λ r e. shows-row s calls c.args.command.now some resolved.1 ∙ ap (answers s) (sym (e ∙ ap (view_row i) resolved.0)))
+    c.show.ensures.response
+
+pub returns-in-Ok-clause-can : goal.returns-in-Ok-clause-can
+returns-in-Ok-clause-can g c =
+    let n = length c.args.domain.now in
+    let i = c.args.inquiry.now in
+    IfOk-weaker c.show.result _ _
+    (λ r e. subst (CanSay n i) (sym e) (can-view n i c.requires.items c.standing.ensures.standing.sound c.in-Ok.view c.in-Ok.ensures.on))
+    c.show.ensures.response
+
+pub returns-in-Err-Unnamed-clause-response : goal.returns-in-Err-Unnamed-clause-response
+returns-in-Err-Unnamed-clause-response g c = λ old calls.
+    let names = c.args.domain.now in
+    let asked = c.args.command.now in
+    let s = session_with old names c.args.inquiry.now in
+    let some : 0 < length names = omega (arith, c.count.ensures.value, c.count.ensures.some) in
+    let first = subst (λ (fault : ResolveFault). ResolvesInMemory (unnamed names (view_item_words asked)) (view_of names asked) (Err fault))
+    c.in-Err-Unnamed.field-0-is c.in-Err-Unnamed.ensures.resolves in
+    tells-place s calls asked some c.in-Err-Unnamed.place first
+    ∙ ap (λ n. answers s (Refused (Unnamed n))) (sym c.in-Err-Unnamed.place-is)

@@ -1,8 +1,8 @@
 use Rattle.ls_views.proofs.Vocabulary.{◌∙◌, ◌≡◌, List, Text, [], ap, bytes_of, is_refusal, lines_of, rules, session_with, started, subst, sym}
 use Rattle.std.specs.Io.KnownBytes.{Appends}
 use Rattle.ls_edge.specs.Causes.{AppendsFront}
-use Rattle.ls_reply.proofs.Refusing.{is_refusal-lines_of}
-use Rattle.ls_views.proofs.Replying.{reply_is}
+use Rattle.ls_meaning.proofs.Refusing.{is_refusal-lines_of}
+use Rattle.ls_views.proofs.Viewing.{reply_is}
 use Rattle.ls_views.proofs.reading.view.Goals as goal
 
 pub returns-clause-told : goal.returns-clause-told

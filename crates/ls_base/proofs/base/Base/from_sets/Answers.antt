@@ -1,5 +1,5 @@
 use Rattle.ls_base.proofs.Vocabulary.{◌∙◌, ◌≤◌, IsPastOf, Items, List, Ok, ap, base, err_from_is_err_and, length, most_base_sets, refl, spanned, subst, sym}
-use Rattle.ls_base.proofs.Given.{first_missing-is, based-missing, based-base, IsFaultOf-past}
+use Rattle.ls_base.proofs.Given.{first_missing-is, based-missing, based-base, IsBaseFault-past}
 use Rattle.ls_base.proofs.base.Base.from_sets.Goals as goal
 
 pub returns-in-Some-clause-fault : goal.returns-in-Some-clause-fault
@@ -13,7 +13,7 @@ returns-in_err-spanned_by-clause-fault c =
     let p = err_from_is_err_and c.from_residual-in_err-spanned_by.result c.from_residual-in_err-spanned_by.ensures.1 in
     let told = first_missing-is n c.args.sets.now _ _ _ _ c.requires.is_on c.full-all.ensures c.union_within.ensures c.minus.ensures c.least.ensures.value in
     let past = subst (λ (g : List Items). IsPastOf (base (spanned n g)) c.in_err-spanned_by.field-0.0) c.in_ok-given.ensures.items c.in_err-spanned_by.ensures.past in
-    rw (p.1, p.2) (IsFaultOf-past n c.args.sets.now (base (spanned n c.args.sets.now)) c.in_err-spanned_by.field-0.0 (sym told ∙ c.in_default.is) refl past)
+    rw (p.1, p.2) (IsBaseFault-past n c.args.sets.now (base (spanned n c.args.sets.now)) c.in_err-spanned_by.field-0.0 (sym told ∙ c.in_default.is) refl past)
 
 pub returns-clause-based : goal.returns-clause-based
 returns-clause-based c =

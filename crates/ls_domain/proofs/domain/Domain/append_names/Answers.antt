@@ -1,11 +1,7 @@
-use Rattle.ls_domain.proofs.Vocabulary.{◌++◌, ◌∙◌, ◌∷◌, ◌≡◌, [], ap, append-nil, append_assoc, gap-snoc, items, join_with_byte, length, map, name_of, names_of_set, sym, take, take-append_seam}
+use Rattle.ls_domain.proofs.Vocabulary.{◌++◌, ◌∙◌, ◌∷◌, ◌≡◌, [], ap, append-nil, append_assoc, full, gap-snoc, items, join_with_byte, length, map, meet, name_of, sym, take, take-append_seam}
 use Rattle.ls_domain.proofs.Joins.{word_joined}
-use Rattle.ls_domain.proofs.Numbers.{listed-below}
+use Rattle.ls_domain.proofs.NamedSets.{names_of_set-met}
 use Rattle.ls_domain.proofs.domain.Domain.append_names.Goals as goal
-
-pub name-requires : goal.name-requires
-name-requires c =
-    listed-below _ c.args.s c.loop-item.yielded c.in-Some.item _ c.requires (ap (λ l. c.loop-item.yielded ++ l) (sym c.in-Some.ensures.steps) ∙ c.loop-item.invariant.split)
 
 pub loop-item-preserved : goal.loop-item-preserved
 loop-item-preserved c = record {
@@ -25,7 +21,10 @@ returns-in_err-extend_from_slice-2-clause-kept c =
     (ap (take (length before)) (append_assoc before _ c.loop-item.gap.now) ∙ take-append_seam before _)
 
 pub returns-clause-ok : goal.returns-clause-ok
-unfolding names_of_set
 returns-clause-ok c =
-    let all : c.loop-item.yielded ≡ items c.args.s = sym (append-nil c.loop-item.yielded) ∙ ap (λ l. c.loop-item.yielded ++ l) (sym c.in-None.ensures.steps.0) ∙ c.loop-item.invariant.split in
-    c.loop-item.invariant.joined ∙ ap (λ l. c.args.out.now.items ++ join_with_byte 32 (map (name_of c.args.self.now) l)) all
+    let names = c.args.self.now in
+    let all : c.loop-item.yielded ≡ items (meet c.args.s (full (length names))) =
+    sym (append-nil c.loop-item.yielded) ∙ ap (λ l. c.loop-item.yielded ++ l) (sym c.in-None.ensures.steps.0) ∙ c.loop-item.invariant.split in
+    c.loop-item.invariant.joined
+    ∙ ap (λ ws. c.args.out.now.items ++ join_with_byte 32 ws)
+    (ap (map (name_of names)) all ∙ names_of_set-met names c.args.s)

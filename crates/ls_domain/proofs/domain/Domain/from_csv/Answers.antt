@@ -1,4 +1,4 @@
-use Rattle.ls_domain.proofs.Vocabulary.{◌+◌, ◌∙◌, ◌≡◌, BadCsv, Err, IsFaultOf, PLACES, Some, ap, arith, begun-some, common_steps, drop, fields_of, length, map, names_from, names_of_table, slice_get, sym, table_records, take}
+use Rattle.ls_domain.proofs.Vocabulary.{◌+◌, ◌∙◌, ◌≡◌, BadCsv, Err, IsDomainFault, PLACES, Some, ap, arith, begun-some, common_steps, drop, fields_of, length, map, names_from, names_of_table, slice_get, sym, table_records, take}
 use Rattle.ls_domain.proofs.Rows.{record_field, loop-next, loop-bad, loop-fault, loop-end, some_rows, table-begun, even_field-good, even_field-bad}
 use Rattle.ls_domain.proofs.domain.Domain.from_csv.Goals as goal
 
@@ -23,7 +23,7 @@ returns-in_err-add-clause-fault c =
     let front : map fields_of vs ≡ take (PLACES + 1) (table_records bytes) = grind (arith, common_steps) in
     let begun = table-begun bytes vs c.deref.result.now front c.deref.ensures.value c.in-Some.first.now items c.in-Some.ensures.value c.deref-record-items.ensures.value in
     let good = even_field-good width (fields_of c.record-item.result) (sym c.len.ensures ∙ c.if-len.false ∙ c.len-in-loop-record.ensures) in
-    let told : IsFaultOf (names_of_table bytes) c.in_err-add.field-0.0 =
+    let told : IsDomainFault (names_of_table bytes) c.in_err-add.field-0.0 =
     loop-fault (record_field width) items c.loop-record.record-index c.record-item.result c.loop-record-test.true c.record-item.is c.loop-record.list c.first_field.result.now (names_of_table bytes) c.in_err-add.field-0.0 (good ∙ ap Some (sym c.first_field.ensures))
     (begun ∙ c.loop-record.invariant) c.in_err-add.ensures.fault in
     grind (arith, common_steps, told)

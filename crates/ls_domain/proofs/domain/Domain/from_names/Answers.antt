@@ -1,4 +1,4 @@
-use Rattle.ls_domain.proofs.Vocabulary.{◌+◌, ◌<◌, ◌∙◌, ◌≡◌, ◌≤◌, IsFaultOf, IsNameFault, Some, ap, arith, common_steps, drop, get_or, length, map, name_fault, names_from, names_of_words, refl, subst, sym}
+use Rattle.ls_domain.proofs.Vocabulary.{◌+◌, ◌<◌, ◌∙◌, ◌≡◌, ◌≤◌, IsDomainFault, IsNameFault, Some, ap, arith, common_steps, drop, get_or, length, map, name_fault, names_from, names_of_words, refl, subst, sym}
 use Rattle.ls_domain.proofs.Rows.{loop-next, loop-fault, loop-end, some_rows, words_read, not_none}
 use Rattle.ls_domain.proofs.domain.Domain.from_names.Goals as goal
 
@@ -9,7 +9,7 @@ returns-in_err-add-clause-fault c =
     let lt : c.loop-word.word-index < length words = rw (← c.as_slice-word-items.ensures) c.loop-word-test.true in
     let at : c.word-item.result ≡ get_or words c.loop-word.word-index c.word-item.result = c.word-item.is ∙ ap (λ l. get_or l c.loop-word.word-index c.word-item.result) c.as_slice-word-items.ensures in
     let text = c.as_bytes.ensures.value ∙ c.as_str.ensures in
-    let told : IsFaultOf (names_of_words words) c.in_err-add.field-0.0 =
+    let told : IsDomainFault (names_of_words words) c.in_err-add.field-0.0 =
     loop-fault Some words c.loop-word.word-index c.word-item.result lt at c.loop-word.list c.word-item.result (names_of_words words) c.in_err-add.field-0.0 refl (words_read words some ∙ c.loop-word.invariant)
     (subst (λ w. IsNameFault (name_fault c.loop-word.list w) c.in_err-add.field-0.0) text c.in_err-add.ensures.fault) in
     grind (arith, common_steps, told)

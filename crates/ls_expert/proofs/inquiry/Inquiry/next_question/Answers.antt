@@ -1,4 +1,4 @@
-use Rattle.ls_expert.proofs.Vocabulary.{◌∙◌, ◌≡◌, BlockRange, IfSome, Interview, IsIn, None, Option, PlaceFor, Query, Some, ap, compat, interview_of, is_good, next_question, nothing, option_map, queries_of, subst, sym, true}
+use Rattle.ls_expert.proofs.Vocabulary.{◌∙◌, ◌≡◌, BlockRange, IfSome, Interview, IsIn, None, Option, PlaceFor, Query, Some, ap, compat, interview_of, is_good, next_question, nothing, option_map, block_queries, subst, sym, true}
 use Rattle.ls_expert.proofs.Asking.{place-in, place-none, place-some}
 use Rattle.ls_expert.proofs.Ruling.{own_blocks, ruled-compat, question-good}
 use Rattle.ls_expert.proofs.inquiry.Inquiry.next_question.Goals as goal
@@ -12,7 +12,7 @@ pub find_open-requires-clause-query : goal.find_open-requires-clause-query
 find_open-requires-clause-query c =
     let i = c.args.self.now in
     let last = option_map (λ r. r.now) c.args.after in
-    subst (λ (b : BlockRange). IsIn c.in_ok-from.from (queries_of b)) (sym (c.self.invariant.asked ∙ ap (λ (j : Interview). let b : BlockRange = record { item_count = j.count; largest = j.block } in b) c.self.view_is))
+    subst (λ (b : BlockRange). IsIn c.in_ok-from.from (block_queries b)) (sym (c.self.invariant.asked ∙ ap (λ (j : Interview). let b : BlockRange = record { item_count = j.count; largest = j.block } in b) c.self.view_is))
     (place-in i last c.in_ok-from.from (subst (PlaceFor i last) c.in_ok-from.was c.place_for.ensures))
 
 pub returns-clause-value : goal.returns-clause-value

@@ -1,10 +1,10 @@
-use Rattle.ls_family.proofs.Vocabulary.{◌∙◌, ◌≡◌, IsFaultOf, Ok, ap, arith, common_steps, keys_of, rules, sets_of, sym}
+use Rattle.ls_family.proofs.Vocabulary.{◌∙◌, ◌≡◌, IsFamilyFault, Ok, ap, arith, common_steps, keys_of, rules, sets_of, sym}
 use Rattle.ls_family.proofs.Rows.{sets_of-ok, sets_of-fault}
 use Rattle.ls_family.proofs.family.Family.from_text.Goals as goal
 
 pub returns-in_err-found-clause-fault : goal.returns-in_err-found-clause-fault
 returns-in_err-found-clause-fault c =
-    let told : IsFaultOf (sets_of c.args.d.now c.args.bytes.now) c.in_err-found.field-0.0 = sets_of-fault c.args.d.now c.args.bytes.now c.in_err-found.field-0.0 c.in_err-found.ensures.fault in
+    let told : IsFamilyFault (sets_of c.args.d.now c.args.bytes.now) c.in_err-found.field-0.0 = sets_of-fault c.args.d.now c.args.bytes.now c.in_err-found.field-0.0 c.in_err-found.ensures.fault in
     grind (arith, common_steps, told)
 
 pub returns-clause-read : goal.returns-clause-read

@@ -60,13 +60,13 @@ returns-then-not-breaks-clause-kept g c =
     let s = c.args.self.now in
     kept-again _ s c.if-is_within.closed s.enough s.is_state c.requires.kept (closed_within g (goal.at.returns-then-not-breaks-clause-kept g c).Joined-is_within) (kept-parts _ s c.requires.kept).enough
 
-pub between-requires-clause-within : goal.between-requires-clause-within
-between-requires-clause-within g c = closed_within g (goal.at.between-requires-clause-within g c).Joined-is_within
+pub from_known-requires-clause-within : goal.from_known-requires-clause-within
+from_known-requires-clause-within g c = closed_within g (goal.at.from_known-requires-clause-within g c).Joined-is_within
 
-pub between-requires-clause-known : goal.between-requires-clause-known
-between-requires-clause-known g c =
+pub from_known-requires-clause-known : goal.from_known-requires-clause-known
+from_known-requires-clause-known g c =
     let all : c.full-all.result ≡ full (g.I.Interior.item_count c.args.f.now) = c.full-all.ensures ∙ ap full c.items.ensures.count in
-    rw c.union-known.ensures (union-within c.reaching.result c.args.self.now.enough (full (g.I.Interior.item_count c.args.f.now)) (rw all at c.reaching.ensures.part) (kept-parts _ c.args.self.now c.requires.kept).enough)
+    rw c.union-known.ensures (union-within c.items_entailing.result c.args.self.now.enough (full (g.I.Interior.item_count c.args.f.now)) (rw all at c.items_entailing.ensures.part) (kept-parts _ c.args.self.now c.requires.kept).enough)
 
 pub returns-clause-value : goal.returns-clause-value
 returns-clause-value g c = λ before change e states.
@@ -76,11 +76,11 @@ returns-clause-value g c = λ before change e states.
     let closed = c.if-is_within.closed in
     let made = closed_is g (goal.at.returns-clause-value g c).Joined-is_within before change e in
     let all : c.full-all.result ≡ full n = c.full-all.ensures ∙ ap full c.items.ensures.count in
-    let part : IsWithin c.reaching.result (full n) = rw all at c.reaching.ensures.part in
-    let so = c.between.ensures.value made states in
-    let alone = reached n after closed s.no.query.q c.reaching.result part in
+    let part : IsWithin c.items_entailing.result (full n) = rw all at c.items_entailing.ensures.part in
+    let so = c.from_known.ensures.value made states in
+    let alone = reached n after closed s.no.query.q c.items_entailing.result part in
     let known = after-known n before after c.args.r.now s closed change e made in
-    (so.0, λ k sets. so.1 (rw c.union-known.ensures (union-within c.reaching.result s.enough (enough_for n after closed s.no.query.q) (alone (c.reaching.ensures.closures n k after (rw all (λ i h. h)) sets)) known)))
+    (so.0, λ k sets. so.1 (rw c.union-known.ensures (union-within c.items_entailing.result s.enough (enough_for n after closed s.no.query.q) (alone (c.items_entailing.ensures.closures n k after (rw all (λ i h. h)) sets)) known)))
 
 pub returns-clause-cost : goal.returns-clause-cost
 returns-clause-cost g c =
@@ -92,7 +92,7 @@ returns-clause-cost g c =
       | then-is_within w ↦
           let old : has s.closed item.0 ≡ true = IsWithin-from c.args.r.now.a s.closed (sym c.is_within.ensures ∙ w.if-is_within.true) item.0 item.1 in
           let here : has c.if-is_within.closed item.0 ≡ true = rw (w.closed-is, w.closure-closed.ensures.value) (closure_holds (full n) after s.closed (kept-parts n s c.requires.kept).closed item.0 old) in
-          let fewer = c.between.ensures.fewer item.0 here item.2 in
+          let fewer = c.from_known.ensures.fewer item.0 here item.2 in
           omega (arith, w.steps-is, w.closure-closed.ensures.cost, fewer)
-      | else-is_within w ↦ omega (arith, w.steps-is, c.between.ensures.cost)
+      | else-is_within w ↦ omega (arith, w.steps-is, c.from_known.ensures.cost)
     ]

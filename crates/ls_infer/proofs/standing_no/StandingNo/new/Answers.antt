@@ -13,8 +13,8 @@ enough_for-enough-requires-clause-member g c = rw c.closure-closed.ensures.value
 pub enough_for-enough-requires-clause-item : goal.enough_for-enough-requires-clause-item
 enough_for-enough-requires-clause-item g c = (good-from _ c.args.answer.now.query c.requires).item
 
-pub of-requires : goal.of-requires
-of-requires g c = rw c.enough_for-enough.ensures.value (enough-within _ _ _ _)
+pub from_enough-requires : goal.from_enough-requires
+from_enough-requires g c = rw c.enough_for-enough.ensures.value (enough-within _ _ _ _)
 
 pub returns-clause-value : goal.returns-clause-value
-returns-clause-value g c = c.of.ensures.value ∙ standing-from _ _ c.args.answer.now c.closure-closed.result c.enough_for-enough.result _ c.closure-closed.ensures.value c.enough_for-enough.ensures.value refl
+returns-clause-value g c = c.from_enough.ensures.value ∙ standing-from _ _ c.args.answer.now c.closure-closed.result c.enough_for-enough.result _ c.closure-closed.ensures.value c.enough_for-enough.ensures.value refl

@@ -29,8 +29,8 @@ returns-then-is_within-clause-kept g c =
     let k = kept-parts _ s c.requires.kept in
     kept-again _ s c.args.closed s.enough false c.requires.kept c.requires.within k.enough
 
-pub of-requires : goal.of-requires
-of-requires g c = c.enough_between-enough.ensures.within
+pub from_enough-requires : goal.from_enough-requires
+from_enough-requires g c = c.enough_between-enough.ensures.within
 
 pub returns-clause-value : goal.returns-clause-value
 returns-clause-value g c = λ made states.
@@ -39,12 +39,12 @@ returns-clause-value g c = λ made states.
     let s = c.args.self.now in
     let all : c.full-all.result ≡ full n = c.full-all.ensures ∙ ap full c.items.ensures.count in
     let so = c.enough_between-enough.ensures.value (rw made (outside-member n f s.no.query.a (family_sets n f (g.met.I.Interior.is_family c.args.f.now)))) states in
-    (so.0, λ none known. c.of.ensures.value ∙ standing-from n f s.no c.args.closed c.enough_between-enough.result _ made (so.1 known (rw all (enough-within n f _ _))) refl)
+    (so.0, λ none known. c.from_enough.ensures.value ∙ standing-from n f s.no c.args.closed c.enough_between-enough.result _ made (so.1 known (rw all (enough-within n f _ _))) refl)
 
 pub returns-clause-kept : goal.returns-clause-kept
 returns-clause-kept g c =
     let n = g.I.Interior.item_count c.args.f.now in
-    rw c.of.ensures.value (kept-again n c.args.self.now c.args.closed c.enough_between-enough.result (is_among (g.I.Interior.members c.args.f.now) c.enough_between-enough.result) c.requires.kept c.requires.within
+    rw c.from_enough.ensures.value (kept-again n c.args.self.now c.args.closed c.enough_between-enough.result (is_among (g.I.Interior.members c.args.f.now) c.enough_between-enough.result) c.requires.kept c.requires.within
     c.enough_between-enough.ensures.within)
 
 pub returns-then-is_within-clause-fewer : goal.returns-then-is_within-clause-fewer
@@ -55,4 +55,4 @@ returns-then-is_within-clause-fewer g c i here l =
 pub returns-clause-fewer : goal.returns-clause-fewer
 returns-clause-fewer g c i here l =
     let fewer = c.enough_between-enough.ensures.fewer i here l (good-several _ _ (kept-parts _ c.args.self.now c.requires.kept).good) in
-    omega (arith, c.of.ensures.cost)
+    omega (arith, c.from_enough.ensures.cost)

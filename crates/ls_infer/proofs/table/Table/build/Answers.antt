@@ -1,4 +1,4 @@
-use Rattle.ls_infer.proofs.Vocabulary.{◌∙◌, ◌≡◌, AreStates, ap, arith, blocks, closure, common_steps, full, length, map, refl, sets_of, sym, take_at}
+use Rattle.ls_infer.proofs.Vocabulary.{◌∙◌, ◌≡◌, AreStates, ap, arith, blocks, closure, common_steps, full, length, map, refl, block_sets, sym, take_at}
 use Rattle.ls_infer.proofs.Changes.{closures-within, standing-kept}
 use Rattle.ls_infer.proofs.table.Table.build.Given as given
 use Rattle.ls_infer.proofs.table.Table.build.Goals as goal
@@ -26,7 +26,7 @@ invariant_of-result g c =
       few = c.items-n.ensures.few;
       each = grind (arith, common_steps);
       few_sets = grind (arith, common_steps);
-      within = rw (c.items-n.ensures.count, c.in_ok-closures.ensures.list) (closures-within n f (sets_of c.args.blocks));
+      within = rw (c.items-n.ensures.count, c.in_ok-closures.ensures.list) (closures-within n f (block_sets c.args.blocks));
       kept = rw (c.items-n.ensures.count, kept) (standing-kept n f c.args.answers.now c.requires.good);
     }
 

@@ -1,4 +1,4 @@
-use Rattle.ls_infer.proofs.Vocabulary.{◌∙◌, ◌≡◌, BlockRange, TableState, ap, arith, blocks, closure, drop, full, length, map, refl, sets_of, standing, sym, take_at, ℕ}
+use Rattle.ls_infer.proofs.Vocabulary.{◌∙◌, ◌≡◌, BlockRange, TableState, ap, arith, blocks, closure, drop, full, length, map, refl, block_sets, standing, sym, take_at, ℕ}
 use Rattle.ls_infer.proofs.table.Table.change.Goals as goal
 
 pub returns-clause-kept : goal.returns-clause-kept
@@ -14,7 +14,7 @@ returns-clause-kept g c = λ b before nos change e states.
     let last : length c.change_each.new.witnesses ≡ c.self.inside.witnesses.len = omega (arith, c.change_each.auto.witnesses, c.deref_mut-4.ensures.len) in
     let closed = take_at c.close_again.new.closures (drop (length c.close_again.new.closures) c.self.inside.closures.items) c.self.inside.closures.len first ∙ c.close_again.ensures.each before (rw items change) (rw (c.deref_mut-2.ensures.value, items, range) (ap (λ (t : TableState). t.closures) own)) in
     let kept = c.change_each.ensures.each before b.largest nos (rw items change)
-    (c.deref.ensures.value ∙ closed ∙ ap (λ (u : BlockRange). map (closure (full n) after) (sets_of u)) range ∙ ap (λ (m : ℕ). map (closure (full n) after) (blocks m b.largest)) (sym items))
+    (c.deref.ensures.value ∙ closed ∙ ap (λ (u : BlockRange). map (closure (full n) after) (block_sets u)) range ∙ ap (λ (m : ℕ). map (closure (full n) after) (blocks m b.largest)) (sym items))
     (rw (c.deref_mut-4.ensures.value, take_at c.renew_each.new.kept _ c.self.inside.witnesses.len third, c.renew_each.ensures, c.deref_mut.ensures.value) (rw (← c.self.view_is) at states))
     (rw (c.deref_mut-3.ensures.value, items) (ap (λ (t : TableState). t.standing) own)) in
     record {

@@ -1,4 +1,4 @@
-use Rattle.ls_infer.proofs.Vocabulary.{◌&&◌, ◌∙◌, ◌≡◌, ArePassing, None, Some, ap, arith, block_before, blocks-in, compatible_sets, find, full, is_open_by, least, map, minus, nos, queries-in, queries_of, standing, subst, sym}
+use Rattle.ls_infer.proofs.Vocabulary.{◌&&◌, ◌∙◌, ◌≡◌, ArePassing, None, Some, ap, arith, block_before, blocks-in, compatible_sets, find, full, is_open_by, least, map, minus, nos, queries-in, block_queries, standing, subst, sym}
 use Rattle.ls_infer.proofs.Searching.{first-from, later-from, found_open}
 use Rattle.ls_infer.proofs.table.Table.find_open.Goals as goal
 
@@ -48,7 +48,7 @@ returns-in-None g c = record {
       let opens = subst (λ m. ArePassing m (is_open_by n f ss) r.a those) c.requires.items (subst (λ s. ArePassing n (is_open_by n f ss) s those) c.walk_from-walk.ensures.set c.open_items-opens.ensures.open) in
       let none : least (minus those (full r.q)) ≡ None = ap least (sym (c.minus.ensures ∙ ap (minus those) c.full.ensures)) ∙ sym c.least.ensures.value ∙ c.in-None.is in
       c.find_after.ensures
-      ∙ ap (λ e. find (λ s. block_before e s.a && is_open_by n f ss s) (queries_of b)) c.walk_from-walk.ensures.set
+      ∙ ap (λ e. find (λ s. block_before e s.a && is_open_by n f ss s) (block_queries b)) c.walk_from-walk.ensures.set
       ∙ later-from b.item_count b.largest (is_open_by n f ss) r those c.requires.query opens none
       ∙ found_open i b n f ss r sound count block c.requires.items family
       (c.standing-standing.ensures ∙ ap (λ t. t.standing) table ∙ ap (λ m. map (standing m (compatible_sets i)) (nos i.answers)) (c.requires.own ∙ sym c.requires.items));

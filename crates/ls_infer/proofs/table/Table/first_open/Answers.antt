@@ -1,4 +1,4 @@
-use Rattle.ls_infer.proofs.Vocabulary.{◌&&◌, ◌∙◌, ◌≡◌, ArePassing, None, Some, ap, arith, block_before, empty-within, find, full, get-in, good-from, is_open_in, is_same, len-empty, next-passing, passing-all, passing-later, passing-outside, position, position-get, queries_of, sets_of, slice_get, subst, sym}
+use Rattle.ls_infer.proofs.Vocabulary.{◌&&◌, ◌∙◌, ◌≡◌, ArePassing, None, Some, ap, arith, block_before, empty-within, find, full, get-in, good-from, is_open_in, is_same, len-empty, next-passing, passing-all, passing-later, passing-outside, position, position-get, block_queries, block_sets, slice_get, subst, sym}
 use Rattle.ls_infer.proofs.Places.{first_place, next_place, place-within, place-few}
 use Rattle.ls_infer.proofs.table.Table.first_open.Goals as goal
 
@@ -15,14 +15,14 @@ pub returns-in_default : goal.returns-in_default
 returns-in_default c =
     let t = c.args.self.now.table in
     rw c.in_default.is
-    (c.open_from.ensures ∙ ap (λ e. find (λ s. block_before e s.a && is_open_in t s) (queries_of t.blocks)) (c.walk_from.ensures.set ∙ c.empty.ensures)
+    (c.open_from.ensures ∙ ap (λ e. find (λ s. block_before e s.a && is_open_in t s) (block_queries t.blocks)) (c.walk_from.ensures.set ∙ c.empty.ensures)
     ∙ passing-all t.blocks.item_count t.blocks.largest (is_open_in t))
 
 pub returns-in_err-place : goal.returns-in_err-place
 returns-in_err-place c =
     let t = c.args.self.now.table in
     let r = c.in-Some.r.now in
-    let out : position (is_same r.a) (sets_of t.blocks) ≡ None = ap (λ u. position (is_same r.a) (sets_of u.table.blocks)) (sym c.self.view_is) ∙ sym c.place_of.ensures ∙ c.in_err-place.was in
+    let out : position (is_same r.a) (block_sets t.blocks) ≡ None = ap (λ u. position (is_same r.a) (block_sets u.table.blocks)) (sym c.self.view_is) ∙ sym c.place_of.ensures ∙ c.in_err-place.was in
     rw (c.in-Some.is, c.from_residual.ensures)
     (sym (passing-outside t.blocks.item_count t.blocks.largest (is_open_in t) r (good-from t.blocks.item_count r (c.requires c.in-Some.r c.in-Some.is)) out))
 
@@ -42,7 +42,7 @@ pub open_items-requires : goal.open_items-requires
 open_items-requires c =
     let t = c.args.self.now.table in
     let a = c.in-Some.r.now.a in
-    position-get t.blocks.item_count t.blocks.largest a c.in_ok-place.place (ap (λ u. position (is_same a) (sets_of u.table.blocks)) (sym c.self.view_is) ∙ sym c.place_of.ensures ∙ c.in_ok-place.was)
+    position-get t.blocks.item_count t.blocks.largest a c.in_ok-place.place (ap (λ u. position (is_same a) (block_sets u.table.blocks)) (sym c.self.view_is) ∙ sym c.place_of.ensures ∙ c.in_ok-place.was)
     ∙ ap Some (sym c.walk_from-walk.ensures.set)
 
 pub open_from-requires-in-None-clause-place : goal.open_from-requires-in-None-clause-place
@@ -51,17 +51,17 @@ open_from-requires-in-None-clause-place c =
     let a = c.in-Some.r.now.a in
     rw c.walk_from-walk.ensures.set
     (next_place t.blocks.item_count t.blocks.largest c.in_ok-place.place a
-    (position-get t.blocks.item_count t.blocks.largest a c.in_ok-place.place (ap (λ u. position (is_same a) (sets_of u.table.blocks)) (sym c.self.view_is) ∙ sym c.place_of.ensures ∙ c.in_ok-place.was)))
+    (position-get t.blocks.item_count t.blocks.largest a c.in_ok-place.place (ap (λ u. position (is_same a) (block_sets u.table.blocks)) (sym c.self.view_is) ∙ sym c.place_of.ensures ∙ c.in_ok-place.was)))
 
 pub returns-in-Some-next_member : goal.returns-in-Some-next_member
 returns-in-Some-next_member c =
     let t = c.args.self.now.table in
     let r = c.in-Some.r.now in
-    let here : slice_get (sets_of t.blocks) c.in_ok-place.place ≡ Some r.a =
-    position-get t.blocks.item_count t.blocks.largest r.a c.in_ok-place.place (ap (λ u. position (is_same r.a) (sets_of u.table.blocks)) (sym c.self.view_is) ∙ sym c.place_of.ensures ∙ c.in_ok-place.was) in
+    let here : slice_get (block_sets t.blocks) c.in_ok-place.place ≡ Some r.a =
+    position-get t.blocks.item_count t.blocks.largest r.a c.in_ok-place.place (ap (λ u. position (is_same r.a) (block_sets u.table.blocks)) (sym c.self.view_is) ∙ sym c.place_of.ensures ∙ c.in_ok-place.was) in
     let opens = subst (λ s. ArePassing t.blocks.item_count (is_open_in t) s c.open_items.result) c.walk_from-walk.ensures.set c.open_items.ensures in
     rw c.in-Some.is
-    (sym (next-passing t.blocks.item_count t.blocks.largest (is_open_in t) r c.open_items.result c.in-Some-next_member.q (get-in (sets_of t.blocks) c.in_ok-place.place r.a here) opens (sym c.next_member.ensures.value ∙ c.in-Some-next_member.is)))
+    (sym (next-passing t.blocks.item_count t.blocks.largest (is_open_in t) r c.open_items.result c.in-Some-next_member.q (get-in (block_sets t.blocks) c.in_ok-place.place r.a here) opens (sym c.next_member.ensures.value ∙ c.in-Some-next_member.is)))
 
 pub returns-in-None : goal.returns-in-None
 returns-in-None c =
@@ -69,5 +69,5 @@ returns-in-None c =
     let r = c.in-Some.r.now in
     let opens = subst (λ s. ArePassing t.blocks.item_count (is_open_in t) s c.open_items.result) c.walk_from-walk.ensures.set c.open_items.ensures in
     rw c.in-Some.is
-    (c.open_from-in-None.ensures ∙ ap (λ e. find (λ s. block_before e s.a && is_open_in t s) (queries_of t.blocks)) c.walk_from-walk.ensures.set
+    (c.open_from-in-None.ensures ∙ ap (λ e. find (λ s. block_before e s.a && is_open_in t s) (block_queries t.blocks)) c.walk_from-walk.ensures.set
     ∙ passing-later t.blocks.item_count t.blocks.largest (is_open_in t) r c.open_items.result opens (sym c.next_member.ensures.value ∙ c.in-None.is))

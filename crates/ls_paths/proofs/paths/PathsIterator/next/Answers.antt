@@ -1,4 +1,5 @@
-use Rattle.ls_paths.proofs.Vocabulary.{learning-from, whole-order}
+use Rattle.ls_paths.proofs.Growths.{learning-from}
+use Rattle.ls_paths.proofs.Levels.{whole-order}
 use Rattle.ls_paths.proofs.paths.PathsIterator.next.Goals as goal
 
 pub returns-clause-order : goal.returns-clause-order

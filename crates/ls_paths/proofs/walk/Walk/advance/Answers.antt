@@ -1,4 +1,6 @@
-use Rattle.ls_paths.proofs.Vocabulary.{◌∙◌, ◌≡◌, ap, arith, empty, full, grown-fresh, is_whole, learning-from, reached, sym, take_all, true, whole-parts, whole-reaches}
+use Rattle.ls_paths.proofs.Vocabulary.{◌∙◌, ◌≡◌, ap, arith, empty, full, is_whole, grown_to, sym, take_all, true}
+use Rattle.ls_paths.proofs.Growths.{learning-from}
+use Rattle.ls_paths.proofs.Levels.{grown-fresh, whole-parts, whole-reaches}
 use Rattle.ls_paths.proofs.Walks.{follows-path}
 use Rattle.ls_paths.proofs.walk.Walk.advance.Goals as goal
 
@@ -16,7 +18,7 @@ leave-self-requires-clause-set g c =
     let f = g.F.Inside.members c.args.self.now.family.now in
     let learning = learning-from n f (g.met.F.Inside.is_family c.args.self.now.family.now).small c.args.self.now.learning in
     let whole : is_whole n f c.args.self.now.order ≡ true = c.args.self.now.whole c.if-self.true in
-    c.full.ensures ∙ ap full c.items-n.ensures.count ∙ sym (whole-reaches n f c.args.self.now.order learning whole) ∙ ap (reached empty) (sym (take_all c.items-n.result c.args.self.now.order (omega (arith, (whole-parts n f c.args.self.now.order whole).long, c.items-n.ensures.count))))
+    c.full.ensures ∙ ap full c.items-n.ensures.count ∙ sym (whole-reaches n f c.args.self.now.order learning whole) ∙ ap (grown_to empty) (sym (take_all c.items-n.result c.args.self.now.order (omega (arith, (whole-parts n f c.args.self.now.order whole).long, c.items-n.ensures.count))))
 
 pub invariant_of-self : goal.invariant_of-self
 invariant_of-self g c =

@@ -1,4 +1,6 @@
-use Rattle.ls_paths.proofs.Vocabulary.{◌∙◌, ap, empty, learning-from, leaves_below, next_growth, order-fresh, order-parts, sym}
+use Rattle.ls_paths.proofs.Vocabulary.{◌∙◌, ap, empty, leaves_below, next_growth, sym}
+use Rattle.ls_paths.proofs.Growths.{learning-from}
+use Rattle.ls_paths.proofs.Levels.{order-fresh, order-parts}
 use Rattle.ls_paths.proofs.Padding.{order-within}
 use Rattle.ls_paths.proofs.Walks.{follows}
 use Rattle.ls_paths.proofs.walk.Walk.from_order.Goals as goal

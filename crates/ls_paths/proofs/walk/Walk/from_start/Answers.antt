@@ -1,4 +1,7 @@
-use Rattle.ls_paths.proofs.Vocabulary.{first-whole, learning-from, paths-begin, sym}
+use Rattle.ls_paths.proofs.Vocabulary.{sym}
+use Rattle.ls_paths.proofs.Growths.{learning-from}
+use Rattle.ls_paths.proofs.Levels.{first-whole}
+use Rattle.ls_paths.proofs.PathOrder.{paths-begin}
 use Rattle.ls_paths.proofs.walk.Walk.from_start.Goals as goal
 
 pub invariant_of-result : goal.invariant_of-result

@@ -1,4 +1,5 @@
-use Rattle.ls_paths.proofs.Vocabulary.{learning-from, whole-order}
+use Rattle.ls_paths.proofs.Growths.{learning-from}
+use Rattle.ls_paths.proofs.Levels.{whole-order}
 use Rattle.ls_paths.proofs.Padding.{order-items}
 use Rattle.ls_paths.proofs.walk.Walk.path.Goals as goal
 

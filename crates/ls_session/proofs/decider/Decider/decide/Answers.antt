@@ -1,26 +1,54 @@
-use Rattle.ls_session.proofs.Vocabulary.{ap, command_effect, decides_as, decides_made, needs_domain, refl, standing_session}
+use Rattle.ls_session.proofs.Vocabulary.{ap, command_effect, refl, standing_session}
+use Rattle.ls_session.proofs.Decided.{decides_at, decides_made, decides_refused, decides_standing, edit-stored, pupil-stored, setting-stored, view-stored}
 use Rattle.ls_session.proofs.decider.Decider.decide.Goals as goal
 
-pub returns-in-Nothing-clause-decides : goal.returns-in-Nothing-clause-decides
+pub returns-in-Nothing : goal.returns-in-Nothing
 unfolding command_effect
-returns-in-Nothing-clause-decides g c =
-    decides_made _ _ _ (λ calls. ap (command_effect (standing_session c.args.self.now.course) calls) c.in-Nothing.is) refl
+returns-in-Nothing g c =
+    decides_made (λ calls. ap (command_effect (standing_session c.args.self.now.state) calls) c.in-Nothing.is) refl
     (record { response = refl; session = refl; undone = tt })
 
-pub returns-in-Items-clause-decides : goal.returns-in-Items-clause-decides
+pub returns-in-Opening : goal.returns-in-Opening
 unfolding command_effect
-returns-in-Items-clause-decides g c =
-    decides_made _ _ _ (λ calls. ap (command_effect (standing_session c.args.self.now.course) calls) c.in-Items.is) refl c.begin.ensures.makes
+returns-in-Opening g c =
+    decides_at (λ x calls. command_effect (standing_session c.args.self.now.state) calls x) c.in-Opening.is c.open.ensures
 
-pub returns-in-LoadItems-clause-decides : goal.returns-in-LoadItems-clause-decides
+pub returns-in-Some : goal.returns-in-Some
 unfolding command_effect
-returns-in-LoadItems-clause-decides g c =
-    decides_as _ (λ calls. ap (command_effect (standing_session c.args.self.now.course) calls) c.in-LoadItems.is) c.load.ensures.decides
+returns-in-Some g c = decides_standing c.in-File.is c.in-Some.is c.file.ensures
 
-pub returns-in-Reopen-clause-decides : goal.returns-in-Reopen-clause-decides
+pub returns-in-None : goal.returns-in-None
 unfolding command_effect
-returns-in-Reopen-clause-decides g c =
-    decides_as _ (λ calls. ap (command_effect (standing_session c.args.self.now.course) calls) c.in-Reopen.is) c.open.ensures.decides
+returns-in-None g c = decides_refused c.in-File.is c.in-None.is (λ calls. refl) c.without_domain.ensures
 
-pub carry_out-requires-clause-needed : goal.carry_out-requires-clause-needed
-carry_out-requires-clause-needed g c = λ lives outlive. needs_domain c.args.command.now c.in_default.not-Nothing c.in_default.not-Items c.in_default.not-LoadItems c.in_default.not-Reopen
+pub returns-in-Some-state : goal.returns-in-Some-state
+unfolding command_effect
+returns-in-Some-state g c = decides_standing c.in-Edit.is c.in-Some-state.is (decides_made (λ calls. refl) (edit-stored c.in-Some-state.state c.in-Edit.command) c.edit.ensures)
+
+pub returns-in-None-state : goal.returns-in-None-state
+unfolding command_effect
+returns-in-None-state g c = decides_refused c.in-Edit.is c.in-None-state.is (λ calls. refl) c.without_domain-in-None-state.ensures
+
+pub returns-in-Some-state-2 : goal.returns-in-Some-state-2
+unfolding command_effect
+returns-in-Some-state-2 g c = decides_standing c.in-View.is c.in-Some-state-2.is (decides_made (λ calls. refl) (view-stored c.in-Some-state-2.state c.in-View.command) c.view.ensures)
+
+pub returns-in-None-state-2 : goal.returns-in-None-state-2
+unfolding command_effect
+returns-in-None-state-2 g c = decides_refused c.in-View.is c.in-None-state-2.is (λ calls. refl) c.without_domain-in-None-state-2.ensures
+
+pub returns-in-Some-state-3 : goal.returns-in-Some-state-3
+unfolding command_effect
+returns-in-Some-state-3 g c = decides_standing c.in-Setting.is c.in-Some-state-3.is (decides_made (λ calls. refl) (setting-stored c.in-Some-state-3.state c.in-Setting.command) c.set.ensures)
+
+pub returns-in-None-state-3 : goal.returns-in-None-state-3
+unfolding command_effect
+returns-in-None-state-3 g c = decides_refused c.in-Setting.is c.in-None-state-3.is (λ calls. refl) c.without_domain-in-None-state-3.ensures
+
+pub returns-in-Some-state-4 : goal.returns-in-Some-state-4
+unfolding command_effect
+returns-in-Some-state-4 g c = decides_standing c.in-Pupil.is c.in-Some-state-4.is (decides_made (λ calls. refl) (pupil-stored c.in-Some-state-4.state c.in-Pupil.command) c.attend.ensures)
+
+pub returns-in-None-state-4 : goal.returns-in-None-state-4
+unfolding command_effect
+returns-in-None-state-4 g c = decides_refused c.in-Pupil.is c.in-None-state-4.is (λ calls. refl) c.without_domain-in-None-state-4.ensures

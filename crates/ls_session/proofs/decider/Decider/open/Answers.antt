@@ -1,10 +1,15 @@
-use Rattle.ls_session.proofs.Vocabulary.{Fetches, Text, changes, decides_fetched, open_row, refl, standing_session, subst}
+use Rattle.ls_session.proofs.Vocabulary.{Calls, Effect, OpeningCommand, Session, changes, opening_row, refl, standing_session}
+use Rattle.ls_session.proofs.Decided.{decides_at, decides_made}
 use Rattle.ls_session.proofs.decider.Decider.open.Goals as goal
 
-pub returns-clause-decides : goal.returns-clause-decides
-returns-clause-decides g c =
-    let folder = g.H.Shelf.files c.args.shelf.now in
-    let left = g.H.Shelf.files c.fetch.new.self in
-    let s = standing_session c.args.self.now.course in
-    let fetches : Fetches folder left c.args.file.now c.fetch.result = subst (λ (n : Text). Fetches folder left n c.fetch.result) c.as_str.ensures c.fetch.ensures.files in
-    decides_fetched (λ given. changes (open_row s given)) refl refl (λ given. refl) c.args.file.now c.open_fetched.result fetches c.fetch.ensures.cause c.open_fetched.ensures.makes
+abbrev effect : Session → OpeningCommand → Calls → Effect
+effect s c calls = changes (opening_row s calls c)
+
+pub returns-in-Items : goal.returns-in-Items
+returns-in-Items g c = decides_at (effect (standing_session c.args.self.now.state)) c.in-Items.is (decides_made (λ calls. refl) refl c.begin.ensures)
+
+pub returns-in-LoadItems : goal.returns-in-LoadItems
+returns-in-LoadItems g c = decides_at (effect (standing_session c.args.self.now.state)) c.in-LoadItems.is c.load_items.ensures
+
+pub returns-in-Reopen : goal.returns-in-Reopen
+returns-in-Reopen g c = decides_at (effect (standing_session c.args.self.now.state)) c.in-Reopen.is c.reopen.ensures

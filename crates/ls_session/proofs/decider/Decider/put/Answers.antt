@@ -1,7 +1,6 @@
-use Rattle.ls_session.proofs.Vocabulary.{◌∙◌, Response, ap, bytes_of, bytes_of-none, lines_of, says_as, says_nothing, standing_session, sym}
+use Rattle.ls_session.proofs.Vocabulary.{IsAfterLine, Option, Session, standing_session, subst}
+use Rattle.ls_session.proofs.Sayable.{nothing_shown}
 use Rattle.ls_session.proofs.decider.Decider.put.Goals as goal
 
-pub returns-in-Silence : goal.returns-in-Silence
-returns-in-Silence g c =
-    let s = standing_session c.args.self.now.course in
-    says_as (bytes_of-none ∙ ap (λ (r : Response). bytes_of (lines_of s r)) (sym c.in-Silence.is)) (says_nothing _ _ _)
+pub put_bare-requires : goal.put_bare-requires
+put_bare-requires g c = nothing_shown (subst (λ (o : Option Session). IsAfterLine (standing_session o) c.args.response.now) c.in-None.is c.requires)

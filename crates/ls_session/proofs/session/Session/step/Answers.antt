@@ -1,4 +1,4 @@
-use Rattle.ls_session.proofs.Following.{follows_silent}
+use Rattle.ls_session.proofs.Steps.{follows_silent}
 use Rattle.ls_session.proofs.session.Session.step.Goals as goal
 
 pub returns-then-is_passed : goal.returns-then-is_passed

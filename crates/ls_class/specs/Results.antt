@@ -1,6 +1,0 @@
--- What is known of a pupil of a class, as the definitions have it.
-use Rattle.ls_theory.specs.{PupilResult}
-use Rattle.ls_class.specs.declared.results.ClassResult.{ClassResult}
-
-abbrev pub result_of : ClassResult → PupilResult
-result_of r = record { name = r.name; replies = r.replies; reason = r.reason; state = r.state }

@@ -1,4 +1,0 @@
-mod Vocabulary
-pub mod Deciding
-pub mod Fetching
-pub mod Storing

@@ -1,3 +1,0 @@
-mod Vocabulary
-mod Trailed
-mod Told

@@ -1,9 +1,0 @@
-use Rattle.ls_enum.proofs.Vocabulary.{◌≤◌, length}
-use Rattle.ls_enum.proofs.fronts.Fronts.drop_above.Given as goal
-
--- so many fronts are looked at still
-abbrev pub invariant-loop-count : goal.invariant-loop-count
-invariant-loop-count l = l.count ≤ length l.held
-
-abbrev pub decreases-loop-count : goal.decreases-loop-count
-decreases-loop-count l = l.count

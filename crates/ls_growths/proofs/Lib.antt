@@ -1,5 +1,0 @@
-mod Vocabulary
-pub mod Growths
-pub mod PathOrder
-pub mod Levels
-pub mod Added

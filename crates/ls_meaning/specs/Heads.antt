@@ -1,0 +1,41 @@
+-- The words with which the lines of what is shown begin. None is `no`.
+use Rattle.std.specs.Prelude.{codes}
+use Rattle.ls_lines.specs.{Text}
+
+pub data Head : Type 0 where
+  Ask : Head
+  Base : Head
+  Class : Head
+  Fringes : Head
+  Known : Head
+  Learning : Head
+  More : Head
+  Over : Head
+  Path : Head
+  Question : Head
+  Report : Head
+  Result : Head
+  Set : Head
+  Settled : Head
+  State : Head
+  Surmise : Head
+  Test : Head
+
+abbrev pub head_word : Head → Text
+head_word Ask = codes "ask"
+head_word Base = codes "base"
+head_word Class = codes "class"
+head_word Fringes = codes "fringes"
+head_word Known = codes "known"
+head_word Learning = codes "learning"
+head_word More = codes "more"
+head_word Over = codes "over"
+head_word Path = codes "path"
+head_word Question = codes "question"
+head_word Report = codes "report"
+head_word Result = codes "result"
+head_word Set = codes "set"
+head_word Settled = codes "settled"
+head_word State = codes "state"
+head_word Surmise = codes "surmise"
+head_word Test = codes "test"

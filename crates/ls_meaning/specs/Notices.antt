@@ -1,0 +1,15 @@
+-- What a refusal tells, as the code holds it.
+use Rattle.std.specs.Prelude.{map}
+use Rattle.ls_meaning.specs.Refusals.{Detail, Word, Number, Item, Set, Notice, told}
+use Rattle.ls_meaning.specs.declared.notices.Detail.{Detail as Held}
+use Rattle.ls_meaning.specs.declared.notices.Detail.TheVariants as held
+use Rattle.ls_meaning.specs.declared.notices.Notice.{Notice as HeldNotice}
+
+abbrev pub detail_of : Held → Detail
+detail_of (held.Word w) = Word w.now
+detail_of (held.Number n) = Number n
+detail_of (held.Item q) = Item q
+detail_of (held.Set k) = Set k
+
+abbrev pub notice_of : HeldNotice → Notice
+notice_of n = told n.code (map detail_of n.details.items)

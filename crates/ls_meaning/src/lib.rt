@@ -1,0 +1,13 @@
+//! The meaning of the whole program, as functions on lists of bytes, which stand in specs/; and the
+//! data types of which they speak: what a command asks, and what it is answered.
+#![tactic(auto)]
+
+mod faults;
+mod notices;
+mod request;
+mod response;
+
+pub use faults::reason_word;
+pub use notices::{Detail, Notice};
+pub use request::{Edit, PupilRequest, Setting, StartFile, View};
+pub use response::{Refusal, Response, Shown};

@@ -1,9 +1,0 @@
-use Rattle.std.proofs.Common.{◌+◌, ◌∷◌, [], length}
-use Rattle.ls_reply.specs.{placed}
-use Rattle.ls_meanings.proofs.Placing.{in_front}
-use Rattle.ls_meanings.proofs.names.read_query.Goals as goal
-
-pub returns-in-Err-clause-unnamed : goal.returns-in-Err-clause-unnamed
-returns-in-Err-clause-unnamed c =
-    let names = c.args.names.now in
-    in_front c.args.domain.now (placed 2 names) ((length names + 3, c.args.item.now) ∷ []) c.in-Err.unnamed.place c.in-Err.ensures.unnamed

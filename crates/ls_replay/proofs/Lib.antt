@@ -1,4 +1,0 @@
-mod Vocabulary
-pub mod Turns
-pub mod Parts
-pub mod Lines

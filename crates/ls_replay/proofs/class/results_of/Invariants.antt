@@ -1,5 +1,0 @@
-use Rattle.ls_replay.proofs.Vocabulary.{◌≡◌, lines_of, take}
-use Rattle.ls_replay.proofs.class.results_of.Given as goal
-
-abbrev pub invariant-loop-place : goal.invariant-loop-place
-invariant-loop-place l = l.results ≡ lines_of (take l.place l.t) (take l.place l.replays)

@@ -1,0 +1,2 @@
+pub mod Resolving
+pub use Rattle.ls_resolve.specs.Resolving.{Resolves, ResolvesInMemory}

@@ -1,5 +1,0 @@
-mod Vocabulary
-mod BaseStarts
-mod ClauseStarts
-mod BlockSizes
-mod Standings

@@ -1,5 +1,0 @@
-use Rattle.ls_restore.proofs.Vocabulary.{◌∙◌, IsOn, on-from, subst, sym, view}
-use Rattle.ls_restore.proofs.starts.base_start.Goals as goal
-
-pub base_of-requires-clause-within : goal.base_of-requires-clause-within
-base_of-requires-clause-within c = subst (IsOn c.args.n) (sym c.as_slice.ensures) (on-from c.args.n (view c.args.value.now) _ (sym c.in_ok-sets.ensures ∙ c.in-Some.is))

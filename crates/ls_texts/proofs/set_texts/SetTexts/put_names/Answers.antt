@@ -1,6 +1,0 @@
-use Rattle.ls_texts.proofs.Saying.{says_as}
-use Rattle.ls_texts.proofs.Groups.{joined-spaced}
-use Rattle.ls_texts.proofs.set_texts.SetTexts.put_names.Goals as goal
-
-pub returns : goal.returns
-returns g c = says_as (joined-spaced c.args.self.now c.args.s) c.put_spaced.ensures

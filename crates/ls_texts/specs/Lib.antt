@@ -1,5 +1,0 @@
-pub mod Rooms
-pub mod SetTexts
-pub mod Names
-pub mod SurmiseTexts
-pub mod PathTexts

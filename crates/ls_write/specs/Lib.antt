@@ -1,0 +1,5 @@
+pub mod Rooms
+pub mod SetTexts
+pub mod SurmiseTexts
+pub mod Paths
+pub mod Showing

@@ -1,7 +1,0 @@
-use Rattle.ls_writing.proofs.Vocabulary.{codes, says_as, says_then, set_text}
-use Rattle.ls_writing.proofs.Joins.{line-one}
-use Rattle.ls_writing.proofs.judging.put_state.Goals as goal
-
-pub returns : goal.returns
-returns g c =
-    says_as (line-one (codes "state") (set_text c.args.texts.now c.args.set)) (says_then (says_then c.put.ensures.says c.put_set.ensures) c.end_line.ensures)

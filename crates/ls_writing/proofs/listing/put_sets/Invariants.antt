@@ -1,5 +1,0 @@
-use Rattle.ls_writing.proofs.Vocabulary.{Says, bytes_of, map, set_words, take}
-use Rattle.ls_writing.proofs.listing.put_sets.Given as goal
-
-abbrev pub invariant-loop-set : goal.invariant-loop-set
-invariant-loop-set g l = Says (g.K.Sink.written l.fn.out) (g.K.Sink.faults l.fn.out) l.fn.room (g.K.Sink.written l.out) (g.K.Sink.faults l.out) l.room (bytes_of (map (set_words l.texts) (take l.set-index l.sets)))
