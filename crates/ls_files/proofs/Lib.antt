@@ -1,2 +1,6 @@
 mod Examples
 mod ExamplesClasses
+mod ExamplesPairs
+mod ExamplesSkills
+pub mod Texts
+pub mod CodecLaws
