@@ -6,6 +6,7 @@ use Rattle.ls_lines.specs.declared.opening.OpeningForm.TheVariants as opening
 use Rattle.ls_lines.specs.declared.file.FileForm.TheVariants as file
 use Rattle.ls_lines.specs.declared.edit.EditForm.TheVariants as edit
 use Rattle.ls_lines.specs.declared.view.ViewForm.TheVariants as view
+use Rattle.ls_lines.specs.declared.safe.SafeForm.TheVariants as safe
 use Rattle.ls_lines.specs.declared.setting.SettingForm.TheVariants as setting
 use Rattle.ls_lines.specs.declared.pupil.PupilForm.TheVariants as pupil
 
@@ -54,6 +55,7 @@ alone (form.Opening opening.Items) = refl
 alone (form.File file.Test) = refl
 alone (form.Edit edit.Blocks) = refl
 alone (form.View view.States) = refl
+alone (form.Safe safe.Open) = refl
 alone (form.Setting setting.OddsAll) = refl
 alone (form.Pupil pupil.Pupil) = refl
 alone f = refl

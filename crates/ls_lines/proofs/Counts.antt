@@ -5,6 +5,7 @@ use Rattle.ls_lines.specs.declared.opening.OpeningForm.TheVariants as opening
 use Rattle.ls_lines.specs.declared.file.FileForm.TheVariants as file
 use Rattle.ls_lines.specs.declared.edit.EditForm.TheVariants as edit
 use Rattle.ls_lines.specs.declared.view.ViewForm.TheVariants as view
+use Rattle.ls_lines.specs.declared.safe.SafeForm.TheVariants as safe
 use Rattle.ls_lines.specs.declared.setting.SettingForm.TheVariants as setting
 use Rattle.ls_lines.specs.declared.pupil.PupilForm.TheVariants as pupil
 use Rattle.ls_lines.proofs.Numbers.{number-within}
@@ -30,6 +31,7 @@ form_count-within (form.Opening opening.Items) given n h = absurd (none-some n h
 form_count-within (form.File file.Test) given n h = absurd (none-some n h)
 form_count-within (form.Edit edit.Blocks) given n h = absurd (none-some n h)
 form_count-within (form.View view.Base) given n h = absurd (none-some n h)
+form_count-within (form.Safe safe.Open) given n h = absurd (none-some n h)
 form_count-within (form.Setting setting.OddsAll) given n h = absurd (none-some n h)
 form_count-within (form.Pupil pupil.Pupil) given n h = absurd (none-some n h)
 form_count-within f given n h = grind (arith, number-within)

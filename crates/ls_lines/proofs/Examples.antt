@@ -5,6 +5,7 @@ use Rattle.ls_lines.specs.declared.opening.OpeningCommand.TheVariants as opening
 use Rattle.ls_lines.specs.declared.file.FileCommand.TheVariants as files
 use Rattle.ls_lines.specs.declared.edit.EditCommand.TheVariants as edits
 use Rattle.ls_lines.specs.declared.view.ViewCommand.TheVariants as views
+use Rattle.ls_lines.specs.declared.safe.SafeCommand.TheVariants as safes
 use Rattle.ls_lines.specs.declared.setting.SettingCommand.TheVariants as settings
 use Rattle.ls_lines.specs.declared.pupil.PupilCommand.TheVariants as pupils
 
@@ -54,6 +55,32 @@ ratio_of_item : command_of (words (codes "ratio 7 3 2 5 4")) ≡ Some (commands.
 unfolding words command_of forms parts command cut is_of spelling
 ratio_of_item = refl
 
+-- two files, a count and a cursor; two fixed words; and a safe answer where no item is failed
+mesh_after : command_of (words (codes "mesh u v 10 after c"))
+    ≡ Some (commands.File (files.Mesh (codes "u") (codes "v") 10 (Some (codes "c"))))
+unfolding words command_of forms parts command cut is_of spelling
+mesh_after = refl
+
+two_fixed_words : command_of (words (codes "skills any f 5"))
+    ≡ Some (commands.File (files.SkillsAny (codes "f") 5 None))
+unfolding words command_of forms parts command cut is_of spelling
+two_fixed_words = refl
+
+all_skills_after : command_of (words (codes "skills all m 1 after a"))
+    ≡ Some (commands.File (files.SkillsAll (codes "m") 1 (Some (codes "a"))))
+unfolding words command_of forms parts command cut is_of spelling
+all_skills_after = refl
+
+safe_answer : command_of (words (codes "safe : a"))
+    ≡ Some (commands.Safe (safes.Answer [] (codes "a")))
+unfolding words command_of forms parts command cut is_of spelling
+safe_answer = refl
+
+related_start : command_of (words (codes "start relation r"))
+    ≡ Some (commands.File (files.StartRelation (codes "r")))
+unfolding words command_of forms parts command cut is_of spelling
+related_start = refl
+
 -- a printed command
 abbrev printed : Command → List ℕ
 printed c = words_joined (spelled c)
@@ -65,6 +92,11 @@ printed_page = refl
 printed_state : printed (commands.View (views.StateOf (codes "a" ∷ codes "b" ∷ []) [])) ≡ codes "state-of a b |"
 unfolding spelled laid_out spelled_as parts spelling
 printed_state = refl
+
+printed_mesh : printed (commands.File (files.Mesh (codes "u") (codes "v") 1 (Some (codes "c"))))
+    ≡ codes "mesh u v 1 after c"
+unfolding spelled laid_out spelled_as parts spelling digits
+printed_mesh = refl
 
 printed_nothing : printed commands.Nothing ≡ []
 unfolding spelled laid_out spelled_as parts
@@ -130,6 +162,18 @@ too_many_words = refl
 no_cursor : place (codes "states 3 after") ≡ 4
 unfolding words fault_place is_begun forms parts is_of spelling
 no_cursor = refl
+
+no_count : place (codes "mesh a b") ≡ 4
+unfolding words fault_place is_begun forms parts is_of spelling
+no_count = refl
+
+one_file : place (codes "mesh-agree a") ≡ 3
+unfolding words fault_place is_begun forms parts is_of spelling
+one_file = refl
+
+neither_any_nor_all : place (codes "skills f 5") ≡ 2
+unfolding words fault_place is_begun forms parts is_of spelling
+neither_any_nor_all = refl
 
 leading_zero : place (codes "states 03") ≡ 2
 unfolding words fault_place is_begun forms parts is_of spelling

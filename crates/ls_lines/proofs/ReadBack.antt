@@ -2,7 +2,9 @@
 use Rattle.ls_lines.proofs.Vocabulary.{◌∙◌, ◌∷◌, ◌≡◌, Bool, Command, Filling, Fixed, Form, List, Many, None, Number, One, Part, Right, Some, Text, Word, Words, ℕ, [], all_stand, and_parts, ap, arith, bytes_eq, codes, command, command_of, decimal, false, forms, greatest_number, if◌then◌else◌, is_of, is_plain, is_some, laid_out, leb-true, list_all, map, most_counted, nat_le, nat_list_eq_equiv, never, number_up_to, parts, refl, spelled, spelled_as, spelling, stands_at, true, words, words_joined, words_of}
 use Rattle.ls_lines.specs.declared.kind.Kind.TheVariants as kind
 use Rattle.ls_lines.specs.declared.command.Command.TheVariants as commands
+use Rattle.ls_lines.specs.declared.file.FileCommand.TheVariants as files
 use Rattle.ls_lines.specs.declared.view.ViewCommand.TheVariants as views
+use Rattle.ls_lines.specs.declared.safe.SafeCommand.TheVariants as safes
 use Rattle.ls_lines.proofs.Numbers.{number_up_to-of_decimal}
 use Rattle.ls_lines.proofs.Rewords.{begins, words-line}
 use Rattle.ls_lines.proofs.Recut.{fits_at, all_fit, flat, recut, words-fit}
@@ -72,6 +74,10 @@ rebuilt commands.Nothing h = refl
 rebuilt (commands.View (views.States count None)) h = grind (arith, and_parts, count-read)
 rebuilt (commands.View (views.Project count None names)) h = grind (arith, and_parts, count-read)
 rebuilt (commands.View (views.Paths count None)) h = grind (arith, and_parts, count-read)
+rebuilt (commands.File (files.SkillsAny file count None)) h = grind (arith, and_parts, count-read)
+rebuilt (commands.File (files.SkillsAll file count None)) h = grind (arith, and_parts, count-read)
+rebuilt (commands.File (files.Mesh left right count None)) h = grind (arith, and_parts, count-read)
+rebuilt (commands.Safe (safes.States count None)) h = grind (arith, and_parts, count-read)
 rebuilt c h = grind (arith, and_parts, count-read, number-read, right-read)
 
 -- each form but that of nothing begins with a word of its own, which makes no note of the line

@@ -21,7 +21,7 @@ pub use Rattle.std.specs.Str.{IsAscii}
 pub use Rattle.ls_lists.proofs.Bools.{never}
 pub use Rattle.ls_lines.specs.Commands.{begins_command, count_of, fits, front, least_from}
 unfoldable pub use Rattle.ls_lines.specs.Commands.{command_of, cut, fault_place, is_begun}
-unfoldable pub use Rattle.ls_lines.specs.Forms.{command, forms, parts, spelled_as, spelling}
+unfoldable pub use Rattle.ls_lines.specs.Forms.{command, forms, parts, spelled_as}
 pub use Rattle.ls_lines.specs.Grammar.{Completes, IsLine, done, fixed, no_more, one, one_more}
 pub use Rattle.ls_lines.specs.Kinds.{greatest_number, is_cursor_byte, is_from_to, is_name_byte, is_name_up_to, longest_file_name, longest_name, most_counted}
 unfoldable pub use Rattle.ls_lines.specs.Kinds.{is_of}
@@ -33,6 +33,7 @@ pub use Rattle.ls_lines.specs.Printing.{all_stand, stands_at, words_joined}
 unfoldable pub use Rattle.ls_lines.specs.Printing.{is_plain, laid_out, spelled}
 pub use Rattle.ls_lines.specs.Reading.{forms_from, initial, may_begin}
 unfoldable pub use Rattle.ls_lines.specs.Reading.{begun_length}
+unfoldable pub use Rattle.ls_lines.specs.Spelling.{spelling}
 pub use Rattle.ls_lines.specs.declared.command.Command.{Command}
 pub use Rattle.ls_lines.specs.declared.form.Form.{Form}
 pub use Rattle.ls_lines.specs.declared.keyword.Keyword.{Keyword}

@@ -6,12 +6,15 @@ use Rattle.std.specs.List.{list_any, prefix_len}
 use Rattle.std.specs.Option.{option_map_or, option_and_then}
 use Rattle.ls_lines.specs.Lines.{Text}
 use Rattle.ls_lines.specs.Kinds.{is_of}
-use Rattle.ls_lines.specs.Forms.{spelling, parts, command, forms}
+use Rattle.ls_lines.specs.Spelling.{spelling}
+use Rattle.ls_lines.specs.Forms.{parts, command, forms}
 use Rattle.ls_lines.specs.declared.part.Part.{Part}
 use Rattle.ls_lines.specs.declared.part.Part.TheVariants.{Fixed, One, Many}
 use Rattle.ls_lines.specs.declared.command.Command.{Command}
-use Rattle.ls_lines.specs.declared.command.Command.TheVariants.{View}
+use Rattle.ls_lines.specs.declared.command.Command.TheVariants.{File, View, Safe}
+use Rattle.ls_lines.specs.declared.file.FileCommand.TheVariants.{SkillsAny, SkillsAll, Mesh}
 use Rattle.ls_lines.specs.declared.view.ViewCommand.TheVariants.{States, Project, Paths}
+use Rattle.ls_lines.specs.declared.safe.SafeCommand.TheVariants as safes
 
 -- whether the word can stand at the part
 abbrev pub fits : Part → Text → Bool
@@ -48,6 +51,10 @@ abbrev pub count_of : Command → Option ℕ
 count_of (View (States count after)) = Some count
 count_of (View (Project count after names)) = Some count
 count_of (View (Paths count after)) = Some count
+count_of (File (SkillsAny file count after)) = Some count
+count_of (File (SkillsAll file count after)) = Some count
+count_of (File (Mesh left right count after)) = Some count
+count_of (Safe (safes.States count after)) = Some count
 count_of c = None
 
 -- whether some command begins with the words

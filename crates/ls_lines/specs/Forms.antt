@@ -1,14 +1,12 @@
 -- The forms of commands: ONE TABLE, from which a line is read (`Commands`), a command is printed
 -- (`Printing`) and a fault has its place. A form is named behind its topic, as `edit.Yes`, and a
 -- command behind the plural, as `edits.Yes`.
-use Rattle.std.specs.Prelude.{ℕ, Bool, List, [], ◌∷◌, ◌++◌, map, slice_index_or, bytes_eq, codes}
-use Rattle.std.specs.Prelude.{Some, None, unwrap_or}
+use Rattle.std.specs.Prelude.{List, [], ◌∷◌, ◌++◌, map, Some, None}
 use Rattle.ls_lines.specs.Lines.{Text}
-use Rattle.ls_lines.specs.Numbers.{number_up_to}
-use Rattle.ls_lines.specs.Kinds.{most_counted, greatest_number}
+use Rattle.ls_lines.specs.Kinds.{most_counted}
+use Rattle.ls_lines.specs.Given.{all, one, count, number, is_right}
 use Rattle.ls_lines.specs.Operands.{Filling, Word, Words, Number, Right}
 use Rattle.ls_lines.specs.declared.kind.Kind.TheVariants as kind
-use Rattle.ls_lines.specs.declared.keyword.Keyword.{Keyword}
 use Rattle.ls_lines.specs.declared.keyword.Keyword.TheVariants as word
 use Rattle.ls_lines.specs.declared.part.Part.{Part}
 use Rattle.ls_lines.specs.declared.part.Part.TheVariants.{Fixed, One, Many}
@@ -32,6 +30,10 @@ use Rattle.ls_lines.specs.declared.view.ViewForm.{ViewForm}
 use Rattle.ls_lines.specs.declared.view.ViewForm.TheVariants as view
 use Rattle.ls_lines.specs.declared.view.ViewCommand.{ViewCommand}
 use Rattle.ls_lines.specs.declared.view.ViewCommand.TheVariants as views
+use Rattle.ls_lines.specs.declared.safe.SafeForm.{SafeForm}
+use Rattle.ls_lines.specs.declared.safe.SafeForm.TheVariants as safe
+use Rattle.ls_lines.specs.declared.safe.SafeCommand.{SafeCommand}
+use Rattle.ls_lines.specs.declared.safe.SafeCommand.TheVariants as safes
 use Rattle.ls_lines.specs.declared.setting.SettingForm.{SettingForm}
 use Rattle.ls_lines.specs.declared.setting.SettingForm.TheVariants as setting
 use Rattle.ls_lines.specs.declared.setting.SettingCommand.{SettingCommand}
@@ -40,63 +42,6 @@ use Rattle.ls_lines.specs.declared.pupil.PupilForm.{PupilForm}
 use Rattle.ls_lines.specs.declared.pupil.PupilForm.TheVariants as pupil
 use Rattle.ls_lines.specs.declared.pupil.PupilCommand.{PupilCommand}
 use Rattle.ls_lines.specs.declared.pupil.PupilCommand.TheVariants as pupils
-
--- how a command's own word is spelled
-unfoldable pub spelling : Keyword → Text
-spelling word.Items = codes "items"
-spelling word.LoadItems = codes "load-items"
-spelling word.Start = codes "start"
-spelling word.Surmise = codes "surmise"
-spelling word.Base = codes "base"
-spelling word.Blocks = codes "blocks"
-spelling word.Yes = codes "yes"
-spelling word.No = codes "no"
-spelling word.Retract = codes "retract"
-spelling word.Known = codes "known"
-spelling word.Ask = codes "ask"
-spelling word.States = codes "states"
-spelling word.After = codes "after"
-spelling word.Learning = codes "learning"
-spelling word.Project = codes "project"
-spelling word.ProjectBase = codes "project-base"
-spelling word.Test = codes "test"
-spelling word.Fringes = codes "fringes"
-spelling word.StateOf = codes "state-of"
-spelling word.Paths = codes "paths"
-spelling word.Odds = codes "odds"
-spelling word.Ratio = codes "ratio"
-spelling word.Limits = codes "limits"
-spelling word.Pupil = codes "pupil"
-spelling word.Question = codes "question"
-spelling word.Reply = codes "reply"
-spelling word.Report = codes "report"
-spelling word.Close = codes "close"
-spelling word.Class = codes "class"
-spelling word.Save = codes "save"
-spelling word.Open = codes "open"
-spelling word.Colon = codes ":"
-spelling word.Bar = codes "|"
-
--- ---- what stands at the parts of a form, counted from 0
-
--- the words
-abbrev pub all : List (List Text) → ℕ → List Text
-all given place = slice_index_or given place []
-
--- the one word
-abbrev pub one : List (List Text) → ℕ → Text
-one given place = slice_index_or (all given place) 0 []
-
--- the number of the one word, which is a count or any number
-abbrev pub count : List (List Text) → ℕ → ℕ
-count given place = unwrap_or (number_up_to most_counted (one given place)) 0
-
-abbrev pub number : List (List Text) → ℕ → ℕ
-number given place = unwrap_or (number_up_to greatest_number (one given place)) 0
-
--- whether the one word is `right`
-abbrev pub is_right : List (List Text) → ℕ → Bool
-is_right given place = bytes_eq (one given place) (codes "right")
 
 -- ---- the topics: of each its forms, the parts of their lines, the commands that they make of the
 -- words at the parts, and the way back: the form of a command, and what stands at those of its
@@ -125,28 +70,70 @@ opening_spelled_as (openings.Reopen file) = (opening.Reopen, Word file ∷ [])
 -- ---- reading and storing files
 
 abbrev pub file_forms : List FileForm
-file_forms = file.StartSurmise ∷ file.StartBase ∷ file.Test ∷ file.Class ∷ file.Save ∷ []
+file_forms =
+    file.StartSurmise ∷ file.StartBase ∷ file.StartRelation ∷ file.Test ∷ file.Class ∷ file.Save ∷
+    file.SkillsAny ∷ file.SkillsAnyAfter ∷ file.SkillsAll ∷ file.SkillsAllAfter ∷
+    file.Mesh ∷ file.MeshAfter ∷ file.MeshAgree ∷ []
 
 abbrev pub file_parts : FileForm → List Part
 file_parts file.StartSurmise = Fixed word.Start ∷ Fixed word.Surmise ∷ One kind.File ∷ []
 file_parts file.StartBase = Fixed word.Start ∷ Fixed word.Base ∷ One kind.File ∷ []
+file_parts file.StartRelation = Fixed word.Start ∷ Fixed word.Relation ∷ One kind.File ∷ []
 file_parts file.Test = Fixed word.Test ∷ One kind.File ∷ []
 file_parts file.Class = Fixed word.Class ∷ One kind.File ∷ []
 file_parts file.Save = Fixed word.Save ∷ One kind.File ∷ []
+file_parts file.SkillsAny =
+    Fixed word.Skills ∷ Fixed word.Any ∷ One kind.File ∷ One kind.Count ∷ []
+file_parts file.SkillsAnyAfter =
+    Fixed word.Skills ∷ Fixed word.Any ∷ One kind.File ∷ One kind.Count
+    ∷ Fixed word.After ∷ One kind.Cursor ∷ []
+file_parts file.SkillsAll =
+    Fixed word.Skills ∷ Fixed word.All ∷ One kind.File ∷ One kind.Count ∷ []
+file_parts file.SkillsAllAfter =
+    Fixed word.Skills ∷ Fixed word.All ∷ One kind.File ∷ One kind.Count
+    ∷ Fixed word.After ∷ One kind.Cursor ∷ []
+file_parts file.Mesh = Fixed word.Mesh ∷ One kind.File ∷ One kind.File ∷ One kind.Count ∷ []
+file_parts file.MeshAfter =
+    Fixed word.Mesh ∷ One kind.File ∷ One kind.File ∷ One kind.Count
+    ∷ Fixed word.After ∷ One kind.Cursor ∷ []
+file_parts file.MeshAgree = Fixed word.MeshAgree ∷ One kind.File ∷ One kind.File ∷ []
 
 abbrev pub file_command : FileForm → List (List Text) → FileCommand
 file_command file.StartSurmise given = files.StartSurmise (one given 2)
 file_command file.StartBase given = files.StartBase (one given 2)
+file_command file.StartRelation given = files.StartRelation (one given 2)
 file_command file.Test given = files.Test (one given 1)
 file_command file.Class given = files.Class (one given 1)
 file_command file.Save given = files.Save (one given 1)
+file_command file.SkillsAny given = files.SkillsAny (one given 2) (count given 3) None
+file_command file.SkillsAnyAfter given =
+    files.SkillsAny (one given 2) (count given 3) (Some (one given 5))
+file_command file.SkillsAll given = files.SkillsAll (one given 2) (count given 3) None
+file_command file.SkillsAllAfter given =
+    files.SkillsAll (one given 2) (count given 3) (Some (one given 5))
+file_command file.Mesh given = files.Mesh (one given 1) (one given 2) (count given 3) None
+file_command file.MeshAfter given =
+    files.Mesh (one given 1) (one given 2) (count given 3) (Some (one given 5))
+file_command file.MeshAgree given = files.MeshAgree (one given 1) (one given 2)
 
 abbrev pub file_spelled_as : FileCommand → FileForm × List Filling
 file_spelled_as (files.StartSurmise name) = (file.StartSurmise, Word name ∷ [])
 file_spelled_as (files.StartBase name) = (file.StartBase, Word name ∷ [])
+file_spelled_as (files.StartRelation name) = (file.StartRelation, Word name ∷ [])
 file_spelled_as (files.Test name) = (file.Test, Word name ∷ [])
 file_spelled_as (files.Class name) = (file.Class, Word name ∷ [])
 file_spelled_as (files.Save name) = (file.Save, Word name ∷ [])
+file_spelled_as (files.SkillsAny name count None) = (file.SkillsAny, Word name ∷ Number count ∷ [])
+file_spelled_as (files.SkillsAny name count (Some cursor)) =
+    (file.SkillsAnyAfter, Word name ∷ Number count ∷ Word cursor ∷ [])
+file_spelled_as (files.SkillsAll name count None) = (file.SkillsAll, Word name ∷ Number count ∷ [])
+file_spelled_as (files.SkillsAll name count (Some cursor)) =
+    (file.SkillsAllAfter, Word name ∷ Number count ∷ Word cursor ∷ [])
+file_spelled_as (files.Mesh left right count None) =
+    (file.Mesh, Word left ∷ Word right ∷ Number count ∷ [])
+file_spelled_as (files.Mesh left right count (Some cursor)) =
+    (file.MeshAfter, Word left ∷ Word right ∷ Number count ∷ Word cursor ∷ [])
+file_spelled_as (files.MeshAgree left right) = (file.MeshAgree, Word left ∷ Word right ∷ [])
 
 -- ---- changing the interview
 
@@ -177,7 +164,7 @@ abbrev pub view_forms : List ViewForm
 view_forms =
     view.Known ∷ view.Ask ∷ view.States ∷ view.StatesUpTo ∷ view.StatesAfter ∷ view.Base ∷
     view.Surmise ∷ view.Learning ∷ view.Project ∷ view.ProjectAfter ∷ view.ProjectBase ∷
-    view.Fringes ∷ view.StateOf ∷ view.Paths ∷ view.PathsAfter ∷ []
+    view.Fringes ∷ view.StateOf ∷ view.Paths ∷ view.PathsAfter ∷ view.SkillMap ∷ view.Relation ∷ []
 
 abbrev pub view_parts : ViewForm → List Part
 view_parts view.Known = Fixed word.Known ∷ Many kind.Item ∷ Fixed word.Colon ∷ One kind.Item ∷ []
@@ -200,6 +187,8 @@ view_parts view.StateOf = Fixed word.StateOf ∷ Many kind.Item ∷ Fixed word.B
 view_parts view.Paths = Fixed word.Paths ∷ One kind.Count ∷ []
 view_parts view.PathsAfter =
     Fixed word.Paths ∷ One kind.Count ∷ Fixed word.After ∷ Many kind.Item ∷ []
+view_parts view.SkillMap = Fixed word.SkillMap ∷ []
+view_parts view.Relation = Fixed word.Relation ∷ []
 
 abbrev pub view_command : ViewForm → List (List Text) → ViewCommand
 view_command view.Known given = views.Known (all given 1) (one given 3)
@@ -218,6 +207,8 @@ view_command view.Fringes given = views.Fringes (all given 1)
 view_command view.StateOf given = views.StateOf (all given 1) (all given 3)
 view_command view.Paths given = views.Paths (count given 1) None
 view_command view.PathsAfter given = views.Paths (count given 1) (Some (all given 3))
+view_command view.SkillMap given = views.SkillMap
+view_command view.Relation given = views.Relation
 
 abbrev pub view_spelled_as : ViewCommand → ViewForm × List Filling
 view_spelled_as (views.Known names item) = (view.Known, Words names ∷ Word item ∷ [])
@@ -236,6 +227,40 @@ view_spelled_as (views.Fringes names) = (view.Fringes, Words names ∷ [])
 view_spelled_as (views.StateOf inner outer) = (view.StateOf, Words inner ∷ Words outer ∷ [])
 view_spelled_as (views.Paths count None) = (view.Paths, Number count ∷ [])
 view_spelled_as (views.Paths count (Some path)) = (view.PathsAfter, Number count ∷ Words path ∷ [])
+view_spelled_as views.SkillMap = (view.SkillMap, [])
+view_spelled_as views.Relation = (view.Relation, [])
+
+-- ---- the safe interview
+
+abbrev pub safe_forms : List SafeForm
+safe_forms =
+    safe.Open ∷ safe.Answer ∷ safe.List ∷ safe.States ∷ safe.StatesAfter ∷ safe.Close ∷ []
+
+abbrev pub safe_parts : SafeForm → List Part
+safe_parts safe.Open = Fixed word.SafeOpen ∷ []
+safe_parts safe.Answer = Fixed word.Safe ∷ Many kind.Item ∷ Fixed word.Colon ∷ One kind.Item ∷ []
+safe_parts safe.List = Fixed word.SafeList ∷ []
+safe_parts safe.States = Fixed word.SafeStates ∷ One kind.Count ∷ []
+safe_parts safe.StatesAfter =
+    Fixed word.SafeStates ∷ One kind.Count ∷ Fixed word.After ∷ One kind.Cursor ∷ []
+safe_parts safe.Close = Fixed word.SafeClose ∷ []
+
+abbrev pub safe_command : SafeForm → List (List Text) → SafeCommand
+safe_command safe.Open given = safes.Open
+safe_command safe.Answer given = safes.Answer (all given 1) (one given 3)
+safe_command safe.List given = safes.List
+safe_command safe.States given = safes.States (count given 1) None
+safe_command safe.StatesAfter given = safes.States (count given 1) (Some (one given 3))
+safe_command safe.Close given = safes.Close
+
+abbrev pub safe_spelled_as : SafeCommand → SafeForm × List Filling
+safe_spelled_as safes.Open = (safe.Open, [])
+safe_spelled_as (safes.Answer names item) = (safe.Answer, Words names ∷ Word item ∷ [])
+safe_spelled_as safes.List = (safe.List, [])
+safe_spelled_as (safes.States count None) = (safe.States, Number count ∷ [])
+safe_spelled_as (safes.States count (Some cursor)) =
+    (safe.StatesAfter, Number count ∷ Word cursor ∷ [])
+safe_spelled_as safes.Close = (safe.Close, [])
 
 -- ---- setting what an assessment goes by
 
@@ -322,8 +347,8 @@ pupil_name (pupils.Close name) = name
 unfoldable pub forms : List Form
 forms =
     form.Nothing ∷ map form.Opening opening_forms ++ map form.File file_forms
-    ++ map form.Edit edit_forms ++ map form.View view_forms ++ map form.Setting setting_forms
-    ++ map form.Pupil pupil_forms
+    ++ map form.Edit edit_forms ++ map form.View view_forms ++ map form.Safe safe_forms
+    ++ map form.Setting setting_forms ++ map form.Pupil pupil_forms
 
 -- the parts of a form: a fixed word, one word of a kind, or any number of words of a kind
 unfoldable pub parts : Form → List Part
@@ -332,6 +357,7 @@ parts (form.Opening f) = opening_parts f
 parts (form.File f) = file_parts f
 parts (form.Edit f) = edit_parts f
 parts (form.View f) = view_parts f
+parts (form.Safe f) = safe_parts f
 parts (form.Setting f) = setting_parts f
 parts (form.Pupil f) = pupil_parts f
 
@@ -342,6 +368,7 @@ command (form.Opening f) given = commands.Opening (opening_command f given)
 command (form.File f) given = commands.File (file_command f given)
 command (form.Edit f) given = commands.Edit (edit_command f given)
 command (form.View f) given = commands.View (view_command f given)
+command (form.Safe f) given = commands.Safe (safe_command f given)
 command (form.Setting f) given = commands.Setting (setting_command f given)
 command (form.Pupil f) given = commands.Pupil (pupil_command f given)
 
@@ -353,5 +380,6 @@ spelled_as (commands.Opening c) = let s = opening_spelled_as c in (form.Opening 
 spelled_as (commands.File c) = let s = file_spelled_as c in (form.File s.0, s.1)
 spelled_as (commands.Edit c) = let s = edit_spelled_as c in (form.Edit s.0, s.1)
 spelled_as (commands.View c) = let s = view_spelled_as c in (form.View s.0, s.1)
+spelled_as (commands.Safe c) = let s = safe_spelled_as c in (form.Safe s.0, s.1)
 spelled_as (commands.Setting c) = let s = setting_spelled_as c in (form.Setting s.0, s.1)
 spelled_as (commands.Pupil c) = let s = pupil_spelled_as c in (form.Pupil s.0, s.1)

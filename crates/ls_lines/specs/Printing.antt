@@ -3,7 +3,8 @@ use Rattle.std.specs.Prelude.{ℕ, Bool, true, false, ◌&&◌, nat_le, List, []
 use Rattle.std.specs.List.{list_all, join_with_byte}
 use Rattle.ls_lines.specs.Lines.{Text}
 use Rattle.ls_lines.specs.Kinds.{is_of, most_counted, greatest_number}
-use Rattle.ls_lines.specs.Forms.{spelling, parts, spelled_as}
+use Rattle.ls_lines.specs.Spelling.{spelling}
+use Rattle.ls_lines.specs.Forms.{parts, spelled_as}
 use Rattle.ls_lines.specs.Operands.{Filling, Word, Words, Number, Right, words_of}
 use Rattle.ls_lines.specs.declared.kind.Kind.TheVariants as kind
 use Rattle.ls_lines.specs.declared.part.Part.{Part}

@@ -3,7 +3,8 @@ use Rattle.std.specs.Prelude.{ℕ, ◌+◌, Bool, true, false, ◌==◌}
 use Rattle.std.specs.Prelude.{List, [], ◌∷◌, drop, filter, slice_index, slice_index_or}
 use Rattle.std.specs.Option.{option_map_or}
 use Rattle.ls_lines.specs.Lines.{Text}
-use Rattle.ls_lines.specs.Forms.{spelling, parts, forms}
+use Rattle.ls_lines.specs.Spelling.{spelling}
+use Rattle.ls_lines.specs.Forms.{parts, forms}
 use Rattle.ls_lines.specs.Commands.{front}
 use Rattle.ls_lines.specs.declared.form.Form.{Form}
 use Rattle.ls_lines.specs.declared.part.Part.{Part}

@@ -5,7 +5,8 @@ ghost use Rattle.ls_lines.specs.Operands.{filling};
 
 use crate::operand::{Operands, spell};
 use crate::{
-    EditCommand, FileCommand, Form, OpeningCommand, PupilCommand, SettingCommand, ViewCommand,
+    EditCommand, FileCommand, Form, OpeningCommand, PupilCommand, SafeCommand, SettingCommand,
+    ViewCommand,
 };
 
 /// A command with its words, by its topic.
@@ -17,6 +18,7 @@ pub enum Command {
     File(FileCommand),
     Edit(EditCommand),
     View(ViewCommand),
+    Safe(SafeCommand),
     Setting(SettingCommand),
     Pupil(PupilCommand),
 }
@@ -45,6 +47,10 @@ impl Command {
             Command::View(command) => {
                 let (form, operands) = command.spelled_as();
                 (Form::View(form), operands)
+            }
+            Command::Safe(command) => {
+                let (form, operands) = command.spelled_as();
+                (Form::Safe(form), operands)
             }
             Command::Setting(command) => {
                 let (form, operands) = command.spelled_as();

@@ -2,7 +2,7 @@
 ghost use Rattle.std.specs.Prelude.{◌≡◌, ◌≤◌, All, IfOk, IfSome, length};
 ghost use Rattle.std.specs.Str.{IsAscii};
 ghost use Rattle.ls_lines.specs.Commands.{cut};
-ghost use Rattle.ls_lines.specs.Forms.{all, one, count, number, is_right};
+ghost use Rattle.ls_lines.specs.Given.{all, one, count, number, is_right};
 
 use crate::number::number_up_to;
 use crate::reading::front;

@@ -4,7 +4,9 @@ ghost use Rattle.ls_lines.specs.Reading.{forms_from};
 ghost use Rattle.std.specs.Str.{IsAscii};
 
 use crate::cut::Cut;
-use crate::{Command, EditForm, FileForm, OpeningForm, Part, PupilForm, SettingForm, ViewForm};
+use crate::{
+    Command, EditForm, FileForm, OpeningForm, Part, PupilForm, SafeForm, SettingForm, ViewForm,
+};
 use std::alloc::AllocError;
 
 /// The forms of commands, by their topics.
@@ -15,6 +17,7 @@ pub enum Form {
     File(FileForm),
     Edit(EditForm),
     View(ViewForm),
+    Safe(SafeForm),
     Setting(SettingForm),
     Pupil(PupilForm),
 }
@@ -33,6 +36,7 @@ impl Form {
             Form::File(form) => form.parts(),
             Form::Edit(form) => form.parts(),
             Form::View(form) => form.parts(),
+            Form::Safe(form) => form.parts(),
             Form::Setting(form) => form.parts(),
             Form::Pupil(form) => form.parts(),
         }
@@ -50,13 +54,14 @@ impl Form {
             Form::File(form) => Command::File(form.command(cut)?),
             Form::Edit(form) => Command::Edit(form.command(cut)?),
             Form::View(form) => Command::View(form.command(cut)?),
+            Form::Safe(form) => Command::Safe(form.command(cut)?),
             Form::Setting(form) => Command::Setting(form.command(cut)?),
             Form::Pupil(form) => Command::Pupil(form.command(cut)?),
         })
     }
 
     // The forms of the lines that may begin with a word of this first byte.
-    #[tactic(auto, unfolding(crate::specs::Forms::forms, crate::specs::Forms::parts, crate::specs::Forms::spelling))]
+    #[tactic(auto, unfolding(crate::specs::forms, crate::specs::parts, crate::specs::spelling))]
     pub(crate) fn with_initial(byte: u8) -> &'static [Form]
         ensures { result.now ≡ forms_from byte }
     {
@@ -71,6 +76,11 @@ impl Form {
                 Form::Opening(OpeningForm::LoadItems),
                 Form::View(ViewForm::Learning),
                 Form::Setting(SettingForm::Limits),
+            ],
+            b'm' => &[
+                Form::File(FileForm::Mesh),
+                Form::File(FileForm::MeshAfter),
+                Form::File(FileForm::MeshAgree),
             ],
             b'n' => &[Form::Edit(EditForm::No)],
             b'o' => &[
@@ -89,24 +99,45 @@ impl Form {
             b'q' => &[Form::Pupil(PupilForm::Question)],
             b'r' => &[
                 Form::Edit(EditForm::Retract),
+                Form::View(ViewForm::Relation),
                 Form::Setting(SettingForm::RatioAll),
                 Form::Setting(SettingForm::RatioItem),
                 Form::Pupil(PupilForm::Reply),
                 Form::Pupil(PupilForm::Report),
             ],
-            b's' => &[
-                Form::File(FileForm::StartSurmise),
-                Form::File(FileForm::StartBase),
-                Form::File(FileForm::Save),
-                Form::View(ViewForm::States),
-                Form::View(ViewForm::StatesUpTo),
-                Form::View(ViewForm::StatesAfter),
-                Form::View(ViewForm::Surmise),
-                Form::View(ViewForm::StateOf),
-            ],
+            b's' => Self::with_s(),
             b't' => &[Form::File(FileForm::Test)],
             b'y' => &[Form::Edit(EditForm::Yes)],
             _ => &[],
         }
+    }
+
+    // The forms of the lines that may begin with a word of the first byte `s`, which is 115.
+    #[tactic(auto, unfolding(crate::specs::forms, crate::specs::parts, crate::specs::spelling))]
+    fn with_s() -> &'static [Form]
+        ensures { result.now ≡ forms_from 115 }
+    {
+        &[
+            Form::File(FileForm::StartSurmise),
+            Form::File(FileForm::StartBase),
+            Form::File(FileForm::StartRelation),
+            Form::File(FileForm::Save),
+            Form::File(FileForm::SkillsAny),
+            Form::File(FileForm::SkillsAnyAfter),
+            Form::File(FileForm::SkillsAll),
+            Form::File(FileForm::SkillsAllAfter),
+            Form::View(ViewForm::States),
+            Form::View(ViewForm::StatesUpTo),
+            Form::View(ViewForm::StatesAfter),
+            Form::View(ViewForm::Surmise),
+            Form::View(ViewForm::StateOf),
+            Form::View(ViewForm::SkillMap),
+            Form::Safe(SafeForm::Open),
+            Form::Safe(SafeForm::Answer),
+            Form::Safe(SafeForm::List),
+            Form::Safe(SafeForm::States),
+            Form::Safe(SafeForm::StatesAfter),
+            Form::Safe(SafeForm::Close),
+        ]
     }
 }

@@ -34,16 +34,28 @@ pub enum Keyword {
     Class,
     Save,
     Open,
+    SafeOpen,
+    Safe,
+    SafeList,
+    SafeStates,
+    SafeClose,
+    Skills,
+    Any,
+    All,
+    SkillMap,
+    Mesh,
+    MeshAgree,
+    Relation,
     Colon,
     Bar,
 }
 
 impl Keyword {
     ghost use Rattle.std.specs.Prelude.{◌≡◌};
-    ghost use Rattle.ls_lines.specs.Forms.{spelling};
+    ghost use Rattle.ls_lines.specs.Spelling.{spelling};
 
     /// How the word is spelled.
-    #[tactic(auto, unfolding(crate::specs::Forms::spelling))]
+    #[tactic(auto, unfolding(crate::specs::Spelling::spelling))]
     pub fn text(self) -> &'static str
         ensures { result.now ≡ spelling self }
     {
@@ -79,6 +91,18 @@ impl Keyword {
             Keyword::Class => "class",
             Keyword::Save => "save",
             Keyword::Open => "open",
+            Keyword::SafeOpen => "safe-open",
+            Keyword::Safe => "safe",
+            Keyword::SafeList => "safe-list",
+            Keyword::SafeStates => "safe-states",
+            Keyword::SafeClose => "safe-close",
+            Keyword::Skills => "skills",
+            Keyword::Any => "any",
+            Keyword::All => "all",
+            Keyword::SkillMap => "skill-map",
+            Keyword::Mesh => "mesh",
+            Keyword::MeshAgree => "mesh-agree",
+            Keyword::Relation => "relation",
             Keyword::Colon => ":",
             Keyword::Bar => "|",
         }

@@ -28,6 +28,16 @@ pub(crate) const CURSOR: Part = Part::One(Kind::Cursor);
 
 pub(crate) const RIGHT: Part = Part::One(Kind::Right);
 
+pub(crate) const START: Part = Part::Fixed(Keyword::Start);
+
+pub(crate) const SKILLS: Part = Part::Fixed(Keyword::Skills);
+
+pub(crate) const ANY: Part = Part::Fixed(Keyword::Any);
+
+pub(crate) const ALL: Part = Part::Fixed(Keyword::All);
+
+pub(crate) const MESH: Part = Part::Fixed(Keyword::Mesh);
+
 pub(crate) const AFTER: Part = Part::Fixed(Keyword::After);
 
 pub(crate) const COLON: Part = Part::Fixed(Keyword::Colon);

@@ -48,6 +48,8 @@ pub enum ViewCommand {
         count: u32,
         after: Option<WordList>,
     },
+    SkillMap,
+    Relation,
 }
 
 /// A form of a command that shows something of the interview.
@@ -68,6 +70,8 @@ pub enum ViewForm {
     StateOf,
     Paths,
     PathsAfter,
+    SkillMap,
+    Relation,
 }
 
 impl ViewForm {
@@ -98,6 +102,8 @@ impl ViewForm {
             Self::StateOf => &[Part::Fixed(Keyword::StateOf), ITEMS, BAR, ITEMS],
             Self::Paths => &[Part::Fixed(Keyword::Paths), COUNT],
             Self::PathsAfter => &[Part::Fixed(Keyword::Paths), COUNT, AFTER, ITEMS],
+            Self::SkillMap => &[Part::Fixed(Keyword::SkillMap)],
+            Self::Relation => &[Part::Fixed(Keyword::Relation)],
         }
     }
 
@@ -128,6 +134,8 @@ impl ViewForm {
             },
             Self::Paths => paths(cut.count(1), None),
             Self::PathsAfter => paths(cut.count(1), Some(cut.all(3)?)),
+            Self::SkillMap => ViewCommand::SkillMap,
+            Self::Relation => ViewCommand::Relation,
         })
     }
 }
@@ -169,6 +177,8 @@ impl ViewCommand {
                 count,
                 after: Some(path),
             } => spell(ViewForm::PathsAfter, &[Count(*count), Many(path)]),
+            Self::SkillMap => spell(ViewForm::SkillMap, &[]),
+            Self::Relation => spell(ViewForm::Relation, &[]),
         }
     }
 }
