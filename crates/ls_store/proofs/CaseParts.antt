@@ -27,8 +27,8 @@ module _ (n : ℕ) (s : Settings) (start : Start) (own qs : List Query) (rs repl
   is-after w is h =
       subst (λ (o : Option Weighing). IfSome o (λ p. p ≡ after n s start qs replies)) is h ∙ ap₂ (λ (a : List Query) (b : List Reply). after n s start a b) same_queries same_replies
 
-pub with_replies : (p : Pupil) (w : Weighing) (read : Option Pupil) → w.replies ≡ p.replies → Some p ≡ read → Some (record p { replies = w.replies }) ≡ read
-with_replies p w read e h = ap (λ (rs : List Reply). let q : Pupil = record p { replies = rs } in Some q) e ∙ h
+pub with_replies : (p : Pupil) (w : Weighing) (read : Option Pupil) → w.replies ≡ p.replies → read ≡ Some p → read ≡ Some (record p { replies = w.replies })
+with_replies p w read e h = h ∙ sym (ap (λ (rs : List Reply). let q : Pupil = record p { replies = rs } in Some q) e)
 
 -- ---- the case
 

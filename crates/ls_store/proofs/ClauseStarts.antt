@@ -1,5 +1,5 @@
 -- The sets of clauses that were read are of the items.
-use Rattle.ls_store.proofs.Vocabulary.{◌∙◌, ◌∷◌, ◌≡◌, Data, AreOn, Items, List, Some, ℕ, [], all_clauses, inl, inr, is_among, or_cases, read_list, read_set, sym, true≢false}
+use Rattle.ls_store.proofs.Vocabulary.{AreOn, Data, Items, List, Some, [], all_clauses, inl, inr, is_among, or_cases, read_list, set_codec, sym, true≢false, ℕ, ◌∙◌, ◌∷◌, ◌≡◌}
 use Rattle.std.specs.List.{AllByRecursion}
 use Rattle.ls_set.proofs.Members.{among-append}
 use Rattle.ls_store.proofs.Inverse.{list-some}
@@ -13,5 +13,5 @@ each-on n (own ∷ clauses) h k c =
       | inr b ↦ each-on n clauses h.1 k b
     ]
 
-pub lists-on : (n : ℕ) (d : Data) (clauses : List (List Items)) → Some clauses ≡ read_list (read_list (read_set n)) d → AreOn n (all_clauses clauses)
-lists-on n d clauses e = each-on n clauses (list-some (read_list (read_set n)) (AreOn n) (on-from n) d clauses (sym e))
+pub lists-on : (n : ℕ) (d : Data) (clauses : List (List Items)) → read_list (read_list (set_codec n).read) d ≡ Some clauses → AreOn n (all_clauses clauses)
+lists-on n d clauses e = each-on n clauses (list-some (read_list (set_codec n).read) (AreOn n) (on-from n) d clauses e)

@@ -1,17 +1,21 @@
 -- What it means that something was read.
-use Rattle.ls_store.proofs.Vocabulary.{◌∙◌, ◌∷◌, ◌≡◌, AllByRecursion, Bool, Cause, Data, Values, List, None, Ok, Option, Result, Session, Some, [], ap, as_array, cond, false, item, no_items, only_if, option_and_then, option_map, option_zip, or_cause, read_each, read_list, read_pair, refl, subst, sym, true, two_values}
+use Rattle.ls_store.proofs.Vocabulary.{◌∙◌, ◌∷◌, ◌≡◌, AllByRecursion, Bool, Cause, Data, Err, Values, List, None, Ok, Option, Result, Some, [], and_then, ap, as_array, cond, false, item, no_items, kept_if, option_and_then, option_map, option_zip, or_cause, read_each, read_list, read_pair, refl, subst, sym, true, two_values}
 
-pub or_cause-ok : {X : Type 0} (c : Cause) (o : Option X) (next : X → Result Session Cause) (s : Session) → or_cause c o next ≡ Ok s → (x : X) × (o ≡ Some x) × (next x ≡ Ok s)
-or_cause-ok c None next s e = absurd (let no : ⊥ = cc in no)
-or_cause-ok c (Some x) next s e = (x, refl, e)
+pub or_cause-ok : {X Y : Type 0} (c : Cause) (o : Option X) (next : X → Result Y Cause) (y : Y) → or_cause c o next ≡ Ok y → (x : X) × (o ≡ Some x) × (next x ≡ Ok y)
+or_cause-ok c None next y e = absurd (let no : ⊥ = cc in no)
+or_cause-ok c (Some x) next y e = (x, refl, e)
+
+pub and_then-ok : {X Y : Type 0} (r : Result X Cause) (next : X → Result Y Cause) (y : Y) → and_then r next ≡ Ok y → (x : X) × (r ≡ Ok x) × (next x ≡ Ok y)
+and_then-ok (Ok x) next y e = (x, refl, e)
+and_then-ok (Err c) next y e = absurd (let no : ⊥ = cc in no)
 
 pub chosen : {X : Type 0} (b : Bool) (y x : X) → cond b (Some y) None ≡ Some x → (y ≡ x) × (b ≡ true)
 chosen true y x e = (let same : y ≡ x = cc in same, refl)
 chosen false y x e = absurd (let no : ⊥ = cc in no)
 
-pub only_if-some : {X : Type 0} (p : X → Bool) (o : Option X) (x : X) → only_if p o ≡ Some x → (o ≡ Some x) × (p x ≡ true)
-only_if-some p None x e = absurd (let no : ⊥ = cc in no)
-only_if-some p (Some y) x e = let c = chosen (p y) y x e in (ap Some c.0, ap p (sym c.0) ∙ c.1)
+pub kept_if-some : {X : Type 0} (p : X → Bool) (o : Option X) (x : X) → kept_if p o ≡ Some x → (o ≡ Some x) × (p x ≡ true)
+kept_if-some p None x e = absurd (let no : ⊥ = cc in no)
+kept_if-some p (Some y) x e = let c = chosen (p y) y x e in (ap Some c.0, ap p (sym c.0) ∙ c.1)
 
 pub map-some : {X Y : Type 0} (f : X → Y) (o : Option X) (y : Y) → option_map f o ≡ Some y → (x : X) × (o ≡ Some x) × (f x ≡ y)
 map-some f None y e = absurd (let no : ⊥ = cc in no)

@@ -1,10 +1,7 @@
 mod Vocabulary
-pub mod Texts
-pub mod Lists
 pub mod WrittenSettings
 pub mod WrittenStarts
 pub mod WrittenAnswers
-pub mod Plain
 pub mod WrittenPupils
 pub mod RoundTrip
 mod Examples
@@ -21,9 +18,10 @@ pub mod CaseParts
 pub mod ApartQueries
 pub mod Going
 pub mod OwnSettings
-pub mod Printed
 pub mod PupilLists
 pub mod PupilNames
 pub mod PupilParts
 pub mod PupilStates
 pub mod Replays
+pub mod WrittenCases
+pub mod Putting

@@ -1,9 +1,11 @@
 -- Lists of pupils: which are read, and in which a name comes twice or which are too long.
-use Rattle.ls_store.proofs.Vocabulary.{◌&&◌, ◌++◌, ◌+◌, ◌<◌, ◌||◌, ◌∙◌, ◌∷◌, ◌≡◌, ◌≤◌, ArePupils, Bool, Data, List, None, Option, Pupil, PupilCase, Some, ℕ, [], and_from, and_parts, ap, append_assoc, ap₂, are_apart, are_pupils, as_array, bytes_eq, cases_Bool, cond, drop, false, get_or, have_own_names, inl, inr, is_called, items_view, le-leb, leb, length, length-map, list_any, lt-leb, map, map_push, most_pupils, case_name, not, only_if, option_and_then, option_map, pupil_of_case, pupils_of, read_each, read_list, refl, subst, suc, sym, true, view}
+use Rattle.ls_store.proofs.Vocabulary.{ArePupils, Bool, Data, Err, IsErrAnd, IsReadAs, List, None, Ok, Option, Pupil, PupilCase, Result, Some, [], and_from, and_parts, ap, append_assoc, ap₂, are_apart, are_pupils, as_array, bytes_eq, case_name, cases_Bool, cond, drop, false, get_or, have_own_names, inl, inr, is_called, items_view, kept_if, le-leb, leb, length, length-map, list_any, lt-leb, map, map_push, most_pupils, not, option_and_then, option_map, pupil_of_case, pupils_of, read_each, read_list, refl, subst, suc, sym, true, view, ℕ, ◌&&◌, ◌++◌, ◌+◌, ◌<◌, ◌||◌, ◌∙◌, ◌∷◌, ◌≡◌, ◌≤◌}
 use Rattle.std.proofs.lemmas.Slice.Eq.{bytes_eq-Decides}
 use Rattle.serde_json.specs.declared.value.Value.{Value}
+use Rattle.ls_store.specs.declared.part_fault.PartFault.{PartFault}
+use Rattle.ls_store.specs.declared.part_fault.PartFault.TheVariants as part
 use Rattle.ls_set.proofs.Sets.{and-false}
-use Rattle.ls_store.proofs.Walks.{IsRead, read-last, read-next, read-none}
+use Rattle.ls_store.proofs.Walks.{IsReadTo, read-last, read-next, read-none}
 
 abbrev names_of : List Pupil → List (List ℕ)
 names_of ps = map (λ p. p.name) ps
@@ -58,42 +60,42 @@ repeats (c ∷ before) p after h =
 refused : (ps : List Pupil) → are_apart bytes_eq (names_of ps) ≡ false → are_pupils ps ≡ false
 refused ps h = ap (λ b. leb (length ps) most_pupils && b) h ∙ and-false _
 
-not_kept : (ps : List Pupil) → are_pupils ps ≡ false → None ≡ only_if are_pupils (Some ps)
+not_kept : (ps : List Pupil) → are_pupils ps ≡ false → None ≡ kept_if are_pupils (Some ps)
 not_kept ps h = sym (ap (λ b. cond b (Some ps) None) h)
 
 -- ---- the walk
 
 module _ (f : Data → Option Pupil) (cases : List PupilCase) (values : List Value) (i : ℕ) (value : Value) (whole : Option (List Pupil)) (within : i < length values) (at : value ≡ get_or values i value) where
-  repeated : (p : Pupil) → f (view value) ≡ Some p → list_any (is_called case_name p.name) cases ≡ true → IsRead f (pupils_of cases) (drop i values) whole → None ≡ only_if are_pupils whole
+  repeated : (p : Pupil) → f (view value) ≡ Some p → list_any (is_called case_name p.name) cases ≡ true → IsReadTo f (pupils_of cases) (drop i values) whole → None ≡ kept_if are_pupils whole
   repeated p is named h = told (read_each f (items_view (drop (i + 1) values))) (read-next f (pupils_of cases) p values i value whole within at is h)
     where
-      told : (o : Option (List Pupil)) → option_map (λ ys. (pupils_of cases ++ p ∷ []) ++ ys) o ≡ whole → None ≡ only_if are_pupils whole
-      told None e = ap (only_if are_pupils) e
+      told : (o : Option (List Pupil)) → option_map (λ ys. (pupils_of cases ++ p ∷ []) ++ ys) o ≡ whole → None ≡ kept_if are_pupils whole
+      told None e = ap (kept_if are_pupils) e
       told (Some ys) e =
           let ps = pupils_of cases ++ p ∷ ys in
-          not_kept ps (refused ps (repeats cases p ys named)) ∙ ap (λ l. only_if are_pupils (Some l)) (sym (append_assoc (pupils_of cases) (p ∷ []) ys)) ∙ ap (only_if are_pupils) e
+          not_kept ps (refused ps (repeats cases p ys named)) ∙ ap (λ l. kept_if are_pupils (Some l)) (sym (append_assoc (pupils_of cases) (p ∷ []) ys)) ∙ ap (kept_if are_pupils) e
 
   -- an entry that is no pupil, or whose name comes twice
-  pub none-next : ((p : Pupil) → f (view value) ≡ Some p → list_any (is_called case_name p.name) cases ≡ true) → IsRead f (pupils_of cases) (drop i values) whole → None ≡ only_if are_pupils whole
+  pub none-next : ((p : Pupil) → f (view value) ≡ Some p → list_any (is_called case_name p.name) cases ≡ true) → IsReadTo f (pupils_of cases) (drop i values) whole → None ≡ kept_if are_pupils whole
   none-next named h = told (f (view value)) refl
     where
-      told : (o : Option Pupil) → f (view value) ≡ o → None ≡ only_if are_pupils whole
-      told None e = ap (only_if are_pupils) (read-none f (pupils_of cases) values i value whole within at e h)
+      told : (o : Option Pupil) → f (view value) ≡ o → None ≡ kept_if are_pupils whole
+      told None e = ap (kept_if are_pupils) (read-none f (pupils_of cases) values i value whole within at e h)
       told (Some p) e = repeated p e (named p e) h
 
 -- one more pupil
 pub next-read : (f : Data → Option Pupil) (cases new : List PupilCase) (c : PupilCase) (values : List Value) (i : ℕ) (value : Value) (whole : Option (List Pupil)) → i < length values → value ≡ get_or values i value
-    → f (view value) ≡ Some (pupil_of_case c) → new ≡ cases ++ c ∷ [] → IsRead f (pupils_of cases) (drop i values) whole → IsRead f (pupils_of new) (drop (i + 1) values) whole
+    → f (view value) ≡ Some (pupil_of_case c) → new ≡ cases ++ c ∷ [] → IsReadTo f (pupils_of cases) (drop i values) whole → IsReadTo f (pupils_of new) (drop (i + 1) values) whole
 next-read f cases new c values i value whole within at is more h =
-    subst (λ (ps : List Pupil). IsRead f ps (drop (i + 1) values) whole) (sym (ap pupils_of more ∙ map_push pupil_of_case cases c))
+    subst (λ (ps : List Pupil). IsReadTo f ps (drop (i + 1) values) whole) (sym (ap pupils_of more ∙ map_push pupil_of_case cases c))
     (read-next f (pupils_of cases) (pupil_of_case c) values i value whole within at is h)
 
 -- the end
-pub all-read : (n : ℕ) (f : Data → Option Pupil) (cases : List PupilCase) (values : List Value) (i : ℕ) (whole : Option (List Pupil)) → length values ≤ i → ArePupils n cases → IsRead f (pupils_of cases) (drop i values) whole
-    → Some (pupils_of cases) ≡ only_if are_pupils whole
+pub all-read : (n : ℕ) (f : Data → Option Pupil) (cases : List PupilCase) (values : List Value) (i : ℕ) (whole : Option (List Pupil)) → length values ≤ i → ArePupils n cases → IsReadTo f (pupils_of cases) (drop i values) whole
+    → Some (pupils_of cases) ≡ kept_if are_pupils whole
 all-read n f cases values i whole end are h =
     let ps = pupils_of cases in
-    sym (ap (λ b. cond b (Some ps) None) (pupils-stand n cases are)) ∙ ap (only_if are_pupils) (read-last f ps values i whole end h)
+    sym (ap (λ b. cond b (Some ps) None) (pupils-stand n cases are)) ∙ ap (kept_if are_pupils) (read-last f ps values i whole end h)
 
 -- ---- too many
 
@@ -107,11 +109,17 @@ read-length f (v ∷ values) ps e = told (f (view v)) (read_each f (items_view v
     told (Some p) None r h again = absurd (cc h)
     told (Some p) (Some qs) r h again = let same : p ∷ qs ≡ ps = cc h in ap (λ l. length l) (sym same) ∙ ap suc (again qs r)
 
-pub too-many : (f : Data → Option Pupil) (values : List Value) (d : Data) → most_pupils < length values → Some (items_view values) ≡ as_array d → None ≡ only_if are_pupils (read_list f d)
-too-many f values d many e = told (read_each f (items_view values)) refl ∙ ap (λ o. only_if are_pupils (option_and_then (read_each f) o)) e
+pub too-many : (f : Data → Option Pupil) (values : List Value) (d : Data) → most_pupils < length values → Some (items_view values) ≡ as_array d → None ≡ kept_if are_pupils (read_list f d)
+too-many f values d many e = told (read_each f (items_view values)) refl ∙ ap (λ o. kept_if are_pupils (option_and_then (read_each f) o)) e
   where
-    told : (o : Option (List Pupil)) → read_each f (items_view values) ≡ o → None ≡ only_if are_pupils o
+    told : (o : Option (List Pupil)) → read_each f (items_view values) ≡ o → None ≡ kept_if are_pupils o
     told None r = refl
     told (Some ps) r =
         let long : most_pupils < length ps = rw (read-length f values ps r) many in
         not_kept ps (ap (λ b. b && are_apart bytes_eq (names_of ps)) (lt-leb (length ps) most_pupils long))
+
+-- what is not read, as what is in it is not
+pub missed : {X Y : Type 0} (of : Y → X) (answer : Option X) (f : PartFault) (r : Result Y PartFault) → IsErrAnd r (λ g. g ≡ f) → (f ≡ part.Bad → answer ≡ None) → IsReadAs of answer r
+missed of answer f (Ok y) same h = absurd same
+missed of answer f (Err part.Bad) same h = h (sym same)
+missed of answer f (Err (part.Memory e)) same h = tt

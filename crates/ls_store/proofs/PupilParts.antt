@@ -1,5 +1,5 @@
 -- A pupil, from the parts of its object.
-use Rattle.ls_store.proofs.Vocabulary.{◌&&◌, ◌∙◌, ◌≡◌, Bool, Data, List, None, Option, Pupil, Query, Reply, Settings, Some, Start, Text, Version, ℕ, ap, are_apart, as_str, at_key, codes, cond, false, is_good, is_name, is_pupil, is_same_query, list_all, only_if, option_map, option_zip, pupil_from, read_list, read_pupil, read_query, read_reply, read_settings, read_start, refl, sym, true}
+use Rattle.ls_store.proofs.Vocabulary.{Bool, Data, List, None, Option, Pupil, Query, Ratios, Reply, Settings, Some, Start, Text, Version, ap, are_apart, cond, false, is_good, is_name, is_pupil, is_same_query, kept_if, list_all, name_field, option_map, option_zip, pupil_codec, pupil_from, refl, replies_field, settings_fields, settings_parts, start_field, true, yes_field, ℕ, ◌&&◌, ◌∙◌, ◌≡◌}
 use Rattle.ls_store.proofs.CaseParts.{can_follow}
 
 -- ---- the tests
@@ -22,65 +22,63 @@ when-spelled n p h = rw h refl
 
 -- ---- the parts
 
-abbrev joined : Option Text → Option Settings → Option Start → Option (List Query) → Option (List Reply) → Option Pupil
+abbrev joined : Option Text → Option (List Ratios × (ℕ × ℕ)) → Option Start → Option (List Query) → Option (List Reply) → Option Pupil
 joined name settings start own replies = option_map pupil_from (option_zip (option_zip name settings) (option_zip start (option_zip own replies)))
 
-joined-no_yes : (name : Text) (s : Settings) (start : Option Start) (replies : Option (List Reply)) → joined (Some name) (Some s) start None replies ≡ None
+joined-no_yes : (name : Text) (s : List Ratios × (ℕ × ℕ)) (start : Option Start) (replies : Option (List Reply)) → joined (Some name) (Some s) start None replies ≡ None
 joined-no_yes name s None replies = refl
 joined-no_yes name s (Some start) replies = refl
 
-joined-no_replies : (name : Text) (s : Settings) (start : Option Start) (own : List Query) → joined (Some name) (Some s) start (Some own) None ≡ None
+joined-no_replies : (name : Text) (s : List Ratios × (ℕ × ℕ)) (start : Option Start) (own : List Query) → joined (Some name) (Some s) start (Some own) None ≡ None
 joined-no_replies name s None own = refl
 joined-no_replies name s (Some start) own = refl
 
-module _ (v : Version) (n : ℕ) (d : Data) (name : Text) (named : at_key (codes "name") as_str d ≡ Some name) where
-  parted : (name : Option Text) (settings : Option Settings) (start : Option Start) (own : Option (List Query)) (replies : Option (List Reply))
-      → name ≡ at_key (codes "name") as_str d → settings ≡ read_settings v n d → start ≡ at_key (codes "start") (read_start n) d
-      → own ≡ at_key (codes "yes") (read_list (read_query n)) d → replies ≡ at_key (codes "replies") (read_list (read_reply n)) d
-      → only_if (is_pupil n) (joined name settings start own replies) ≡ read_pupil v n d
+module _ (v : Version) (n : ℕ) (d : Data) (name : Text) (named : name_field.find_in d ≡ Some name) where
+  parted : (name : Option Text) (settings : Option (List Ratios × (ℕ × ℕ))) (start : Option Start) (own : Option (List Query)) (replies : Option (List Reply))
+      → name_field.find_in d ≡ name → (settings_fields v n).find_in d ≡ settings → (start_field n).find_in d ≡ start → (yes_field n).find_in d ≡ own → (replies_field n).find_in d ≡ replies
+      → (pupil_codec v n).read d ≡ kept_if (is_pupil n) (joined name settings start own replies)
   parted name settings start own replies a b c e f =
-      ap (λ x. only_if (is_pupil n) (joined x settings start own replies)) a
-      ∙ ap (λ x. only_if (is_pupil n) (joined (at_key (codes "name") as_str d) x start own replies)) b
-      ∙ ap (λ x. only_if (is_pupil n) (joined (at_key (codes "name") as_str d) (read_settings v n d) x own replies)) c
-      ∙ ap (λ x. only_if (is_pupil n) (joined (at_key (codes "name") as_str d) (read_settings v n d) (at_key (codes "start") (read_start n) d) x replies)) e
-      ∙ ap (λ x. only_if (is_pupil n) (joined (at_key (codes "name") as_str d) (read_settings v n d) (at_key (codes "start") (read_start n) d) (at_key (codes "yes") (read_list (read_query n)) d) x)) f
+      ap (λ x. kept_if (is_pupil n) (joined x ((settings_fields v n).find_in d) ((start_field n).find_in d) ((yes_field n).find_in d) ((replies_field n).find_in d))) a
+      ∙ ap (λ x. kept_if (is_pupil n) (joined name x ((start_field n).find_in d) ((yes_field n).find_in d) ((replies_field n).find_in d))) b
+      ∙ ap (λ x. kept_if (is_pupil n) (joined name settings x ((yes_field n).find_in d) ((replies_field n).find_in d))) c
+      ∙ ap (λ x. kept_if (is_pupil n) (joined name settings start x ((replies_field n).find_in d))) e
+      ∙ ap (λ x. kept_if (is_pupil n) (joined name settings start own x)) f
 
-  pub no_settings : None ≡ read_settings v n d → None ≡ read_pupil v n d
-  no_settings e = parted (Some name) None _ _ _ (sym named) e refl refl refl
+  pub no_settings : (settings_fields v n).find_in d ≡ None → (pupil_codec v n).read d ≡ None
+  no_settings e = parted (Some name) None _ _ _ named e refl refl refl
 
-  pub no_yes : (s : Settings) → Some s ≡ read_settings v n d → None ≡ at_key (codes "yes") (read_list (read_query n)) d → None ≡ read_pupil v n d
-  no_yes s e f =
-      let start = at_key (codes "start") (read_start n) d in
-      let replies = at_key (codes "replies") (read_list (read_reply n)) d in
-      ap (only_if (is_pupil n)) (sym (joined-no_yes name s start replies)) ∙ parted (Some name) (Some s) start None replies (sym named) e refl f refl
+  -- the settings are read
+  module _ (s : Settings) (e : (settings_fields v n).find_in d ≡ Some (settings_parts s)) where
+    pub no_yes : (yes_field n).find_in d ≡ None → (pupil_codec v n).read d ≡ None
+    no_yes f =
+        let start = (start_field n).find_in d in
+        let replies = (replies_field n).find_in d in
+        parted (Some name) (Some (settings_parts s)) start None replies named e refl f refl ∙ ap (kept_if (is_pupil n)) (joined-no_yes name (settings_parts s) start replies)
 
-  pub no_replies : (s : Settings) (own : List Query) → Some s ≡ read_settings v n d → Some own ≡ at_key (codes "yes") (read_list (read_query n)) d
-      → None ≡ at_key (codes "replies") (read_list (read_reply n)) d → None ≡ read_pupil v n d
-  no_replies s own e f g =
-      let start = at_key (codes "start") (read_start n) d in
-      ap (only_if (is_pupil n)) (sym (joined-no_replies name s start own)) ∙ parted (Some name) (Some s) start (Some own) None (sym named) e refl f g
+    pub no_replies : (own : List Query) → (yes_field n).find_in d ≡ Some own → (replies_field n).find_in d ≡ None → (pupil_codec v n).read d ≡ None
+    no_replies own f g =
+        let start = (start_field n).find_in d in
+        parted (Some name) (Some (settings_parts s)) start (Some own) None named e refl f g ∙ ap (kept_if (is_pupil n)) (joined-no_replies name (settings_parts s) start own)
 
-  pub no_start : (s : Settings) (own : List Query) (rs : List Reply) → Some s ≡ read_settings v n d → Some own ≡ at_key (codes "yes") (read_list (read_query n)) d
-      → Some rs ≡ at_key (codes "replies") (read_list (read_reply n)) d → None ≡ at_key (codes "start") (read_start n) d → None ≡ read_pupil v n d
-  no_start s own rs e f g h = parted (Some name) (Some s) None (Some own) (Some rs) (sym named) e h f g
+    pub no_start : (own : List Query) (rs : List Reply) → (yes_field n).find_in d ≡ Some own → (replies_field n).find_in d ≡ Some rs → (start_field n).find_in d ≡ None → (pupil_codec v n).read d ≡ None
+    no_start own rs f g h = parted (Some name) (Some (settings_parts s)) None (Some own) (Some rs) named e h f g
 
-  -- all parts are read
-  module _ (s : Settings) (own : List Query) (rs : List Reply) (start : Start) (e : Some s ≡ read_settings v n d) (f : Some own ≡ at_key (codes "yes") (read_list (read_query n)) d)
-      (g : Some rs ≡ at_key (codes "replies") (read_list (read_reply n)) d) (h : Some start ≡ at_key (codes "start") (read_start n) d) where
-    abbrev pub own_pupil : Pupil
-    own_pupil = record { name = name; start = start; yeses = own; settings = s; replies = rs }
+    -- all parts are read
+    module _ (own : List Query) (rs : List Reply) (start : Start) (f : (yes_field n).find_in d ≡ Some own) (g : (replies_field n).find_in d ≡ Some rs) (h : (start_field n).find_in d ≡ Some start) where
+      abbrev pub own_pupil : Pupil
+      own_pupil = record { name = name; start = start; yeses = own; settings = s; replies = rs }
 
-    tested : only_if (is_pupil n) (Some own_pupil) ≡ read_pupil v n d
-    tested = parted (Some name) (Some s) (Some start) (Some own) (Some rs) (sym named) e h f g
+      tested : (pupil_codec v n).read d ≡ kept_if (is_pupil n) (Some own_pupil)
+      tested = parted (Some name) (Some (settings_parts s)) (Some start) (Some own) (Some rs) named e h f g
 
-    fails : is_pupil n own_pupil ≡ false → None ≡ read_pupil v n d
-    fails t = sym (ap (λ b. cond b (Some own_pupil) None) t) ∙ tested
+      fails : is_pupil n own_pupil ≡ false → (pupil_codec v n).read d ≡ None
+      fails t = tested ∙ ap (λ b. cond b (Some own_pupil) None) t
 
-    pub bad_spelling : is_spelled n own_pupil ≡ false → None ≡ read_pupil v n d
-    bad_spelling t = fails (not-spelled n own_pupil t)
+      pub bad_spelling : is_spelled n own_pupil ≡ false → (pupil_codec v n).read d ≡ None
+      bad_spelling t = fails (not-spelled n own_pupil t)
 
-    pub not_followed : is_spelled n own_pupil ≡ true → is_followed n own_pupil ≡ false → None ≡ read_pupil v n d
-    not_followed t u = fails (when-spelled n own_pupil t ∙ u)
+      pub not_followed : is_spelled n own_pupil ≡ true → is_followed n own_pupil ≡ false → (pupil_codec v n).read d ≡ None
+      not_followed t u = fails (when-spelled n own_pupil t ∙ u)
 
-    pub all_parts : is_spelled n own_pupil ≡ true → is_followed n own_pupil ≡ true → Some own_pupil ≡ read_pupil v n d
-    all_parts t u = sym (ap (λ b. cond b (Some own_pupil) None) (when-spelled n own_pupil t ∙ u)) ∙ tested
+      pub all_parts : is_spelled n own_pupil ≡ true → is_followed n own_pupil ≡ true → (pupil_codec v n).read d ≡ Some own_pupil
+      all_parts t u = tested ∙ ap (λ b. cond b (Some own_pupil) None) (when-spelled n own_pupil t ∙ u)

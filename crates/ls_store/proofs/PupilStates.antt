@@ -1,5 +1,5 @@
 -- The states of a pupil, listed.
-use Rattle.ls_store.proofs.Vocabulary.{◌<◌, ◌∙◌, ◌≡◌, ◌≤◌, Bool, IsWeighable, Items, List, None, Query, Some, Start, StartOn, ℕ, [], ap, breaks_none, compat, cond, false, filter, le-leb, leb, leb-true, length, lt-leb, most_items, only_if, refl, subst, sym, true}
+use Rattle.ls_store.proofs.Vocabulary.{Bool, IsWeighable, Items, List, None, Query, Some, Start, StartOn, [], ap, breaks_none, compat, cond, false, filter, kept_if, le-leb, leb, leb-true, length, lt-leb, most_items, refl, subst, sym, true, ℕ, ◌<◌, ◌∙◌, ◌≡◌, ◌≤◌}
 use Rattle.ls_theory.specs.Settings.{Settings, most_states}
 use Rattle.ls_laws.specs.Families.{IsFamily}
 use Rattle.ls_laws.proofs.Families.{compat-IsFamily}
@@ -11,10 +11,10 @@ pub are-states : (inner : StartOn) (rules : List Query) (n : ℕ) (start : Start
 are-states inner rules n start own sets e f is =
     is ∙ ap (λ (s : StartOn). filter (breaks_none rules) (compat s.item_count s.start [])) e ∙ ap (λ qs. filter (breaks_none qs) (compat n start [])) f ∙ ruled-compat n start own
 
-pub states-kept : (sets f : List Items) → sets ≡ f → length sets ≤ most_states → Some sets ≡ only_if (λ g. leb (length g) most_states) (Some f)
+pub states-kept : (sets f : List Items) → sets ≡ f → length sets ≤ most_states → Some sets ≡ kept_if (λ g. leb (length g) most_states) (Some f)
 states-kept sets f e few = ap Some e ∙ sym (ap (λ b. cond b (Some f) None) (le-leb (length f) most_states (subst (λ (g : List Items). length g ≤ most_states) e few)))
 
-pub states-many : (sets f : List Items) → sets ≡ f → most_states < length sets → None ≡ only_if (λ g. leb (length g) most_states) (Some f)
+pub states-many : (sets f : List Items) → sets ≡ f → most_states < length sets → None ≡ kept_if (λ g. leb (length g) most_states) (Some f)
 states-many sets f e many = sym (ap (λ b. cond b (Some f) None) (lt-leb (length f) most_states (subst (λ (g : List Items). most_states < length g) e many)))
 
 -- what was kept, and why
@@ -22,7 +22,7 @@ pub record AreKept (f sets : List Items) : Type 0 where
   pub same : sets ≡ f
   pub test : leb (length f) most_states ≡ true
 
-pub kept-from : (sets f : List Items) → Some sets ≡ only_if (λ g. leb (length g) most_states) (Some f) → AreKept f sets
+pub kept-from : (sets f : List Items) → Some sets ≡ kept_if (λ g. leb (length g) most_states) (Some f) → AreKept f sets
 kept-from sets f e = told (leb (length f) most_states) refl e
   where
     told : (b : Bool) → leb (length f) most_states ≡ b → Some sets ≡ cond b (Some f) None → AreKept f sets

@@ -1,128 +1,131 @@
 -- What is written for a whole session is read as that session.
-use Rattle.ls_store.proofs.Vocabulary.{◌<◌, ◌^◌, ◌∙◌, ◌≡◌, ◌≤◌, All-given, AllByRecursion, Cause, Data, Interview, IsDomain, IsPupil, IsStanding, IsUtf8-are_ascii, IsWhole, List, Members, Ok, Option, Pupil, Result, Session, Some, Text, ℕ, answer_value, ap, are_pupils, arith, as_str, at_key, codes, compact_text, depth, each, is_good, is_name, is_name-utf8, length, limits_value, list_all, list_all-All, list_value, ltb, ltb-true, member, members_depth, most_items, names_of_words, names_of_words-again, no_members, number_value, object, odds_value, option_and_then, or_cause, pupil_value, read_block, read_interview, read_limits, read_names, read_object, read_odds, read_pupil, read_pupils, read_start, refl, result_ok, session_from, session_of, session_text, session_value, settings_from, start_value, string, sym, true}
+use Rattle.ls_store.proofs.Vocabulary.{◌<◌, ◌^◌, ◌∙◌, ◌∷◌, ◌≡◌, ◌≤◌, AllByRecursion, Answer, Cause, Data, Interview, IsDomain, IsPupil, IsReadBack, IsStanding, IsUtf8-are_ascii, IsWhole, List, Ok, Option, Pupil, Result, Session, Settings, Some, Text, ℕ, [], and_then, answer_codec, answers_field, ap, are_pupils, arith, block_field, codes, compact_text, depth, each, eq-eqb, false, fewer, interview_from, interview_in, is_good, is_name, is_name-utf8, items_of, kept, key-back, length, limits_field, list_all-All, lists, lists-back, ltb, ltb-true, map, members_depth, most_items, names_codec, names_field, names_of_words, names_of_words-again, next_field, no_members, numbers-back, odds_field, only_if-back, option_map, or_cause, parsed-back, pupil_codec, pupils_codec, pupils_field, read_interview, read_object, read_object-compact_text, refl, result_ok, session_from, session_of, session_text, session_value, settings_fields, settings_in, settings_parts, stands, start_field, sym, texts-back, true, version_field, zipped}
+use Rattle.serde_json.specs.Written.{has_float, items_have_float}
 use Rattle.ls_files.specs.declared.cause.Cause.TheVariants as cause
 use Rattle.ls_files.specs.declared.version.Version.TheVariants as version
-use Rattle.ls_store.proofs.Texts.{IsPlain, read_object-compact_text}
-use Rattle.ls_store.proofs.Lists.{Each-both, read_list-list_value, plain-list_value, depth-list_value, kept}
-use Rattle.ls_store.proofs.WrittenSettings.{odds-back, limits-back, odds-plain, limits-plain}
+use Rattle.ls_files.proofs.Texts.{IsPlain}
+use Rattle.ls_store.proofs.WrittenSettings.{settings-from as settings-parts, odds-back, limits-back}
 use Rattle.ls_store.proofs.WrittenStarts.{start-back}
-use Rattle.ls_store.proofs.WrittenAnswers.{block-back, block-most, answers-back, interview-back}
-use Rattle.ls_store.proofs.Plain.{start-plain, answer-plain, both_within, odds-depth, start-depth}
-use Rattle.ls_store.proofs.WrittenPupils.{pupil-back, pupil-plain, pupil-depth}
+use Rattle.ls_store.proofs.WrittenAnswers.{IsFineAnswer, answer-back, block-back, stands-from}
+use Rattle.ls_store.proofs.WrittenPupils.{both_within, pupil-back, pupil-exact}
 
 -- ---- the parts
 
-abbrev pub session_members : Session → Members
-session_members s =
-    member (codes "answers") (list_value (answer_value s.interview.count) s.interview.answers)
-    (member (codes "block") (number_value s.interview.block)
-    (member (codes "items") (list_value string s.names)
-    (member (codes "limits") (limits_value s.settings)
-    (member (codes "next") (number_value s.interview.next)
-    (member (codes "odds") (odds_value s.settings)
-    (member (codes "pupils") (list_value (pupil_value s.interview.count) s.pupils)
-    (member (codes "start") (start_value s.interview.count s.interview.start)
-    (member (codes "version") (number_value 2) no_members))))))))
+names-back : IsReadBack (List Text) names_codec IsDomain 1
+names-back =
+    fewer IsDomain (λ names h. (each is_name-utf8 names (list_all-All is_name names h.are_names.named), ap result_ok (names_of_words-again names h)))
+    (parsed-back (λ ws. result_ok (names_of_words ws)) (λ ws. ws) (lists-back texts-back))
 
-names-back : (names : List Text) → IsDomain names → read_names (list_value string names) ≡ Some names
-names-back names h =
-    ap (λ o. option_and_then (λ ws. result_ok (names_of_words ws)) o) (read_list-list_value string as_str names (All-given (λ w. as_str (string w) ≡ Some w) (λ w. refl) names))
-    ∙ ap result_ok (names_of_words-again names h)
+answers-back : (n : ℕ) → n ≤ most_items → IsReadBack (List Answer) (lists (answer_codec n)) (AllByRecursion (IsFineAnswer n)) 2
+answers-back n few = lists-back (answer-back n few)
 
-pupils-back : (n : ℕ) (ps : List Pupil) → 0 < n → AllByRecursion (IsPupil n) ps → are_pupils ps ≡ true → read_pupils version.Ratios n (list_value (pupil_value n) ps) ≡ Some ps
-pupils-back n ps some h apart =
-    kept are_pupils _ ps (read_list-list_value (pupil_value n) (read_pupil version.Ratios n) ps (each (λ p x. pupil-back n p some x) ps h)) apart
+answers-fine : (i : Interview) → IsStanding i → AllByRecursion (IsFineAnswer i.count) i.answers
+answers-fine i h =
+    let left = h.numbers_left in
+    both-hold i.answers
+    (each (λ a x. let below = ltb-true a.number i.next x in let small : a.number < 2 ^ 64 = omega arith in small) i.answers (list_all-All (λ a. ltb a.number i.next) i.answers h.numbered.below_next))
+    (list_all-All (λ a. is_good i.count a.query) i.answers h.good)
+  where
+    both-hold : (answers : List Answer) → AllByRecursion (λ a. a.number < 2 ^ 64) answers → AllByRecursion (λ a. is_good i.count a.query ≡ true) answers → AllByRecursion (IsFineAnswer i.count) answers
+    both-hold [] p q = tt
+    both-hold (a ∷ answers) p q = ((p.0, q.0), both-hold answers p.1 q.1)
+
+pupils-back : (n : ℕ) → n ≤ most_items → 0 < n → IsReadBack (List Pupil) (pupils_codec version.Ratios n) (λ ps. AllByRecursion (IsPupil n) ps × (are_pupils ps ≡ true)) 5
+pupils-back n few some = only_if-back are_pupils (lists-back (pupil-back n few some))
 
 -- ---- the chain of the parts
+
+said : {X Y : Type 0} (c : Cause) (o : Option X) (x : X) (next : X → Result Y Cause) → o ≡ Some x → or_cause c o next ≡ next x
+said c o x next e = ap (λ o. or_cause c o next) e
+
+gone : {X Y : Type 0} (r : Result X Cause) (x : X) (next : X → Result Y Cause) → r ≡ Ok x → and_then r next ≡ next x
+gone r x next e = ap (λ r. and_then r next) e
 
 -- the parts after the names, on n items
 abbrev rest : Data → List Text → ℕ → Result Session Cause
 rest d names n =
-    or_cause cause.Limits (at_key (codes "limits") read_limits d) (λ limits.
-    or_cause cause.Odds (at_key (codes "odds") (read_odds version.Ratios n) d) (λ ratios.
-    or_cause cause.Start (at_key (codes "start") (read_start n) d) (λ start.
-    or_cause cause.Block (at_key (codes "block") (read_block n) d) (λ block.
-    or_cause cause.Answers (read_interview n start block d) (λ interview.
-    or_cause cause.Pupils (at_key (codes "pupils") (read_pupils version.Ratios n) d) (λ pupils.
-    Ok (record { names = names; interview = interview; settings = settings_from ratios limits; pupils = pupils })))))))
+    and_then (settings_in version.Ratios n d) (λ settings.
+    and_then (interview_in n d) (λ interview.
+    or_cause cause.Pupils ((pupils_field version.Ratios n).find_in d) (λ pupils.
+    Ok (record { names = names; interview = interview; settings = settings; pupils = pupils }))))
 
-said : {X : Type 0} (c : Cause) (o : Option X) (x : X) (next : X → Result Session Cause) → o ≡ Some x → or_cause c o next ≡ next x
-said c o x next e = ap (λ o. or_cause c o next) e
+few-items : (s : Session) → IsWhole s → s.interview.count ≤ most_items
+few-items s h = omega (arith, h.count, h.domain.are_names.few)
 
-rest-back : (s : Session) → IsWhole s → rest (session_value s) s.names s.interview.count ≡ Ok s
-rest-back s h =
+some-item : (s : Session) → IsWhole s → 0 < s.interview.count
+some-item s h = omega (arith, h.domain.some, h.count)
+
+next-small : (i : Interview) → IsStanding i → i.next < 2 ^ 64
+next-small i h = omega (arith, h.numbers_left)
+
+settings-back : (s : Session) → IsWhole s → settings_in version.Ratios s.interview.count (session_value s) ≡ Ok s.settings
+settings-back s h =
+    let n = s.interview.count in
+    let d = session_value s in
+    let a = settings-parts n s.settings h.settings in
+    let limits : limits_field.find_in d ≡ Some (s.settings.budget, s.settings.share) = key-back limits-back (codes "limits") d (s.settings.budget, s.settings.share) a.limits refl in
+    let ratios : (odds_field version.Ratios n).find_in d ≡ Some s.settings.ratios = key-back (odds-back n) (codes "odds") d s.settings.ratios (a.ratios, eq-eqb (length s.settings.ratios) n a.count) refl in
+    said cause.Limits _ (s.settings.budget, s.settings.share) _ limits ∙ said cause.Odds _ s.settings.ratios _ ratios
+
+interview-back : (s : Session) → IsWhole s → interview_in s.interview.count (session_value s) ≡ Ok s.interview
+interview-back s h =
     let i = s.interview in
     let n = i.count in
     let d = session_value s in
-    let limits : read_limits (limits_value s.settings) ≡ Some (s.settings.budget, s.settings.share) = limits-back n s.settings h.settings in
-    let ratios : read_odds version.Ratios n (odds_value s.settings) ≡ Some s.settings.ratios = odds-back n s.settings h.settings in
-    let start : read_start n (start_value n i.start) ≡ Some i.start = start-back n i.start h.start in
-    let block : read_block n (number_value i.block) ≡ Some i.block = block-back n i.block h.blocks in
-    let interview : read_interview n i.start i.block d ≡ Some i = interview-back i d h.answers (answers-back n i.answers h.answers.good) refl in
-    let pupils : read_pupils version.Ratios n (list_value (pupil_value n) s.pupils) ≡ Some s.pupils = pupils-back n s.pupils (omega (arith, h.domain.some, h.count)) h.pupils h.apart in
-    said cause.Limits _ (s.settings.budget, s.settings.share) _ limits
-    ∙ said cause.Odds _ s.settings.ratios _ ratios
-    ∙ said cause.Start _ i.start _ start
-    ∙ said cause.Block _ i.block _ block
-    ∙ said cause.Answers _ i _ interview
-    ∙ said cause.Pupils _ s.pupils _ pupils
+    let few = few-items s h in
+    let start : (start_field n).find_in d ≡ Some i.start = key-back (start-back n) (codes "start") d i.start h.start refl in
+    let block : (block_field n).find_in d ≡ Some i.block = key-back (block-back n few) (codes "block") d i.block h.blocks refl in
+    let answers : (answers_field n).find_in d ≡ Some i.answers = key-back (answers-back n few) (codes "answers") d i.answers (answers-fine i h.answers) refl in
+    let next : next_field.find_in d ≡ Some i.next = key-back numbers-back (codes "next") d i.next (next-small i h.answers) refl in
+    let interview : read_interview n i.start i.block d ≡ Some i = kept stands _ i (ap (option_map (interview_from n i.start i.block)) (zipped _ _ i.answers i.next answers next)) (stands-from i h.answers) in
+    said cause.Start _ i.start _ start ∙ said cause.Block _ i.block _ block ∙ said cause.Answers _ i _ interview
+
+rest-back : (s : Session) → IsWhole s → rest (session_value s) s.names s.interview.count ≡ Ok s
+rest-back s h =
+    let n = s.interview.count in
+    let d = session_value s in
+    let pupils : (pupils_field version.Ratios n).find_in d ≡ Some s.pupils = key-back (pupils-back n (few-items s h) (some-item s h)) (codes "pupils") d s.pupils (h.pupils, h.apart) refl in
+    gone _ s.settings _ (settings-back s h) ∙ gone _ s.interview _ (interview-back s h) ∙ said cause.Pupils _ s.pupils _ pupils
 
 pub members-back : (s : Session) → IsWhole s → session_from (session_value s) ≡ Ok s
 unfolding session_from
 members-back s h =
     let d = session_value s in
-    let first = said cause.Items (read_names (list_value string s.names)) s.names (λ names. rest d names (length names)) (names-back s.names h.domain) in
-    first ∙ ap (rest d s.names) (sym h.count) ∙ rest-back s h
+    let names : names_field.find_in d ≡ Some s.names = key-back names-back (codes "items") d s.names h.domain refl in
+    said cause.Items (names_field.find_in d) s.names (λ names. rest d names (length names)) names ∙ ap (rest d s.names) (sym h.count) ∙ rest-back s h
 
 -- ---- plain
 
-names-plain : (names : List Text) → list_all is_name names ≡ true → IsPlain (list_value string names)
-names-plain names h = plain-list_value string names (each is_name-utf8 names (list_all-All is_name names h))
-
-answers-plain : (i : Interview) → i.count ≤ most_items → IsStanding i → IsPlain (list_value (answer_value i.count) i.answers)
-answers-plain i few h =
-    let left = h.numbers_left in
-    let numbers = list_all-All (λ a. ltb a.number i.next) i.answers h.numbered.below_next in
-    let good = list_all-All (λ a. is_good i.count a.query) i.answers h.good in
-    plain-list_value (answer_value i.count) i.answers
-    (each
-    (λ a x. let below = ltb-true a.number i.next x.0 in answer-plain i.count a few (omega arith) x.1)
-    i.answers (Each-both (λ a. ltb a.number i.next ≡ true) (λ a. is_good i.count a.query ≡ true) i.answers numbers good))
-
-pupils-plain : (n : ℕ) (ps : List Pupil) → 0 < n → n ≤ most_items → AllByRecursion (IsPupil n) ps → IsPlain (list_value (pupil_value n) ps)
-pupils-plain n ps some few h = plain-list_value (pupil_value n) ps (each (λ p x. pupil-plain n p some few x) ps h)
-
-pub session-plain : (s : Session) → IsWhole s → IsPlain (object (session_members s))
+pub session-plain : (s : Session) → IsWhole s → IsPlain (session_value s)
 session-plain s h =
     let i = s.interview in
-    let names = h.domain.are_names in
-    let few : i.count ≤ most_items = omega (arith, h.count, names.few) in
-    let block : i.block < 2 ^ 64 = omega (arith, block-most i.count i.block h.blocks) in
-    let next : i.next < 2 ^ 64 = omega (arith, h.answers.numbers_left) in (
+    let n = i.count in
+    let few = few-items s h in
+    let a = settings-parts n s.settings h.settings in (
       (
         IsUtf8-are_ascii (codes "answers") refl,
-        answers-plain i few h.answers,
+        (answers-back n few).plain i.answers (answers-fine i h.answers),
         (
           IsUtf8-are_ascii (codes "block") refl,
-          block,
+          (block-back n few).plain i.block h.blocks,
           (
             IsUtf8-are_ascii (codes "items") refl,
-            names-plain s.names names.named,
+            names-back.plain s.names h.domain,
             (
               IsUtf8-are_ascii (codes "limits") refl,
-              limits-plain i.count s.settings h.settings,
+              limits-back.plain (s.settings.budget, s.settings.share) a.limits,
               (
                 IsUtf8-are_ascii (codes "next") refl,
-                next,
+                next-small i h.answers,
                 (
                   IsUtf8-are_ascii (codes "odds") refl,
-                  odds-plain i.count s.settings h.settings,
+                  (odds-back n).plain s.settings.ratios (a.ratios, eq-eqb (length s.settings.ratios) n a.count),
                   (
                     IsUtf8-are_ascii (codes "pupils") refl,
-                    pupils-plain i.count s.pupils (omega (arith, h.domain.some, h.count)) few h.pupils,
+                    (pupils-back n few (some-item s h)).plain s.pupils (h.pupils, h.apart),
                     (
                       IsUtf8-are_ascii (codes "start") refl,
-                      start-plain i.count i.start,
+                      (start-back n).plain i.start h.start,
                       (IsUtf8-are_ascii (codes "version") refl, omega arith, tt),
                     ),
                   ),
@@ -135,24 +138,45 @@ session-plain s h =
       refl,
     )
 
-pub session-depth : (s : Session) → depth (object (session_members s)) ≤ 6
-session-depth s =
+pub session-depth : (s : Session) → IsWhole s → depth (session_value s) ≤ 6
+session-depth s h =
     let i = s.interview in
-    let answers = depth-list_value (answer_value i.count) 1 (λ a. omega arith) i.answers in
-    let names = depth-list_value string 0 (λ w. omega arith) s.names in
-    let odds = odds-depth s.settings in
-    let pupils = depth-list_value (pupil_value i.count) 4 (pupil-depth i.count) s.pupils in
-    let start = start-depth i.count i.start in
-    let members : members_depth (session_members s) ≤ 5 =
+    let n = i.count in
+    let few = few-items s h in
+    let answers = (answers-back n few).shallow i.answers in
+    let names = names-back.shallow s.names in
+    let odds = (odds-back n).shallow s.settings.ratios in
+    let pupils = (pupils-back n few (some-item s h)).shallow s.pupils in
+    let start = (start-back n).shallow i.start in
+    let members : members_depth ((version_field.put_in version.Ratios (names_field.put_in s.names ((settings_fields version.Ratios n).put_in (settings_parts s.settings)
+    ((start_field n).put_in i.start ((block_field n).put_in i.block ((answers_field n).put_in i.answers (next_field.put_in i.next ((pupils_field version.Ratios n).put_in s.pupils no_members))))))))) ≤ 5 =
     both_within 5 _ _ (omega arith) (both_within 5 _ _ (omega arith) (both_within 5 _ _ (omega arith) (both_within 5 _ _ (omega arith) (both_within 5 _ _ (omega arith) (both_within 5 _ _ (omega arith)
     (both_within 5 _ _ pupils (both_within 5 _ _ (omega arith) (omega arith)))))))) in
     omega arith
+
+pupils-exact : (n : ℕ) → n ≤ most_items → (ps : List Pupil) → items_have_float (items_of (map (pupil_codec version.Ratios n).write ps)) ≡ false
+pupils-exact n few [] = refl
+pupils-exact n few (p ∷ ps) = rw (pupil-exact n few p) (pupils-exact n few ps)
+
+-- no value of a session is a float
+pub session-exact : (s : Session) → s.interview.count ≤ most_items → has_float (session_value s) ≡ false
+session-exact s few =
+    let i = s.interview in
+    let n = i.count in
+    let pupils : items_have_float (items_of (map (pupil_codec version.Ratios n).write s.pupils)) ≡ false = pupils-exact n few s.pupils in
+    rw (
+      (answers-back n few).exact i.answers,
+      names-back.exact s.names,
+      (odds-back n).exact s.settings.ratios,
+      pupils,
+      (start-back n).exact i.start,
+    ) refl
 
 -- ---- the whole text
 
 pub read_back : (s : Session) → IsWhole s → session_of (session_text s) ≡ Ok s
 unfolding session_of session_text
 read_back s h =
-    let shallow = session-depth s in
-    said cause.Json (read_object (compact_text (session_value s))) (session_value s) session_from (read_object-compact_text (session_members s) (session-plain s h) (omega arith))
+    let shallow = session-depth s h in
+    said cause.Json (read_object (compact_text (session_value s))) (session_value s) session_from (read_object-compact_text _ (session-plain s h) (omega arith))
     ∙ members-back s h

@@ -1,24 +1,29 @@
 -- What is read of a session is a part of a whole one: settings, starts and interviews.
-use Rattle.ls_store.proofs.Vocabulary.{◌&&◌, ◌+◌, ◌||◌, ◌∙◌, ◌∷◌, ◌≡◌, All-list_all, AllByRecursion, Answer, BaseFault, Bool, Data, Decides-is_same, Err, Interview, IsDistinct, IsStanding, IsStrictlyIncreasing-from_sorted, IsStrictlySortedBy, Less, List, Ok, Ratios, Result, Some, Version, ℕ, [], and_from, and_parts, ap, are_apart, are_limits, are_made, are_ratios, are_settings, based, cond, each, eqb, false, filter, is_ascending, is_base, is_ratio, is_same_query, leb, leb-true, length, list_all, list_all-All, list_any, ltb, map, most_answers, most_number, nat_cmp, no_queries, not, not-true, option_map_or, pointwise, pointwise_decides, ratio_in, ratios_from, read_base, read_block, read_limits, read_list, read_number, read_odds, read_pair, read_ratio, read_ratios, read_set, refl, result_ok, settings_from, spaces_of, stands, subst, sym, true, true≢false}
+use Rattle.ls_store.proofs.Vocabulary.{All-list_all, AllByRecursion, Answer, BaseFault, Bool, Data, Decides-is_same, Err, Interview, IsDistinct, IsStanding, IsStrictlyIncreasing-from_sorted, IsStrictlySortedBy, Less, List, Ok, Ratio, Ratios, Result, Some, Version, [], and_from, and_parts, ap, are_apart, are_limits, are_made, are_ratios, are_settings, base_codec, based, block_codec, cond, each, eq-eqb, eqb, eqb-true, false, filter, is_ascending, is_base, is_ratio, is_same_query, leb, leb-true, length, limits_codec, list_all, list_all-All, list_any, ltb, map, most_answers, most_number, nat_cmp, no_queries, not, not-true, numbers, odds_codec, option_map_or, pointwise, pointwise_decides, ratio_codec, ratio_in, ratios_codec, read_list, read_pair, refl, result_ok, set_codec, settings_from, spaces_of, stands, subst, sym, true, true≢false, ℕ, ◌&&◌, ◌+◌, ◌||◌, ◌∙◌, ◌∷◌, ◌≡◌}
 use Rattle.ls_set.specs.{Items, is_good, is_same}
-use Rattle.ls_store.proofs.Inverse.{only_if-some, map-some, list-some, pair-some}
+use Rattle.ls_store.proofs.Inverse.{kept_if-some, map-some, list-some, pair-some}
 
 -- ---- settings
 
-ratios-sound : (v : Version) (d : Data) (r : Ratios) → read_ratios v d ≡ Some r → are_ratios r ≡ true
+ratios-sound : (v : Version) (d : Data) (r : Ratios) → (ratios_codec v).read d ≡ Some r → are_ratios r ≡ true
 ratios-sound v d r e =
-    let made = map-some ratios_from _ r e in
-    let parts = pair-some (read_ratio v) (read_ratio v) d made.0 made.1 in
-    let right = only_if-some is_ratio (ratio_in v parts.0.0) made.0.0 parts.1 in
-    let wrong = only_if-some is_ratio (ratio_in v parts.0.1) made.0.1 parts.2 in
+    let made = map-some (λ (p : Ratio × Ratio). let r : Ratios = record { right = p.0; wrong = p.1 } in r) (read_pair (ratio_codec v).read (ratio_codec v).read d) r e in
+    let parts = pair-some (ratio_codec v).read (ratio_codec v).read d made.0 made.1 in
+    let right = kept_if-some is_ratio ((ratio_in v).read parts.0.0) made.0.0 parts.1 in
+    let wrong = kept_if-some is_ratio ((ratio_in v).read parts.0.1) made.0.1 parts.2 in
     subst (λ r. are_ratios r ≡ true) made.2 (and_from (is_ratio made.0.0) (is_ratio made.0.1) right.1 wrong.1)
 
-pub settings-sound : (v : Version) (n : ℕ) (d e : Data) (rs : List Ratios) (limits : ℕ × ℕ) → read_odds v n d ≡ Some rs → read_limits e ≡ Some limits → are_settings n (settings_from rs limits) ≡ true
-settings-sound v n d e rs limits odds bounds =
-    let list = only_if-some (λ rs. eqb (length rs) n) (read_list (read_ratios v) d) rs odds in
-    let each = All-list_all are_ratios rs (list-some (read_ratios v) (λ r. are_ratios r ≡ true) (ratios-sound v) d rs list.0) in
-    let most = only_if-some (λ p. are_limits p.0 p.1) (read_pair read_number read_number e) limits bounds in
-    and_from (eqb (length rs) n && list_all are_ratios rs) (are_limits limits.0 limits.1) (and_from (eqb (length rs) n) (list_all are_ratios rs) list.1 each) most.1
+pub odds-sound : (v : Version) (n : ℕ) (d : Data) (rs : List Ratios) → (odds_codec v n).read d ≡ Some rs → (length rs ≡ n) × (list_all are_ratios rs ≡ true)
+odds-sound v n d rs e =
+    let list = kept_if-some (λ rs. eqb (length rs) n) (read_list (ratios_codec v).read d) rs e in
+    (eqb-true (length rs) n list.1, All-list_all are_ratios rs (list-some (ratios_codec v).read (λ r. are_ratios r ≡ true) (ratios-sound v) d rs list.0))
+
+pub limits-sound : (d : Data) (limits : ℕ × ℕ) → limits_codec.read d ≡ Some limits → are_limits limits.0 limits.1 ≡ true
+limits-sound d limits e = (kept_if-some (λ p. are_limits p.0 p.1) (read_pair numbers.read numbers.read d) limits e).1
+
+pub settings-sound : (n : ℕ) (rs : List Ratios) (limits : ℕ × ℕ) → (length rs ≡ n) × (list_all are_ratios rs ≡ true) → are_limits limits.0 limits.1 ≡ true → are_settings n (settings_from rs limits) ≡ true
+settings-sound n rs limits odds within =
+    and_from (eqb (length rs) n && list_all are_ratios rs) (are_limits limits.0 limits.1) (and_from (eqb (length rs) n) (list_all are_ratios rs) (eq-eqb (length rs) n odds.0) odds.1) within
 
 -- ---- bases
 
@@ -29,8 +34,8 @@ based-from sets (Err e) h = absurd (true≢false (sym h))
 pub is_base-based : (n : ℕ) (sets : List Items) → is_base n sets ≡ true → based n sets ≡ Ok sets
 is_base-based n sets h = based-from sets (based n sets) h
 
-pub base-sound : (n : ℕ) (d : Data) (sets : List Items) → read_base n d ≡ Some sets → based n sets ≡ Ok sets
-base-sound n d sets e = is_base-based n sets (only_if-some (is_base n) (read_list (read_set n) d) sets e).1
+pub base-sound : (n : ℕ) (d : Data) (sets : List Items) → (base_codec n).read d ≡ Some sets → based n sets ≡ Ok sets
+base-sound n d sets e = is_base-based n sets (kept_if-some (is_base n) (read_list (set_codec n).read d) sets e).1
 
 -- ---- interviews
 
@@ -91,5 +96,5 @@ stands-standing i h =
       numbers_left = leb-true i.next (most_number + 1) bounds.1;
     }
 
-pub block-sound : (n : ℕ) (d : Data) (k : ℕ) → read_block n d ≡ Some k → are_made n k ≡ true
-block-sound n d k e = (only_if-some (are_made n) (read_number d) k e).1
+pub block-sound : (n : ℕ) (d : Data) (k : ℕ) → (block_codec n).read d ≡ Some k → are_made n k ≡ true
+block-sound n d k e = (kept_if-some (are_made n) (numbers.read d) k e).1

@@ -1,5 +1,5 @@
 -- Answers that were read, and whether they stand.
-use Rattle.ls_store.proofs.Vocabulary.{◌∙◌, ◌≡◌, Answer, BlockRange, Bool, Data, Err, Interview, IsStandingFault, List, None, Option, Result, Some, Start, ℕ, ap, ap₂, are_made, at_key, codes, cond, false, false_from_ne_true, interview_from, interview_on, is_ok, made, only_if, option_map, option_zip, read_answer, read_interview, read_list, read_number, refl, stands, sym, true, true≢false}
+use Rattle.ls_store.proofs.Vocabulary.{Answer, BlockRange, Bool, Data, Err, Interview, IsStandingFault, List, None, Option, Result, Some, Start, answers_field, ap, ap₂, are_made, cond, false, false_from_ne_true, interview_from, interview_on, is_ok, kept_if, made, next_field, option_map, option_zip, read_interview, refl, stands, sym, true, true≢false, ℕ, ◌∙◌, ◌≡◌}
 use Rattle.std.specs.declared.alloc.AllocError.{AllocError}
 use Rattle.ls_theory.specs.declared.block_fault.BlockFault.{BlockFault}
 use Rattle.ls_expert.specs.declared.standing_fault.StandingFault.{StandingFault}
@@ -11,19 +11,13 @@ use Rattle.ls_store.proofs.WrittenAnswers.{stands-from}
 
 -- ---- the parts
 
-abbrev answers_in : ℕ → Data → Option (List Answer)
-answers_in n d = at_key (codes "answers") (read_list (read_answer n)) d
-
-abbrev next_in : Data → Option ℕ
-next_in d = at_key (codes "next") read_number d
-
 abbrev from_parts : ℕ → Start → ℕ → Option (List Answer) → Option ℕ → Option Interview
-from_parts n start block answers next = only_if stands (option_map (interview_from n start block) (option_zip answers next))
+from_parts n start block answers next = kept_if stands (option_map (interview_from n start block) (option_zip answers next))
 
-by-standing : (n : ℕ) (start : Start) (block : ℕ) (d : Data) (answers : List Answer) (next : ℕ) (b : Bool) → Some answers ≡ answers_in n d → Some next ≡ next_in d
+by-standing : (n : ℕ) (start : Start) (block : ℕ) (d : Data) (answers : List Answer) (next : ℕ) (b : Bool) → (answers_field n).find_in d ≡ Some answers → next_field.find_in d ≡ Some next
     → stands (interview_on n start block answers next) ≡ b → read_interview n start block d ≡ cond b (Some (interview_on n start block answers next)) None
 by-standing n start block d answers next b a m e =
-    sym (ap₂ (from_parts n start block) a m) ∙ ap (λ t. cond t (Some (interview_on n start block answers next)) None) e
+    ap₂ (from_parts n start block) a m ∙ ap (λ t. cond t (Some (interview_on n start block answers next)) None) e
 
 -- ---- whether they stand
 
@@ -33,19 +27,19 @@ held-from i h = record { sound = h.sound; good = h.good; distinct = h.distinct; 
 whole-from : (i : Interview) → held.IsStanding i → whole.IsStanding i
 whole-from i h = record { sound = h.sound; good = h.good; distinct = h.distinct; numbered = h.numbered; few_answers = h.few_answers; some_number = h.some_number; numbers_left = h.numbers_left }
 
-pub standing : (n : ℕ) (start : Start) (block : ℕ) (d : Data) (answers : List Answer) (next : ℕ) (i : Interview) → Some answers ≡ answers_in n d → Some next ≡ next_in d
-    → i ≡ interview_on n start block answers next → held.IsStanding i → Some i ≡ read_interview n start block d
+pub standing : (n : ℕ) (start : Start) (block : ℕ) (d : Data) (answers : List Answer) (next : ℕ) (i : Interview) → (answers_field n).find_in d ≡ Some answers → next_field.find_in d ≡ Some next
+    → i ≡ interview_on n start block answers next → held.IsStanding i → read_interview n start block d ≡ Some i
 standing n start block d answers next i a m e h =
-    ap Some e ∙ sym (by-standing n start block d answers next true a m (sym (ap stands e) ∙ stands-from i (whole-from i h)))
+    by-standing n start block d answers next true a m (sym (ap stands e) ∙ stands-from i (whole-from i h)) ∙ ap Some (sym e)
 
 made-err : (r : Result BlockRange BlockFault) (fault : BlockFault) → is_ok r ≡ true → r ≡ Err fault → ⊥
 made-err r fault ok e = true≢false (sym ok ∙ ap is_ok e)
 
-pub refused : (n : ℕ) (start : Start) (block : ℕ) (d : Data) (answers : List Answer) (next : ℕ) (fault : StandingFault) → Some answers ≡ answers_in n d → Some next ≡ next_in d
-    → are_made n block ≡ true → ((e : AllocError) → fault ≡ Memory e → ⊥) → IsStandingFault (interview_on n start block answers next) fault → None ≡ read_interview n start block d
+pub refused : (n : ℕ) (start : Start) (block : ℕ) (d : Data) (answers : List Answer) (next : ℕ) (fault : StandingFault) → (answers_field n).find_in d ≡ Some answers → next_field.find_in d ≡ Some next
+    → are_made n block ≡ true → ((e : AllocError) → fault ≡ Memory e → ⊥) → IsStandingFault (interview_on n start block answers next) fault → read_interview n start block d ≡ None
 refused n start block d answers next BadBlock a m ok other h = absurd (made-err (made n block) _ ok h)
 refused n start block d answers next (TooWide size) a m ok other h = absurd (made-err (made n block) _ ok h)
 refused n start block d answers next BadAnswers a m ok other h =
     let i = interview_on n start block answers next in
-    sym (by-standing n start block d answers next false a m (false_from_ne_true (stands i) (λ s. h.1 (held-from i (stands-standing i s)))))
+    by-standing n start block d answers next false a m (false_from_ne_true (stands i) (λ s. h.1 (held-from i (stands-standing i s))))
 refused n start block d answers next (Memory x) a m ok other h = absurd (other x refl)

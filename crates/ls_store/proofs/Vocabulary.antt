@@ -1,5 +1,5 @@
 -- The words that the proofs of this crate cite, passed on from one place.
-pub use Rattle.std.proofs.Common.{Bool, Equal, Err, Greater, IfErr, IsErrAnd, IsUtf8, Less, List, None, Ok, Option, Result, Some, [], ap, append-nil, append_assoc, ap₂, arith, codes, cond, drop, drop-cons, eq-eqb, eqb, eqb-true, false, filter, find, get_or, inl, inr, is_eq, is_none, le-leb, leb, leb-true, length, lt-ltb, ltb, ltb-false, ltb-true, map, max, ne_eqb, not, option_and_then, option_map, refl, replicate, rules, subst, suc, sym, take, true, true≢false, zero, ℕ, ◌&&◌, ◌++◌, ◌+◌, ◌-◌, ◌<◌, ◌^◌, ◌||◌, ◌∙◌, ◌∷◌, ◌≡◌, ◌≤◌}
+pub use Rattle.std.proofs.Common.{Bool, Equal, Err, Greater, IfErr, IfOk, IsErrAnd, IsUtf8, Less, List, None, Ok, Option, Result, Some, [], ap, append-nil, append_assoc, ap₂, arith, codes, cond, drop, drop-cons, eq-eqb, eqb, eqb-true, false, filter, find, get_or, inl, inr, is_eq, is_none, le-leb, leb, leb-true, length, lt-ltb, ltb, ltb-false, ltb-true, map, max, ne_eqb, not, option_and_then, option_map, refl, replicate, rules, subst, suc, sym, take, true, true≢false, zero, ℕ, ◌&&◌, ◌++◌, ◌+◌, ◌-◌, ◌<◌, ◌^◌, ◌||◌, ◌∙◌, ◌∷◌, ◌≡◌, ◌≤◌}
 pub use Rattle.std.proofs.lemmas.Bool.{agree_below_at, and_from, and_parts, cases_Bool, false_from_ne_true, lt-leb, not-false, not-true, not_from_false, or_cases}
 pub use Rattle.std.proofs.lemmas.List.{length-map, length_push, map_push, take-append-drop, take_more}
 pub use Rattle.std.proofs.lemmas.Map.Keys.{IsStrictlyIncreasing-from_sorted, sorted_from_strictly_increasing}
@@ -24,17 +24,17 @@ unfoldable pub use Rattle.ls_domain.specs.Domains.{names_from}
 pub use Rattle.ls_expert.specs.Held.{interview_on}
 pub use Rattle.ls_expert.specs.Saved.{IsStandingFault}
 pub use Rattle.ls_expert.specs.Starts.{IsStartOn, StartOn, start_of}
-pub use Rattle.ls_files.specs.Parts.{answer_from, interview_from, pupil_from, query_from, ratio_in, ratios_from, read_answer, read_base, read_block, read_course, read_interview, read_item, read_limits, read_names, read_odds, read_pupil, read_pupils, read_query, read_ratio, read_ratios, read_reply, read_set, read_settings, read_start, read_surmise, read_version, reply_from, settings_from, start_from, start_within}
-pub use Rattle.ls_files.specs.Readers.{at_key, four_values, only_if, read_number, read_object, read_pair, two_values}
-pub use Rattle.ls_files.specs.Reading.{or_cause}
-unfoldable pub use Rattle.ls_files.specs.Reading.{session_from, session_of}
+pub use Rattle.ls_files.specs.Codecs.{Codec, Fields, at_key, booleans, both, four_values, fours, kept_if, lists, mapped, numbers, objects, only_if, pair_value, pairs, parsed, read_four, read_object, read_pair, texts, two_values}
+pub use Rattle.ls_files.specs.SessionCodecs.{PupilParts, answer_codec, answer_from, answers_field, base_codec, block_codec, block_field, item_codec, limits_codec, limits_field, name_field, names_codec, names_field, next_field, odds_codec, odds_field, pupil_codec, pupil_fields, pupil_from, pupil_parts, pupils_codec, pupils_field, query_codec, ratio_codec, ratio_in, ratios_codec, replies_field, reply_codec, set_codec, settings_fields, settings_from, settings_parts, start_codec, start_field, start_from, start_value, start_within, surmise_codec, version_codec, version_field, yes_field}
+pub use Rattle.ls_files.specs.SessionFiles.{and_then, interview_from, interview_in, or_cause, read_interview, session_value, settings_in}
+unfoldable pub use Rattle.ls_files.specs.SessionFiles.{session_from, session_of, session_text}
+pub use Rattle.ls_files.proofs.CodecLaws.{IsReadBack, booleans-back, fewer, fours-back, kept, key-back, lists-back, mapped-back, numbers-back, only_if-back, pairs-back, parsed-back, texts-back, zipped}
+pub use Rattle.ls_files.proofs.Texts.{IsPlain, read_object-compact_text}
 pub use Rattle.ls_files.specs.Sessions.{Pupil, Session, most_pupils, pupil_states}
 pub use Rattle.ls_files.specs.Standing.{are_apart, are_made, are_pupils, follow, is_ascending, is_asked, is_base}
 unfoldable pub use Rattle.ls_files.specs.Standing.{is_pupil, stands}
 pub use Rattle.ls_files.specs.SurmiseFiles.{in_order, list_value, read_each, read_list, wide}
 unfoldable pub use Rattle.ls_files.specs.SurmiseFiles.{surmise_from}
-pub use Rattle.ls_files.specs.Values.{answer_value, limits_value, number_value, odds_value, pair_value, pupil_value, query_value, ratio_value, ratios_value, reply_value, session_value, set_value, start_value}
-unfoldable pub use Rattle.ls_files.specs.Values.{session_text}
 pub use Rattle.ls_files.specs.declared.cause.Cause.{Cause}
 pub use Rattle.ls_files.specs.declared.version.Version.{Version}
 pub use Rattle.ls_laws.proofs.Breaks.{good-from}
@@ -69,5 +69,5 @@ pub use Rattle.serde_json.specs.Read.{max_depth, of_items, of_json, of_members, 
 pub use Rattle.serde_json.specs.View.{items_of, items_view, members_view, view}
 pub use Rattle.serde_json.specs.Written.{comma_if, compact_text, has_float, items_have_float, items_outline, items_text, members_have_float, members_outline, members_text, outline}
 pub use Rattle.ls_store.specs.{IsNarrow, IsPupil, IsStanding, IsStart, IsWhole}
-pub use Rattle.ls_store.specs.Chains.{IsSessionFault, interview_chain, settings_chain}
+pub use Rattle.ls_store.specs.Faults.{IsRead, IsReadAs, IsSessionFault, told}
 pub use Rattle.ls_store.specs.QueryOrders.{query_order, same-by_query_order, same_queries}

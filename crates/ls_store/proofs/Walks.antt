@@ -5,10 +5,10 @@ use Rattle.serde_json.specs.declared.value.Value.{Value}
 use Rattle.ls_set.specs.{Items, is_among}
 
 -- what was read, and the rest, are the whole
-abbrev pub IsRead : {X : Type 0} → (Data → Option X) → List X → List Value → Option (List X) → Type 0
-IsRead f xs rest whole = option_map (λ ys. xs ++ ys) (read_each f (items_view rest)) ≡ whole
+abbrev pub IsReadTo : {X : Type 0} → (Data → Option X) → List X → List Value → Option (List X) → Type 0
+IsReadTo f xs rest whole = option_map (λ ys. xs ++ ys) (read_each f (items_view rest)) ≡ whole
 
-pub read-first : {X : Type 0} (f : Data → Option X) (vs : List Value) (d : Data) → Some (items_view vs) ≡ as_array d → IsRead f [] vs (read_list f d)
+pub read-first : {X : Type 0} (f : Data → Option X) (vs : List Value) (d : Data) → Some (items_view vs) ≡ as_array d → IsReadTo f [] vs (read_list f d)
 read-first f vs d e = same (read_each f (items_view vs)) ∙ ap (option_and_then (read_each f)) e
   where
     same : {Y : Type 0} (o : Option (List Y)) → option_map (λ ys. [] ++ ys) o ≡ o
@@ -23,7 +23,7 @@ moved xs x None = refl
 moved xs x (Some ys) = ap Some (append_assoc xs (x ∷ []) ys)
 
 pub read-next : {X : Type 0} (f : Data → Option X) (xs : List X) (x : X) (vs : List Value) (i : ℕ) (v : Value) (whole : Option (List X)) → i < length vs → v ≡ get_or vs i v → f (view v) ≡ Some x
-    → IsRead f xs (drop i vs) whole → IsRead f (xs ++ x ∷ []) (drop (i + 1) vs) whole
+    → IsReadTo f xs (drop i vs) whole → IsReadTo f (xs ++ x ∷ []) (drop (i + 1) vs) whole
 read-next f xs x vs i v whole l e is h =
     let rest = read_each f (items_view (drop (i + 1) vs)) in
     moved xs x rest
@@ -32,14 +32,14 @@ read-next f xs x vs i v whole l e is h =
     ∙ h
 
 pub read-none : {X : Type 0} (f : Data → Option X) (xs : List X) (vs : List Value) (i : ℕ) (v : Value) (whole : Option (List X)) → i < length vs → v ≡ get_or vs i v → f (view v) ≡ None
-    → IsRead f xs (drop i vs) whole → None ≡ whole
+    → IsReadTo f xs (drop i vs) whole → None ≡ whole
 read-none f xs vs i v whole l e is h =
     let rest = read_each f (items_view (drop (i + 1) vs)) in
     ap (λ o. option_map (λ ys. xs ++ ys) (option_and_then (λ y. option_map (λ ys. y ∷ ys) rest) o)) (sym is)
     ∙ ap (λ ws. option_map (λ ys. xs ++ ys) (read_each f (items_view ws))) (sym (next-item vs i v l e))
     ∙ h
 
-pub read-last : {X : Type 0} (f : Data → Option X) (xs : List X) (vs : List Value) (i : ℕ) (whole : Option (List X)) → length vs ≤ i → IsRead f xs (drop i vs) whole → Some xs ≡ whole
+pub read-last : {X : Type 0} (f : Data → Option X) (xs : List X) (vs : List Value) (i : ℕ) (whole : Option (List X)) → length vs ≤ i → IsReadTo f xs (drop i vs) whole → Some xs ≡ whole
 read-last f xs vs i whole l h =
     ap Some (sym (append-nil xs)) ∙ ap (λ ws. option_map (λ ys. xs ++ ys) (read_each f (items_view ws))) (sym (drop_all i vs l)) ∙ h
 

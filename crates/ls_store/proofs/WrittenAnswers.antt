@@ -1,8 +1,7 @@
--- Answers and the rest of an interview, written and read.
-use Rattle.ls_store.proofs.Vocabulary.{◌+◌, ◌-◌, ◌||◌, ◌∷◌, ◌≡◌, ◌≤◌, All-list_all, AllByRecursion, Answer, BlockRange, Bool, Data, Equal, Err, Greater, Interview, IsDistinct, IsStanding, IsStrictlySortedBy, Less, List, Result, Some, ℕ, [], and_from, answer_from, answer_value, ap, are_apart, are_made, arith, at_key, codes, cond, each, eqb, false, good-from, interview_from, is_ascending, is_good, is_ok, is_same_query, le-leb, leb, length, list_all, list_all-All, list_any, list_value, ltb, ltb-false, made, map, max, most_answers, most_number, nat_cmp, ne_eqb, not, not_from_false, number_value, option_map, read_answer, read_block, read_interview, read_list, read_number, refl, sorted_from_strictly_increasing, spaces_of, stands, suc, sym, true, true≢false}
+-- Answers and blocks, written and read.
+use Rattle.ls_store.proofs.Vocabulary.{◌+◌, ◌-◌, ◌<◌, ◌^◌, ◌||◌, ◌∷◌, ◌≡◌, ◌≤◌, All-list_all, AllByRecursion, Answer, BlockRange, Bool, Equal, Err, Greater, Interview, IsDistinct, IsReadBack, IsStanding, IsStrictlySortedBy, Less, List, Result, ℕ, [], and_from, answer_codec, answer_from, ap, are_apart, are_made, arith, block_codec, booleans-back, cond, each, eqb, false, fewer, fours-back, good-from, is_ascending, is_good, is_ok, is_same_query, le-leb, leb, length, list_all, list_any, ltb, ltb-false, made, map, mapped-back, max, most_answers, most_items, most_number, nat_cmp, ne_eqb, not, not_from_false, numbers-back, only_if-back, refl, sorted_from_strictly_increasing, spaces_of, stands, suc, sym, true, true≢false}
 use Rattle.ls_theory.specs.declared.block_fault.BlockFault.{BlockFault}
 use Rattle.ls_theory.specs.declared.block_fault.BlockFault.TheVariants.{BadBlock}
-use Rattle.ls_store.proofs.Lists.{read_list-list_value, kept, zipped}
 use Rattle.ls_store.proofs.WrittenStarts.{set-back, item-back}
 
 -- ---- the tests of what stands
@@ -47,9 +46,6 @@ stands-from i h =
 
 -- ---- blocks
 
-pub block-back : (n k : ℕ) → are_made n k ≡ true → read_block n (number_value k) ≡ Some k
-block-back n k h = kept (are_made n) _ k refl h
-
 not-bad : (bad : Bool) (rest : Result BlockRange BlockFault) → is_ok (cond bad (Err BadBlock) rest) ≡ true → bad ≡ false
 not-bad true rest h = absurd (true≢false (sym h))
 not-bad false rest h = refl
@@ -63,18 +59,16 @@ pub block-most : (n k : ℕ) → are_made n k ≡ true → k ≤ max 1 (n - 1)
 unfolding made
 block-most n k h = ltb-false (max 1 (n - 1)) k (or-right (eqb k 0) (ltb (max 1 (n - 1)) k) (not-bad (eqb k 0 || ltb (max 1 (n - 1)) k) _ h))
 
+pub block-back : (n : ℕ) → n ≤ most_items → IsReadBack ℕ (block_codec n) (λ k. are_made n k ≡ true) 0
+block-back n few = fewer (λ k. are_made n k ≡ true) (λ k h. let most = block-most n k h in (omega arith, h)) (only_if-back (are_made n) numbers-back)
+
 -- ---- answers
 
-answer-back : (n : ℕ) (a : Answer) → is_good n a.query ≡ true → read_answer n (answer_value n a) ≡ Some a
-answer-back n a h = ap (option_map answer_from) (zipped (Some (a.number, a.yes)) _ (a.number, a.yes) (a.query.a, a.query.q) refl (zipped _ _ a.query.a a.query.q (set-back n a.query.a (good-from n a.query h).small) (item-back n a.query.q (good-from n a.query h).item)))
+-- its number is one of 64 bits, and its query is good
+abbrev pub IsFineAnswer : ℕ → Answer → Type 0
+IsFineAnswer n a = (a.number < 2 ^ 64) × (is_good n a.query ≡ true)
 
-pub answers-back : (n : ℕ) (answers : List Answer) → list_all (λ a. is_good n a.query) answers ≡ true → read_list (read_answer n) (list_value (answer_value n) answers) ≡ Some answers
-answers-back n answers h =
-    read_list-list_value (answer_value n) (read_answer n) answers
-    (each (answer-back n) answers (list_all-All (λ a. is_good n a.query) answers h))
-
-pub interview-back : (i : Interview) (d : Data) → IsStanding i
-    → at_key (codes "answers") (read_list (read_answer i.count)) d ≡ Some i.answers → at_key (codes "next") read_number d ≡ Some i.next
-    → read_interview i.count i.start i.block d ≡ Some i
-interview-back i d h answers next =
-    kept stands _ i (ap (option_map (interview_from i.count i.start i.block)) (zipped _ _ i.answers i.next answers next)) (stands-from i h)
+pub answer-back : (n : ℕ) → n ≤ most_items → IsReadBack Answer (answer_codec n) (IsFineAnswer n) 1
+answer-back n few =
+    fewer (IsFineAnswer n) (λ a h. let good = good-from n a.query h.1 in ((h.0, tt), (good.small, good.item)))
+    (mapped-back answer_from (λ a. ((a.number, a.yes), (a.query.a, a.query.q))) (λ a. refl) (fours-back numbers-back booleans-back (set-back n) (item-back n few)))

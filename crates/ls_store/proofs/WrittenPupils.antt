@@ -1,5 +1,6 @@
 -- Pupils, written and read.
-use Rattle.ls_store.proofs.Vocabulary.{◌++◌, ◌+◌, ◌<◌, ◌∷◌, ◌≡◌, ◌≤◌, AllByRecursion, Bool, IsPupil, IsUtf8-are_ascii, List, Members, Pupil, Query, Ratios, Some, ℕ, [], and_parts, ap, arith, as_bool, asked, boolean, codes, cond, depth, each, eqb, eqb-true, false, find, follow, half_split, has_share, imbalance, is_asked, is_name, is_name-utf8, is_pupil, leb, length, limits_value, list_all, list_all-All, list_value, member, members_depth, no_members, number_value, odds_value, option_map, pupil_from, pupil_states, pupil_value, query_value, read_course, read_item, read_list, read_pupil, read_query, read_reply, read_settings, refl, reply_from, reply_value, settings_from, start_value, string, subst, suc, true, unwrap_or, zero}
+use Rattle.ls_store.proofs.Vocabulary.{◌++◌, ◌+◌, ◌<◌, ◌∷◌, ◌≡◌, ◌≤◌, AllByRecursion, Bool, IsPupil, IsReadBack, IsUtf8-are_ascii, List, Members, Pupil, Query, Ratios, Some, Start, ℕ, [], and_parts, ap, arith, asked, booleans-back, codes, cond, depth, eqb, eqb-true, eq-eqb, false, fewer, find, follow, half_split, has_share, imbalance, is_asked, is_name, is_name-utf8, is_pupil, kept, key-back, leb, length, limits_field, list_all, list_all-All, lists, lists-back, mapped-back, max, members_depth, no_members, odds_field, option_map, pairs-back, pupil_codec, pupil_fields, pupil_from, pupil_parts, pupil_states, query_codec, refl, replies_field, reply_codec, settings_parts, start_field, subst, suc, true, unwrap_or, yes_field, zero, zipped}
+use Rattle.serde_json.specs.Written.{has_float}
 use Rattle.ls_set.specs.{Items, is_good, most_items, numbers_from}
 use Rattle.ls_theory.specs.declared.reply.Reply.{Reply}
 use Rattle.ls_theory.specs.declared.reason.Reason.TheVariants.{Share, Budget}
@@ -7,11 +8,9 @@ use Rattle.ls_theory.specs.declared.asked.Asked.{Asked}
 use Rattle.ls_theory.specs.declared.asked.Asked.TheVariants.{Item, Over}
 use Rattle.ls_theory.specs.Settings.{Settings, are_settings}
 use Rattle.ls_files.specs.declared.version.Version.TheVariants as version
-use Rattle.ls_store.proofs.Texts.{IsPlain}
-use Rattle.ls_store.proofs.Lists.{read_list-list_value, plain-list_value, depth-list_value, read_pair-pair_value, kept, zipped}
-use Rattle.ls_store.proofs.WrittenSettings.{settings-from as settings-parts, odds-back, limits-back, odds-plain, limits-plain}
+use Rattle.ls_files.proofs.Texts.{IsPlain}
+use Rattle.ls_store.proofs.WrittenSettings.{settings-from as settings-parts, odds-back, limits-back}
 use Rattle.ls_store.proofs.WrittenStarts.{item-back, query-back, start-back}
-use Rattle.ls_store.proofs.Plain.{start-plain, query-plain, both_within, odds-depth, start-depth}
 
 -- ---- what the tests say
 
@@ -77,84 +76,85 @@ replies-less n p some h =
 
 -- ---- read back
 
-queries-back : (n : ℕ) (rs : List Query) → list_all (is_good n) rs ≡ true → read_list (read_query n) (list_value (query_value n) rs) ≡ Some rs
-queries-back n rs h =
-    read_list-list_value (query_value n) (read_query n) rs (each (query-back n) rs (list_all-All (is_good n) rs h))
+queries-back : (n : ℕ) → n ≤ most_items → IsReadBack (List Query) (lists (query_codec n)) (λ rs. list_all (is_good n) rs ≡ true) 2
+queries-back n few = fewer (λ rs. list_all (is_good n) rs ≡ true) (λ rs h. list_all-All (is_good n) rs h) (lists-back (query-back n few))
 
-reply-back : (n : ℕ) (r : Reply) → r.q < n → read_reply n (reply_value r) ≡ Some r
-reply-back n r h = ap (option_map reply_from) (read_pair-pair_value (read_item n) as_bool (number_value r.q) (boolean r.right) r.q r.right (item-back n r.q h) refl)
+reply-back : (n : ℕ) → n ≤ most_items → IsReadBack Reply (reply_codec n) (λ r. r.q < n) 1
+reply-back n few =
+    fewer (λ r. r.q < n) (λ r less. (less, tt))
+    (mapped-back (λ (p : ℕ × Bool). let r : Reply = record { q = p.0; right = p.1 } in r) (λ r. (r.q, r.right)) (λ r. refl) (pairs-back (item-back n few) booleans-back))
 
-replies-back : (n : ℕ) (rs : List Reply) → AllByRecursion (λ r. r.q < n) rs → read_list (read_reply n) (list_value reply_value rs) ≡ Some rs
-replies-back n rs h = read_list-list_value reply_value (read_reply n) rs (each (reply-back n) rs h)
+replies-back : (n : ℕ) → n ≤ most_items → IsReadBack (List Reply) (lists (reply_codec n)) (AllByRecursion (λ r. r.q < n)) 2
+replies-back n few = lists-back (reply-back n few)
 
--- the members of a pupil's object
-abbrev pub pupil_members : ℕ → Pupil → Members
-pupil_members n p =
-    member (codes "limits") (limits_value p.settings)
-    (member (codes "name") (string p.name)
-    (member (codes "odds") (odds_value p.settings)
-    (member (codes "replies") (list_value reply_value p.replies)
-    (member (codes "start") (start_value n p.start)
-    (member (codes "yes") (list_value (query_value n) p.yeses) no_members)))))
+pub both_within : (m a b : ℕ) → a ≤ m → b ≤ m → max a b ≤ m
+both_within m a b p q = omega arith
 
-settings-back : (n : ℕ) (p : Pupil) → are_settings n p.settings ≡ true → read_settings version.Ratios n (pupil_value n p) ≡ Some p.settings
-settings-back n p h =
-    ap (option_map (λ x. settings_from x.0 x.1)) (zipped _ _ p.settings.ratios (p.settings.budget, p.settings.share) (odds-back n p.settings h) (limits-back n p.settings h))
+module _ (n : ℕ) (few : n ≤ most_items) where
+  pub pupil-exact : (p : Pupil) → has_float ((pupil_codec version.Ratios n).write p) ≡ false
+  pupil-exact p =
+      rw (
+        (odds-back n).exact p.settings.ratios,
+        (replies-back n few).exact p.replies,
+        (start-back n).exact p.start,
+        (queries-back n few).exact p.yeses,
+      ) refl
 
-course-back : (n : ℕ) (p : Pupil) → list_all (is_good n) p.yeses ≡ true → AllByRecursion (λ r. r.q < n) p.replies → read_course n (pupil_value n p) ≡ Some (p.yeses, p.replies)
-course-back n p h items = zipped _ _ p.yeses p.replies (queries-back n p.yeses h) (replies-back n p.replies items)
+  pupil-shallow : (p : Pupil) → depth ((pupil_codec version.Ratios n).write p) ≤ 4
+  pupil-shallow p =
+      let odds = (odds-back n).shallow p.settings.ratios in
+      let replies = (replies-back n few).shallow p.replies in
+      let start = (start-back n).shallow p.start in
+      let queries = (queries-back n few).shallow p.yeses in
+      let members : members_depth ((pupil_fields version.Ratios n).put_in (pupil_parts p) no_members) ≤ 3 =
+      both_within 3 _ _ (omega arith) (both_within 3 _ _ (omega arith) (both_within 3 _ _ odds (both_within 3 _ _ (omega arith) (both_within 3 _ _ start (both_within 3 _ _ (omega arith) (omega arith)))))) in
+      omega arith
 
-pub pupil-back : (n : ℕ) (p : Pupil) → 0 < n → IsPupil n p → read_pupil version.Ratios n (pupil_value n p) ≡ Some p
-pupil-back n p some h =
-    let stands = stands-parts n p h.stands in
-    kept (is_pupil n) _ p
-    (ap (option_map pupil_from)
-    (zipped _ _ (p.name, p.settings) (p.start, (p.yeses, p.replies))
-    (zipped (Some p.name) _ p.name p.settings refl (settings-back n p h.settings))
-    (zipped _ _ p.start (p.yeses, p.replies) (start-back n p.start h.start) (course-back n p stands.good (replies-less n p some h)))))
-    h.stands
+  module _ (some : 0 < n) where
+    own-back : (p : Pupil) → IsPupil n p → (pupil_codec version.Ratios n).read ((pupil_codec version.Ratios n).write p) ≡ Some p
+    own-back p h =
+        let d = (pupil_codec version.Ratios n).write p in
+        let s = settings-parts n p.settings h.settings in
+        let stands = stands-parts n p h.stands in
+        let limits : limits_field.find_in d ≡ Some (p.settings.budget, p.settings.share) = key-back limits-back (codes "limits") d (p.settings.budget, p.settings.share) s.limits refl in
+        let odds : (odds_field version.Ratios n).find_in d ≡ Some p.settings.ratios = key-back (odds-back n) (codes "odds") d p.settings.ratios (s.ratios, eq-eqb (length p.settings.ratios) n s.count) refl in
+        let start : (start_field n).find_in d ≡ Some p.start = key-back (start-back n) (codes "start") d p.start h.start refl in
+        let queries : (yes_field n).find_in d ≡ Some p.yeses = key-back (queries-back n few) (codes "yes") d p.yeses stands.good refl in
+        let replies : (replies_field n).find_in d ≡ Some p.replies = key-back (replies-back n few) (codes "replies") d p.replies (replies-less n p some h) refl in
+        kept (is_pupil n) _ p
+        (ap (option_map pupil_from)
+        (zipped _ _ (p.name, settings_parts p.settings) (p.start, (p.yeses, p.replies))
+        (zipped (Some p.name) _ p.name (settings_parts p.settings) refl (zipped _ _ p.settings.ratios (p.settings.budget, p.settings.share) odds limits))
+        (zipped _ _ p.start (p.yeses, p.replies) start (zipped _ _ p.yeses p.replies queries replies))))
+        h.stands
 
--- ---- plain
-
-replies-plain : (n : ℕ) (rs : List Reply) → n ≤ most_items → AllByRecursion (λ r. r.q < n) rs → IsPlain (list_value reply_value rs)
-replies-plain n rs few h = plain-list_value reply_value rs (each (λ r less. (omega arith, (tt, tt))) rs h)
-
-queries-plain : (n : ℕ) (rs : List Query) → n ≤ most_items → list_all (is_good n) rs ≡ true → IsPlain (list_value (query_value n) rs)
-queries-plain n rs few h = plain-list_value (query_value n) rs (each (λ r good. query-plain n r few good) rs (list_all-All (is_good n) rs h))
-
-pub pupil-plain : (n : ℕ) (p : Pupil) → 0 < n → n ≤ most_items → IsPupil n p → IsPlain (pupil_value n p)
-pupil-plain n p some few h =
-    let stands = stands-parts n p h.stands in (
-      (
-        IsUtf8-are_ascii (codes "limits") refl,
-        limits-plain n p.settings h.settings,
-        (
-          IsUtf8-are_ascii (codes "name") refl,
-          is_name-utf8 p.name stands.name,
+    own-plain : (p : Pupil) → IsPupil n p → IsPlain ((pupil_codec version.Ratios n).write p)
+    own-plain p h =
+        let s = settings-parts n p.settings h.settings in
+        let stands = stands-parts n p h.stands in (
           (
-            IsUtf8-are_ascii (codes "odds") refl,
-            odds-plain n p.settings h.settings,
+            IsUtf8-are_ascii (codes "limits") refl,
+            limits-back.plain (p.settings.budget, p.settings.share) s.limits,
             (
-              IsUtf8-are_ascii (codes "replies") refl,
-              replies-plain n p.replies few (replies-less n p some h),
+              IsUtf8-are_ascii (codes "name") refl,
+              is_name-utf8 p.name stands.name,
               (
-                IsUtf8-are_ascii (codes "start") refl,
-                start-plain n p.start,
-                (IsUtf8-are_ascii (codes "yes") refl, queries-plain n p.yeses few stands.good, tt),
+                IsUtf8-are_ascii (codes "odds") refl,
+                (odds-back n).plain p.settings.ratios (s.ratios, eq-eqb (length p.settings.ratios) n s.count),
+                (
+                  IsUtf8-are_ascii (codes "replies") refl,
+                  (replies-back n few).plain p.replies (replies-less n p some h),
+                  (
+                    IsUtf8-are_ascii (codes "start") refl,
+                    (start-back n).plain p.start h.start,
+                    (IsUtf8-are_ascii (codes "yes") refl, (queries-back n few).plain p.yeses stands.good, tt),
+                  ),
+                ),
               ),
             ),
           ),
-        ),
-      ),
-      refl,
-    )
+          refl,
+        )
 
-pub pupil-depth : (n : ℕ) (p : Pupil) → depth (pupil_value n p) ≤ 4
-pupil-depth n p =
-    let replies = depth-list_value reply_value 1 (λ r. omega arith) p.replies in
-    let queries = depth-list_value (query_value n) 1 (λ r. omega arith) p.yeses in
-    let odds = odds-depth p.settings in
-    let start = start-depth n p.start in
-    let members : members_depth (pupil_members n p) ≤ 3 =
-    both_within 3 _ _ (omega arith) (both_within 3 _ _ (omega arith) (both_within 3 _ _ odds (both_within 3 _ _ (omega arith) (both_within 3 _ _ start (both_within 3 _ _ (omega arith) (omega arith)))))) in
-    omega arith
+    pub pupil-back : IsReadBack Pupil (pupil_codec version.Ratios n) (IsPupil n) 4
+    pupil-back = record { back = own-back; plain = own-plain; shallow = pupil-shallow; exact = pupil-exact }

@@ -1,4 +1,4 @@
-pub mod Chains
+pub mod Faults
 pub mod QueryOrders
 pub mod Stored
 pub mod Whole

@@ -6,8 +6,7 @@ ghost use Rattle.ls_theory.specs.{Interview, based};
 ghost use Rattle.ls_store.specs.Whole.{IsStanding, IsWhole};
 ghost use Rattle.ls_files.specs.Sessions.{Session};
 ghost use Rattle.ls_files.specs.Standing.{is_base, stands};
-ghost use Rattle.ls_files.specs.Values.{session_text};
-ghost use Rattle.ls_files.specs.Reading.{session_of};
+ghost use Rattle.ls_files.specs.{session_of, session_text};
 
 /// What is written for a whole session is read as that session, and what is read as a session is
 /// whole. Nothing is done.

@@ -1,7 +1,7 @@
 // The object of a text.
 ghost use Rattle.std.specs.Prelude.{◌≡◌, IfOk, option_map};
 ghost use Rattle.serde_json.specs.View.{view};
-ghost use Rattle.ls_files.specs.Readers.{read_object};
+ghost use Rattle.ls_files.specs.Codecs.{read_object};
 
 use serde_json::Value;
 use std::alloc::{AllocError, Global};

@@ -1,20 +1,25 @@
 // The text of a session.
-ghost use Rattle.std.specs.Prelude.{◌≡◌, length, IfOk};
+ghost use Rattle.std.specs.Prelude.{◌≡◌, ◌≤◌, length, IfOk};
 ghost use Rattle.serde_json.specs.View.{view};
-ghost use Rattle.ls_files.specs.{session_text, session_value};
+ghost use Rattle.ls_set.specs.{most_items};
+ghost use Rattle.ls_files.specs.{session_text};
+ghost use Rattle.ls_files.specs.SessionFiles.{session_value};
 ghost use Rattle.ls_pupils.specs.Cases.{pupils_of, ArePupils};
 
+use crate::formats::ToValue;
+use crate::keys::put_at;
+use crate::lists::write_list;
 use crate::names::names_value;
-use crate::pupil_values::{pupils_value, start_value};
-use crate::values::{SessionParts, answers_value, limits_value, odds_value, session_object};
+use crate::ratios::put_settings;
+use crate::starts::start_value;
 use ls_domain::Domain;
 use ls_expert::Inquiry;
 use ls_pupils::PupilCases;
 use ls_settings::Settings;
-use serde_json::Value;
+use serde_json::{Map, Value};
 use std::alloc::{AllocError, Global};
 
-// The object of the session of the parts.
+// The object of the session of the parts. The version is written as 2.
 fn session_value(
     alloc: Global,
     domain: &Domain,
@@ -31,17 +36,20 @@ fn session_value(
     })) }
 {
     let n = inquiry.items();
-    let parts = SessionParts {
-        answers: answers_value(alloc, n, inquiry.standing())?,
-        block: Value::from(inquiry.block()),
-        items: names_value(alloc, domain)?,
-        limits: limits_value(alloc, settings.budget(), settings.share())?,
-        next: Value::from(inquiry.next_number()),
-        odds: odds_value(alloc, settings.ratios())?,
-        pupils: pupils_value(alloc, n, pupils.as_slice())?,
-        start: start_value(alloc, n, inquiry.start())?,
-    };
-    session_object(alloc, parts)
+    let mut map = Map::new(alloc);
+    let pupils = write_list(alloc, n, pupils.as_slice())?;
+    put_at(alloc, &mut map, "pupils", pupils)?;
+    put_at(alloc, &mut map, "next", Value::from(inquiry.next_number()))?;
+    let answers = write_list(alloc, n, inquiry.standing())?;
+    put_at(alloc, &mut map, "answers", answers)?;
+    put_at(alloc, &mut map, "block", Value::from(inquiry.block()))?;
+    let start = start_value(alloc, n, inquiry.start())?;
+    put_at(alloc, &mut map, "start", start)?;
+    put_settings(alloc, n, &mut map, settings)?;
+    let items = names_value(alloc, domain)?;
+    put_at(alloc, &mut map, "items", items)?;
+    put_at(alloc, &mut map, "version", Value::from(2u32))?;
+    Ok(Value::Object(map))
 }
 
 /// The text of the session of a domain, the interview on its items, and their settings and pupils.

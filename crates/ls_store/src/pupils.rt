@@ -1,22 +1,24 @@
 // Reading the pupils of a session.
-ghost use Rattle.std.specs.Prelude.{◌≡◌, ◌<◌, ◌≤◌, ◌&&◌, false, true, Ok, Some, None, codes};
-ghost use Rattle.std.specs.Prelude.{option_map, IfOk, IfSome};
+ghost use Rattle.std.specs.Prelude.{◌≡◌, ◌<◌, ◌≤◌, ◌&&◌, false, true, Err, Some, IfOk};
 ghost use Rattle.std.specs.List.{list_all, list_any};
-ghost use Rattle.serde_json.specs.Find.{as_str};
 ghost use Rattle.serde_json.specs.View.{view};
 ghost use Rattle.ls_set.specs.{is_good};
 ghost use Rattle.ls_theory.specs.{is_same_query};
 ghost use Rattle.ls_domain.specs.Domains.{is_name};
-ghost use Rattle.ls_files.specs.SurmiseFiles.{read_list};
-ghost use Rattle.ls_files.specs.{Pupil, are_apart, at_key, read_pupil, read_pupils, read_query};
-ghost use Rattle.ls_files.specs.{read_reply, read_settings};
+ghost use Rattle.ls_files.specs.{Pupil, are_apart};
+ghost use Rattle.ls_files.specs.SessionCodecs.{name_field, pupil_codec, pupils_codec};
+ghost use Rattle.ls_files.specs.SessionCodecs.{pupils_field, settings_fields, settings_parts};
 ghost use Rattle.ls_pupils.specs.Own.{is_called};
 ghost use Rattle.ls_pupils.specs.Cases.{case_name, pupil_of_case, pupils_of, IsCase, ArePupils};
+ghost use Rattle.ls_store.specs.Faults.{IsReadAs};
+ghost use Rattle.ls_store.specs.declared.part_fault.PartFault.TheVariants.{Bad};
 
 use crate::apart::are_apart;
-use crate::members::{own_limits, own_name, own_odds, own_start};
-use crate::readers::{read_queries, read_replies};
+use crate::keys::{read_at, read_list_at};
+use crate::part_fault::PartFault;
+use crate::ratios::{read_limits, read_odds};
 use crate::replaying::pupil_after;
+use crate::starts::read_start;
 use ls_assess::Reply;
 use ls_files::Version;
 use ls_interior::Steps;
@@ -29,45 +31,19 @@ use std::alloc::{AllocError, Global};
 use std::sync::ledger::Ledger;
 
 // The settings of a pupil.
-fn own_settings(
+fn read_settings(
     alloc: Global,
     version: Version,
     n: u32,
     object: &Value,
-) -> Result<Option<Settings>, AllocError>
+) -> Result<Settings, PartFault>
     requires { n ≤ PLACES }
-    ensures { IfOk result (λ found. found ≡ read_settings version n (view object.now)) }
+    ensures { IsReadAs settings_parts ((settings_fields version n).find_in (view object.now))
+        result }
 {
-    let Some((budget, share)) = own_limits(object) else {
-        return Ok(None);
-    };
-    let Some(ratios) = own_odds(alloc, version, n, object)? else {
-        return Ok(None);
-    };
-    Ok(Some(Settings::from_ratios(alloc, ratios, budget, share)))
-}
-
-// The Yes queries of a pupil.
-fn own_yes(alloc: Global, n: u32, object: &Value) -> Result<Option<QueryList>, AllocError>
-    requires { n ≤ PLACES }
-    ensures { IfOk result (λ found.
-        found ≡ at_key (codes "yes") (read_list (read_query n)) (view object.now)) }
-{
-    match object.get("yes") {
-        Some(value) => read_queries(alloc, n, value),
-        None => Ok(None),
-    }
-}
-
-// The replies of a pupil.
-fn own_replies(alloc: Global, n: u32, object: &Value) -> Result<Option<Vec<Reply>>, AllocError>
-    ensures { IfOk result (λ found. option_map (λ v. v.items) found
-        ≡ at_key (codes "replies") (read_list (read_reply n)) (view object.now)) }
-{
-    match object.get("replies") {
-        Some(value) => read_replies(alloc, n, value),
-        None => Ok(None),
-    }
+    let limits = read_limits(alloc, version, n, object)?;
+    let ratios = read_odds(alloc, version, n, object)?;
+    Ok(Settings::from_ratios(alloc, ratios, limits.0, limits.1))
 }
 
 // Whether all queries are good.
@@ -99,39 +75,30 @@ fn read_case<L: Ledger>(
     name: Word,
     object: &Value,
     steps: &mut Steps<L>,
-) -> Result<Option<PupilCase>, AllocError>
+) -> Result<PupilCase, PartFault>
     requires some { 0 < n }
     requires few { n ≤ PLACES }
-    requires name { at_key (codes "name") as_str (view object.now) ≡ Some name }
-    ensures value { IfOk result (λ found.
-        option_map pupil_of_case found ≡ read_pupil version n (view object.now)) }
-    ensures case { IfOk result (λ found. IfSome found (IsCase n)) }
+    requires name { name_field.find_in (view object.now) ≡ Some name }
+    ensures value { IsReadAs pupil_of_case ((pupil_codec version n).read (view object.now)) result }
+    ensures case { IfOk result (IsCase n) }
 {
-    let Some(settings) = own_settings(alloc, version, n, object)? else {
-        return Ok(None);
-    };
-    let Some(yes) = own_yes(alloc, n, object)? else {
-        return Ok(None);
-    };
-    let Some(replies) = own_replies(alloc, n, object)? else {
-        return Ok(None);
-    };
-    let Some(start) = own_start(alloc, n, object)? else {
-        return Ok(None);
-    };
+    let settings = read_settings(alloc, version, n, object)?;
+    let yes: QueryList = read_at(alloc, version, n, "yes", object)?;
+    let replies: Vec<Reply> = read_list_at(alloc, version, n, "replies", object)?;
+    let start = read_start(alloc, version, n, object)?;
     let fits = can_have(alloc, n, &name, yes.as_slice())?;
     if !fits {
-        return Ok(None);
+        return Err(PartFault::Bad);
     }
     match pupil_after(alloc, n, &start, yes.as_slice(), &settings, &replies, steps)? {
-        Some(pupil) => Ok(Some(PupilCase {
+        Some(pupil) => Ok(PupilCase {
             name,
             start,
             yes,
             settings,
             pupil,
-        })),
-        None => Ok(None),
+        }),
+        None => Err(PartFault::Bad),
     }
 }
 
@@ -143,23 +110,21 @@ fn next_case<L: Ledger>(
     earlier: &PupilCases,
     object: &Value,
     steps: &mut Steps<L>,
-) -> Result<Option<PupilCase>, AllocError>
+) -> Result<PupilCase, PartFault>
     requires some { 0 < n }
     requires few { n ≤ PLACES }
-    ensures value { IfOk result (λ found. IfSome found (λ c.
-        read_pupil version n (view object.now) ≡ Some (pupil_of_case c))) }
-    ensures case { IfOk result (λ found. IfSome found (IsCase n)) }
-    ensures own { IfOk result (λ found. IfSome found (λ c.
-        list_any (is_called case_name c.name) earlier.now ≡ false)) }
-    ensures none { (p : Pupil) → result ≡ Ok None →
-        read_pupil version n (view object.now) ≡ Some p →
+    ensures value { IfOk result (λ c.
+        (pupil_codec version n).read (view object.now) ≡ Some (pupil_of_case c)) }
+    ensures case { IfOk result (IsCase n) }
+    ensures own { IfOk result (λ c.
+        list_any (is_called case_name c.name) earlier.now ≡ false) }
+    ensures none { (p : Pupil) → result ≡ Err Bad →
+        (pupil_codec version n).read (view object.now) ≡ Some p →
         list_any (is_called case_name p.name) earlier.now ≡ true }
 {
-    let Some(name) = own_name(alloc, object)? else {
-        return Ok(None);
-    };
+    let name: Word = read_at(alloc, version, n, "name", object)?;
     if earlier.place(&name).is_some() {
-        return Ok(None);
+        return Err(PartFault::Bad);
     }
     read_case(alloc, version, n, name, object, steps)
 }
@@ -171,45 +136,41 @@ fn read_cases<L: Ledger>(
     n: u32,
     value: &Value,
     steps: &mut Steps<L>,
-) -> Result<Option<PupilCases>, AllocError>
+) -> Result<PupilCases, PartFault>
     requires some { 0 < n }
     requires few { n ≤ PLACES }
-    ensures value { IfOk result (λ found.
-        option_map pupils_of found ≡ read_pupils version n (view value.now)) }
-    ensures cases { IfOk result (λ found. IfSome found (ArePupils n)) }
+    ensures value { IsReadAs pupils_of ((pupils_codec version n).read (view value.now)) result }
+    ensures cases { IfOk result (ArePupils n) }
 {
     let Some(entries) = value.as_array() else {
-        return Ok(None);
+        return Err(PartFault::Bad);
     };
     if entries.len() > MOST_PUPILS {
-        return Ok(None);
+        return Err(PartFault::Bad);
     }
     let mut cases = PupilCases::new(alloc);
     for entry in entries {
-        let Some(case) = next_case(alloc, version, n, &cases, entry, steps)? else {
-            return Ok(None);
-        };
+        let case = next_case(alloc, version, n, &cases, entry, steps)?;
         cases.push(case)?;
     }
-    Ok(Some(cases))
+    Ok(cases)
 }
 
-/// The pupils of a session.
-pub fn own_pupils<L: Ledger>(
+/// The pupils of an object.
+pub fn read_pupils<L: Ledger>(
     alloc: Global,
     version: Version,
     n: u32,
     object: &Value,
     steps: &mut Steps<L>,
-) -> Result<Option<PupilCases>, AllocError>
+) -> Result<PupilCases, PartFault>
     requires some { 0 < n }
     requires few { n ≤ PLACES }
-    ensures value { IfOk result (λ found. option_map pupils_of found
-        ≡ at_key (codes "pupils") (read_pupils version n) (view object.now)) }
-    ensures cases { IfOk result (λ found. IfSome found (ArePupils n)) }
+    ensures value { IsReadAs pupils_of ((pupils_field version n).find_in (view object.now)) result }
+    ensures cases { IfOk result (ArePupils n) }
 {
     match object.get("pupils") {
         Some(value) => read_cases(alloc, version, n, value, steps),
-        None => Ok(None),
+        None => Err(PartFault::Bad),
     }
 }

@@ -2,16 +2,21 @@
 ghost use Rattle.std.specs.Prelude.{◌≡◌, ◌<◌, ◌≤◌, length, Ok, IfOk, IfErr};
 ghost use Rattle.serde_json.specs.View.{view};
 ghost use Rattle.ls_files.specs.{session_from, session_of};
+ghost use Rattle.ls_files.specs.SessionFiles.{interview_in, settings_in};
 ghost use Rattle.ls_pupils.specs.Cases.{ArePupils};
-ghost use Rattle.ls_store.specs.Chains.{GoesOn, IsSessionFault, interview_chain, settings_chain};
+ghost use Rattle.ls_store.specs.Faults.{IsSessionFault, told};
 ghost use Rattle.ls_store.specs.Stored.{session_of_parts};
 
+use crate::blocks::read_block;
 use crate::fault::SessionFault;
 use crate::inquiries::read_inquiry;
-use crate::members::{own_block, own_domain, own_limits, own_odds, own_start, own_version};
+use crate::names::read_domain;
 use crate::objects::read_object;
+use crate::part_fault::PartFault;
 use crate::parts::Parts;
-use crate::pupils::own_pupils;
+use crate::pupils::read_pupils;
+use crate::ratios::{read_limits, read_odds, read_version};
+use crate::starts::read_start;
 use ls_expert::Inquiry;
 use ls_files::{Cause, Version};
 use ls_interior::Steps;
@@ -21,6 +26,17 @@ use serde_json::Value;
 use std::alloc::Global;
 use std::sync::ledger::Ledger;
 
+// The part, or the cause that there is none.
+fn told<T>(cause: Cause, part: Result<T, PartFault>) -> Result<T, SessionFault>
+    ensures { result ≡ told cause part }
+{
+    match part {
+        Ok(found) => Ok(found),
+        Err(PartFault::Bad) => Err(SessionFault::BadSession { cause }),
+        Err(PartFault::Memory(e)) => Err(SessionFault::Memory(e)),
+    }
+}
+
 // The settings of `n` items, or the cause why an object has none.
 fn session_settings(
     alloc: Global,
@@ -29,48 +45,33 @@ fn session_settings(
     object: &Value,
 ) -> Result<Settings, SessionFault>
     requires { n ≤ PLACES }
-    ensures chain { GoesOn (settings_chain version n (view object.now)) result }
+    ensures settings { IfOk result (λ s. settings_in version n (view object.now) ≡ Ok s) }
     ensures items { IfOk result (λ s. length s.ratios ≡ n) }
+    ensures fault { IfErr result (IsSessionFault (settings_in version n (view object.now))) }
 {
-    let Some((budget, share)) = own_limits(object) else {
-        return Err(SessionFault::BadSession {
-            cause: Cause::Limits,
-        });
-    };
-    let Some(ratios) = own_odds(alloc, version, n, object)? else {
-        return Err(SessionFault::BadSession { cause: Cause::Odds });
-    };
-    Ok(Settings::from_ratios(alloc, ratios, budget, share))
+    let limits = told(Cause::Limits, read_limits(alloc, version, n, object))?;
+    let ratios = told(Cause::Odds, read_odds(alloc, version, n, object))?;
+    Ok(Settings::from_ratios(alloc, ratios, limits.0, limits.1))
 }
 
 // The interview on `n` items, or the cause why an object has none.
 fn session_inquiry<L: Ledger>(
     alloc: Global,
+    version: Version,
     n: u32,
     object: &Value,
     steps: &mut Steps<L>,
 ) -> Result<Inquiry, SessionFault>
     requires some { 0 < n }
     requires few { n ≤ PLACES }
-    ensures chain { GoesOn (interview_chain n (view object.now)) result }
+    ensures interview { IfOk result (λ i. interview_in n (view object.now) ≡ Ok i) }
     ensures items { IfOk result (λ i. i.count ≡ n) }
+    ensures fault { IfErr result (IsSessionFault (interview_in n (view object.now))) }
 {
-    let Some(start) = own_start(alloc, n, object)? else {
-        return Err(SessionFault::BadSession {
-            cause: Cause::Start,
-        });
-    };
-    let Some(block) = own_block(n, object) else {
-        return Err(SessionFault::BadSession {
-            cause: Cause::Block,
-        });
-    };
-    match read_inquiry(alloc, n, start, block, object, steps)? {
-        Some(inquiry) => Ok(inquiry),
-        None => Err(SessionFault::BadSession {
-            cause: Cause::Answers,
-        }),
-    }
+    let start = told(Cause::Start, read_start(alloc, version, n, object))?;
+    let block = told(Cause::Block, read_block(n, object))?;
+    let inquiry = read_inquiry(alloc, version, n, start, block, object, steps);
+    told(Cause::Answers, inquiry)
 }
 
 // The parts of the session that an object is, or the first cause why it is none.
@@ -86,30 +87,18 @@ fn parts_of<L: Ledger>(
     ensures pupils { IfOk result (λ p. ArePupils p.inquiry.count p.pupils) }
     ensures fault { IfErr result (IsSessionFault (session_from (view object.now))) }
 {
-    let Some(version) = own_version(object) else {
-        return Err(SessionFault::BadSession {
-            cause: Cause::Version,
-        });
-    };
-    let Some(domain) = own_domain(alloc, object)? else {
-        return Err(SessionFault::BadSession {
-            cause: Cause::Items,
-        });
-    };
+    let version = told(Cause::Version, read_version(object))?;
+    let domain = told(Cause::Items, read_domain(alloc, object))?;
     let n = domain.count();
     let settings = session_settings(alloc, version, n, object)?;
-    let inquiry = session_inquiry(alloc, n, object, steps)?;
-    match own_pupils(alloc, version, n, object, steps)? {
-        Some(pupils) => Ok(Parts {
-            domain,
-            inquiry,
-            settings,
-            pupils,
-        }),
-        None => Err(SessionFault::BadSession {
-            cause: Cause::Pupils,
-        }),
-    }
+    let inquiry = session_inquiry(alloc, version, n, object, steps)?;
+    let pupils = told(Cause::Pupils, read_pupils(alloc, version, n, object, steps))?;
+    Ok(Parts {
+        domain,
+        inquiry,
+        settings,
+        pupils,
+    })
 }
 
 /// The parts of the session that bytes are, or the first cause why they are none.

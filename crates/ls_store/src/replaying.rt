@@ -6,7 +6,8 @@ ghost use Rattle.ls_set.specs.{is_good};
 ghost use Rattle.ls_theory.specs.{compat, heavy_after, most_states};
 ghost use Rattle.ls_weight.specs.Weighings.{IsWeighable};
 ghost use Rattle.ls_expert.specs.Starts.{start_of, IsStartOn};
-ghost use Rattle.ls_files.specs.{follow, only_if};
+ghost use Rattle.ls_files.specs.{follow};
+ghost use Rattle.ls_files.specs.Codecs.{kept_if};
 
 use ls_assess::{Pupil, Reply, Settings, WeightFault};
 use ls_enum::{ListFault, list_all};
@@ -52,7 +53,7 @@ fn states_of<L: Ledger>(
     requires few { n ≤ PLACES }
     requires on { IsStartOn n start.now }
     requires good { list_all (is_good n) yes.now ≡ true }
-    ensures { IfOk result (λ found. found ≡ only_if (λ f. nat_le (length f) most_states)
+    ensures { IfOk result (λ found. found ≡ kept_if (λ f. nat_le (length f) most_states)
         (Some (compat n (start_of start.now) yes.now))) }
 {
     let family = family_of(alloc, n, start, yes)?;

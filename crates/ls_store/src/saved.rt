@@ -2,7 +2,7 @@
 ghost use Rattle.std.specs.Prelude.{◌≡◌, length, Ok, IfOk, IfErr};
 ghost use Rattle.ls_files.specs.{session_of, session_text};
 ghost use Rattle.ls_pupils.specs.Cases.{ArePupils};
-ghost use Rattle.ls_store.specs.Chains.{IsSessionFault};
+ghost use Rattle.ls_store.specs.Faults.{IsSessionFault};
 ghost use Rattle.ls_store.specs.Stored.{session_of_saved};
 
 use crate::fault::SessionFault;

@@ -1,6 +1,0 @@
-use Rattle.ls_store.proofs.Vocabulary.{drop, read_list, read_set, view}
-use Rattle.ls_store.proofs.Walks.{IsRead}
-use Rattle.ls_store.proofs.readers.read_set_lists.Given as goal
-
-abbrev pub invariant-loop-entry : goal.invariant-loop-entry
-invariant-loop-entry l = IsRead (read_list (read_set l.n)) l.lists.items (drop l.entry-index l.entry-items) (read_list (read_list (read_set l.n)) (view l.value))
