@@ -1,0 +1,321 @@
+-- What is printed of a skill map is read as the same map.
+use Rattle.std.proofs.Common.{ℕ, suc, ◌+◌, ◌<◌, ◌≤◌, ◌≡◌, ◌==◌, inl, inr, Bool, true, false}
+use Rattle.std.proofs.Common.{List, [], ◌∷◌, map, filter, length, get_or, Some, None, Ok, IsUtf8}
+use Rattle.std.proofs.Common.{cond, eqb-true, ltb-true, refl, sym, ap, ap₂, ◌∙◌, subst, arith}
+use Rattle.std.proofs.Common.{true≢false}
+use Rattle.std.specs.Prelude.{⊤}
+use Rattle.std.specs.Str.{bytes_eq}
+use Rattle.std.specs.Option.{option_map_or}
+use Rattle.std.specs.List.{AllByRecursion, IsDistinct, list_all, list_any, flat_map}
+use Rattle.std.proofs.lemmas.Bool.{and_from, and_parts, false_from_ne_true, or_right}
+use Rattle.std.proofs.lemmas.Cmp.{nat_list_eq_equiv}
+use Rattle.std.proofs.lemmas.Slice.Eq.{bytes_eq-Decides}
+use Rattle.serde_json.specs.Data.{string, Members, no_members, member, depth, items_depth}
+use Rattle.serde_json.specs.Data.{members_depth}
+use Rattle.serde_json.specs.View.{items_of as values_of}
+use Rattle.ls_lists.specs.Lists.{IsIn, IsSorted}
+use Rattle.ls_lists.proofs.Bools.{same_truth}
+use Rattle.ls_lists.proofs.Elements.{in-map, map-in, in-filter, filter-in, in-flat_map, flat_map-in}
+use Rattle.ls_lists.proofs.Elements.{some-in}
+use Rattle.ls_lists.proofs.Every.{All-given, All-list_all, each, list_all-All}
+use Rattle.ls_lists.proofs.Options.{nothing}
+use Rattle.ls_lists.proofs.Places.{is_some-position}
+use Rattle.ls_set.specs.ItemSet.{Items, has, empty, is_among, numbers_from}
+use Rattle.ls_set.specs.ItemSet.{least}
+use Rattle.ls_set.proofs.Sets.{same_set, has-empty, has-full}
+use Rattle.ls_set.proofs.Members.{among-here, among-there, among-cases}
+use Rattle.ls_set.proofs.Listed.{least-none_left, least-is}
+use Rattle.ls_theory.specs.Words.{is_lex_before}
+use Rattle.ls_laws.proofs.Lists.{some-from}
+use Rattle.ls_laws.proofs.Interiors.{has-unions}
+use Rattle.ls_lines.specs.Lines.{Text}
+use Rattle.ls_domain.specs.Domains.{IsDomain, is_name}
+use Rattle.ls_domain.specs.Meanings.{is_named}
+use Rattle.ls_domain.proofs.Numbers.{is_name-utf8}
+use Rattle.ls_files.specs.SurmiseFiles.{value_of, list_value}
+use Rattle.ls_files.specs.SkillFiles.{Table, Skill, item_sets, has_named_keys, row_under, rows_in}
+use Rattle.ls_files.specs.SkillFiles.{table_of, first_bare, in_text_order, items_with, skills_in}
+use Rattle.ls_files.specs.SkillFiles.{skills_from, skills_of, own_skills, rows_of, members_from}
+use Rattle.ls_files.specs.SkillFiles.{skills_value, skills_text}
+use Rattle.ls_skill.specs.Maps.{IsMap, skill_names}
+use Rattle.ls_skill.proofs.PutMembers.{EachMember, each-members, sorted-members, put_all-sorted}
+use Rattle.ls_skill.proofs.PlainValues.{IsPlain, ArePlain, MembersArePlain, value_of-compact_text}
+use Rattle.ls_skill.proofs.RowTables.{insert_row, table_from, lookup-here, lookup-other, each-row}
+use Rattle.ls_skill.proofs.RowTables.{read-table}
+use Rattle.ls_skill.proofs.TextOrder.{lex-same, same_texts, sorted-in_text_order, in-order-from}
+use Rattle.ls_skill.proofs.TextOrder.{in-order-to, any-in, in-any}
+use Rattle.ls_skill.proofs.Gathered.{skilled}
+use Rattle.ls_skill.proofs.Made.{get-in_list, place-in, items-has, has-items}
+use Rattle.ls_skill.proofs.Tables.{rows-at, rows-length, of_few}
+
+-- ---- the value is read from its text
+
+texts-plain : (ws : List Text) → AllByRecursion IsUtf8 ws → ArePlain (values_of (map string ws))
+texts-plain [] h = tt
+texts-plain (w ∷ ws) h = (h.0, texts-plain ws h.1)
+
+own-utf8 : (skills : List Skill) (q : ℕ) → AllByRecursion IsUtf8 (skill_names skills)
+    → AllByRecursion IsUtf8 (own_skills skills q)
+own-utf8 [] q h = tt
+own-utf8 (s ∷ skills) q h = at (has s.items q) (own-utf8 skills q h.1)
+  where
+    at : (b : Bool) → AllByRecursion IsUtf8 (own_skills skills q)
+        → AllByRecursion IsUtf8 (map (λ t. t.name) (cond b (s ∷ filter (λ t. has t.items q) skills)
+        (filter (λ t. has t.items q) skills)))
+    at true later = (h.0, later)
+    at false later = later
+
+rows-plain : (skills : List Skill) (ns : List ℕ) → AllByRecursion IsUtf8 (skill_names skills)
+    → AllByRecursion (λ row. IsPlain (list_value string row)) (map (own_skills skills) ns)
+rows-plain skills [] h = tt
+rows-plain skills (n ∷ ns) h =
+    (texts-plain (own_skills skills n) (own-utf8 skills n h), rows-plain skills ns h)
+
+members-plain : (ms : Members) → EachMember IsUtf8 IsPlain ms → MembersArePlain ms
+members-plain no_members h = tt
+members-plain (member k d ms) h = (h.0, h.1, members-plain ms h.2)
+
+texts-depth : (ws : List Text) → items_depth (values_of (map string ws)) ≤ 0
+texts-depth [] = omega arith
+texts-depth (w ∷ ws) = let d = texts-depth ws in omega arith
+
+members-depth : (ms : Members) → EachMember (λ k. ⊤) (λ d. depth d ≤ 1) ms → members_depth ms ≤ 1
+members-depth no_members h = omega arith
+members-depth (member k d ms) h =
+    let first = h.1 in let rest = members-depth ms h.2 in omega arith
+
+text-value : (names : List Text) (skills : List Skill) → list_all is_name names ≡ true
+    → AllByRecursion IsUtf8 (skill_names skills)
+    → value_of (skills_text names skills) ≡ Some (skills_value names skills)
+unfolding skills_text rows_of
+text-value names skills named texts =
+    let rows = rows_of (length names) skills in
+    let deep =
+    members-depth (members_from names rows)
+    (each-members (λ k. ⊤) (λ d. depth d ≤ 1) names rows (All-given (λ k. ⊤) (λ k. tt) names)
+    (All-given (λ row. depth (list_value string row) ≤ 1)
+    (λ row. let d = texts-depth row in omega arith) rows)) in
+    value_of-compact_text (skills_value names skills) (
+      members-plain (members_from names rows)
+          (each-members IsUtf8 IsPlain names rows
+          (each is_name-utf8 names (list_all-All is_name names named))
+          (rows-plain skills (numbers_from 0 (length names)) texts)),
+      put_all-sorted (members_from names rows) (sorted-members names rows),
+    )
+    (omega arith)
+
+-- ---- the rows are those of the table
+
+keys-named : (names ws : List Text) (rows : List (List Text)) → list_all (is_named names) ws ≡ true
+    → has_named_keys names (table_from ws rows) ≡ true
+unfolding has_named_keys
+keys-named names [] rows h = refl
+keys-named names (w ∷ ws) [] h = refl
+keys-named names (w ∷ ws) (row ∷ rows) h =
+    let p = and_parts (is_named names w) (list_all (is_named names) ws) h in
+    each-row (λ r. is_named names r.0) w row (table_from ws rows) p.0 (keys-named names ws rows p.1)
+
+rows-same : (table : Table) (w : Text) (row : List Text) (ws : List Text)
+    → AllByRecursion (λ v. bytes_eq w v ≡ false) ws
+    → map (row_under (insert_row table w row)) ws ≡ map (row_under table) ws
+rows-same table w row [] apart = refl
+rows-same table w row (v ∷ ws) apart =
+    ap₂ (λ x xs. x ∷ xs)
+    (ap (λ o. option_map_or (λ r. r) o [])
+    (lookup-other v w row table (nat_list_eq_equiv.symm v w ∙ apart.0)))
+    (rows-same table w row ws apart.1)
+
+rows-back : (ws : List Text) (rows : List (List Text)) → length ws ≡ length rows
+    → IsDistinct bytes_eq ws → map (row_under (table_from ws rows)) ws ≡ rows
+unfolding IsDistinct
+rows-back [] [] e apart = refl
+rows-back [] (row ∷ rows) e apart = absurd (omega (arith, e))
+rows-back (w ∷ ws) [] e apart = absurd (omega (arith, e))
+rows-back (w ∷ ws) (row ∷ rows) e apart =
+    ap₂ (λ x xs. x ∷ xs)
+    (ap (λ o. option_map_or (λ r. r) o []) (lookup-here w row (table_from ws rows)))
+    (rows-same (table_from ws rows) w row ws apart.0 ∙ rows-back ws rows (omega (arith, e)) apart.1)
+
+-- each name is one of the names
+all-named : (names : List Text) → list_all (is_named names) names ≡ true
+all-named [] = refl
+all-named (w ∷ names) =
+    and_from (is_named (w ∷ names) w) (list_all (is_named (w ∷ names)) names)
+    (rw ((bytes_eq-Decides w w).1 refl) refl)
+    (All-list_all (is_named (w ∷ names)) names
+    (each (λ v h. or_right (bytes_eq v w) (is_named names v) h) names
+    (list_all-All (is_named names) names (all-named names))))
+
+-- ---- the skills of the rows
+
+in-among : (skills : List Skill) (s : Skill) → IsIn s skills → is_among (item_sets skills) s.items
+    ≡ true
+in-among [] s c = absurd c
+in-among (t ∷ skills) s c = elim c [
+  | inl e ↦ among-here s.items t.items (item_sets skills) (ap (λ x. x.items) e)
+  | inr d ↦ among-there s.items t.items (item_sets skills) (in-among skills s d)
+]
+
+among-in : (skills : List Skill) (k : Items) → is_among (item_sets skills) k ≡ true → (s : Skill)
+    × IsIn s skills × (k ≡ s.items)
+among-in [] k c = absurd (true≢false (sym c))
+among-in (t ∷ skills) k c = elim (among-cases k t.items (item_sets skills) c) [
+  | inl e ↦ (t, inl refl, e)
+  | inr a ↦ let r = among-in skills k a in (r.0, inr r.1, r.2)
+]
+
+-- no two skills have one name
+same-skill : (skills : List Skill) (s t : Skill) → IsSorted is_lex_before (skill_names skills)
+    → IsIn s skills → IsIn t skills → s.name ≡ t.name → s ≡ t
+same-skill [] s t sorted c d e = absurd c
+same-skill (x ∷ skills) s t sorted c d e = elim c [
+  | inl p ↦ elim d [
+    | inl q ↦ p ∙ sym q
+    | inr q ↦ absurd
+        (lex-same s.name
+        (ap₂ is_lex_before (ap (λ y. y.name) p) e
+        ∙ sorted.0 t.name (in-map (λ y. y.name) skills t q)))
+  ]
+  | inr p ↦ elim d [
+    | inl q ↦ absurd
+        (lex-same t.name
+        (ap₂ is_lex_before (ap (λ y. y.name) q) (sym e)
+        ∙ sorted.0 s.name (in-map (λ y. y.name) skills s p)))
+    | inr q ↦ same-skill skills s t sorted.1 p q e
+  ]
+]
+
+some-item : (s : Items) → (s ≡ empty → ⊥) → (q : ℕ) × (has s q ≡ true)
+some-item s h = elim (least s) as (λ o. least s ≡ o → (q : ℕ) × (has s q ≡ true)) [
+  | None ↦ λ e. absurd (h (same_set s empty (λ i. least-none_left s i e ∙ sym (has-empty i))))
+  | Some q ↦ λ e. (q, ((least-is s q).0 e).0)
+] refl
+
+skilled-same : (f : Text → Items) (skills : List Skill)
+    → ((s : Skill) → IsIn s skills → f s.name ≡ s.items) → skilled f (skill_names skills) ≡ skills
+skilled-same f [] h = refl
+skilled-same f (s ∷ skills) h =
+    ap₂ (λ x xs. x ∷ xs) (ap (λ i. record { name = s.name; items = i }) (h s (inl refl)))
+    (skilled-same f skills (λ t c. h t (inr c)))
+
+module _ (n : ℕ) (skills : List Skill) (is : IsMap n skills) where
+  abbrev rows : List (List Text)
+  rows = map (own_skills skills) (numbers_from 0 n)
+
+  texts : List Text
+  texts = flat_map (λ row. row) rows
+
+  row-is : (q : ℕ) → q < n → get_or rows q [] ≡ own_skills skills q
+  row-is q l =
+      rows-at (own_skills skills) 0 n q l
+      ∙ ap (own_skills skills) (let e : 0 + q ≡ q = omega arith in e)
+
+  row-place : (row : List Text) → IsIn row rows → (q : ℕ) × (q < n) × (row ≡ own_skills skills q)
+  row-place row c =
+      let p = place-in rows row [] c in
+      let l : p.0 < n = omega (arith, p.1, rows-length (own_skills skills) 0 n) in
+      (p.0, l, sym p.2 ∙ row-is p.0 l)
+
+  own-from : (v : Text) (q : ℕ) → IsIn v (own_skills skills q) → (s : Skill) × IsIn s skills
+      × (has s.items q ≡ true) × (v ≡ s.name)
+  own-from v q c =
+      let m = map-in (λ t. t.name) (filter (λ t. has t.items q) skills) v c in
+      let f = filter-in (λ t. has t.items q) skills m.0 m.1 in
+      (m.0, f.0, f.1, m.2)
+
+  own-to : (s : Skill) (q : ℕ) → IsIn s skills → has s.items q ≡ true
+      → IsIn s.name (own_skills skills q)
+  own-to s q c h =
+      in-map (λ t. t.name) (filter (λ t. has t.items q) skills) s
+      (in-filter (λ t. has t.items q) skills s c h)
+
+  below : (s : Skill) (q : ℕ) → IsIn s skills → has s.items q ≡ true → q < n
+  below s q c h =
+      ltb-true q n (sym (has-full n q) ∙ is.cover.small s.items (in-among skills s c) q h)
+
+  texts-from : (v : Text) → IsIn v texts → IsIn v (skill_names skills)
+  unfolding texts
+  texts-from v c =
+      let f = flat_map-in (λ row. row) rows v c in
+      let p = row-place f.0 f.1 in
+      let s = own-from v p.0 (subst (λ row. IsIn v row) p.2 f.2) in
+      subst (λ w. IsIn w (skill_names skills)) (sym s.3) (in-map (λ t. t.name) skills s.0 s.1)
+
+  texts-to : (v : Text) → IsIn v (skill_names skills) → IsIn v texts
+  unfolding texts
+  texts-to v c =
+      let s = map-in (λ t. t.name) skills v c in
+      let q = some-item s.0.items (λ e. true≢false
+      (sym (in-among skills s.0 s.1) ∙ ap (is_among (item_sets skills)) e ∙ is.none_empty)) in
+      let l = below s.0 q.0 s.1 q.1 in
+      in-flat_map (λ row. row) rows (get_or rows q.0 []) v
+      (get-in_list rows q.0 [] (omega (arith, l, rows-length (own_skills skills) 0 n)))
+      (subst (λ row. IsIn v row) (sym (row-is q.0 l))
+      (subst (λ w. IsIn w (own_skills skills q.0)) (sym s.2) (own-to s.0 q.0 s.1 q.1)))
+
+  names-back : in_text_order texts ≡ skill_names skills
+  names-back =
+      same_texts (in_text_order texts) (skill_names skills) (sorted-in_text_order texts) is.ascend
+      (λ v c. texts-from v (in-order-from texts v c)) (λ v c. in-order-to texts v (texts-to v c))
+
+  items-back : (s : Skill) → IsIn s skills → items_with rows s.name ≡ s.items
+  items-back s c = same_set (items_with rows s.name) s.items (λ q.
+      same_truth (has (items_with rows s.name) q) (has s.items q)
+      (λ h.
+      let i = items-has rows s.name q h in
+      let l : q < n = omega (arith, i.0, rows-length (own_skills skills) 0 n) in
+      let t = own-from s.name q
+      (subst (λ row. IsIn s.name row) (row-is q l) (any-in s.name (get_or rows q []) i.1)) in
+      ap (λ x. has x.items q) (same-skill skills s t.0 is.ascend c t.1 t.3) ∙ t.2)
+      (λ h.
+      let l = below s q c h in
+      has-items rows s.name q (omega (arith, l, rows-length (own_skills skills) 0 n))
+      (in-any s.name (get_or rows q [])
+      (subst (λ row. IsIn s.name row) (sym (row-is q l)) (own-to s q c h)))))
+
+  none-bare : first_bare rows ≡ None
+  none-bare = nothing (first_bare rows)
+      (is_some-position (λ row. length row == 0) rows
+      ∙ false_from_ne_true (list_any (λ row. length row == 0) rows) (λ h.
+      let r = some-in (λ row. length row == 0) rows h in
+      let p = row-place r.0 r.1 in
+      let k = some-from (λ k. has k p.0) (item_sets skills)
+      (sym (has-unions (item_sets skills) p.0) ∙ is.cover.each_item p.0 p.1) in
+      let s = among-in skills k.0 k.1 in
+      bare r.0 s.0.name
+      (subst (λ row. IsIn s.0.name row) (sym p.2)
+      (own-to s.0 p.0 s.1 (ap (λ i. has i p.0) (sym s.2) ∙ k.2)))
+      r.2))
+    where
+      bare : (row : List Text) (w : Text) → IsIn w row → (length row == 0) ≡ true → ⊥
+      bare [] w c h = c
+      bare (v ∷ row) w c h = let e = eqb-true (suc (length row)) 0 h in omega (arith, e)
+
+  skills-back : skills_from rows ≡ Ok skills
+  unfolding skills_in texts
+  skills-back =
+      let whole : skills_in rows ≡ skills =
+      ap (skilled (items_with rows)) names-back ∙ skilled-same (items_with rows) skills items-back
+      in
+      of_few rows none-bare (omega (arith, is.few, ap length whole)) ∙ ap Ok whole
+
+-- ---- the whole
+
+table-back : (names : List Text) (skills : List Skill) → IsDomain names
+    → AllByRecursion IsUtf8 (skill_names skills)
+    → table_of (skills_text names skills) ≡ Some (table_from names (rows_of (length names) skills))
+unfolding table_of
+table-back names skills domain texts =
+    rw (text-value names skills domain.are_names.named texts)
+    (read-table names (rows_of (length names) skills))
+
+pub map-back : (names : List Text) (skills : List Skill) → IsDomain names
+    → IsMap (length names) skills → skills_of names (skills_text names skills) ≡ Ok skills
+unfolding skills_of rows_in rows_of
+map-back names skills domain is =
+    let rows = rows_of (length names) skills in
+    rw (table-back names skills domain is.texts, keys-named names names rows (all-named names))
+    (ap skills_from
+    (rows-back names rows (sym (rows-length (own_skills skills) 0 (length names)))
+    domain.are_names.distinct)
+    ∙ skills-back (length names) skills is)
