@@ -1,0 +1,4 @@
+pub mod Sides
+pub mod Turning
+pub mod Families
+pub mod Meshed
