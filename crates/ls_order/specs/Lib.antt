@@ -1,0 +1,7 @@
+pub mod Orders
+pub mod OneEach
+pub mod Closing
+pub mod Related
+pub mod Words
+pub mod Reading
+pub mod Surmising
