@@ -4,6 +4,7 @@
 mod engine;
 mod files;
 mod ground;
+mod origins;
 
 use std::fmt::Display;
 use std::io;
@@ -19,5 +20,6 @@ fn print_each<R: Print, T: Display>(rt: &R, kind: &str, faults: &[T]) -> io::Res
 fn main(rt: HostRuntime) -> io::Result<()> {
     ground::print(&rt)?;
     files::print(&rt)?;
-    engine::print(&rt)
+    engine::print(&rt)?;
+    origins::print(&rt)
 }

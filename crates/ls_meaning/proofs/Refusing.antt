@@ -9,12 +9,16 @@ use Rattle.std.specs.Prelude.{map}
 -- no line of what is shown begins with `no`
 headed : (h : Head) (ws : List Text) (ls : List (List Text)) → is_refusal (bytes_of ((head_word h ∷ ws) ∷ ls)) ≡ false
 unfolding bytes_of line_of
+headed head.Agree [] ls = refl
+headed head.Agree (w ∷ ws) ls = refl
 headed head.Ask [] ls = refl
 headed head.Ask (w ∷ ws) ls = refl
 headed head.Base [] ls = refl
 headed head.Base (w ∷ ws) ls = refl
 headed head.Class [] ls = refl
 headed head.Class (w ∷ ws) ls = refl
+headed head.Cover [] ls = refl
+headed head.Cover (w ∷ ws) ls = refl
 headed head.Fringes [] ls = refl
 headed head.Fringes (w ∷ ws) ls = refl
 headed head.Known [] ls = refl
@@ -29,6 +33,8 @@ headed head.Path [] ls = refl
 headed head.Path (w ∷ ws) ls = refl
 headed head.Question [] ls = refl
 headed head.Question (w ∷ ws) ls = refl
+headed head.Relation [] ls = refl
+headed head.Relation (w ∷ ws) ls = refl
 headed head.Report [] ls = refl
 headed head.Report (w ∷ ws) ls = refl
 headed head.Result [] ls = refl
@@ -37,6 +43,8 @@ headed head.Set [] ls = refl
 headed head.Set (w ∷ ws) ls = refl
 headed head.Settled [] ls = refl
 headed head.Settled (w ∷ ws) ls = refl
+headed head.Skills [] ls = refl
+headed head.Skills (w ∷ ws) ls = refl
 headed head.State [] ls = refl
 headed head.State (w ∷ ws) ls = refl
 headed head.Surmise [] ls = refl

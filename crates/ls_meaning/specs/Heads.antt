@@ -3,9 +3,11 @@ use Rattle.std.specs.Prelude.{codes}
 use Rattle.ls_lines.specs.{Text}
 
 pub data Head : Type 0 where
+  Agree : Head
   Ask : Head
   Base : Head
   Class : Head
+  Cover : Head
   Fringes : Head
   Known : Head
   Learning : Head
@@ -13,18 +15,22 @@ pub data Head : Type 0 where
   Over : Head
   Path : Head
   Question : Head
+  Relation : Head
   Report : Head
   Result : Head
   Set : Head
   Settled : Head
+  Skills : Head
   State : Head
   Surmise : Head
   Test : Head
 
 abbrev pub head_word : Head → Text
+head_word Agree = codes "agree"
 head_word Ask = codes "ask"
 head_word Base = codes "base"
 head_word Class = codes "class"
+head_word Cover = codes "cover"
 head_word Fringes = codes "fringes"
 head_word Known = codes "known"
 head_word Learning = codes "learning"
@@ -32,10 +38,12 @@ head_word More = codes "more"
 head_word Over = codes "over"
 head_word Path = codes "path"
 head_word Question = codes "question"
+head_word Relation = codes "relation"
 head_word Report = codes "report"
 head_word Result = codes "result"
 head_word Set = codes "set"
 head_word Settled = codes "settled"
+head_word Skills = codes "skills"
 head_word State = codes "state"
 head_word Surmise = codes "surmise"
 head_word Test = codes "test"

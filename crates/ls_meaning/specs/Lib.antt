@@ -2,12 +2,17 @@ pub mod Texts
 pub mod Sessions
 pub mod Scenes
 pub mod Meanings
+pub mod Told
+pub mod FileRefusals
 pub mod Refusals
 pub mod Heads
 pub mod Notices
 pub mod Lines
 pub mod Effects
+pub mod RelationRows
 pub mod Rows
+pub mod SkillRows
+pub mod MeshRows
 pub mod Pupils
 pub mod Replies
 pub mod Transcripts
@@ -31,7 +36,8 @@ pub use Rattle.ls_meaning.specs.Pupils.{close_row, has_name, most_pupils, new_pu
 pub use Rattle.ls_meaning.specs.Pupils.{pupil_with, question_shown, replied, reply_row}
 pub use Rattle.ls_meaning.specs.Pupils.{report_shown, setting_row, shown_of, weighing_refusals}
 pub use Rattle.ls_meaning.specs.Pupils.{with_pupil}
-pub use Rattle.ls_meaning.specs.Refusals.{Detail, Notice, cause_word, detail_word, notice_words}
+pub use Rattle.ls_meaning.specs.Told.{Detail, Notice, told}
+pub use Rattle.ls_meaning.specs.Refusals.{cause_word, detail_word, notice_words}
 pub use Rattle.ls_meaning.specs.Refusals.{reason_word, refusal_notice, refusal_words}
 pub use Rattle.ls_meaning.specs.Notices.{detail_of, notice_of}
 pub use Rattle.ls_meaning.specs.Replies.{edit_effect, file_effect, in_domain, is_refusal}

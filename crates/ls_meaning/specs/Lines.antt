@@ -19,11 +19,16 @@ use Rattle.ls_theory.specs.declared.outcome.Outcome.{Outcome}
 use Rattle.ls_lines.specs.{Text}
 use Rattle.ls_domain.specs.Texts.{name_of, joined_names, set_text, fringe_words}
 use Rattle.ls_files.specs.SurmiseFiles.{surmise_text}
+use Rattle.ls_files.specs.SkillFiles.{base_skills, skills_text}
+use Rattle.ls_origins.specs.Meshes.{mesh_of}
+use Rattle.ls_origins.specs.declared.relation_fault.RelationFault.{RelationFault}
+use Rattle.ls_origins.specs.declared.relation_fault.RelationFault.TheVariants as no_relation
 use Rattle.ls_meaning.specs.Texts.{line_of}
 use Rattle.ls_meaning.specs.Heads as head
 use Rattle.ls_meaning.specs.Heads.{Head, head_word}
 use Rattle.ls_meaning.specs.Sessions.{Session}
 use Rattle.ls_meaning.specs.Refusals.{refusal_words, reason_word}
+use Rattle.ls_meaning.specs.SkillRows.{delineated}
 use Rattle.ls_meaning.specs.declared.response.Response.{Response}
 use Rattle.ls_meaning.specs.declared.response.Response.TheVariants.{Silence, Refused, Done, Agreed}
 use Rattle.ls_meaning.specs.declared.response.Response.TheVariants.{Shown}
@@ -143,6 +148,31 @@ abbrev pub class_lines : List Text → List PupilResult → List Line
 class_lines names rs =
     map (result_line names) rs ++ line head.Class (decimal (length rs) ∷ []) ∷ []
 
+-- the skill map that has a skill for each of these sets
+abbrev pub skills_line : List Text → List Items → Line
+skills_line names sets = line head.Skills (skills_text names (base_skills sets) ∷ [])
+
+-- what keeps a surmise function from being a relation
+abbrev pub no_relation_line : List Text → RelationFault → Line
+no_relation_line names (no_relation.TwoClauses q) =
+    line head.Relation (codes "no" ∷ name_of names q ∷ [])
+no_relation_line names (no_relation.Quasi first second) =
+    line head.Relation (codes "quasi" ∷ name_of names first ∷ name_of names second ∷ [])
+no_relation_line names (no_relation.Memory e) = line head.Relation []
+
+-- a lower and a higher item
+abbrev pub cover_line : List Text → ℕ × ℕ → Line
+cover_line names p = line head.Cover (name_of names p.0 ∷ name_of names p.1 ∷ [])
+
+-- the covers of a relation, and how many they are
+abbrev pub cover_lines : List Text → List (ℕ × ℕ) → List Line
+cover_lines names pairs =
+    map (cover_line names) pairs ++ line head.Relation (decimal (length pairs) ∷ []) ∷ []
+
+-- whether two parts agree
+abbrev pub agree_line : Bool → Line
+agree_line is_agreed = line head.Agree ((if is_agreed then codes "yes" else codes "no") ∷ [])
+
 -- what is shown of an interview on named items, of a file, of a pupil or of a class
 abbrev pub shown_lines : List Text → Interview → Showing → List Line
 shown_lines names i (shown.Known known) = known_line known ∷ []
@@ -167,6 +197,14 @@ shown_lines names i (shown.Asked asked) = asked_line names asked ∷ []
 shown_lines names i (shown.Report outcome fringes) =
     outcome_line names outcome ∷ fringes_line names fringes ∷ []
 shown_lines names i (shown.Class results) = class_lines names results
+shown_lines names i (shown.SkillMap sets) = skills_line names sets ∷ []
+shown_lines names i (shown.NoRelation fault) = no_relation_line names fault ∷ []
+shown_lines names i (shown.Covers pairs) = cover_lines names pairs
+shown_lines names i (shown.Delineated model sets count after) =
+    page_lines names (page comes_before (delineated (length names) model sets) after count)
+shown_lines names i (shown.Mesh left right count after) =
+    page_lines names (page comes_before (mesh_of (length names) left right) after count)
+shown_lines names i (shown.Agree is_agreed) = agree_line is_agreed ∷ []
 
 -- ---- all lines
 

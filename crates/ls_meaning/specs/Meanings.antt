@@ -112,6 +112,8 @@ view_of names (views.Fringes ws) = view.Fringes (items_of names ws)
 view_of names (views.StateOf inner outer) =
     view.StateOf (items_of names inner) (items_of names outer)
 view_of names (views.Paths count after) = view.Paths count (option_map (map (item_of names)) after)
+view_of names views.SkillMap = view.SkillMap
+view_of names views.Relation = view.Relation
 
 -- the set of a cursor, if there is one, is one of n items
 abbrev pub IsAfterOn : ℕ → Result (Option Items) CursorFault → Type 0

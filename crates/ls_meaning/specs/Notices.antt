@@ -1,6 +1,6 @@
 -- What a refusal tells, as the code holds it.
 use Rattle.std.specs.Prelude.{map}
-use Rattle.ls_meaning.specs.Refusals.{Detail, Word, Number, Item, Set, Notice, told}
+use Rattle.ls_meaning.specs.Told.{Detail, Word, Number, Item, Set, Notice, told}
 use Rattle.ls_meaning.specs.declared.notices.Detail.{Detail as Held}
 use Rattle.ls_meaning.specs.declared.notices.Detail.TheVariants as held
 use Rattle.ls_meaning.specs.declared.notices.Notice.{Notice as HeldNotice}

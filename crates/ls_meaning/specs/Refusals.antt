@@ -24,6 +24,8 @@ use Rattle.ls_files.specs.declared.family_fault.FamilyFault.{FamilyFault}
 use Rattle.ls_files.specs.declared.family_fault.FamilyFault.TheVariants as sets
 use Rattle.ls_files.specs.declared.cause.Cause.{Cause}
 use Rattle.ls_files.specs.declared.cause.Cause.TheVariants as cause
+use Rattle.ls_meaning.specs.Told.{Detail, Word, Number, Item, Set, Notice, told}
+use Rattle.ls_meaning.specs.FileRefusals.{skill_notice, part_notice, mesh_notice, pair_notice}
 use Rattle.ls_meaning.specs.declared.response.Refusal.{Refusal}
 use Rattle.ls_meaning.specs.declared.response.Refusal.TheVariants.{NoCommand, LongLine}
 use Rattle.ls_meaning.specs.declared.response.Refusal.TheVariants.{DomainStands, Domain}
@@ -36,21 +38,8 @@ use Rattle.ls_meaning.specs.declared.response.Refusal.TheVariants.{NotLearning, 
 use Rattle.ls_meaning.specs.declared.response.Refusal.TheVariants.{ManyStates, Heavy, ManyPupils}
 use Rattle.ls_meaning.specs.declared.response.Refusal.TheVariants.{PupilStands, NoPupil, Reply}
 use Rattle.ls_meaning.specs.declared.response.Refusal.TheVariants.{BadSetting, BadClass, BadSession}
-
--- a detail: a word, a number, the name of an item, or a set
-pub data Detail : Type 0 where
-  Word : Text → Detail
-  Number : ℕ → Detail
-  Item : ℕ → Detail
-  Set : Items → Detail
-
--- what is told: a code, and details
-pub record Notice : Type 0 where
-  pub code : ℕ
-  pub details : List Detail
-
-abbrev pub told : ℕ → List Detail → Notice
-told code details = record { code = code; details = details }
+use Rattle.ls_meaning.specs.declared.response.Refusal.TheVariants.{NotBuilt, Skills, PartSets, Mesh}
+use Rattle.ls_meaning.specs.declared.response.Refusal.TheVariants.{StartRelation}
 
 -- where the names are those of the items
 abbrev pub detail_word : List Text → Detail → Text
@@ -176,6 +165,11 @@ refusal_notice (Reply fault) = reply_notice fault
 refusal_notice BadSetting = told 43 []
 refusal_notice (BadClass row) = told 41 (Number row ∷ [])
 refusal_notice (BadSession cause) = told 42 (Word (cause_word cause) ∷ [])
+refusal_notice NotBuilt = told 49 []
+refusal_notice (Skills fault) = skill_notice fault
+refusal_notice (PartSets side fault) = part_notice side fault
+refusal_notice (Mesh fault) = mesh_notice fault
+refusal_notice (StartRelation fault) = pair_notice fault
 
 abbrev pub refusal_words : List Text → Refusal → List Text
 refusal_words names refusal = notice_words names (refusal_notice refusal)

@@ -18,14 +18,19 @@ use Rattle.ls_meaning.specs.Sessions.{Session, has_domain}
 use Rattle.ls_meaning.specs.Scenes.{Calls}
 use Rattle.ls_meaning.specs.Meanings.{unnamed, edit_item_words, edit_of, view_item_words, view_of}
 use Rattle.ls_meaning.specs.Meanings.{setting_item_words, setting_of, pupil_item_words, pupil_of}
+use Rattle.ls_meaning.specs.Meanings.{after_of}
 use Rattle.ls_meaning.specs.Lines.{lines_of}
 use Rattle.ls_meaning.specs.Effects.{Effect, Change, answers, changes}
 use Rattle.ls_meaning.specs.Effects.{changes_interview, changes_settings, changes_pupils}
 use Rattle.ls_meaning.specs.Rows.{items_row, load_items_row, start_row, test_row, view_row}
 use Rattle.ls_meaning.specs.Rows.{edit_row}
+use Rattle.ls_meaning.specs.SkillRows.{skills_row}
+use Rattle.ls_meaning.specs.MeshRows.{mesh_agree_row, mesh_row}
 use Rattle.ls_meaning.specs.Pupils.{setting_row, pupil_row, class_row}
 use Rattle.ls_meaning.specs.Saving.{save_row, open_row}
 use Rattle.ls_meaning.specs.declared.response.Refusal.TheVariants.{NoCommand, LongLine, Unnamed}
+use Rattle.ls_meaning.specs.declared.response.Refusal.TheVariants.{NotBuilt}
+use Rattle.ls_meaning.specs.declared.request.SkillModel.TheVariants.{Disjunctive, Conjunctive}
 use Rattle.ls_meaning.specs.declared.request.StartFile.TheVariants as start_file
 use Rattle.ls_meaning.specs.declared.response.Response.{Response}
 use Rattle.ls_meaning.specs.declared.response.Response.TheVariants.{Silence, Refused}
@@ -44,10 +49,23 @@ file_effect s calls (files.StartSurmise file) =
     changes_interview s (start_row start_file.Surmise s (calls.file file))
 file_effect s calls (files.StartBase file) =
     changes_interview s (start_row start_file.Base s (calls.file file))
+file_effect s calls (files.StartRelation file) =
+    changes_interview s (start_row start_file.Relation s (calls.file file))
 file_effect s calls (files.Test file) = answers s (test_row s.names (calls.file file))
 file_effect s calls (files.Class file) =
     answers s (class_row s.interview s.settings s.names (calls.file file))
 file_effect s calls (files.Save file) = save_row s calls.failed file
+file_effect s calls (files.SkillsAny file count after) =
+    answers s (skills_row Disjunctive s.names (calls.file file) count
+    (after_of (length s.names) after))
+file_effect s calls (files.SkillsAll file count after) =
+    answers s (skills_row Conjunctive s.names (calls.file file) count
+    (after_of (length s.names) after))
+file_effect s calls (files.Mesh left right count after) =
+    answers s (mesh_row s.names (calls.file left) (calls.file right) count
+    (after_of (length s.names) after))
+file_effect s calls (files.MeshAgree left right) =
+    answers s (mesh_agree_row s.names (calls.file left) (calls.file right))
 
 -- an effect, where each word that must name an item does; or else the place of the first that
 -- doesn't
@@ -90,6 +108,7 @@ command_effect s calls (command.Edit c) = in_domain s (edit_effect s c)
 command_effect s calls (command.View c) = in_domain s (view_effect s c)
 command_effect s calls (command.Setting c) = in_domain s (setting_effect s c)
 command_effect s calls (command.Pupil c) = in_domain s (pupil_effect s c)
+command_effect s calls (command.Safe c) = answers s (Refused NotBuilt)
 
 -- words, which may be no command
 abbrev pub words_effect : Session → Calls → List Text → Option Command → Effect

@@ -7,7 +7,8 @@ use Rattle.ls_set.specs.declared.query.Query.{Query}
 use Rattle.ls_set.specs.declared.cursor.CursorFault.{CursorFault}
 use Rattle.ls_theory.specs.Starts.{Start, Clauses, Sets}
 use Rattle.ls_theory.specs.{BlockRange, Interview, Peak, accepted, answer_with, atom_sets, base}
-use Rattle.ls_theory.specs.{base_verdict, based, blocks, compat, compatible_sets, fringes, is_order}
+use Rattle.ls_theory.specs.{base_verdict, based, blocks, clauses_at, compat, compatible_sets}
+use Rattle.ls_theory.specs.{fringes, is_order}
 use Rattle.ls_theory.specs.{known, made, next_question, peak_of, projection, refusal, retracted}
 use Rattle.ls_theory.specs.{state_of, verdict}
 use Rattle.ls_theory.specs.declared.verdict.BaseVerdict.{BaseVerdict}
@@ -16,15 +17,19 @@ use Rattle.ls_theory.specs.declared.answer_fault.AnswerFault.TheVariants.{BadQue
 use Rattle.ls_theory.specs.declared.block_fault.BlockFault.{BlockFault}
 use Rattle.ls_theory.specs.declared.base_fault.BaseFault.{BaseFault}
 use Rattle.ls_theory.specs.declared.surmise_fault.SurmiseFault.{SurmiseFault}
+use Rattle.ls_origins.specs.Relations.{clauses_below}
+use Rattle.ls_origins.specs.declared.pair_fault.PairFault.{PairFault}
 use Rattle.ls_lines.specs.{Text}
 use Rattle.ls_domain.specs.Domains.{names_of_words, names_of_table}
 use Rattle.ls_domain.specs.declared.domain_fault.DomainFault.{DomainFault}
 use Rattle.ls_files.specs.SetFiles.{sets_of}
 use Rattle.ls_files.specs.SurmiseFiles.{surmise_of}
+use Rattle.ls_files.specs.PairFiles.{relation_of}
 use Rattle.ls_files.specs.declared.family_fault.FamilyFault.{FamilyFault}
 use Rattle.ls_meaning.specs.Scenes.{Fetched, Bytes, Missing, TooLarge, Failed}
 use Rattle.ls_meaning.specs.Sessions.{Session, started, has_domain}
 use Rattle.ls_meaning.specs.Effects.{Change, changed, refuse, refuse_fault, ◌otherwise◌}
+use Rattle.ls_meaning.specs.RelationRows.{relation_shown}
 use Rattle.ls_meaning.specs.declared.response.Refusal.{Refusal}
 use Rattle.ls_meaning.specs.declared.response.Refusal.TheVariants as refusal_of
 use Rattle.ls_meaning.specs.declared.response.Response.{Response}
@@ -93,10 +98,16 @@ abbrev pub start_of_sets : ℕ → Result (List Items) FamilyFault → Result St
 start_of_sets n (Ok sets) = start_of_base (based n sets)
 start_of_sets n (Err fault) = Err (refusal_of.StartSets fault)
 
+-- the clauses of the relation of a file of pairs, or why it gives none
+abbrev pub start_of_relation : Result (List Items) PairFault → Result Start Refusal
+start_of_relation (Ok below) = Ok (Clauses (clauses_below below))
+start_of_relation (Err fault) = Err (refusal_of.StartRelation fault)
+
 -- the start that a file gives, or why it gives none
 abbrev pub start_read : StartFile → List Text → List ℕ → Result Start Refusal
 start_read start_file.Surmise names bytes = start_of_clauses (surmise_of names bytes)
 start_read start_file.Base names bytes = start_of_sets (length names) (sets_of names bytes)
+start_read start_file.Relation names bytes = start_of_relation (relation_of names bytes)
 
 abbrev pub start_refusals : Result Start Refusal → List Refusal
 start_refusals (Ok start) = []
@@ -115,7 +126,7 @@ starts_by i refusals reading =
     changed i (refusals ++ start_refusals reading) (Done (length (base (compat i.count start []))))
     (record i { start = start })
 
--- `start surmise` and `start base`: no answer stands
+-- `start surmise`, `start base` and `start relation`: no answer stands
 abbrev pub start_row : StartFile → Session → Fetched → Change Interview
 start_row kind s fetched =
     let i = s.interview in
@@ -133,6 +144,15 @@ known_row i r =
 -- `ask`
 abbrev pub ask_row : Interview → Response
 ask_row i = Shown (shown.Question (next_question i None))
+
+-- the set of a cursor, if there is one
+abbrev pub after_or : Result (Option Items) CursorFault → Option Items
+after_or (Ok after) = after
+after_or (Err fault) = None
+
+abbrev pub cursor_refusals : Result (Option Items) CursorFault → List Refusal
+cursor_refusals (Ok after) = []
+cursor_refusals (Err fault) = refusal_of.Cursor fault ∷ []
 
 -- `states`: as many as are asked for, those after the cursor's set or the first ones
 abbrev pub states_row : ℕ → Result (Option Items) CursorFault → Response
@@ -207,6 +227,14 @@ abbrev pub paths_row : Interview → ℕ → Option (List ℕ) → Response
 paths_row i count after =
     based_row i (learned (compatible_sets i) (paths_shown i.count count after))
 
+-- `skill-map`
+abbrev pub skill_map_row : Interview → Response
+skill_map_row i = based_row i (Shown (shown.SkillMap (base (compatible_sets i))))
+
+-- `relation`
+abbrev pub relation_row : Interview → Response
+relation_row i = based_row i (relation_shown i.count (clauses_at i.count (compatible_sets i)))
+
 abbrev pub view_row : Interview → View → Response
 view_row i (view.Known r) = known_row i r
 view_row i view.Ask = ask_row i
@@ -219,6 +247,8 @@ view_row i (view.ProjectBase part) = project_base_row i part
 view_row i (view.Fringes k) = fringes_row i k
 view_row i (view.StateOf inner outer) = state_row i inner outer
 view_row i (view.Paths count after) = paths_row i count after
+view_row i view.SkillMap = skill_map_row i
+view_row i view.Relation = relation_row i
 
 -- ---- what a file shows
 

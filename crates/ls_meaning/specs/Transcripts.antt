@@ -18,7 +18,7 @@ pub record World : Type 0 where
 abbrev pub begun_over : Folder → World
 begun_over folder = record { session = started []; folder = folder }
 
--- a line, marked where its call on the folder failed
+-- a line, marked where a call of it on the folder failed
 pub record Marked : Type 0 where
   pub line : List ℕ
   pub failed : Bool

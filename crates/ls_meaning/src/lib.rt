@@ -3,11 +3,12 @@
 #![tactic(auto)]
 
 mod faults;
+mod file_faults;
 mod notices;
 mod request;
 mod response;
 
 pub use faults::reason_word;
 pub use notices::{Detail, Notice};
-pub use request::{Edit, PupilRequest, Setting, StartFile, View};
+pub use request::{Edit, PupilRequest, Setting, SkillModel, StartFile, View};
 pub use response::{Refusal, Response, Shown};

@@ -1,6 +1,6 @@
 // What a refusal tells.
 ghost use Rattle.std.specs.Prelude.{◌≡◌, ◌≤◌, ◌∷◌, [], length, map};
-ghost use Rattle.ls_meaning.specs.Refusals.{told, Word as word, Number as number};
+ghost use Rattle.ls_meaning.specs.Told.{told, Word as word, Number as number};
 ghost use Rattle.ls_meaning.specs.Notices.{detail_of, notice_of};
 
 use arrayvec::ArrayVec;

@@ -48,6 +48,10 @@ pub enum View {
         count: u32,
         after: Option<ItemList>,
     },
+    /// The least skill map of the states.
+    SkillMap,
+    /// The surmise relation of the states.
+    Relation,
 }
 
 /// How an interview is to change.
@@ -94,4 +98,14 @@ pub enum StartFile {
     Surmise,
     /// Sets, whose unions the states are.
     Base,
+    /// Pairs of a lower and a higher item.
+    Relation,
+}
+
+/// How a skill map delineates states: a pupil with some skills can solve the items that have one of
+/// them, or those whose skills are all among them.
+#[derive(Clone, Copy)]
+pub enum SkillModel {
+    Disjunctive,
+    Conjunctive,
 }

@@ -1,11 +1,14 @@
 // Replies as values.
+use crate::SkillModel;
 use crate::faults::{
     answer_notice, base_notice, block_notice, cause_word, cursor_notice, domain_notice,
     reply_notice, sets_notice, surmise_notice,
 };
+use crate::file_faults::{mesh_notice, pair_notice, part_notice, skill_notice};
 use crate::notices::{Detail, Notice};
 use ls_domain::DomainFault;
 use ls_files::{Cause, FamilyFault, Results};
+use ls_origins::{Covers, MeshFault, PairFault, RelationFault, SkillFault};
 use ls_set::{CursorFault, ItemList, ItemSet, Query, SetList};
 use ls_theory::{
     AnswerFault, Asked, BaseFault, BaseVerdict, BlockFault, FringePair, Known, Outcome, ReplyFault,
@@ -95,6 +98,32 @@ pub enum Shown {
     },
     /// What is known of the pupils of a class when their assessments are over.
     Class(Results),
+    /// The least skill map of the states: a skill for each set of the base.
+    SkillMap {
+        base: SetList,
+    },
+    /// What keeps the surmise function of the states from being a relation.
+    NoRelation(RelationFault),
+    /// The covers of the surmise relation of the states.
+    Covers(Covers),
+    /// At most `count` of the states that a skill map delineates, those after a set or the first
+    /// ones, and whether a further one follows. Of the skills' sets those of the base are enough.
+    Delineated {
+        model: SkillModel,
+        sets: SetList,
+        count: u32,
+        after: Option<ItemSet>,
+    },
+    /// At most `count` sets of the mesh of two parts, those after a set or the first ones, and
+    /// whether a further one follows. Each part is told by the base of its side.
+    Mesh {
+        left: SetList,
+        right: SetList,
+        count: u32,
+        after: Option<ItemSet>,
+    },
+    /// Whether two parts agree on the items of both.
+    Agree(bool),
 }
 
 /// Why a line is refused.
@@ -183,6 +212,19 @@ pub enum Refusal {
     BadSession {
         cause: Cause,
     },
+    /// The command is one of the safe interview, which isn't built yet.
+    NotBuilt,
+    /// The file is no skill map.
+    Skills(SkillFault),
+    /// The file of a side, which is 1 or 2, is no list of sets.
+    PartSets {
+        side: u32,
+        fault: FamilyFault,
+    },
+    /// The two parts have no mesh.
+    Mesh(MeshFault),
+    /// The file of pairs gives no start.
+    StartRelation(PairFault),
 }
 
 impl Refusal {
@@ -240,6 +282,11 @@ impl Refusal {
             Refusal::BadSetting => Notice::bare(43),
             Refusal::BadClass { row } => Notice::number(41, u64::from(row)),
             Refusal::BadSession { cause } => Notice::word(42, cause_word(cause)),
+            Refusal::NotBuilt => Notice::bare(49),
+            Refusal::Skills(fault) => skill_notice(fault),
+            Refusal::PartSets { side, fault } => part_notice(side, fault),
+            Refusal::Mesh(fault) => mesh_notice(fault),
+            Refusal::StartRelation(fault) => pair_notice(fault),
         }
     }
 }

@@ -1,5 +1,5 @@
 -- A command keeps a session whole where it has a domain.
-use Rattle.ls_reached.proofs.Vocabulary.{◌++◌, ◌∙◌, ◌∷◌, ◌≡◌, Bool, Calls, Effect, Err, Fetched, IsDomain, IsKept, IsWhole, List, None, Ok, Option, Refusal, Result, Session, Some, StartFile, Text, ℕ, [], ap, bytes_fetched, command, command_effect, command_of, cond, cons_option, cut, drop, false, filter_map, forms, front, has_domain, is_long, is_name, is_of, line_effect, names_of_table, names_of_words, one, opened_by, option_map, parts, refl, session_of, session_text, slice_get, slice_index_or, start_row, started, started_by, stores, subst, take, true, words, words_effect, ⊤}
+use Rattle.ls_reached.proofs.Vocabulary.{◌++◌, ◌∙◌, ◌∷◌, ◌≡◌, Bool, Calls, Effect, Err, IsDomain, IsKept, IsWhole, List, None, Ok, Option, Refusal, Result, Session, Some, Text, ℕ, [], ap, bytes_fetched, command, command_effect, command_of, cond, cons_option, cut, drop, false, filter_map, forms, front, has_domain, is_long, is_name, is_of, line_effect, names_of_table, names_of_words, one, opened_by, option_map, parts, refl, session_of, session_text, slice_get, slice_index_or, started, started_by, stores, subst, take, true, words, words_effect, ⊤}
 use Rattle.ls_meaning.specs.{edit_of, file_effect, in_domain, opening_row, pupil_of, setting_of, unless_unnamed}
 use Rattle.ls_lines.specs.{pupil_name}
 use Rattle.std.proofs.lemmas.Option.{none-some, same_Some}
@@ -68,6 +68,7 @@ form-named (form.Opening f) ws given e = tt
 form-named (form.File f) ws given e = tt
 form-named (form.Edit f) ws given e = tt
 form-named (form.View f) ws given e = tt
+form-named (form.Safe f) ws given e = tt
 form-named (form.Setting f) ws given e = tt
 form-named (form.Pupil pupil_form.Question) ws given e = tt
 form-named (form.Pupil pupil_form.Reply) ws given e = tt
@@ -112,9 +113,14 @@ stored-whole s (refusal ∷ refusals) name bytes h = h
 file-whole : (s : Session) (calls : Calls) (c : FileCommand) → IsWhole s → IsWhole (file_effect s calls c).session
 file-whole s calls (files.StartSurmise file) h = start-whole s h start_file.Surmise (calls.file file)
 file-whole s calls (files.StartBase file) h = start-whole s h start_file.Base (calls.file file)
+file-whole s calls (files.StartRelation file) h = start-whole s h start_file.Relation (calls.file file)
 file-whole s calls (files.Test file) h = h
 file-whole s calls (files.Class file) h = h
 file-whole s calls (files.Save file) h = stored-whole s _ file (session_text s) h
+file-whole s calls (files.SkillsAny file count after) h = h
+file-whole s calls (files.SkillsAll file count after) h = h
+file-whole s calls (files.Mesh left right count after) h = h
+file-whole s calls (files.MeshAgree left right) h = h
 
 -- where a word names no item nothing changes
 unless-whole : (s : Session) (places : List ℕ) (e : Effect) → IsWhole s → IsWhole e.session → IsWhole (unless_unnamed s places e).session
@@ -147,6 +153,7 @@ command-kept s calls (command.View c) kept named = in_domain-kept s _ kept (λ h
 command-kept s calls (command.Setting c) kept named = in_domain-kept s _ kept (λ h. unless-whole s _ _ h (set-whole s h (setting_of s.names c)))
 command-kept s calls (command.Pupil c) kept named =
     in_domain-kept s _ kept (λ h. unless-whole s _ _ h (pupils-whole s h (pupil_name c) (pupil_of s.names c) (begins-named s.names c named)))
+command-kept s calls (command.Safe c) kept named = kept
 
 words-kept : (s : Session) (calls : Calls) (ws : List Text) (o : Option Command) → IsKept s → ((c : Command) → o ≡ Some c → IsNamed c) → IsKept (words_effect s calls ws o).session
 words-kept s calls ws None kept named = kept

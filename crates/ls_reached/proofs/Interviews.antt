@@ -93,7 +93,7 @@ module _ (s : Session) (h : IsWhole s) where
       let stand = refuse refusal_of.AnswersStand (not (eqb (length i.answers) 0)) in
       begins-anew (stand ++ file_refusals fetched) (start_read kind s.names (bytes_fetched fetched))
       (λ e. no-answers (not-refused refusal_of.AnswersStand _ (none-both stand (file_refusals fetched) e).0))
-      (λ start e. subst (λ n. IsStart n start) (sym h.count) (start-from_file kind s.names (bytes_fetched fetched) start e))
+      (λ start e. subst (λ n. IsStart n start) (sym h.count) (start-from_file kind s.names (bytes_fetched fetched) start h.domain.are_names.few e))
 
   -- ---- settings
 

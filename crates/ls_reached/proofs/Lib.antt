@@ -1,5 +1,6 @@
 mod Vocabulary
 mod Refusals
+mod Relations
 mod Starts
 mod Interviews
 mod Pupils

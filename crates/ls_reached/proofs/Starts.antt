@@ -1,11 +1,14 @@
 -- What a file gives as a start is one.
-use Rattle.ls_reached.proofs.Vocabulary.{◌∙◌, ◌≡◌, All-given, All-map, AllByRecursion, Bool, Err, IsNarrow, IsStart, Items, List, None, Ok, Option, Result, Some, StartFile, Text, ℕ, [], ap, base, based, compat, cond, false, first_missing, length, length-map, limited, ltb, map, most_base_sets, refl, result_ok, start_of_base, start_of_clauses, start_of_sets, start_read, subst, sym, true}
+use Rattle.ls_reached.proofs.Vocabulary.{◌∙◌, ◌≡◌, ◌≤◌, All-given, All-map, AllByRecursion, Bool, Err, IsNarrow, IsStart, Items, List, None, Ok, Option, Result, Some, StartFile, Text, ℕ, [], ap, base, based, compat, cond, false, first_missing, length, length-map, limited, ltb, map, most_base_sets, refl, result_ok, start_of_base, start_of_clauses, start_of_sets, start_read, subst, sym, true}
 use Rattle.std.specs.Option.{option_map_or}
 use Rattle.ls_theory.specs.Starts.{Start, Free, Clauses, Sets}
 use Rattle.ls_theory.specs.declared.base_fault.BaseFault.{BaseFault}
 use Rattle.ls_theory.specs.declared.base_fault.BaseFault.TheVariants.{NotSpanning, Past}
 use Rattle.ls_theory.specs.declared.surmise_fault.SurmiseFault.{SurmiseFault}
 use Rattle.ls_theory.specs.declared.surmise_fault.SurmiseFault.TheVariants.{BadJson, UnknownItem}
+use Rattle.ls_set.specs.{most_items}
+use Rattle.ls_origins.specs.Relations.{clauses_below}
+use Rattle.ls_origins.specs.declared.pair_fault.PairFault.{PairFault}
 use Rattle.ls_laws.specs.Spans.{AreOn}
 use Rattle.ls_laws.proofs.Families.{compat-IsFamily}
 use Rattle.ls_laws.proofs.BaseStarts.{compat-base}
@@ -14,13 +17,16 @@ use Rattle.ls_clauses.proofs.Covers.{cover-least}
 use Rattle.ls_clauses.proofs.BaseCovers.{based-cover}
 use Rattle.ls_domain.specs.Meanings.{items_of}
 use Rattle.ls_files.specs.SetFiles.{sets_of}
+use Rattle.ls_files.specs.PairFiles.{relation_of}
 use Rattle.ls_files.specs.SurmiseFiles.{Table, table_of, is_table_named, row_under, clauses_in, surmise_from, surmise_in, surmise_of}
 use Rattle.ls_files.specs.declared.family_fault.FamilyFault.{FamilyFault}
 use Rattle.ls_family.proofs.Fitting.{sets-fit, each-fits}
 use Rattle.ls_surmise.proofs.Files.{clauses-on, row-named}
 use Rattle.ls_store.proofs.WrittenStarts.{base-small}
 use Rattle.ls_store.proofs.Surmises.{narrow-read}
+use Rattle.ls_meaning.specs.Rows.{start_of_relation}
 use Rattle.ls_meaning.specs.declared.request.StartFile.TheVariants as start_file
+use Rattle.ls_reached.proofs.Relations.{relation-start}
 
 -- ---- surmise functions
 
@@ -82,10 +88,16 @@ by-sets : (n : ℕ) (r : Result (List Items) FamilyFault) (start : Start) → ((
 by-sets n (Ok sets) start small e = by-base n (based n sets) start (λ made. base-again n sets made (small sets refl)) e
 by-sets n (Err fault) start small e = absurd (cc e)
 
-pub start-from_file : (kind : StartFile) (names : List Text) (bytes : List ℕ) (start : Start) → start_read kind names bytes ≡ Ok start → IsStart (length names) start
-start-from_file start_file.Surmise names bytes start e = by-clauses (length names) (surmise_of names bytes) start (surmise-start names bytes) e
-start-from_file start_file.Base names bytes start e =
+by-relation : (n : ℕ) (r : Result (List Items) PairFault) (start : Start) → ((below : List Items) → r ≡ Ok below → IsNarrow n (clauses_below below)) → start_of_relation r ≡ Ok start → IsStart n start
+by-relation n (Ok below) start narrow e = subst (IsStart n) (let same : Clauses (clauses_below below) ≡ start = cc e in same) (narrow below refl)
+by-relation n (Err fault) start narrow e = absurd (cc e)
+
+pub start-from_file : (kind : StartFile) (names : List Text) (bytes : List ℕ) (start : Start) → length names ≤ most_items → start_read kind names bytes ≡ Ok start → IsStart (length names) start
+start-from_file start_file.Surmise names bytes start few e = by-clauses (length names) (surmise_of names bytes) start (surmise-start names bytes) e
+start-from_file start_file.Base names bytes start few e =
     by-sets (length names) (sets_of names bytes) start (λ sets read k. each-fits (length names) sets k (sets-fit names bytes sets read)) e
+start-from_file start_file.Relation names bytes start few e =
+    by-relation (length names) (relation_of names bytes) start (λ below. relation-start names bytes below few) e
 
 -- ---- the starts of interviews
 

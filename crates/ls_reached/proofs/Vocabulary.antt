@@ -1,5 +1,5 @@
 -- The words that the proofs of this crate cite, passed on from one place.
-pub use Rattle.std.proofs.Common.{◌++◌, ◌<◌, ◌∙◌, ◌∷◌, ◌≡◌, ◌≤◌, Bool, Err, List, None, Ok, Option, Result, Some, ℕ, [], ap, append-nil, append_assoc, ap₂, arith, codes, cond, drop, eq-eqb, eqb, eqb-true, false, filter, is_some, le-leb, leb, leb-false, leb-true, length, length-append, ltb, ltb-false, map, map as map_of, not, option_map, refl, replicate, set, subst, sym, take, true}
+pub use Rattle.std.proofs.Common.{◌+◌, ◌++◌, ◌<◌, ◌∙◌, ◌∷◌, ◌≡◌, ◌≤◌, Bool, Err, List, None, Ok, Option, Result, Some, ℕ, [], ap, append-nil, append_assoc, ap₂, arith, codes, cond, drop, eq-eqb, eqb, eqb-true, false, filter, is_some, le-leb, leb, leb-false, leb-true, length, length-append, ltb, ltb-false, map, map as map_of, not, option_map, refl, replicate, set, subst, suc, sym, take, true}
 pub use Rattle.std.proofs.lemmas.Bool.{and_from, and_parts, not-false}
 pub use Rattle.std.proofs.lemmas.List.{length-map, length-replicate, length-set, nil_from_length}
 pub use Rattle.std.specs.List.{AllByRecursion, IsDistinct, cons_option, filter_map, list_all, slice_get}

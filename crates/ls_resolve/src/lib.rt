@@ -13,4 +13,4 @@ pub use edits::resolve_edit;
 pub use pupils::resolve_pupil;
 pub use settings::resolve_setting;
 pub use unnamed::{ResolveFault, Unnamed};
-pub use views::resolve_view;
+pub use views::{read_after, resolve_view};

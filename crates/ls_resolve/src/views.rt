@@ -56,11 +56,14 @@ pub fn resolve_view(
             count: *count,
             after: read_path(alloc, domain, after)?,
         },
+        ViewCommand::SkillMap => View::SkillMap,
+        ViewCommand::Relation => View::Relation,
     })
 }
 
-// The set of the cursor after which a page of sets of `n` items begins, if there is one.
-fn read_after(n: u32, after: &Option<Word>) -> Result<Option<ItemSet>, CursorFault>
+/// The set of the cursor after which a page of sets of `n` items begins, if there is one; or why the
+/// cursor's text is none.
+pub fn read_after(n: u32, after: &Option<Word>) -> Result<Option<ItemSet>, CursorFault>
     requires { n ≤ PLACES }
     ensures read { result ≡ after_of n after.now }
     ensures on { IsAfterOn n result }

@@ -5,7 +5,7 @@ use Rattle.std.proofs.lemmas.Result.{on_ok_weaker, on_err_weaker}
 
 -- ---- what is seen of the folder
 
-failed_from : (b : Bool) (o : Option (List ℕ)) → fetched_from b o ≡ Failed → b ≡ true
+pub failed_from : (b : Bool) (o : Option (List ℕ)) → fetched_from b o ≡ Failed → b ≡ true
 failed_from true o e = refl
 failed_from false None e = absurd (cc e)
 failed_from false (Some bytes) e =

@@ -1,5 +1,6 @@
 -- What a fetch lets a command see, and a command that is carried out by it.
 use Rattle.ls_session.proofs.Vocabulary.{[], ◌++◌, ◌<◌, ◌==◌, ◌∙◌, ◌∷◌, ◌≡◌, AllocError, Answer, AnswersStand, Bool, Bytes, Calls, Decides, Effect, Err, Failed, FetchCause, Fetched, FetchedFrom, Fetches, FileFailed, Folder, GivesBytes, IsErrAnd, IsErrOf, IsFetched, LargeFile, List, Makes, MatchResult, Missing, NoFile, None, Ok, Option, Refusal, Refused, Response, Result, SeesFile, Session, ShelfState, Some, Text, TooLarge, Vec, ℕ, answers, ap, arith, bytes_fetched, changes_interview, cond, false, fetched_from, file_refusals, in_domain, in_domain-some, length, longest_file, ltb, ne_eqb, not, refl, refuse, start_read, start_row, starts_by, subst, sym, true, true≢false}
+use Rattle.ls_session.specs.Decides.{Fetching}
 use Rattle.ls_session.proofs.Decided.{calls_told, files_stay, makes_as, makes_nothing, sees_told}
 use Rattle.std.specs.declared.alloc.Global.{Global}
 use Rattle.std.specs.FinMap as map
@@ -81,57 +82,69 @@ sees_file {before} {after} {name} {passed} {r} {answered} same fetches cause is 
       later = cause.later;
     }))
 
--- ---- what a command does by the file that it fetches
+-- ---- what a command does by what it fetches
+
+-- an effect that stores nothing and depends on the folder
+module _ {s : Session} (whole : Calls → Effect) (none : (calls : Calls) → (whole calls).stored ≡ None) (depends : ((a b : Calls) → whole a ≡ whole b) → ⊥) where
+  pub decides_seen : {IsGiven : Calls → Type 0} {before after : ShelfState} {new : Session} {r : Result Response AllocError} (seen : Fetching IsGiven before after) → Makes (whole seen.calls) s new r → Decides whole s new before after r
+  decides_seen {IsGiven} {before} {after} {new} {r} seen h = record {
+    calls = seen.calls;
+    sees = seen.sees;
+    response = h.response;
+    decided = on_ok_weaker r (λ at. record {
+      session = at;
+      files = λ m told. rw (none seen.calls) (files_stay before.files after.files seen.kept m told);
+    }) h.session;
+    undone = on_err_weaker r (λ at. (at, seen.kept)) h.undone;
+    alone = λ one. absurd (depends one);
+    later = seen.later;
+  }
+
+  -- memory ran out
+  pub decides_unseen : {IsGiven : Calls → Type 0} {before after : ShelfState} (seen : Fetching IsGiven before after) (P : AllocError → Type 0) (r : Result Response AllocError) → IsErrAnd r P → Decides whole s s before after r
+  decides_unseen seen P (Ok x) e = absurd e
+  decides_unseen seen P (Err x) e = decides_seen seen makes_nothing
+
+-- the folder gives no file, or none that can be fetched
+abbrev pub calls_missing : Calls
+calls_missing = record { file = λ _. Missing; failed = false }
+
+abbrev pub calls_failed : Calls
+calls_failed = record { file = λ _. Failed; failed = true }
+
+pub refused_apart : (s : Session) → answers s (Refused NoFile) ≡ answers s (Refused FileFailed) → ⊥
+refused_apart s e =
+    let told : Refused NoFile ≡ Refused FileFailed = ap (λ (e : Effect). e.response) e in
+    cc told
 
 -- A refusal of the file is all that is told of it; one that is missing and one that could not be fetched are refused by different ones.
 module _ {s : Session} (whole : Fetched → Effect) (effect : List Refusal → List ℕ → Effect) (same : (given : Fetched) → whole given ≡ effect (file_refusals given) (bytes_fetched given))
     (refuses : (refusal : Refusal) (bytes : List ℕ) → effect (refusal ∷ []) bytes ≡ answers s (Refused refusal)) (stores_none : (refusals : List Refusal) (bytes : List ℕ) → (effect refusals bytes).stored ≡ None) where
   depends : (name : Text) → ((a b : Calls) → whole (a.file name) ≡ whole (b.file name)) → ⊥
-  depends name one =
-      let missing : Calls = record { file = λ _. Missing; failed = false } in
-      let failed : Calls = record { file = λ _. Failed; failed = true } in
-      let both : answers s (Refused NoFile) ≡ answers s (Refused FileFailed) = sym (same Missing ∙ refuses NoFile []) ∙ one missing failed ∙ same Failed ∙ refuses FileFailed [] in
-      let told : Refused NoFile ≡ Refused FileFailed = ap (λ (e : Effect). e.response) both in
-      cc told
+  depends name one = refused_apart s (sym (same Missing ∙ refuses NoFile []) ∙ one calls_missing calls_failed ∙ same Failed ∙ refuses FileFailed [])
 
-  decides_by : {name : Text} {before after : ShelfState} {fetched : Result (Result (Vec ℕ Global) Refusal) AllocError} {new : Session} {r : Result Response AllocError} (seen : SeesFile name before after fetched)
-      → Makes (whole (seen.calls.file name)) s new r → Decides (λ calls. whole (calls.file name)) s new before after r
-  decides_by {name} {before} {after} {fetched} {new} {r} seen h =
-      let given = seen.calls.file name in
-      let none : (whole given).stored ≡ None = ap (λ (e : Effect). e.stored) (same given) ∙ stores_none (file_refusals given) (bytes_fetched given) in
-      record {
-        calls = seen.calls;
-        sees = seen.sees;
-        response = h.response;
-        decided = on_ok_weaker r (λ at. record {
-          session = at;
-          files = λ m told. rw none (files_stay before.files after.files seen.kept m told);
-        }) h.session;
-        undone = on_err_weaker r (λ at. (at, seen.kept)) h.undone;
-        alone = λ one. absurd (depends name one);
-        later = seen.later;
-      }
+  none : (name : Text) (calls : Calls) → (whole (calls.file name)).stored ≡ None
+  none name calls = let given = calls.file name in ap (λ (e : Effect). e.stored) (same given) ∙ stores_none (file_refusals given) (bytes_fetched given)
+
+  -- memory ran out
+  pub decides_unfetched : (name : Text) {IsGiven : Calls → Type 0} {before after : ShelfState} (seen : Fetching IsGiven before after) (P : AllocError → Type 0) (r : Result Response AllocError) → IsErrAnd r P → Decides (λ calls. whole (calls.file name)) s s before after r
+  decides_unfetched name seen P r e = decides_unseen (λ calls. whole (calls.file name)) (none name) (depends name) seen P r e
 
   module _ {name : Text} {before after : ShelfState} {fetched : Result (Result (Vec ℕ Global) Refusal) AllocError} (seen : SeesFile name before after fetched) where
     -- the bytes were fetched
     pub decides_read : {bytes : Vec ℕ Global} {new : Session} {r : Result Response AllocError} → fetched ≡ Ok (Ok bytes) → Makes (effect [] bytes.items) s new r → Decides (λ calls. whole (calls.file name)) s new before after r
     decides_read {bytes} {new} {r} is h =
         let given : seen.calls.file name ≡ Bytes bytes.items = subst (IsFetched (seen.calls.file name)) is seen.given in
-        decides_by seen (makes_as (ap whole given ∙ same (Bytes bytes.items)) h)
+        decides_seen (λ calls. whole (calls.file name)) (none name) (depends name) seen (makes_as (ap whole given ∙ same (Bytes bytes.items)) h)
 
     -- or refused
     pub decides_unread : {refusal : Refusal} → fetched ≡ Ok (Err refusal) → Decides (λ calls. whole (calls.file name)) s s before after (Ok (Refused refusal))
     decides_unread {refusal} is =
         let given = seen.calls.file name in
         let refused : file_refusals given ≡ refusal ∷ [] = subst (IsFetched given) is seen.given in
-        decides_by seen
+        decides_seen (λ calls. whole (calls.file name)) (none name) (depends name) seen
         (makes_as (same given ∙ ap (λ (rs : List Refusal). effect rs (bytes_fetched given)) refused ∙ refuses refusal (bytes_fetched given))
         (record { response = refl; session = refl; undone = tt }))
-
-    -- or memory ran out
-    pub decides_unfetched : (P : AllocError → Type 0) (r : Result Response AllocError) → IsErrAnd r P → Decides (λ calls. whole (calls.file name)) s s before after r
-    decides_unfetched P (Ok x) e = absurd e
-    decides_unfetched P (Err x) e = decides_by seen makes_nothing
 
 -- ---- a start from a file
 

@@ -3,6 +3,15 @@ use Rattle.ls_session.proofs.Vocabulary.{[], ◌++◌, ◌+◌, ◌<◌, ◌∙�
 use Rattle.ls_lines.specs.declared.view.ViewCommand.TheVariants as views
 use Rattle.ls_set.proofs.Cursors.{only}
 
+-- the set of a cursor, if there is one, is one of n items
+pub after-on : (n : ℕ) (after : Option Text) → IsAfterOn n (after_of n after)
+after-on n None = λ k e. absurd (cc e)
+after-on n (Some w) = go (read_cursor n w) refl
+  where
+    go : (r : Result Items CursorFault) → read_cursor n w ≡ r → IsAfterOn n (some_read r)
+    go (Ok k) e = λ s is. let same : k ≡ s = cc is in subst (λ x. IsWithin x (full n)) same (only n w k e).0
+    go (Err fault) e = tt
+
 module _ (names : List Text) where
   item-below : (w : Text) → is_named names w ≡ true → item_of names w < length names
   item-below w named = go (number_of names w) refl
@@ -27,14 +36,6 @@ module _ (names : List Text) where
       let first = first_named (p, w) (placed (suc p) ws) none in
       with-within (items_of names ws) (item_of names w) (length names) (set-within ws (suc p) first.1) (item-below w first.0)
 
-  after-on : (n : ℕ) (after : Option Text) → IsAfterOn n (after_of n after)
-  after-on n None = λ k e. absurd (cc e)
-  after-on n (Some w) = go (read_cursor n w) refl
-    where
-      go : (r : Result Items CursorFault) → read_cursor n w ≡ r → IsAfterOn n (some_read r)
-      go (Ok k) e = λ s is. let same : k ≡ s = cc is in subst (λ x. IsWithin x (full n)) same (only n w k e).0
-      go (Err fault) e = tt
-
   pub view_of-on : (c : ViewCommand) → unnamed names (view_item_words c) ≡ [] → IsViewOn (length names) (view_of names c)
   view_of-on (views.Known ws w) none = tt
   view_of-on views.Ask none = tt
@@ -48,3 +49,5 @@ module _ (names : List Text) where
   view_of-on (views.StateOf inner outer) none =
       let both = both_named (placed 2 inner) (placed (length inner + 3) outer) none in (set-within inner 2 both.0, set-within outer (length inner + 3) both.1)
   view_of-on (views.Paths count after) none = tt
+  view_of-on views.SkillMap none = tt
+  view_of-on views.Relation none = tt

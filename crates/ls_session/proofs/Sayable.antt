@@ -1,11 +1,14 @@
 -- What a line is answered can be said of the session after it.
-use Rattle.ls_session.proofs.Vocabulary.{[], ◌==◌, ◌otherwise◌, ◌∙◌, ◌∷◌, ◌≡◌, Agreed, Bool, Calls, CanSay, Command, Done, Edit, Effect, FileCommand, Interview, IsAfterLine, IsSound, List, LongLine, None, OpeningCommand, Option, Pupil, PupilRequest, Refusal, Refused, Response, Session, Setting, Settings, Shown, Silence, Some, Text, Unnamed, ViewCommand, ℕ, answers, ap, can-view, changed, changes, changes_interview, changes_pupils, changes_settings, command_effect, command_of, cond, edit_item_words, edit_of, edit_row, false, file_effect, has_domain, in_domain, is_long, is_shown, length, line_effect, not, opening_row, pupil_item_words, pupil_name, pupil_of, pupil_row, pupil_with, question_shown, refl, reply_row, report_shown, setting_item_words, setting_of, setting_row, shown_of, started, stores, subst, sym, true, unless_unnamed, unnamed, view_item_words, view_of, view_row, words, words_effect}
+use Rattle.ls_session.proofs.Vocabulary.{[], ◌==◌, ◌∙◌, ◌∷◌, ◌≡◌, Agreed, Bool, Calls, CanSay, Command, Done, Edit, Effect, FileCommand, Interview, IsAfterLine, IsSound, List, LongLine, None, OpeningCommand, Option, Pupil, PupilRequest, Refusal, Refused, Response, Session, Setting, Settings, Shown, Silence, Some, Text, Unnamed, ViewCommand, ℕ, answers, ap, can-view, changed, changes, changes_interview, changes_pupils, changes_settings, command_effect, command_of, cond, edit_item_words, edit_of, edit_row, false, file_effect, has_domain, in_domain, is_long, is_shown, length, line_effect, not, opening_row, pupil_item_words, pupil_name, pupil_of, pupil_row, pupil_with, question_shown, refl, reply_row, report_shown, setting_item_words, setting_of, setting_row, shown_of, started, stores, subst, sym, true, unless_unnamed, unnamed, view_item_words, view_of, view_row, words, words_effect}
 use Rattle.ls_lines.specs.declared.command.Command.TheVariants as command
 use Rattle.ls_lines.specs.declared.opening.OpeningCommand.TheVariants as openings
 use Rattle.ls_lines.specs.declared.file.FileCommand.TheVariants as files
 use Rattle.ls_meaning.specs.declared.request.Edit.TheVariants as edit
 use Rattle.ls_meaning.specs.declared.request.Setting.TheVariants as setting
 use Rattle.ls_meaning.specs.declared.request.PupilRequest.TheVariants as pupil
+use Rattle.ls_meaning.specs.declared.request.SkillModel.TheVariants.{Disjunctive, Conjunctive}
+use Rattle.ls_meaning.specs.declared.response.Refusal.TheVariants.{NotBuilt}
+use Rattle.ls_session.proofs.FilesShown.{can-agree, can-mesh, can-otherwise, can-skills}
 use Rattle.ls_session.proofs.Meant.{view_of-on}
 
 -- of an effect: its response can be said of the interview after it, if that stands on its names; and where there are no names nothing is shown
@@ -22,10 +25,6 @@ module _ (n : ℕ) (i : Interview) where
   can-unshown (Done number) e = tt
   can-unshown Agreed e = tt
   can-unshown (Shown what) e = absurd (cc e)
-
-  can-otherwise : (refusals : List Refusal) (r : Response) → CanSay n i r → CanSay n i (refusals otherwise r)
-  can-otherwise [] r can = can
-  can-otherwise (refusal ∷ refusals) r can = tt
 
   can-changed : {A : Type 0} (old next : A) (refusals : List Refusal) (r : Response) → CanSay n i r → CanSay n i (changed old refusals r next).response
   can-changed old next [] r can = can
@@ -77,6 +76,10 @@ nameless s stands none = let none_stands : false ≡ true = ap (λ (names : List
 standing : (s : Session) (e : Effect) → has_domain s ≡ true → e.session.names ≡ s.names → ((n : ℕ) (i : Interview) → CanSay n i e.response) → IsSayable e
 standing s e stands kept can = record { can = λ items sound. can (length e.session.names) e.session.interview; bare = λ none. absurd (nameless s stands (sym kept ∙ none)) }
 
+-- where nothing changes
+shows : (s : Session) (r : Response) → has_domain s ≡ true → CanSay (length s.names) s.interview r → IsSayable (answers s r)
+shows s r stands can = record { can = λ items sound. can; bare = λ none. absurd (nameless s stands none) }
+
 unless : (s : Session) (e : Effect) (places : List ℕ) → (places ≡ [] → IsSayable e) → IsSayable (unless_unnamed s places e)
 unless s e [] h = h refl
 unless s e (place ∷ places) h = unshown (answers s (Refused (Unnamed place))) refl
@@ -101,6 +104,11 @@ module _ (s : Session) (calls : Calls) where
   file-sayable stands (files.Test file) = standing s _ stands refl (λ n i. search (can-otherwise))
   file-sayable stands (files.Class file) = standing s _ stands refl (λ n i. search (can-otherwise))
   file-sayable stands (files.Save file) = unshown _ (search (stores-unshown))
+  file-sayable stands (files.StartRelation file) = unshown _ (search (changed-unshown))
+  file-sayable stands (files.SkillsAny file count after) = shows s _ stands (can-skills s.names s.interview count after Disjunctive (calls.file file))
+  file-sayable stands (files.SkillsAll file count after) = shows s _ stands (can-skills s.names s.interview count after Conjunctive (calls.file file))
+  file-sayable stands (files.Mesh left right count after) = shows s _ stands (can-mesh s.names s.interview count after (calls.file left) (calls.file right))
+  file-sayable stands (files.MeshAgree left right) = shows s _ stands (can-agree s.names s.interview (calls.file left) (calls.file right))
 
   view-sayable : has_domain s ≡ true → (c : ViewCommand) → unnamed s.names (view_item_words c) ≡ [] → IsSayable (answers s (view_row s.interview (view_of s.names c)))
   view-sayable stands c none = record {
@@ -116,6 +124,7 @@ module _ (s : Session) (calls : Calls) where
   command-sayable (command.Edit c) = asked s (edit_item_words c) (changes_interview s (edit_row s.interview (edit_of s.names c))) (λ stands none. standing s _ stands refl (λ n i. can-edit n i s.interview (edit_of s.names c)))
   command-sayable (command.View c) = asked s (view_item_words c) (answers s (view_row s.interview (view_of s.names c))) (λ stands none. view-sayable stands c none)
   command-sayable (command.Setting c) = asked s (setting_item_words c) (changes_settings s (setting_row s.settings (setting_of s.names c))) (λ stands none. standing s _ stands refl (λ n i. can-set n i s.settings (setting_of s.names c)))
+  command-sayable (command.Safe c) = unshown (answers s (Refused NotBuilt)) refl
   command-sayable (command.Pupil c) = asked s (pupil_item_words c) (changes_pupils s (pupil_row s.interview s.settings s.pupils (pupil_name c) (pupil_of s.names c))) (λ stands none. standing s _ stands refl (λ n i. can-pupil n i s.interview s.settings s.pupils (pupil_name c) (pupil_of s.names c)))
 
   line-sayable : (line : List ℕ) → IsSayable (line_effect s calls line)

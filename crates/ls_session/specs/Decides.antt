@@ -12,6 +12,9 @@ use Rattle.ls_meaning.specs.{Bytes, Calls, Change, Effect, Failed, Fetched, Sess
 use Rattle.ls_meaning.specs.{calls_of, file_refusals, folder_with}
 use Rattle.ls_meaning.specs.declared.response.Refusal.{Refusal}
 use Rattle.ls_meaning.specs.declared.response.Response.{Response}
+use Rattle.ls_meaning.specs.MeshRows.{two_files}
+use Rattle.ls_session.specs.TwoFiles.{right_bytes}
+use Rattle.ls_session.specs.declared.fetching.TwoFiles.{TwoFiles}
 
 -- ---- without the folder
 
@@ -74,11 +77,32 @@ IsFetched given (Ok (Ok bytes)) = given ≡ Bytes bytes.items
 IsFetched given (Ok (Err refusal)) = file_refusals given ≡ refusal ∷ []
 IsFetched given (Err e) = ⊤
 
--- a file was fetched: what a line saw of the folder by that
-pub record SeesFile (name : Text) (before after : ShelfState)
-    (result : Result (Result (Vec ℕ Global) Refusal) AllocError) : Type 0 where
+-- what a line saw of the folder by some fetches, which gave this
+pub record Fetching (IsGiven : Calls → Type 0) (before after : ShelfState) : Type 0 where
   pub calls : Calls
   pub sees : Sees calls before.files before.faults after.faults
-  pub given : IsFetched (calls.file name) result
+  pub given : IsGiven calls
   pub kept : FolderStays before.files after.files
   pub later : before.faults ≤ after.faults
+
+-- a file was fetched
+abbrev pub SeesFile : Text → ShelfState → ShelfState
+    → Result (Result (Vec ℕ Global) Refusal) AllocError → Type 0
+SeesFile name before after result =
+    Fetching (λ calls. IsFetched (calls.file name) result) before after
+
+-- ---- two files
+
+-- the bytes of two files, or the first refusal of a file that gives none, unless memory ran out
+abbrev pub AreFetched : Fetched → Fetched → Result (Result TwoFiles Refusal) AllocError → Type 0
+AreFetched left right (Ok (Ok files)) =
+    (left ≡ Bytes files.left.items) × (right ≡ Bytes (right_bytes files))
+AreFetched left right (Ok (Err refusal)) =
+    (rest : List Refusal) × (two_files left right ≡ refusal ∷ rest)
+AreFetched left right (Err e) = ⊤
+
+-- two files were fetched
+abbrev pub SeesFiles : Text → Text → ShelfState → ShelfState
+    → Result (Result TwoFiles Refusal) AllocError → Type 0
+SeesFiles left right before after result =
+    Fetching (λ calls. AreFetched (calls.file left) (calls.file right) result) before after

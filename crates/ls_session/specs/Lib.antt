@@ -1,6 +1,8 @@
 pub mod States
 pub mod Readings
+pub mod TwoFiles
 pub mod Decides
+pub mod Parts
 pub mod Standing
 pub mod Follows
 pub mod Faults

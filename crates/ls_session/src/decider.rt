@@ -92,6 +92,7 @@ impl Decider {
                 Some(state) => state.attend(command, steps),
                 None => Ok(without_domain()),
             },
+            Command::Safe(_) => Ok(Response::Refused(Refusal::NotBuilt)),
         }
     }
 

@@ -3,9 +3,11 @@ ghost use Rattle.std.specs.Prelude.{◌≡◌, [], Ok, length, IfOk};
 ghost use Rattle.ls_theory.specs.{based};
 ghost use Rattle.ls_laws.specs.Spans.{AreOn};
 ghost use Rattle.ls_files.specs.SetFiles.{sets_of};
+ghost use Rattle.ls_files.specs.PairFiles.{relation_of};
 ghost use Rattle.ls_files.specs.SurmiseFiles.{surmise_of};
 ghost use Rattle.ls_expert.specs.Starts.{start_of, IsStartOn};
 ghost use Rattle.ls_meaning.specs.{start_of_base, start_of_clauses, start_of_sets, start_read};
+ghost use Rattle.ls_meaning.specs.Rows.{start_of_relation};
 ghost use Rattle.ls_meaning.specs.{starts_by};
 ghost use Rattle.ls_session.specs.Decides.{MakesChange};
 ghost use Rattle.ls_session.specs.Readings.{IsStartRead};
@@ -17,6 +19,8 @@ use ls_expert::{Inquiry, Start, StartFault};
 use ls_family::{Family, FamilyFault, files_have_sets_of_items};
 use ls_interior::Steps;
 use ls_meaning::{Refusal, Response, StartFile};
+use ls_order::Relation;
+use ls_origins::PairFault;
 use ls_set::ItemSet;
 use ls_surmise::Surmise;
 use ls_theory::{BaseFault, SurmiseFault};
@@ -60,6 +64,7 @@ fn read_start(
     match file {
         StartFile::Surmise => read_clauses(alloc, domain, bytes),
         StartFile::Base => read_sets(alloc, domain, bytes),
+        StartFile::Relation => read_pairs(alloc, domain, bytes),
     }
 }
 
@@ -76,6 +81,22 @@ fn read_clauses(
         Ok(surmise) => Ok(Ok(Start::Clauses(surmise))),
         Err(SurmiseFault::Memory(e)) => Err(e),
         Err(fault) => Ok(Err(Refusal::StartSurmise(fault))),
+    }
+}
+
+// The start of a file of pairs.
+fn read_pairs(
+    alloc: Global,
+    domain: &Domain,
+    bytes: &[u8],
+) -> Result<Result<Start, Refusal>, AllocError>
+    ensures { IfOk result (IsStartRead domain.now
+        (start_of_relation (relation_of domain.now bytes.now))) }
+{
+    match Relation::from_text(alloc, domain, bytes) {
+        Ok(relation) => Ok(Ok(Start::Clauses(relation.to_surmise(alloc)?))),
+        Err(PairFault::Memory(e)) => Err(e),
+        Err(fault) => Ok(Err(Refusal::StartRelation(fault))),
     }
 }
 

@@ -1,7 +1,7 @@
 // What stands where a domain does.
 ghost use Rattle.std.specs.Prelude.{◌≡◌, Ok, IfOk, IfErr, length};
 ghost use Rattle.ls_files.specs.{session_of};
-ghost use Rattle.ls_store.specs.Chains.{IsSessionFault};
+ghost use Rattle.ls_store.specs.Faults.{IsSessionFault};
 ghost use Rattle.ls_meaning.specs.{bytes_of, edit_effect, in_domain, lines_of, pupil_effect};
 ghost use Rattle.ls_meaning.specs.{setting_effect, started, view_effect};
 ghost use Rattle.ls_write.specs.Rooms.{Says};
@@ -11,6 +11,8 @@ ghost use Rattle.ls_session.specs.Standing.{IsAfterLine};
 ghost use Rattle.ls_session.specs.States.{state_session};
 
 mod files;
+mod parts;
+mod skills;
 
 use crate::changing::change;
 use crate::viewing::show;

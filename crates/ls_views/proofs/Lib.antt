@@ -1,3 +1,5 @@
 mod Vocabulary
 mod OnBases
+mod Spanning
 mod Viewing
+mod Costs

@@ -25,6 +25,8 @@ module _ (i : Interview) (b : BaseState) (h : IsFollowedBase i.count i.start (ye
   row (view.ProjectBase part) e = unrefused _
   row (view.StateOf inner outer) e = unrefused _
   row (view.Paths count after) e = unrefused _
+  row view.SkillMap e = unrefused _
+  row view.Relation e = unrefused _
   row (view.Known q) e = absurd (cc e)
   row view.Ask e = absurd (cc e)
   row (view.States count after) e = absurd (cc e)

@@ -1,10 +1,11 @@
 -- The commands that look at an interview, and how many interiors their replies take.
 use Rattle.std.specs.Prelude.{ℕ, ◌+◌, ◌*◌, Bool, true, false, List}
 use Rattle.ls_set.specs.{Items}
-use Rattle.ls_theory.specs.{atom_sets, base, base_verdict, projection, state_of}
+use Rattle.ls_theory.specs.{atom_sets, base, base_verdict, clauses_at, projection, state_of}
 use Rattle.ls_lines.specs.declared.view.ViewCommand.{ViewCommand}
 use Rattle.ls_lines.specs.declared.view.ViewCommand.TheVariants as command
 use Rattle.ls_meaning.specs.{learned, paths_shown, state_shown}
+use Rattle.ls_meaning.specs.RelationRows.{relation_shown}
 use Rattle.ls_meaning.specs.declared.request.View.{View}
 use Rattle.ls_meaning.specs.declared.request.View.TheVariants as view
 use Rattle.ls_meaning.specs.declared.response.Response.{Response}
@@ -19,6 +20,8 @@ is_based view.Learning = true
 is_based (view.ProjectBase part) = true
 is_based (view.StateOf inner outer) = true
 is_based (view.Paths count after) = true
+is_based view.SkillMap = true
+is_based view.Relation = true
 is_based v = false
 
 -- what is shown then of states f of n items, where the base did not have too many sets
@@ -30,6 +33,8 @@ based_on n f (view.ProjectBase part) =
     let g = projection n part f in response.Shown (shown.ProjectedBase (base g) (base_verdict g))
 based_on n f (view.StateOf inner outer) = learned f (state_shown (state_of n f inner outer))
 based_on n f (view.Paths count after) = learned f (paths_shown n count after)
+based_on n f view.SkillMap = response.Shown (shown.SkillMap (base f))
+based_on n f view.Relation = relation_shown n (clauses_at n f)
 based_on n f v = response.Silence
 
 -- how many interiors it takes at most to decide what is shown

@@ -2,7 +2,8 @@
 ghost use Rattle.std.specs.Prelude.{◌≡◌, true, IfOk};
 ghost use Rattle.std.specs.Option.{option_map_or};
 ghost use Rattle.ls_set.specs.{IsWithin, full};
-ghost use Rattle.ls_theory.specs.{base_verdict, is_order, is_space, projection, state_of};
+ghost use Rattle.ls_theory.specs.{base_verdict, clauses_at, is_order, is_space, projection};
+ghost use Rattle.ls_theory.specs.{state_of};
 ghost use Rattle.ls_theory.specs.{yes_queries};
 ghost use Rattle.ls_theory.specs.Bases as bases;
 ghost use Rattle.ls_base.specs.Bases.{family};
@@ -10,6 +11,7 @@ ghost use Rattle.ls_base.specs.Followed.{IsFollowed};
 ghost use Rattle.ls_meaning.specs.declared.response.Response.TheVariants as response;
 ghost use Rattle.ls_meaning.specs.declared.response.Shown.TheVariants as shown;
 ghost use Rattle.ls_meaning.specs.{IsViewOn, learned, paths_shown, state_shown, view_row};
+ghost use Rattle.ls_meaning.specs.RelationRows.{relation_shown};
 ghost use Rattle.ls_views.specs.Views.{is_based, based_on};
 
 use ls_base::{Base, Followed};
@@ -17,10 +19,13 @@ use ls_expert::Inquiry;
 use ls_fringe::state_of;
 use ls_interior::Inside;
 use ls_meaning::{Refusal, Response, Shown, View};
+use ls_order::Relation;
+use ls_origins::RelationFault;
 use ls_paths::Order;
 use ls_project::project_base;
 use ls_set::{ItemList, ItemSet, SetList};
 use ls_space::test_base;
+use ls_surmise::{FromFault, Surmise};
 use ls_theory::BaseVerdict;
 use std::alloc::{AllocError, Global};
 
@@ -67,7 +72,30 @@ fn show(alloc: Global, base: &Base, asked: View) -> Result<Response, AllocError>
         View::ProjectBase { part } => projected_base(alloc, base, part),
         View::StateOf { inner, outer } => Ok(state_with(base, inner, outer)),
         View::Paths { count, after } => Ok(paths(base, count, after)),
+        View::SkillMap => Ok(Response::Shown(Shown::SkillMap {
+            base: SetList::from_slice(alloc, base.sets())?,
+        })),
+        View::Relation => relation(alloc, base),
         _ => unreachable!(),
+    }
+}
+
+// The covers of the surmise relation, or what keeps the surmise function from being one.
+fn relation(alloc: Global, base: &Base) -> Result<Response, AllocError>
+    requires { is_space (full base.now.item_count) (family base.now) ≡ true }
+    ensures { let n = base.now.item_count in
+        IfOk result (λ r. r ≡ relation_shown n (clauses_at n (family base.now))) }
+{
+    let _ = base.sets(); // for the proof
+    let surmise = match Surmise::from_base(alloc, base) {
+        Ok(surmise) => surmise,
+        Err(FromFault::Memory(e)) => return Err(e),
+        Err(FromFault::NotSpanning { .. }) => unreachable!(),
+    };
+    match Relation::from_surmise(alloc, &surmise) {
+        Ok(relation) => Ok(Response::Shown(Shown::Covers(relation.covers(alloc)?))),
+        Err(RelationFault::Memory(e)) => Err(e),
+        Err(fault) => Ok(Response::Shown(Shown::NoRelation(fault))),
     }
 }
 

@@ -24,6 +24,8 @@ pub fn is_based(view: &View) -> bool
             | View::ProjectBase { .. }
             | View::StateOf { .. }
             | View::Paths { .. }
+            | View::SkillMap
+            | View::Relation
     )
 }
 

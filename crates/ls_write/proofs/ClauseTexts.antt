@@ -1,116 +1,38 @@
 -- The text of a surmise function is that of its pieces.
-use Rattle.ls_write.proofs.Vocabulary.{◌++◌, ◌+◌, ◌<◌, ◌∙◌, ◌∷◌, ◌≡◌, ◌≢◌, All, All-head, All-tail, Bool, Equal, Greater, IsDistinct, IsDomain, Items, Less, List, Text, ℕ, [], ap, append_assoc, ap₂, arith, atoms_at, by_name, bytes_eq-Decides, clause_text, clauses_at, clauses_text, codes, comma_if, compact_text, cond, false, get_or, insert_by_name, items_by_name, items_text, join_with_byte, length, line_bytes, line_of, listed, map, members_text, name_of, names_of_set, numbers_from, quoted_name, refl, row_text, rows_text, slice_cmp, suc, surmise_line, sym, true, zero}
-use Rattle.std.specs.Ordering.{nat_cmp, is_lt, is_eq, match_ordering}
-use Rattle.std.specs.Str.{bytes_eq}
-use Rattle.std.proofs.lemmas.Map.Made.{AllPairs-from_IsDistinct}
-use Rattle.std.proofs.lemmas.Map.Text.{is_eq-slice_cmp}
-use Rattle.serde_json.specs.Data.{Data, string, Members, no_members, member, put}
-use Rattle.serde_json.specs.View.{items_of as values_of}
+use Rattle.ls_write.proofs.Vocabulary.{◌++◌, ◌∙◌, ◌∷◌, ◌≡◌, IsDomain, Items, List, Text, [], ap}
+use Rattle.ls_write.proofs.Vocabulary.{atoms_at, clause_text, clauses_at, clauses_text, codes}
+use Rattle.ls_write.proofs.Vocabulary.{compact_text, false, items_by_name, length, line_bytes}
+use Rattle.ls_write.proofs.Vocabulary.{line_of, listed, names_of_set, refl, row_text, rows_text}
+use Rattle.ls_write.proofs.Vocabulary.{surmise_line, quoted_name, sym}
+use Rattle.serde_json.specs.Data.{string}
 use Rattle.ls_files.specs.SurmiseFiles.{list_value, clause_value, members_from, surmise_text}
-use Rattle.ls_write.proofs.NameOrder.{numbers-All, by_name-All}
+use Rattle.ls_write.proofs.Rows.{array-listed, line-braced, listed-same, rows-listed}
 
--- ---- arrays
-
-listed-same : {X : Type 0} (text other : X → Text) (later : Bool) (xs : List X) → ((x : X) → text x ≡ other x) → listed text later xs ≡ listed other later xs
-listed-same text other later [] same = refl
-listed-same text other later (x ∷ xs) same = ap₂ (λ t l. comma_if later ++ (t ++ l)) (same x) (listed-same text other true xs same)
-
--- what ends a list may stand behind its last text
-behind : (comma text rest end : List ℕ) → comma ++ (text ++ (rest ++ end)) ≡ (comma ++ (text ++ rest)) ++ end
-behind comma text rest end = ap (λ l. comma ++ l) (sym (append_assoc text rest end)) ∙ sym (append_assoc comma (text ++ rest) end)
-
-array-listed : {X : Type 0} (value : X → Data) (later : Bool) (xs : List X) → items_text later (values_of (map value xs)) ≡ listed (λ x. compact_text (value x)) later xs ++ 93 ∷ []
-array-listed value later [] = refl
-array-listed value later (x ∷ xs) =
-    ap (λ l. comma_if later ++ (compact_text (value x) ++ l)) (array-listed value true xs)
-    ∙ behind (comma_if later) (compact_text (value x)) (listed (λ y. compact_text (value y)) true xs) (93 ∷ [])
-
-clause-is : (names : List Text) (c : Items) → compact_text (clause_value names c) ≡ clause_text names c
+clause-is : (names : List Text) (c : Items) → compact_text (clause_value names c)
+    ≡ clause_text names c
 clause-is names c = ap (λ l. 91 ∷ l) (array-listed string false (names_of_set names c))
 
-clauses-are : (names : List Text) (own : List Items) → compact_text (list_value (clause_value names) own) ≡ clauses_text names own
+clauses-are : (names : List Text) (own : List Items)
+    → compact_text (list_value (clause_value names) own) ≡ clauses_text names own
 clauses-are names own =
     ap (λ l. 91 ∷ l) (array-listed (clause_value names) false own
-    ∙ ap (λ l. l ++ 93 ∷ []) (listed-same (λ c. compact_text (clause_value names c)) (clause_text names) false own (clause-is names)))
+    ∙ ap
+    (λ l. l ++ 93 ∷ [])
+    (listed-same (λ c. compact_text (clause_value names c)) (clause_text names) false own
+    (clause-is names)))
 
--- ---- objects
-
-module _ (names : List Text) where
-  module _ (value : ℕ → Data) where
-    -- members in the order of a list of items
-    abbrev members : List ℕ → Members
-    members [] = no_members
-    members (i ∷ is) = member (name_of names i) (value i) (members is)
-
-    abbrev Apart : ℕ → ℕ → Type 0
-    Apart i j = slice_cmp nat_cmp (name_of names i) (name_of names j) ≢ Equal
-
-    put-insert : (i : ℕ) (js : List ℕ) → All (Apart i) js → put (name_of names i) (value i) (members js) ≡ members (insert_by_name names i js)
-    put-insert i [] apart = refl
-    put-insert i (j ∷ js) apart =
-        let compared = slice_cmp nat_cmp (name_of names i) (name_of names j) in
-        elim compared as (λ o. compared ≡ o → match_ordering o (members (i ∷ j ∷ js)) (member (name_of names j) (value i) (members js)) (member (name_of names j) (value j) (put (name_of names i) (value i) (members js)))
-        ≡ members (cond (is_lt o) (i ∷ j ∷ js) (j ∷ insert_by_name names i js))) [
-          | Less ↦ λ _. refl
-          | Equal ↦ λ e. absurd (All-head (Apart i) j js apart e)
-          | Greater ↦ λ _. ap (member (name_of names j) (value j)) (put-insert i js (All-tail (Apart i) j js apart))
-        ] refl
-
-    members-listed : (later : Bool) (is : List ℕ) → members_text later (members is) ≡ listed (λ i. quoted_name names i ++ 58 ∷ compact_text (value i)) later is ++ 125 ∷ []
-    members-listed later [] = refl
-    members-listed later (i ∷ is) =
-        let rest = listed (λ j. quoted_name names j ++ 58 ∷ compact_text (value j)) true is in
-        ap (λ l. comma_if later ++ (quoted_name names i ++ 58 ∷ (compact_text (value i) ++ l))) (members-listed true is)
-        ∙ ap (λ l. comma_if later ++ l) (sym (append_assoc (quoted_name names i) (58 ∷ compact_text (value i)) (rest ++ 125 ∷ [])))
-        ∙ behind (comma_if later) (quoted_name names i ++ 58 ∷ compact_text (value i)) rest (125 ∷ [])
-
--- ---- the whole text
-
--- a list, by its places
-by_place : {X : Type 0} (f : ℕ → X) (d : X) (i : ℕ) (xs : List X) → ((k : ℕ) → k < length xs → f (i + k) ≡ get_or xs k d) → map f (numbers_from i (length xs)) ≡ xs
-by_place f d i [] same = refl
-by_place f d i (x ∷ xs) same =
-    ap₂ (λ y ys. y ∷ ys) (ap f (let e : i ≡ i + 0 = omega arith in e) ∙ same 0 (omega arith))
-    (by_place f d (suc i) xs (λ k h. ap f (let e : suc i + k ≡ i + suc k = omega arith in e) ∙ same (suc k) (omega arith)))
-
-module _ (names : List Text) (distinct : IsDistinct bytes_eq names) where
-  apart : (i j : ℕ) → i < j → j < length names → slice_cmp nat_cmp (name_of names i) (name_of names j) ≢ Equal
-  apart i j less within e =
-      let same : bytes_eq (name_of names i) (name_of names j) ≡ true = sym (is_eq-slice_cmp (name_of names i) (name_of names j)) ∙ ap is_eq e in
-      AllPairs-from_IsDistinct bytes_eq-Decides names distinct i j [] less within ((bytes_eq-Decides (name_of names i) (name_of names j)).0 same)
-
-  module _ (clauses : ℕ → List Items) where
-    abbrev value : ℕ → Data
-    value i = list_value (clause_value names) (clauses i)
-
-    rows-by_name : (i m : ℕ) → i + m ≡ length names → members_from names (map (name_of names) (numbers_from i m)) (map clauses (numbers_from i m)) ≡ members names value (by_name names (numbers_from i m))
-    unfolding members_from by_name
-    rows-by_name i zero e = refl
-    rows-by_name i (suc m) e =
-        let later = numbers_from (suc i) m in
-        ap (put (name_of names i) (value i)) (rows-by_name (suc i) m (omega arith))
-        ∙ put-insert names value i (by_name names later) (by_name-All names (Apart names value i) later (numbers-All (Apart names value i) (suc i) m (λ j l h. apart i j (omega arith) (omega arith))))
-
-  surmise-rows : (sets : List Items) → surmise_text names (clauses_at (length names) sets) ≡ rows_text names sets
-  unfolding surmise_text rows_text
-  surmise-rows sets =
-      let n = length names in
-      let is = items_by_name names in
-      let own = atoms_at sets in
-      let all : map (name_of names) (numbers_from 0 n) ≡ names = by_place (name_of names) [] 0 names (λ k h. ap (name_of names) (let e : 0 + k ≡ k = omega arith in e)) in
-      let rows : members_from names names (clauses_at n sets) ≡ members names (value own) is =
-      ap (λ ws. members_from names ws (clauses_at n sets)) (sym all) ∙ rows-by_name own 0 n (omega arith) in
-      ap (λ ms. 123 ∷ members_text false ms) rows
-      ∙ ap (λ l. 123 ∷ l) (members-listed names (value own) false is ∙ ap (λ l. l ++ 125 ∷ []) (listed-same (λ i. quoted_name names i ++ 58 ∷ compact_text (value own i)) (row_text names sets) false is (λ i. ap (λ l. quoted_name names i ++ 58 ∷ l) (clauses-are names (own i)))))
-
--- ---- the line
-
-pieces : (rows : Text) → (codes "surmise {" ++ rows) ++ codes "}\n" ≡ join_with_byte 32 (codes "surmise" ∷ (123 ∷ rows ++ 125 ∷ []) ∷ []) ++ 10 ∷ []
-pieces rows = simp append_assoc
+surmise-rows : (names : List Text) (sets : List Items) → IsDomain names
+    → surmise_text names (clauses_at (length names) sets) ≡ rows_text names sets
+unfolding surmise_text rows_text members_from
+surmise-rows names sets is =
+    rows-listed names is.are_names.distinct (list_value (clause_value names)) (members_from names)
+    refl (λ w ws r rs. refl) (atoms_at sets) (row_text names sets)
+    (λ i. ap (λ l. quoted_name names i ++ 58 ∷ l) (clauses-are names (atoms_at sets i)))
 
 pub line-surmise : (names : List Text) (sets : List Items) → IsDomain names
-    → (codes "surmise {" ++ listed (row_text names sets) false (items_by_name names)) ++ codes "}\n" ≡ line_bytes (surmise_line names (clauses_at (length names) sets))
+    → (codes "surmise {" ++ listed (row_text names sets) false (items_by_name names)) ++ codes "}\n"
+    ≡ line_bytes (surmise_line names (clauses_at (length names) sets))
 unfolding line_of rows_text
 line-surmise names sets is =
-    pieces (listed (row_text names sets) false (items_by_name names))
-    ∙ ap (λ t. join_with_byte 32 (codes "surmise" ∷ t ∷ []) ++ 10 ∷ []) (sym (surmise-rows names is.are_names.distinct sets))
+    line-braced (codes "surmise") (listed (row_text names sets) false (items_by_name names))
+    ∙ ap (λ t. line_of (codes "surmise" ∷ t ∷ [])) (sym (surmise-rows names sets is))

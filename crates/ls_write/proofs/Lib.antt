@@ -7,7 +7,9 @@ mod Groups
 mod Quotes
 mod NameOrder
 mod Listed
+mod Rows
 mod ClauseTexts
+mod SkillTexts
 mod Atoms
 mod Fronts
 pub mod Showing

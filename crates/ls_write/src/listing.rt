@@ -10,7 +10,7 @@ use crate::lines::{put_more, put_numbered};
 use crate::{Room, SetTexts};
 use ls_edge::Sink;
 use ls_enum::States;
-use ls_interior::{Interior, Steps};
+use ls_interior::{Counted, Inside, Interior, Steps};
 use ls_set::ItemSet;
 use std::sync::ledger::Ledger;
 
@@ -45,6 +45,26 @@ pub fn put_listing<I: Interior, K: Sink, L: Ledger>(
     }
     let is_more = states.next().is_some();
     put_more(is_more, room, out);
+}
+
+/// Says a page of the states of a family, each of whose interiors is counted.
+pub fn put_page<F: Inside, K: Sink, L: Ledger>(
+    family: &F,
+    texts: &SetTexts,
+    after: Option<ItemSet>,
+    count: u32,
+    room: &mut Room,
+    out: &mut K,
+    steps: &mut Steps<L>,
+)
+    requires items { F.item_count family.now ≡ length texts.now }
+    requires after { ForSome after (λ w. IsWithin w (full (length texts.now))) }
+    ensures says { Says (K.written out.old) (K.faults out.old) room.old
+        (K.written out.new) (K.faults out.new) room.new (lines_bytes (page_lines texts.now
+        (page comes_before (F.members family.now) after count))) }
+    ensures cost { steps.new ≤ steps.old + (count + 1) * (F.item_count family.now + 1) }
+{
+    put_listing(&Counted::new(family), texts, after, count, room, out, steps);
 }
 
 /// Says the lines of a base, and how many sets it has.

@@ -4,7 +4,8 @@ ghost use Rattle.std.specs.Option.{ForSome};
 ghost use Rattle.ls_set.specs.{IsWithin, comes_before, full};
 ghost use Rattle.ls_theory.specs.{Interview, page};
 ghost use Rattle.ls_meaning.specs.{Session, bytes_of, line_bytes, lines_bytes, lines_of, started};
-ghost use Rattle.ls_meaning.specs.{known_line, page_lines, question_line, shown_lines};
+ghost use Rattle.ls_meaning.specs.{known_line, question_line, shown_lines};
+ghost use Rattle.ls_meaning.specs.Lines.{agree_line};
 ghost use Rattle.ls_write.specs.Rooms.{Says};
 ghost use Rattle.ls_write.specs.SetTexts.{names_in};
 ghost use Rattle.ls_write.specs.Showing.{CanSay, CanShow, is_shown, session_with};
@@ -15,17 +16,20 @@ use crate::classes::put_class;
 use crate::done::{put_agreed, put_done};
 use crate::judging::{put_fringes, put_learning, put_state, put_verdict};
 use crate::lines::{put_line, put_numbered};
-use crate::listing::{put_base, put_listing};
+use crate::listing::{put_base, put_page};
 use crate::refusals::put_refusal;
+use crate::relations::{put_covers, put_no_relation};
+use crate::skills::put_skills;
+use crate::structures::{put_delineated, put_mesh};
 use crate::surmise::put_surmise;
 use crate::walking::put_paths;
 use crate::{Room, SetTexts};
 use ls_edge::Sink;
 use ls_expert::{Inquiry, Known};
-use ls_interior::{Counted, Inside, Steps};
+use ls_interior::Steps;
 use ls_meaning::{Response, Shown};
 use ls_project::Trace;
-use ls_set::{ItemSet, Query};
+use ls_set::Query;
 use std::sync::ledger::Ledger;
 
 /// Says a response.
@@ -119,27 +123,29 @@ pub fn put_shown<K: Sink, L: Ledger>(
         Shown::Asked(asked) => put_asked(texts, *asked, room, out),
         Shown::Report { outcome, fringes } => put_report(texts, *outcome, *fringes, room, out),
         Shown::Class(results) => put_class(texts, results, room, out),
+        Shown::SkillMap { base } => put_skills(texts, base.as_slice(), room, out),
+        Shown::NoRelation(fault) => put_no_relation(texts, *fault, room, out),
+        Shown::Covers(covers) => put_covers(texts, covers, room, out),
+        Shown::Delineated {
+            model,
+            sets,
+            count,
+            after,
+        } => {
+            let sets = sets.as_slice();
+            put_delineated(texts, *model, sets, *after, *count, room, out, steps);
+        }
+        Shown::Mesh {
+            left,
+            right,
+            count,
+            after,
+        } => {
+            let (left, right) = (left.as_slice(), right.as_slice());
+            put_mesh(texts, left, right, *after, *count, room, out, steps);
+        }
+        Shown::Agree(is_agreed) => put_agreement(*is_agreed, room, out),
     }
-}
-
-// Says a page of the states of a family, each of whose interiors is counted.
-fn put_page<F: Inside, K: Sink, L: Ledger>(
-    family: &F,
-    texts: &SetTexts,
-    after: Option<ItemSet>,
-    count: u32,
-    room: &mut Room,
-    out: &mut K,
-    steps: &mut Steps<L>,
-)
-    requires items { F.item_count family.now ≡ length texts.now }
-    requires after { ForSome after (λ w. IsWithin w (full (length texts.now))) }
-    ensures says { Says (K.written out.old) (K.faults out.old) room.old
-        (K.written out.new) (K.faults out.new) room.new (lines_bytes (page_lines texts.now
-        (page comes_before (F.members family.now) after count))) }
-    ensures cost { steps.new ≤ steps.old + (count + 1) * (F.item_count family.now + 1) }
-{
-    put_listing(&Counted::new(family), texts, after, count, room, out, steps);
 }
 
 // Says what is known of a query.
@@ -170,4 +176,13 @@ fn put_question<K: Sink>(texts: &SetTexts, next: &Option<Query>, room: &mut Room
         }
         None => put_line(&[b"settled"], room, out),
     }
+}
+
+// Says whether two parts agree.
+fn put_agreement<K: Sink>(is_agreed: bool, room: &mut Room, out: &mut K)
+    ensures { Says (K.written out.old) (K.faults out.old) room.old
+        (K.written out.new) (K.faults out.new) room.new (line_bytes (agree_line is_agreed)) }
+{
+    let answer: &[u8] = if is_agreed { b"yes" } else { b"no" };
+    put_line(&[b"agree", answer], room, out);
 }

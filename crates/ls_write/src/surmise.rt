@@ -132,8 +132,8 @@ fn put_quoted_names<K: Sink>(texts: &SetTexts, set: ItemSet, room: &mut Room, ou
     }
 }
 
-// Says a comma where something stands before.
-fn put_comma<K: Sink>(later: bool, room: &mut Room, out: &mut K)
+/// Says a comma where something stands before.
+pub fn put_comma<K: Sink>(later: bool, room: &mut Room, out: &mut K)
     ensures { Says (K.written out.old) (K.faults out.old) room.old (K.written out.new)
         (K.faults out.new) room.new (comma_if later) }
 {

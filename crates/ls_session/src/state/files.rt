@@ -14,7 +14,7 @@ use ls_edge::{LONGEST_FILE, Shelf, StoreFault};
 use ls_family::{Family, FamilyFault};
 use ls_interior::Steps;
 use ls_lines::{FileCommand, Word};
-use ls_meaning::{Refusal, Response, Shown, StartFile};
+use ls_meaning::{Refusal, Response, Shown, SkillModel, StartFile};
 use ls_pupils::assess_class;
 use ls_space::test;
 use ls_store::print_parts;
@@ -42,14 +42,30 @@ impl State {
             FileCommand::StartBase { file } => {
                 self.load_start(StartFile::Base, file, shelf, steps)
             }
+            FileCommand::StartRelation { file } => {
+                self.load_start(StartFile::Relation, file, shelf, steps)
+            }
             FileCommand::Test { file } => self.test(rt, file, shelf),
             FileCommand::Class { file } => self.class(rt, file, shelf, steps),
             FileCommand::Save { file } => self.save(file, shelf),
+            FileCommand::SkillsAny { file, count, after } => {
+                self.skills(SkillModel::Disjunctive, file, *count, after, shelf)
+            }
+            FileCommand::SkillsAll { file, count, after } => {
+                self.skills(SkillModel::Conjunctive, file, *count, after, shelf)
+            }
+            FileCommand::Mesh {
+                left,
+                right,
+                count,
+                after,
+            } => self.mesh(left, right, *count, after, shelf),
+            FileCommand::MeshAgree { left, right } => self.mesh_agree(left, right, shelf),
         }
     }
 
-    // `start surmise FILE` and `start base FILE`. It is not made part of its caller, since its
-    // frame is large.
+    // `start surmise FILE`, `start base FILE` and `start relation FILE`. It is not made part of its
+    // caller, since its frame is large.
     #[inline(never)]
     fn load_start<H: Shelf, L: Ledger>(
         &mut self,

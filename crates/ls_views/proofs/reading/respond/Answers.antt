@@ -1,8 +1,13 @@
-use Rattle.ls_views.proofs.Vocabulary.{◌<◌, ◌∙◌, CanSay, Err, IfOk-weaker, Refused, ResolvesInMemory, answers, ap, arith, length, session_with, subst, sym, unnamed, view_item_words, view_of, view_row}
+use Rattle.ls_views.proofs.Vocabulary.{◌<◌, ◌∙◌, CanSay, Err, IfOk-weaker, Refused, ResolvesInMemory, Response, answers, ap, arith, length, session_with, subst, sym, unnamed, view_item_words, view_of, view_row}
+use Rattle.std.proofs.Common.{◌+◌, ◌≤◌}
+use Rattle.ls_meaning.specs.declared.request.View.{View}
+use Rattle.ls_write.specs.Showing.{response_steps}
+use Rattle.ls_views.specs.Views.{command_steps, view_steps}
 use Rattle.ls_resolve.specs.declared.unnamed.ResolveFault.{ResolveFault}
 use Rattle.ls_meaning.specs.declared.response.Refusal.TheVariants.{Unnamed}
 use Rattle.ls_write.proofs.Showing.{can-view}
 use Rattle.ls_views.proofs.Viewing.{shows-row, tells-place}
+use Rattle.ls_views.proofs.Costs.{view-cost}
 use Rattle.ls_views.proofs.reading.respond.Goals as goal
 
 pub returns-in-Ok-clause-response : goal.returns-in-Ok-clause-response
@@ -33,3 +38,18 @@ returns-in-Err-Unnamed-clause-response g c = λ old calls.
     c.in-Err-Unnamed.field-0-is c.in-Err-Unnamed.ensures.resolves in
     tells-place s calls asked some c.in-Err-Unnamed.place first
     ∙ ap (λ n. answers s (Refused (Unnamed n))) (sym c.in-Err-Unnamed.place-is)
+
+pub returns-in-Ok-clause-cost : goal.returns-in-Ok-clause-cost
+returns-in-Ok-clause-cost g c =
+    let n = c.args.inquiry.now.count in
+    let i = c.args.inquiry.now in
+    let names = c.args.domain.now in
+    let asked = c.args.command.now in
+    let is = c.in-Ok.ensures.resolves.0 in
+    let cost = subst (λ (v : View). c.show.new.steps ≤ c.args.steps.now + view_steps v) is c.show.ensures.cost in
+    IfOk-weaker c.show.result _ _
+    (λ r e.
+    let same = e ∙ ap (view_row i) is in
+    let spent = subst (λ (x : Response). view_steps (view_of names asked) + response_steps x n ≤ command_steps asked n) (sym same) (view-cost n i names asked) in
+    omega (arith, cost, spent))
+    c.show.ensures.response

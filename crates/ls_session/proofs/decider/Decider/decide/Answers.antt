@@ -52,3 +52,9 @@ returns-in-Some-state-4 g c = decides_standing c.in-Pupil.is c.in-Some-state-4.i
 pub returns-in-None-state-4 : goal.returns-in-None-state-4
 unfolding command_effect
 returns-in-None-state-4 g c = decides_refused c.in-Pupil.is c.in-None-state-4.is (λ calls. refl) c.without_domain-in-None-state-4.ensures
+
+pub returns-in-Safe : goal.returns-in-Safe
+unfolding command_effect
+returns-in-Safe g c =
+    decides_made (λ calls. ap (command_effect (standing_session c.args.self.now.state) calls) c.in-Safe.is) refl
+    (record { response = refl; session = refl; undone = tt })

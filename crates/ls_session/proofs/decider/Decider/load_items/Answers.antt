@@ -20,7 +20,7 @@ returns-then-has_domain g c =
 pub returns-in_err-bytes : goal.returns-in_err-bytes
 returns-in_err-bytes g c =
     let s = standing_session c.args.self.now.state in
-    decides_unfetched (loads s) (begins s) (loads-begins s (sym c.has_domain.ensures ∙ c.if-has_domain.false)) (λ refusal bytes. refl) (λ refusals bytes. refl) c.fetch.ensures _ c.from_residual.result c.from_residual.ensures.1
+    decides_unfetched (loads s) (begins s) (loads-begins s (sym c.has_domain.ensures ∙ c.if-has_domain.false)) (λ refusal bytes. refl) (λ refusals bytes. refl) c.args.file.now c.fetch.ensures _ c.from_residual.result c.from_residual.ensures.1
 
 pub returns-in-Ok : goal.returns-in-Ok
 returns-in-Ok g c =

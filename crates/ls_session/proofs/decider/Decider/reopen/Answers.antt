@@ -12,7 +12,7 @@ takes_up s refusals bytes = changes (opened_by s refusals (session_of bytes))
 pub returns-in_err-bytes : goal.returns-in_err-bytes
 returns-in_err-bytes g c =
     let s = standing_session c.args.self.now.state in
-    decides_unfetched (opens s) (takes_up s) (λ given. refl) (λ refusal bytes. refl) (λ refusals bytes. refl) c.fetch.ensures _ c.from_residual.result c.from_residual.ensures.1
+    decides_unfetched (opens s) (takes_up s) (λ given. refl) (λ refusal bytes. refl) (λ refusals bytes. refl) c.args.file.now c.fetch.ensures _ c.from_residual.result c.from_residual.ensures.1
 
 pub returns-in-Ok : goal.returns-in-Ok
 returns-in-Ok g c =

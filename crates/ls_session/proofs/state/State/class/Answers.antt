@@ -18,7 +18,7 @@ whole-shows s some given = in_domain-some s _ some
 pub returns-in_err-bytes : goal.returns-in_err-bytes
 returns-in_err-bytes g c =
     let s = c.args.self.now in
-    decides_unfetched (whole s) (shows s) (whole-shows s (some_names c.self.view_is c.self.invariant.some)) (λ refusal bytes. refl) (λ refusals bytes. refl) c.fetch.ensures _ c.from_residual.result c.from_residual.ensures.1
+    decides_unfetched (whole s) (shows s) (whole-shows s (some_names c.self.view_is c.self.invariant.some)) (λ refusal bytes. refl) (λ refusals bytes. refl) c.args.file.now c.fetch.ensures _ c.from_residual.result c.from_residual.ensures.1
 
 pub returns-in-Ok : goal.returns-in-Ok
 returns-in-Ok g c =

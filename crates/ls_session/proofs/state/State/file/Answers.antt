@@ -19,3 +19,18 @@ returns-in-Class g c = decides_at (effect c.args.self.now) c.in-Class.is c.class
 
 pub returns-in-Save : goal.returns-in-Save
 returns-in-Save g c = decides_at (effect c.args.self.now) c.in-Save.is c.save.ensures
+
+pub returns-in-StartRelation : goal.returns-in-StartRelation
+returns-in-StartRelation g c = decides_at (effect c.args.self.now) c.in-StartRelation.is c.load_start-in-StartRelation.ensures
+
+pub returns-in-SkillsAny : goal.returns-in-SkillsAny
+returns-in-SkillsAny g c = decides_at (effect c.args.self.now) c.in-SkillsAny.is c.skills.ensures
+
+pub returns-in-SkillsAll : goal.returns-in-SkillsAll
+returns-in-SkillsAll g c = decides_at (effect c.args.self.now) c.in-SkillsAll.is c.skills-in-SkillsAll.ensures
+
+pub returns-in-Mesh : goal.returns-in-Mesh
+returns-in-Mesh g c = decides_at (effect c.args.self.now) c.in-Mesh.is c.mesh.ensures
+
+pub returns-in-MeshAgree : goal.returns-in-MeshAgree
+returns-in-MeshAgree g c = decides_at (effect c.args.self.now) c.in-MeshAgree.is c.mesh_agree.ensures

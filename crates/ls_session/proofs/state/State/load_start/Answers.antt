@@ -1,4 +1,4 @@
-use Rattle.ls_session.proofs.Vocabulary.{[], ◌==◌, ◌∙◌, ◌≡◌, Answer, Bool, Decides, Interview, List, Ok, Session, Text, ℕ, answers, ap, ap₂, changes_interview, false, length, refl, shelf_state, start_read, starts_by, state_session, subst, sym, true}
+use Rattle.ls_session.proofs.Vocabulary.{[], ◌==◌, ◌∙◌, ◌≡◌, Answer, Bool, Decides, Interview, List, Ok, Session, Text, ℕ, ap, ap₂, changes_interview, false, length, refl, shelf_state, start_read, starts_by, state_session, subst, sym, true}
 use Rattle.ls_session.proofs.Decided.{decides_made, makes_as, makes_interview, some_names}
 use Rattle.ls_session.proofs.Fetched.{decides_read, decides_unfetched, decides_unread, loads, loads-stands, loads-starts, no_answers, starts}
 use Rattle.ls_session.proofs.state.State.load_start.Goals as goal
@@ -18,7 +18,7 @@ returns-in_err-bytes g c =
     let kind = c.args.kind in
     let s = c.args.self.now in
     let none : (length s.interview.answers == 0) ≡ true = told c.self.inside.inquiry s.interview (ap (λ (x : Session). x.interview) c.self.view_is) c.standing.ensures.value c.is_empty.ensures c.if-not-is_empty.false in
-    decides_unfetched (loads kind s) (starts kind s) (loads-starts kind s (some_names c.self.view_is c.self.invariant.some) none) (λ refusal bytes. refl) (λ refusals bytes. refl) c.fetch.ensures _ c.from_residual.result c.from_residual.ensures.1
+    decides_unfetched (loads kind s) (starts kind s) (loads-starts kind s (some_names c.self.view_is c.self.invariant.some) none) (λ refusal bytes. refl) (λ refusals bytes. refl) c.args.file.now c.fetch.ensures _ c.from_residual.result c.from_residual.ensures.1
 
 pub start_from-requires-clause-none : goal.start_from-requires-clause-none
 start_from-requires-clause-none g c = no_answers c.self.inside.inquiry.answers (told c.self.inside.inquiry c.self.inside.inquiry refl c.standing.ensures.value c.is_empty.ensures c.if-not-is_empty.false)
