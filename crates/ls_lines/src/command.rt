@@ -3,7 +3,7 @@ ghost use Rattle.std.specs.Prelude.{◌≡◌, map};
 ghost use Rattle.ls_lines.specs.Forms.{spelled_as};
 ghost use Rattle.ls_lines.specs.Operands.{filling};
 
-use crate::operand::{Operands, spell};
+use crate::operand::{Operands, spell_none};
 use crate::{
     EditCommand, FileCommand, Form, OpeningCommand, PupilCommand, SafeCommand, SettingCommand,
     ViewCommand,
@@ -31,7 +31,7 @@ impl Command {
         ensures { (result.0, map filling result.1.items) ≡ spelled_as self.now }
     {
         match self {
-            Command::Nothing => spell(Form::Nothing, &[]),
+            Command::Nothing => spell_none(Form::Nothing),
             Command::Opening(command) => {
                 let (form, operands) = command.spelled_as();
                 (Form::Opening(form), operands)

@@ -6,7 +6,7 @@ ghost use Rattle.ls_lines.specs.Operands.{filling};
 
 use crate::cut::Cut;
 use crate::operand::Operand::{Count, Many, Number, One};
-use crate::operand::{Operands, spell};
+use crate::operand::{Operands, spell_one, spell_two};
 use crate::part::{COLON, ITEM, ITEMS, NUMBER};
 use crate::{Keyword, Part, Word, WordList};
 use std::alloc::AllocError;
@@ -72,10 +72,10 @@ impl EditCommand {
         ensures { (result.0, map filling result.1.items) ≡ edit_spelled_as self.now }
     {
         match self {
-            Self::Blocks { size } => spell(EditForm::Blocks, &[Count(*size)]),
-            Self::Yes { names, item } => spell(EditForm::Yes, &[Many(names), One(item)]),
-            Self::No { names, item } => spell(EditForm::No, &[Many(names), One(item)]),
-            Self::Retract { number } => spell(EditForm::Retract, &[Number(*number)]),
+            Self::Blocks { size } => spell_one(EditForm::Blocks, Count(*size)),
+            Self::Yes { names, item } => spell_two(EditForm::Yes, Many(names), One(item)),
+            Self::No { names, item } => spell_two(EditForm::No, Many(names), One(item)),
+            Self::Retract { number } => spell_one(EditForm::Retract, Number(*number)),
         }
     }
 }

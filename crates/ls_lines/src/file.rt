@@ -6,7 +6,7 @@ ghost use Rattle.ls_lines.specs.Operands.{filling};
 
 use crate::cut::Cut;
 use crate::operand::Operand::{Count, One};
-use crate::operand::{Operands, spell};
+use crate::operand::{Operands, spell_four, spell_one, spell_three, spell_two};
 use crate::part::{AFTER, ALL, ANY, COUNT, CURSOR, FILE, MESH, SKILLS, START};
 use crate::{Keyword, Part, Word};
 use std::alloc::AllocError;
@@ -131,24 +131,28 @@ impl FileCommand {
         ensures { (result.0, map filling result.1.items) ≡ file_spelled_as self.now }
     {
         match self {
-            Self::StartSurmise { file } => spell(FileForm::StartSurmise, &[One(file)]),
-            Self::StartBase { file } => spell(FileForm::StartBase, &[One(file)]),
-            Self::StartRelation { file } => spell(FileForm::StartRelation, &[One(file)]),
-            Self::Test { file } => spell(FileForm::Test, &[One(file)]),
-            Self::Class { file } => spell(FileForm::Class, &[One(file)]),
-            Self::Save { file } => spell(FileForm::Save, &[One(file)]),
+            Self::StartSurmise { file } => spell_one(FileForm::StartSurmise, One(file)),
+            Self::StartBase { file } => spell_one(FileForm::StartBase, One(file)),
+            Self::StartRelation { file } => spell_one(FileForm::StartRelation, One(file)),
+            Self::Test { file } => spell_one(FileForm::Test, One(file)),
+            Self::Class { file } => spell_one(FileForm::Class, One(file)),
+            Self::Save { file } => spell_one(FileForm::Save, One(file)),
             Self::SkillsAny { file, count, after } => match after {
-                None => spell(FileForm::SkillsAny, &[One(file), Count(*count)]),
-                Some(cursor) => spell(
+                None => spell_two(FileForm::SkillsAny, One(file), Count(*count)),
+                Some(cursor) => spell_three(
                     FileForm::SkillsAnyAfter,
-                    &[One(file), Count(*count), One(cursor)],
+                    One(file),
+                    Count(*count),
+                    One(cursor),
                 ),
             },
             Self::SkillsAll { file, count, after } => match after {
-                None => spell(FileForm::SkillsAll, &[One(file), Count(*count)]),
-                Some(cursor) => spell(
+                None => spell_two(FileForm::SkillsAll, One(file), Count(*count)),
+                Some(cursor) => spell_three(
                     FileForm::SkillsAllAfter,
-                    &[One(file), Count(*count), One(cursor)],
+                    One(file),
+                    Count(*count),
+                    One(cursor),
                 ),
             },
             Self::Mesh {
@@ -157,13 +161,20 @@ impl FileCommand {
                 count,
                 after,
             } => match after {
-                None => spell(FileForm::Mesh, &[One(left), One(right), Count(*count)]),
-                Some(cursor) => spell(
+                None => spell_three(FileForm::Mesh, One(left), One(right), Count(*count)),
+                Some(cursor) => spell_four(
                     FileForm::MeshAfter,
-                    &[One(left), One(right), Count(*count), One(cursor)],
+                    One(left),
+                    One(right),
+                    Count(*count),
+                    One(cursor),
                 ),
             },
-            Self::MeshAgree { left, right } => spell(FileForm::MeshAgree, &[One(left), One(right)]),
+            Self::MeshAgree { left, right } => spell_two(
+                FileForm::MeshAgree,
+                One(left),
+                One(right),
+            ),
         }
     }
 }

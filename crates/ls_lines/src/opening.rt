@@ -6,7 +6,7 @@ ghost use Rattle.ls_lines.specs.Operands.{filling};
 
 use crate::cut::Cut;
 use crate::operand::Operand::{Many, One};
-use crate::operand::{Operands, spell};
+use crate::operand::{Operands, spell_one};
 use crate::part::{FILE, NAMES};
 use crate::{Keyword, Part, Word, WordList};
 use std::alloc::AllocError;
@@ -59,9 +59,9 @@ impl OpeningCommand {
         ensures { (result.0, map filling result.1.items) ≡ opening_spelled_as self.now }
     {
         match self {
-            Self::Items { names } => spell(OpeningForm::Items, &[Many(names)]),
-            Self::LoadItems { file } => spell(OpeningForm::LoadItems, &[One(file)]),
-            Self::Reopen { file } => spell(OpeningForm::Reopen, &[One(file)]),
+            Self::Items { names } => spell_one(OpeningForm::Items, Many(names)),
+            Self::LoadItems { file } => spell_one(OpeningForm::LoadItems, One(file)),
+            Self::Reopen { file } => spell_one(OpeningForm::Reopen, One(file)),
         }
     }
 }

@@ -38,6 +38,59 @@ pub(crate) fn spell<'a, F>(form: F, operands: &[Operand<'a>]) -> (F, Operands<'a
     (form, ArrayVec::try_from(operands).unwrap())
 }
 
+// The form with no operand, with one, and with two to four: less is to be proved of these calls
+// than of one with a slice.
+pub(crate) fn spell_none<'a, F>(form: F) -> (F, Operands<'a>)
+    ensures form { result.0 ≡ form }
+    ensures operands { result.1.items ≡ [] }
+{
+    spell(form, &[])
+}
+
+pub(crate) fn spell_one<'a, F>(form: F, operand: Operand<'a>) -> (F, Operands<'a>)
+    ensures form { result.0 ≡ form }
+    ensures operands { result.1.items ≡ operand.entry ∷ [] }
+{
+    spell(form, &[operand])
+}
+
+pub(crate) fn spell_two<'a, F>(
+    form: F,
+    first: Operand<'a>,
+    second: Operand<'a>,
+) -> (F, Operands<'a>)
+    ensures form { result.0 ≡ form }
+    ensures operands { result.1.items ≡ first.entry ∷ second.entry ∷ [] }
+{
+    spell(form, &[first, second])
+}
+
+pub(crate) fn spell_three<'a, F>(
+    form: F,
+    first: Operand<'a>,
+    second: Operand<'a>,
+    third: Operand<'a>,
+) -> (F, Operands<'a>)
+    ensures form { result.0 ≡ form }
+    ensures operands { result.1.items ≡ first.entry ∷ second.entry ∷ third.entry ∷ [] }
+{
+    spell(form, &[first, second, third])
+}
+
+pub(crate) fn spell_four<'a, F>(
+    form: F,
+    first: Operand<'a>,
+    second: Operand<'a>,
+    third: Operand<'a>,
+    fourth: Operand<'a>,
+) -> (F, Operands<'a>)
+    ensures form { result.0 ≡ form }
+    ensures operands { result.1.items
+        ≡ first.entry ∷ second.entry ∷ third.entry ∷ fourth.entry ∷ [] }
+{
+    spell(form, &[first, second, third, fourth])
+}
+
 impl<'a> Operand<'a> {
     // Puts its words behind the text, each with a space behind it.
     pub(crate) fn push_to(&self, alloc: Global, text: &mut Vec<u8>) -> Result<(), AllocError>

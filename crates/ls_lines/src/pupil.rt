@@ -6,7 +6,7 @@ ghost use Rattle.ls_lines.specs.Operands.{filling};
 
 use crate::cut::Cut;
 use crate::operand::Operand::{One, Right};
-use crate::operand::{Operands, spell};
+use crate::operand::{Operands, spell_one, spell_three};
 use crate::part::{ITEM, NAME, RIGHT};
 use crate::{Keyword, Part, Word};
 use std::alloc::AllocError;
@@ -70,14 +70,16 @@ impl PupilCommand {
         ensures { (result.0, map filling result.1.items) ≡ pupil_spelled_as self.now }
     {
         match self {
-            Self::Pupil { name } => spell(PupilForm::Pupil, &[One(name)]),
-            Self::Question { name } => spell(PupilForm::Question, &[One(name)]),
-            Self::Reply { name, item, right } => spell(
+            Self::Pupil { name } => spell_one(PupilForm::Pupil, One(name)),
+            Self::Question { name } => spell_one(PupilForm::Question, One(name)),
+            Self::Reply { name, item, right } => spell_three(
                 PupilForm::Reply,
-                &[One(name), One(item), Right(*right)],
+                One(name),
+                One(item),
+                Right(*right),
             ),
-            Self::Report { name } => spell(PupilForm::Report, &[One(name)]),
-            Self::Close { name } => spell(PupilForm::Close, &[One(name)]),
+            Self::Report { name } => spell_one(PupilForm::Report, One(name)),
+            Self::Close { name } => spell_one(PupilForm::Close, One(name)),
         }
     }
 

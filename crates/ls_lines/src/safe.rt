@@ -6,7 +6,7 @@ ghost use Rattle.ls_lines.specs.Operands.{filling};
 
 use crate::cut::Cut;
 use crate::operand::Operand::{Count, Many, One};
-use crate::operand::{Operands, spell};
+use crate::operand::{Operands, spell_none, spell_one, spell_two};
 use crate::part::{AFTER, COLON, COUNT, CURSOR, ITEM, ITEMS};
 use crate::{Keyword, Part, Word, WordList};
 use std::alloc::AllocError;
@@ -76,15 +76,14 @@ impl SafeCommand {
         ensures { (result.0, map filling result.1.items) ≡ safe_spelled_as self.now }
     {
         match self {
-            Self::Open => spell(SafeForm::Open, &[]),
-            Self::Answer { names, item } => spell(SafeForm::Answer, &[Many(names), One(item)]),
-            Self::List => spell(SafeForm::List, &[]),
-            Self::States { count, after: None } => spell(SafeForm::States, &[Count(*count)]),
-            Self::States {
-                count,
-                after: Some(cursor),
-            } => spell(SafeForm::StatesAfter, &[Count(*count), One(cursor)]),
-            Self::Close => spell(SafeForm::Close, &[]),
+            Self::Open => spell_none(SafeForm::Open),
+            Self::Answer { names, item } => spell_two(SafeForm::Answer, Many(names), One(item)),
+            Self::List => spell_none(SafeForm::List),
+            Self::States { count, after } => match after {
+                None => spell_one(SafeForm::States, Count(*count)),
+                Some(cursor) => spell_two(SafeForm::StatesAfter, Count(*count), One(cursor)),
+            },
+            Self::Close => spell_none(SafeForm::Close),
         }
     }
 }

@@ -6,7 +6,7 @@ ghost use Rattle.ls_lines.specs.Operands.{filling};
 
 use crate::cut::Cut;
 use crate::operand::Operand::{Number, One};
-use crate::operand::{Operands, spell};
+use crate::operand::{Operands, spell, spell_four, spell_three, spell_two};
 use crate::part::{ITEM, NUMBER};
 use crate::{Keyword, Part, Word};
 use std::alloc::AllocError;
@@ -121,27 +121,28 @@ impl SettingCommand {
         ensures { (result.0, map filling result.1.items) ≡ setting_spelled_as self.now }
     {
         match self {
-            Self::OddsAll { right, wrong } => spell(
+            Self::OddsAll { right, wrong } => spell_two(
                 SettingForm::OddsAll,
-                &[Number(*right), Number(*wrong)],
+                Number(*right),
+                Number(*wrong),
             ),
-            Self::OddsItem { item, right, wrong } => spell(
+            Self::OddsItem { item, right, wrong } => spell_three(
                 SettingForm::OddsItem,
-                &[One(item), Number(*right), Number(*wrong)],
+                One(item),
+                Number(*right),
+                Number(*wrong),
             ),
             Self::RatioAll {
                 right_a,
                 right_b,
                 wrong_a,
                 wrong_b,
-            } => spell(
+            } => spell_four(
                 SettingForm::RatioAll,
-                &[
-                    Number(*right_a),
-                    Number(*right_b),
-                    Number(*wrong_a),
-                    Number(*wrong_b),
-                ],
+                Number(*right_a),
+                Number(*right_b),
+                Number(*wrong_a),
+                Number(*wrong_b),
             ),
             Self::RatioItem {
                 item,
@@ -159,9 +160,10 @@ impl SettingCommand {
                     Number(*wrong_b),
                 ],
             ),
-            Self::Limits { budget, share } => spell(
+            Self::Limits { budget, share } => spell_two(
                 SettingForm::Limits,
-                &[Number(*budget), Number(*share)],
+                Number(*budget),
+                Number(*share),
             ),
         }
     }

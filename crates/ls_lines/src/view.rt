@@ -6,7 +6,7 @@ ghost use Rattle.ls_lines.specs.Operands.{filling};
 
 use crate::cut::Cut;
 use crate::operand::Operand::{Count, Many, One};
-use crate::operand::{Operands, spell};
+use crate::operand::{Operands, spell_none, spell_one, spell_three, spell_two};
 use crate::part::{AFTER, BAR, COLON, COUNT, CURSOR, ITEM, ITEMS};
 use crate::{Keyword, MOST_COUNTED, Part, Word, WordList};
 use std::alloc::AllocError;
@@ -146,39 +146,41 @@ impl ViewCommand {
         ensures { (result.0, map filling result.1.items) ≡ view_spelled_as self.now }
     {
         match self {
-            Self::Known { names, item } => spell(ViewForm::Known, &[Many(names), One(item)]),
-            Self::Ask => spell(ViewForm::Ask, &[]),
-            Self::States { count, after: None } => spell(ViewForm::StatesUpTo, &[Count(*count)]),
-            Self::States {
-                count,
-                after: Some(cursor),
-            } => spell(ViewForm::StatesAfter, &[Count(*count), One(cursor)]),
-            Self::Base => spell(ViewForm::Base, &[]),
-            Self::Surmise => spell(ViewForm::Surmise, &[]),
-            Self::Learning => spell(ViewForm::Learning, &[]),
+            Self::Known { names, item } => spell_two(ViewForm::Known, Many(names), One(item)),
+            Self::Ask => spell_none(ViewForm::Ask),
+            Self::States { count, after } => match after {
+                None => spell_one(ViewForm::StatesUpTo, Count(*count)),
+                Some(cursor) => spell_two(ViewForm::StatesAfter, Count(*count), One(cursor)),
+            },
+            Self::Base => spell_none(ViewForm::Base),
+            Self::Surmise => spell_none(ViewForm::Surmise),
+            Self::Learning => spell_none(ViewForm::Learning),
             Self::Project {
                 count,
-                after: None,
+                after,
                 names,
-            } => spell(ViewForm::Project, &[Count(*count), Many(names)]),
-            Self::Project {
-                count,
-                after: Some(cursor),
-                names,
-            } => spell(
-                ViewForm::ProjectAfter,
-                &[Count(*count), One(cursor), Many(names)],
+            } => match after {
+                None => spell_two(ViewForm::Project, Count(*count), Many(names)),
+                Some(cursor) => spell_three(
+                    ViewForm::ProjectAfter,
+                    Count(*count),
+                    One(cursor),
+                    Many(names),
+                ),
+            },
+            Self::ProjectBase { names } => spell_one(ViewForm::ProjectBase, Many(names)),
+            Self::Fringes { names } => spell_one(ViewForm::Fringes, Many(names)),
+            Self::StateOf { inner, outer } => spell_two(
+                ViewForm::StateOf,
+                Many(inner),
+                Many(outer),
             ),
-            Self::ProjectBase { names } => spell(ViewForm::ProjectBase, &[Many(names)]),
-            Self::Fringes { names } => spell(ViewForm::Fringes, &[Many(names)]),
-            Self::StateOf { inner, outer } => spell(ViewForm::StateOf, &[Many(inner), Many(outer)]),
-            Self::Paths { count, after: None } => spell(ViewForm::Paths, &[Count(*count)]),
-            Self::Paths {
-                count,
-                after: Some(path),
-            } => spell(ViewForm::PathsAfter, &[Count(*count), Many(path)]),
-            Self::SkillMap => spell(ViewForm::SkillMap, &[]),
-            Self::Relation => spell(ViewForm::Relation, &[]),
+            Self::Paths { count, after } => match after {
+                None => spell_one(ViewForm::Paths, Count(*count)),
+                Some(path) => spell_two(ViewForm::PathsAfter, Count(*count), Many(path)),
+            },
+            Self::SkillMap => spell_none(ViewForm::SkillMap),
+            Self::Relation => spell_none(ViewForm::Relation),
         }
     }
 }
