@@ -9,6 +9,7 @@ mod mesh_fault;
 mod pair_fault;
 mod relation_fault;
 mod safe_answer;
+mod safe_answers;
 mod safe_fault;
 mod skill_fault;
 
@@ -18,5 +19,6 @@ pub use mesh_fault::MeshFault;
 pub use pair_fault::PairFault;
 pub use relation_fault::RelationFault;
 pub use safe_answer::SafeAnswer;
+pub use safe_answers::SafeAnswers;
 pub use safe_fault::SafeFault;
 pub use skill_fault::SkillFault;
