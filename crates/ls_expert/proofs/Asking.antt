@@ -3,7 +3,7 @@ use Rattle.ls_expert.proofs.Vocabulary.{◌&&◌, ◌++◌, ◌<◌, ◌∙◌, 
 use Rattle.ls_lists.proofs.Finds.{find-filter}
 use Rattle.ls_query.proofs.BlockOrder.{before-transitive}
 use Rattle.ls_query.proofs.Sorted.{sorted-cases}
-use Rattle.ls_expert.proofs.AnswerLists.{no_queries-yes, no_queries-no}
+use Rattle.ls_standing.proofs.AnswerLists.{no_queries-yes, no_queries-no}
 
 -- ---- the first of a list that passes, from an element on
 

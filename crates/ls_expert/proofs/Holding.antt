@@ -42,9 +42,6 @@ tabled-by i n s rules answers t h en es er ea =
 
 -- ---- the beginning
 
-pub begun-as : (n m : ℕ) (s t : theory.Start) (answers : List Answer) → n ≡ m → s ≡ t → answers ≡ [] → begun n s ≡ (let i : Interview = record { count = m; start = t; block = 1; answers = answers; next = 1 } in i)
-begun-as n m s t answers en es ea = cc
-
 none-distinct : IsDistinct is_same_query []
 unfolding IsDistinct
 none-distinct = tt
@@ -60,15 +57,14 @@ standing-begun n start is_start = record {
   numbers_left = omega arith;
 }
 
-pub held-begun : (n : ℕ) (start : theory.Start) (i : Interview) (rules : List Query) (t : TableRoom) → 0 < n → n ≤ PLACES → IsStart n start → begun n start ≡ i → rules ≡ [] → IsTabled i t → IsHeld i rules t
-held-begun n start i rules t some few is_start e none table =
-    subst (λ (j : Interview). IsTabled j t → IsHeld j rules t) e (λ table. record {
-      some_items = some;
-      few_items = few;
-      ruled = none;
-      tabled = table;
-      standing = standing-begun n start is_start;
-    }) table
+pub held-begun : (n : ℕ) (start : theory.Start) (rules : List Query) (t : TableRoom) → 0 < n → n ≤ PLACES → IsStart n start → rules ≡ [] → IsTabled (begun n start) t → IsHeld (begun n start) rules t
+held-begun n start rules t some few is_start none table = record {
+  some_items = some;
+  few_items = few;
+  ruled = none;
+  tabled = table;
+  standing = standing-begun n start is_start;
+}
 
 -- blocks that are made have some sizes
 pub some-made : (n k : ℕ) (b : BlockRange) → made n k ≡ Ok b → 0 < k

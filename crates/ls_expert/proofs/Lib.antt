@@ -1,9 +1,7 @@
 mod Vocabulary
-pub mod AnswerLists
-pub mod Ruling
+mod Ruling
 pub mod Holding
 mod Asking
 pub mod Taking
 pub mod Retracting
 mod Saving
-mod Leading

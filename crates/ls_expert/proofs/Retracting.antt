@@ -3,7 +3,7 @@ use Rattle.ls_expert.proofs.Vocabulary.{◌&&◌, ◌*◌, ◌+◌, ◌<◌, ◌
 use Rattle.std.proofs.lemmas.List.Recursion.{is_sum_by}
 use Rattle.ls_expert.specs.Steps.{closures_over}
 use Rattle.ls_expert.proofs.Holding.{kept-as}
-use Rattle.ls_expert.proofs.AnswerLists.{is_other, all-fewer, all-told, told-all, nos-others, rising, yes_queries-without_yes, yes_queries-without_no, nos-without_yes, rules_before-within}
+use Rattle.ls_standing.proofs.AnswerLists.{is_other, all-fewer, all-told, told-all, nos-others, rising, yes_queries-without_yes, yes_queries-without_no, nos-without_yes, rules_before-within}
 
 -- ---- what is kept
 

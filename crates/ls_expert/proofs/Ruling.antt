@@ -1,37 +1,6 @@
--- The compatible sets as a family with rules, and the lists of an interview's answers.
-use Rattle.ls_expert.proofs.Vocabulary.{◌&&◌, ◌∙◌, ◌∷◌, ◌≡◌, BaseState, BlockRange, Bool, HasItems, IfSome, Interview, IsIn, IsWithin, Items, List, None, Option, Query, Some, TableState, ℕ, [], among-compat, and-true, and_from, ap, base, breaks_none, comes_after, compat, compatible_sets, cond, false, false_from_ne_true, family, filter, filter-both, filter_agree, find, full, good-to, inl, inr, interior, interior-member, is_compatible, is_good, is_open, is_settled, is_some, is_within, is_within-from, meets, next_question, no_question, nos, not, nothing, queries, queries-in, query_before, refl, single_items, spaces_of, spanned, start_of, subsets, subst, sym, table_of, true, true≢false}
-use Rattle.ls_theory.specs.Starts as theory
+-- The questions of an interview, and a table told by its own blocks.
+use Rattle.ls_expert.proofs.Vocabulary.{BlockRange, Bool, IfSome, Interview, IsIn, List, None, Option, Query, Some, TableState, [], ap, comes_after, compatible_sets, cond, false, false_from_ne_true, filter, find, good-to, inl, inr, is_good, is_open, is_settled, is_some, next_question, no_question, nos, not, nothing, queries, queries-in, query_before, refl, single_items, spaces_of, sym, table_of, true, true≢false, ◌∙◌, ◌∷◌, ◌≡◌}
 use Rattle.ls_lists.proofs.Elements.{filter-in}
-use Rattle.ls_laws.proofs.BaseStarts.{compat-sets}
-use Rattle.ls_expert.specs.declared.start.Start.{Start}
-use Rattle.ls_expert.specs.declared.start.Start.TheVariants.{Sets}
-
--- the sets of the start that break none of the queries are the compatible ones
-pub ruled-compat : (n : ℕ) (start : theory.Start) (yeses : List Query) → filter (breaks_none yeses) (compat n start []) ≡ compat n start yeses
-unfolding compat
-ruled-compat n start yeses =
-    filter-both (is_compatible start []) (breaks_none yeses) (subsets n)
-    ∙ filter_agree (λ k. is_compatible start [] k && breaks_none yeses k) (is_compatible start yeses) (λ k. ap (λ b. b && breaks_none yeses k) (and-true (meets start k))) (subsets n)
-
-all_pass : (f : List Items) → filter (λ k. true && true) f ≡ f
-all_pass [] = refl
-all_pass (k ∷ f) = ap (λ l. k ∷ l) (all_pass f)
-
--- every set of the items meets the free start
-pub free-inside : (n : ℕ) (s : Items) → IsWithin s (full n) → s ≡ interior (compat n theory.Free []) s
-free-inside n s w =
-    sym (interior-member (compat n theory.Free []) s (among-compat n theory.Free [] s ∙ and_from (is_within s (full n)) true (is_within-from s (full n) w) refl))
-
--- the sets that meet the start by a base are its family
-pub sets-family : (start : Start) (n : ℕ) (b : BaseState) → start ≡ Sets b → HasItems n start → family b ≡ compat n (start_of start) []
-sets-family start n b e h =
-    let items : b.item_count ≡ n = subst (HasItems n) e h in
-    rw e (ap (λ m. spanned m b.sets) items ∙ sym (compat-sets n b.sets))
-
--- the base of all sets is that of the free start
-pub free-base : (n : ℕ) → base (subsets n) ≡ base (compat n theory.Free [])
-unfolding compat
-free-base n = ap base (sym (all_pass (subsets n)))
 
 -- a table of the interview, told by its own blocks
 pub own_blocks : (i : Interview) (t : TableState) → t ≡ table_of (single_items i.count) (compatible_sets i) (nos i.answers) → t ≡ table_of t.blocks (compatible_sets i) (nos i.answers)

@@ -1,13 +1,14 @@
 -- What an interview keeps when it takes an answer.
-use Rattle.ls_expert.proofs.Vocabulary.{◌&&◌, ◌++◌, ◌<◌, ◌∙◌, ◌∷◌, ◌≡◌, ◌≤◌, AllByRecursion, Answer, AreStates, BlockRange, Bool, Interview, IsDistinct, IsHeld, IsKeptFor, IsSound, IsStanding, IsTabled, Items, List, No, None, Option, Query, Some, SomeFits, TableRoom, ℕ, [], accepted, accepted-numbered, and-true, and_from, ap, arith, breaks, compat, compat-more, compatible-no, compatible-yes, compatible_sets, cond, false, filter-all, find, first_fault, forced_yes_unbroken, full, is_forced_no, is_forced_yes, is_full, is_good, is_same_query, known, left_by, length, length-append, list_all, list_all-append, map, most_answers, most_number, nat_tests, no_added, nos, not, not-true, not_both, not_first, opposed, option_map, or_parts, refl, refusal, single_items, some_breaks, spaces_of, standing_number, sym, table_of, true, yes_added, yes_queries}
+use Rattle.ls_expert.proofs.Vocabulary.{AllByRecursion, Answer, AreStates, BlockRange, Bool, Interview, IsDistinct, IsHeld, IsKeptFor, IsSound, IsStanding, IsTabled, Items, List, No, None, Option, Query, Some, SomeFits, TableRoom, [], accepted, accepted-numbered, and-true, and_from, ap, arith, breaks, compat, compat-more, compatible-no, compatible-yes, compatible_sets, cond, false, filter-all, find, first_fault, forced_yes_unbroken, full, is_forced_no, is_forced_yes, is_full, is_good, is_same_query, known, left_by, length, length-append, list_all, list_all-append, map, most_answers, most_number, nat_tests, no_added, nos, not, not-true, not_both, not_first, opposed, option_map, refl, refusal, single_items, some_breaks, spaces_of, standing_number, sym, table_of, true, yes_added, yes_queries, ℕ, ◌&&◌, ◌++◌, ◌<◌, ◌∙◌, ◌∷◌, ◌≡◌, ◌≤◌}
 use Rattle.ls_lists.proofs.Bools.{none_common}
 use Rattle.ls_theory.specs.declared.known.Known.{Known}
 use Rattle.ls_theory.specs.declared.answer_fault.AnswerFault.{AnswerFault}
 use Rattle.ls_theory.specs.declared.answer_fault.AnswerFault.TheVariants.{BadQuery, Repeat, Full}
 use Rattle.ls_laws.specs.Families.{IsFamily}
 use Rattle.ls_laws.proofs.Families.{compat-IsFamily}
+use Rattle.ls_standing.proofs.FewerRules.{none_left_out}
 use Rattle.ls_expert.proofs.Holding.{kept-as}
-use Rattle.ls_expert.proofs.AnswerLists.{yes_queries-yes, yes_queries-no, nos-yes, nos-no}
+use Rattle.ls_standing.proofs.AnswerLists.{yes_queries-yes, yes_queries-no, nos-yes, nos-no}
 
 -- ---- what a refusal that isn't found tells
 
@@ -141,10 +142,6 @@ forced_yes : (sure never : Bool) (k : ℕ) → cond sure Known.Yes (cond never (
 forced_yes true never k e = refl
 forced_yes false true k e = absurd (cc e)
 forced_yes false false k e = absurd (cc e)
-
-none_left_out : (f : List Items) (r : Query) → some_breaks f r ≡ false → AllByRecursion (λ k. not (breaks k r) ≡ true) f
-none_left_out [] r e = tt
-none_left_out (k ∷ f) r e = let p = or_parts (breaks k r) (some_breaks f r) e in (ap not p.0, none_left_out f r p.1)
 
 forced-left : (i : Interview) (r : Query) → SomeFits i → known i r ≡ Known.Yes → left_by r (compatible_sets i) ≡ compatible_sets i
 unfolding known

@@ -1,29 +1,14 @@
 -- What an inquiry keeps true of its parts.
-use Rattle.std.specs.Prelude.{◌≡◌, ℕ, Bool, ◌+◌, ◌<◌, ◌≤◌, true, false, ◌&&◌, nat_lt}
-use Rattle.std.specs.Prelude.{List, map, length, count_by, find, Option, None, Some}
-use Rattle.std.specs.List.{list_all, IsDistinct}
-use Rattle.ls_set.specs.{is_good, most_items}
+use Rattle.std.specs.Prelude.{◌≡◌, ℕ, Bool, ◌<◌, ◌≤◌, true, false, List, find, Option, None, Some}
+use Rattle.ls_set.specs.{most_items}
 use Rattle.ls_set.specs.declared.query.Query.{Query}
 use Rattle.ls_theory.specs.declared.answer.Answer.{Answer}
-use Rattle.ls_theory.specs.Starts as theory
-use Rattle.ls_theory.specs.{BlockRange, Interview, compatible_sets, is_open, is_same_query}
-use Rattle.ls_theory.specs.{most_answers, most_number, next_question, nos, queries, query_before}
-use Rattle.ls_theory.specs.{spaces_of, yes_queries}
+use Rattle.ls_theory.specs.{BlockRange, Interview, compatible_sets, is_open, next_question, nos}
+use Rattle.ls_theory.specs.{queries, query_before, spaces_of, yes_queries}
 use Rattle.ls_lists.specs.Lists.{IsIn}
-use Rattle.ls_laws.specs.Forced.{IsSound, IsNumbered}
 use Rattle.ls_infer.specs.Tables.{TableRoom, IsKeptFor}
-use Rattle.ls_expert.specs.Starts.{StartOn}
-
--- the interview on n items with the start, where sets up to the size k are asked,
--- the answers stand and `next` is the number of the next
-abbrev pub interview_on : ℕ → theory.Start → ℕ → List Answer → ℕ → Interview
-interview_on n start k answers next = record {
-  count = n;
-  start = start;
-  block = k;
-  answers = answers;
-  next = next;
-}
+use Rattle.ls_standing.specs.Starts.{StartOn}
+use Rattle.ls_standing.specs.Standing.{interview_on, IsStanding}
 
 -- the interview that the parts make
 abbrev pub interview_of : StartOn → ℕ → List Answer → ℕ → Interview
@@ -40,21 +25,6 @@ single_items n = record { item_count = n; largest = 1 }
 -- its table is kept, of the sets of one item
 abbrev pub IsTabled : Interview → TableRoom → Type 0
 IsTabled i = IsKeptFor (single_items i.count) (compatible_sets i) (nos i.answers)
-
--- Answers that stand: some space fits them, they stand in order of number, below the next number,
--- their queries are good, and none is there twice; and there is room for them.
-pub record IsStanding (i : Interview) : Type 0 where
-  pub sound : IsSound i
-  pub good : list_all (λ a. is_good i.count a.query) i.answers ≡ true
-  pub distinct : IsDistinct is_same_query (map (λ a. a.query) i.answers)
-  pub numbered : IsNumbered i
-  pub few_answers : length i.answers ≤ most_answers
-  pub some_number : 0 < i.next
-  pub numbers_left : i.next ≤ most_number + 1
-
--- how many Yes answers have a smaller number
-abbrev pub rules_before : List Answer → ℕ → ℕ
-rules_before answers number = count_by (λ a. a.yes && nat_lt a.number number) answers
 
 -- The answers stand, the rules are the Yes answers, and the table is kept for what stands.
 pub record IsHeld (i : Interview) (rules : List Query) (table : TableRoom) : Type 0 where

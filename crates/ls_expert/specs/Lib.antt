@@ -1,4 +1,3 @@
-pub mod Starts
 pub mod Steps
 pub mod Held
 pub mod Saved

@@ -8,19 +8,18 @@ ghost use Rattle.ls_set.specs.{is_good};
 ghost use Rattle.ls_theory.specs.{IsAnswerFault, IsBlockFault, accepted, answer_with, base, begun};
 ghost use Rattle.ls_theory.specs.{breaks_none, compat, compatible_sets, is_settled, known, made};
 ghost use Rattle.ls_theory.specs.{next_question, nos, refusal, retracted, spaces_of, yes_queries};
+ghost use Rattle.ls_clauses.specs.Starts.{IsStart};
 ghost use Rattle.ls_infer.specs.Tables.{IsKeptFor};
-ghost use Rattle.ls_expert.specs.Held.{single_items, blocks_of, rules_before, IsStanding, PlaceFor};
+ghost use Rattle.ls_standing.specs.Starts.{start_of, IsStartOn};
+ghost use Rattle.ls_standing.specs.Standing.{rules_before, IsStanding};
+ghost use Rattle.ls_expert.specs.Held.{single_items, blocks_of, PlaceFor};
 ghost use Rattle.ls_expert.specs.Steps.{steps_back, most_steps};
 
 mod resumed;
 mod taking;
 
-use crate::answers::{answer_with, nos, rules_before, yes_others};
 use crate::bad_query::BadQuery;
-use crate::few_rules::leading;
-use crate::on_items::OnItems;
 use crate::retract_fault::RetractFault;
-use crate::start::Start;
 use crate::start_fault::StartFault;
 use ls_base::Base;
 use ls_infer::Table;
@@ -28,16 +27,11 @@ use ls_interior::{Counted, Inside, Steps};
 use ls_query::{BlockFault, Blocks};
 use ls_rules::Ruled;
 use ls_set::{PLACES, Query};
+use ls_standing::{OnItems, Start, answer_with, leading, nos, rules_before, yes_others};
 use ls_theory::{Answer, AnswerFault, Known};
 use std::alloc::{AllocError, Global};
 use std::marker::Model;
 use std::sync::ledger::Ledger;
-
-/// The most answers that stand.
-pub const MOST_ANSWERS: usize = 8192;
-
-/// The greatest number of an answer.
-pub const MOST_NUMBER: u64 = 999_999_999;
 
 /// What an expert was asked and answered: the items, the start, the greatest size of the sets that
 /// are asked, the standing answers in order of number, and the number of the next. Some space fits
@@ -97,9 +91,28 @@ fn build<L: Ledger>(
     Table::build(alloc, blocks, &Counted::new(&leading), &nos, steps)
 }
 
-impl Inquiry {
-    ghost use Rattle.ls_expert.specs.Starts.{start_of, IsStartOn};
+// The sets that meet the start, with no rules, and their table where no answer stands.
+fn begin<L: Ledger>(
+    alloc: Global,
+    n: u32,
+    start: Start,
+    steps: &mut Steps<L>,
+) -> Result<(Ruled<OnItems>, Table), AllocError>
+    requires some { 0 < n }
+    requires few { n ≤ PLACES }
+    requires start { IsStartOn n start }
+    ensures inner { IfOk result (λ p.
+        p.0.inner ≡ record { item_count = n; start = start_of start }) }
+    ensures rules { IfOk result (λ p. p.0.rules ≡ []) }
+    ensures table { IfOk result (λ p.
+        IsKeptFor (single_items n) (compat n (start_of start) []) [] p.1) }
+{
+    let family = Ruled::new(alloc, OnItems::new(n, start));
+    let table = build(alloc, &family, &[], steps)?;
+    Ok((family, table))
+}
 
+impl Inquiry {
     /// The inquiry on `n` items that begins with the start: blocks of single items, no answers, and
     /// the next number 1.
     pub fn new<L: Ledger>(
@@ -113,14 +126,12 @@ impl Inquiry {
         requires start { IsStartOn n start }
         ensures { IfOk result (λ i. i ≡ begun n (start_of start)) }
     {
-        let family = Ruled::new(alloc, OnItems::new(n, start));
-        let answers = Vec::new(alloc);
-        let table = build(alloc, &family, &answers, steps)?;
+        let (family, table) = begin(alloc, n, start, steps)?;
         let blocks = Blocks::new(n, 1).unwrap();
         Ok(Inquiry {
             alloc,
             family,
-            answers,
+            answers: Vec::new(alloc),
             next: 1,
             block: 1,
             blocks,
@@ -161,13 +172,25 @@ impl Inquiry {
         if !self.answers.is_empty() {
             return Err(StartFault::AnswersStand);
         }
-        let family = Ruled::new(self.alloc, OnItems::new(self.family.items(), start));
-        let table = build(self.alloc, &family, &self.answers, steps)?;
+        let (family, table) = begin(self.alloc, self.family.items(), start, steps)?;
+        self.begin_with(family, table);
+        Ok(())
+    }
+
+    // Begins with another start, of which those are the sets and the table.
+    fn begin_with(&mut self, family: Ruled<OnItems>, table: Table)
+        requires none { self.old.answers ≡ [] }
+        requires items { family.inner.item_count ≡ self.old.count }
+        requires start { IsStart self.old.count family.inner.start }
+        requires rules { family.rules ≡ [] }
+        requires table { IsKeptFor (single_items self.old.count)
+            (compat self.old.count family.inner.start []) [] table }
+        ensures { self.new ≡ record self.old { start = family.inner.start } }
+    {
         self.family = family;
         self.table = table;
         self.from = self.blocks.next_query(None);
         self.is_found = false;
-        Ok(())
     }
 
     /// Takes the expert's answer to a query, and gives its number. It is refused by the first of

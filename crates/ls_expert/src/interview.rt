@@ -8,22 +8,22 @@ ghost use Rattle.ls_theory.specs.{IsAnswerFault, IsBlockFault, accepted, answer_
 ghost use Rattle.ls_theory.specs.{breaks_none, compat, compatible_sets, is_settled, known, made};
 ghost use Rattle.ls_theory.specs.{next_question, refusal, retracted, spaces_of, yes_queries};
 ghost use Rattle.ls_base.specs.Followed.{IsFollowed};
-ghost use Rattle.ls_expert.specs.Held.{blocks_of, interview_on, IsStanding};
+ghost use Rattle.ls_standing.specs.Standing.{interview_on, IsStanding};
+ghost use Rattle.ls_expert.specs.Held.{blocks_of};
 ghost use Rattle.ls_expert.specs.Saved.{IsStandingFault};
 ghost use Rattle.ls_expert.specs.Steps.{steps_back, most_steps};
 
 use crate::bad_query::BadQuery;
 use crate::inquiry::Inquiry;
-use crate::on_items::OnItems;
 use crate::retract_fault::RetractFault;
 use crate::standing_fault::StandingFault;
-use crate::start::Start;
 use crate::start_fault::StartFault;
 use ls_base::Followed;
 use ls_interior::Steps;
 use ls_query::{BlockFault, Blocks};
 use ls_rules::Ruled;
 use ls_set::{PLACES, Query};
+use ls_standing::{OnItems, Start};
 use ls_theory::{Answer, AnswerFault, Known};
 use std::alloc::{AllocError, Global};
 use std::marker::Model;
@@ -58,7 +58,7 @@ fn follow(inquiry: &Inquiry) -> Result<Followed, AllocError>
 }
 
 impl Interview {
-    ghost use Rattle.ls_expert.specs.Starts.{start_of, IsStartOn};
+    ghost use Rattle.ls_standing.specs.Starts.{start_of, IsStartOn};
 
     /// The interview on `n` items that begins with the start: blocks of single items, no answers,
     /// and the next number 1.

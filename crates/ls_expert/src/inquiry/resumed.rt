@@ -3,22 +3,20 @@ ghost use Rattle.std.specs.Prelude.{◌≡◌, ◌<◌, ◌≤◌, true, Ok, IfO
 ghost use Rattle.std.specs.List.{list_all};
 ghost use Rattle.ls_set.specs.{is_good};
 ghost use Rattle.ls_theory.specs.{compat, made, nos, yes_queries};
-ghost use Rattle.ls_expert.specs.Starts.{start_of, IsStartOn};
+ghost use Rattle.ls_standing.specs.Starts.{start_of, IsStartOn};
 ghost use Rattle.ls_infer.specs.Tables.{IsKeptFor};
-ghost use Rattle.ls_expert.specs.Held.{blocks_of, interview_on, single_items, IsStanding};
-ghost use Rattle.ls_expert.specs.Saved.{are_broken, IsStandingFault, IsTableFault};
+ghost use Rattle.ls_standing.specs.Standing.{interview_on, IsStanding};
+ghost use Rattle.ls_expert.specs.Held.{blocks_of, single_items};
+ghost use Rattle.ls_expert.specs.Saved.{are_broken, can_fit, IsStandingFault, IsTableFault};
 
-use crate::answers::yes_queries;
 use crate::inquiry::{Inquiry, build};
-use crate::on_items::OnItems;
-use crate::saved::{can_stand, each_no_broken, with_rules};
 use crate::standing_fault::StandingFault;
-use crate::start::Start;
 use ls_infer::Table;
 use ls_interior::{Counted, Steps};
 use ls_query::Blocks;
 use ls_rules::Ruled;
 use ls_set::PLACES;
+use ls_standing::{OnItems, Start, can_stand, each_no_broken, with_rules, yes_queries};
 use ls_theory::Answer;
 use std::alloc::{AllocError, Global};
 use std::sync::ledger::Ledger;
@@ -65,6 +63,31 @@ fn table_with<L: Ledger>(
     Ok(build(alloc, family, answers, steps)?)
 }
 
+// The sets of the start and their table, for answers that stand where some space fits them.
+fn parts_with<L: Ledger>(
+    alloc: Global,
+    n: u32,
+    start: Start,
+    answers: &[Answer],
+    steps: &mut Steps<L>,
+) -> Result<(Ruled<OnItems>, Table), StandingFault>
+    requires some { 0 < n }
+    requires few { n ≤ PLACES }
+    requires start { IsStartOn n start }
+    requires good { list_all (λ a. is_good n a.query) answers.now ≡ true }
+    ensures inner { IfOk result (λ p.
+        p.0.inner ≡ record { item_count = n; start = start_of start }) }
+    ensures rules { IfOk result (λ p. p.0.rules ≡ yes_queries answers.now) }
+    ensures table { IfOk result (λ p. IsKeptFor (single_items n)
+        (compat n (start_of start) (yes_queries answers.now)) (nos answers.now) p.1) }
+    ensures fits { OnOk result (can_fit n (start_of start) answers.now ≡ true) }
+    ensures fault { IfErr result (IsTableFault (can_fit n (start_of start) answers.now)) }
+{
+    let family = family_with(alloc, n, start, answers)?;
+    let table = table_with(alloc, &family, answers, steps)?;
+    Ok((family, table))
+}
+
 impl Inquiry {
     /// The inquiry on `n` items that began with the start and goes on from answers that stand, as
     /// from saved ones: `next` is the number of the next, and queries of sets of 1 to `k` items are
@@ -93,8 +116,7 @@ impl Inquiry {
             return Err(StandingFault::BadAnswers);
         }
         let copied = Vec::from_slice(alloc, answers)?;
-        let family = family_with(alloc, n, start, answers)?;
-        let table = table_with(alloc, &family, answers, steps)?;
+        let (family, table) = parts_with(alloc, n, start, answers, steps)?;
         Ok(Inquiry {
             alloc,
             family,

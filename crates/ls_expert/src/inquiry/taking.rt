@@ -6,10 +6,10 @@ ghost use Rattle.ls_theory.specs.declared.known.Known.TheVariants as Known;
 ghost use Rattle.ls_theory.specs.{answer_with, is_full, refusal, standing_number};
 ghost use Rattle.ls_expert.specs.Steps.{steps_back, most_steps};
 
-use crate::answers::{opposed, put_last, rules_before, take_out};
-use crate::inquiry::{Inquiry, MOST_ANSWERS, MOST_NUMBER};
+use crate::inquiry::Inquiry;
 use ls_interior::{Counted, Steps};
 use ls_set::Query;
+use ls_standing::{MOST_ANSWERS, MOST_NUMBER, opposed, put_last, rules_before, take_out};
 use ls_theory::{Answer, AnswerFault, Known, No};
 use std::alloc::AllocError;
 use std::sync::ledger::Ledger;

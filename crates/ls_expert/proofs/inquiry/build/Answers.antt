@@ -1,7 +1,7 @@
 use Rattle.ls_expert.proofs.Vocabulary.{◌∙◌, ◌≡◌, BlockRange, IfOk-weaker, List, No, Query, RuledState, StartOn, ℕ, [], ap, ap₂, breaks_none, compat, filter, is_good, list_all, made, not, refl, single_items, sym, true}
-use Rattle.ls_expert.proofs.AnswerLists.{all-told}
+use Rattle.ls_standing.proofs.AnswerLists.{all-told}
 use Rattle.ls_expert.proofs.Holding.{kept-as, made-one, one-made}
-use Rattle.ls_expert.proofs.Ruling.{ruled-compat}
+use Rattle.ls_standing.proofs.Ruling.{ruled-compat}
 use Rattle.ls_expert.proofs.inquiry.build.Given as given
 use Rattle.ls_expert.proofs.inquiry.build.Goals as goal
 use Rattle.ls_expert.proofs.inquiry.build.Goals.{After-unwrap-blocks}

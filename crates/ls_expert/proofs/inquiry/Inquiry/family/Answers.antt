@@ -1,5 +1,5 @@
 use Rattle.ls_expert.proofs.Vocabulary.{◌∙◌, ap, compat, compatible_sets}
-use Rattle.ls_expert.proofs.Ruling.{ruled-compat}
+use Rattle.ls_standing.proofs.Ruling.{ruled-compat}
 use Rattle.ls_expert.proofs.inquiry.Inquiry.family.Goals as goal
 
 pub returns-clause-members : goal.returns-clause-members

@@ -1,10 +1,10 @@
-use Rattle.ls_expert.proofs.Vocabulary.{◌∙◌, ◌≡◌, Answer, Decides, Interview, IsHeld, IsSound, Ok, StartOn, ap, are_broken, blocks_of, interview_on, is_good, list_all, made, refl, start_of, sym, true, true≢false, yes_queries}
+use Rattle.ls_expert.proofs.Vocabulary.{◌≡◌, ◌∙◌, Decides, Interview, IsHeld, IsSound, Ok, blocks_of, can_fit, interview_on, made, refl, start_of, sym, true≢false, yes_queries}
 use Rattle.ls_expert.proofs.Asking.{asking}
-use Rattle.ls_expert.proofs.Holding.{range-of, some-made, tabled-by}
+use Rattle.ls_expert.proofs.Holding.{range-of, some-made}
 use Rattle.ls_expert.proofs.Saving.{made-as, ran_out, no_table, fit-decides}
 use Rattle.ls_expert.proofs.inquiry.Inquiry.from_standing.Given as given
 use Rattle.ls_expert.proofs.inquiry.Inquiry.from_standing.Goals as goal
-use Rattle.ls_expert.proofs.inquiry.Inquiry.from_standing.Goals.{In_ok-blocks, In_ok-family}
+use Rattle.ls_expert.proofs.inquiry.Inquiry.from_standing.Goals.{In_ok-blocks, In_ok-copied}
 
 -- the blocks are made
 has_blocks : (g : given.Over) (c : In_ok-blocks g) → made c.args.n c.args.k ≡ Ok (record { item_count = c.args.n; largest = c.args.k })
@@ -18,11 +18,9 @@ range : (g : given.Over) (c : In_ok-blocks g) → c.in_ok-blocks.blocks ≡ bloc
 range g c = range-of c.args.n c.args.k c.in_ok-blocks.blocks (sym c.new.ensures.value ∙ c.in_ok-blocks.was)
 
 -- some space fits it exactly where each No is broken
-decides : (g : given.Over) (c : In_ok-family g) → Decides (are_broken c.in_ok-family.family c.args.answers.now) (IsSound (interview_on c.args.n (start_of c.args.start) c.args.k c.args.answers.now c.args.next))
+decides : (g : given.Over) (c : In_ok-copied g) → Decides (can_fit c.args.n (start_of c.args.start) c.args.answers.now) (IsSound (interview_on c.args.n (start_of c.args.start) c.args.k c.args.answers.now c.args.next))
 decides g c =
-    let i = interview_on c.args.n (start_of c.args.start) c.args.k c.args.answers.now c.args.next in
-    fit-decides i _ c.in_ok-family.family.inner c.in_ok-family.family.rules c.requires.start.is_start (c.can_stand.ensures.good c.if-not-can_stand.false)
-    c.in_ok-family.ensures.inner c.in_ok-family.ensures.rules refl
+    fit-decides (interview_on c.args.n (start_of c.args.start) c.args.k c.args.answers.now c.args.next) c.requires.start.is_start (c.can_stand.ensures.good c.if-not-can_stand.false)
 
 -- ---- what is refused
 
@@ -32,46 +30,28 @@ returns-then-not-can_stand-clause-fault g c = (
   λ stands. true≢false (sym (c.can_stand.ensures.needed (start_of c.args.start) c.args.k stands) ∙ c.if-not-can_stand.true),
 )
 
-pub returns-in_err-family-clause-fault : goal.returns-in_err-family-clause-fault
-returns-in_err-family-clause-fault g c = ran_out _ c.from_residual-in_err-family.result _ (has_blocks g (goal.at.returns-in_err-family-clause-fault g c).In_ok-blocks) c.from_residual-in_err-family.ensures.1
-
 pub returns-in_err-copied-clause-fault : goal.returns-in_err-copied-clause-fault
 returns-in_err-copied-clause-fault g c = ran_out _ c.from_residual-in_err-copied.result _ (has_blocks g (goal.at.returns-in_err-copied-clause-fault g c).In_ok-blocks) c.from_residual-in_err-copied.ensures.1
 
-pub returns-in_err-table-clause-fault : goal.returns-in_err-table-clause-fault
-returns-in_err-table-clause-fault g c =
-    no_table (asked g (goal.at.returns-in_err-table-clause-fault g c).In_ok-blocks) _ c.from_residual-in_err-table.result c.in_err-table.field-0.0 (has_blocks g (goal.at.returns-in_err-table-clause-fault g c).In_ok-blocks)
-    (decides g (goal.at.returns-in_err-table-clause-fault g c).In_ok-family) c.in_err-table.ensures.fault c.from_residual-in_err-table.ensures.1
+pub returns-in_err-family-clause-fault : goal.returns-in_err-family-clause-fault
+returns-in_err-family-clause-fault g c =
+    no_table (asked g (goal.at.returns-in_err-family-clause-fault g c).In_ok-blocks) _ c.from_residual-in_err-family.result c.in_err-family.field-0.0 (has_blocks g (goal.at.returns-in_err-family-clause-fault g c).In_ok-blocks)
+    (decides g (goal.at.returns-in_err-family-clause-fault g c).In_ok-copied) c.in_err-family.ensures.fault c.from_residual-in_err-family.ensures.1
 
 -- ---- the parts
 
-pub table_with-requires-clause-some : goal.table_with-requires-clause-some
-table_with-requires-clause-some g c = rw (ap (λ (s : StartOn). s.item_count) c.in_ok-family.ensures.inner) c.requires.some
-
-pub table_with-requires-clause-few : goal.table_with-requires-clause-few
-table_with-requires-clause-few g c = rw (ap (λ (s : StartOn). s.item_count) c.in_ok-family.ensures.inner) c.requires.few
-
-pub table_with-requires-clause-good : goal.table_with-requires-clause-good
-table_with-requires-clause-good g c =
-    let told : list_all (λ (a : Answer). is_good c.in_ok-family.family.inner.item_count a.query) c.args.answers.now ≡ true =
-    ap (λ (s : StartOn). list_all (λ (a : Answer). is_good s.item_count a.query) c.args.answers.now) c.in_ok-family.ensures.inner ∙ c.can_stand.ensures.good c.if-not-can_stand.false in
-    told
-
 pub invariant_of-result : goal.invariant_of-result
 invariant_of-result g c =
-    let inner = c.in_ok-family.ensures.inner in
-    let ruled = c.in_ok-family.ensures.rules in
     let i = asked g (goal.at.invariant_of-result g c).In_ok-blocks in
-    let held : IsHeld i (yes_queries i.answers) c.in_ok-table.table = record {
+    let held : IsHeld i (yes_queries i.answers) c.in_ok-family.table = record {
       some_items = c.requires.some;
       few_items = c.requires.few;
       ruled = refl;
-      tabled = tabled-by i c.in_ok-family.family.inner.item_count c.in_ok-family.family.inner.start c.in_ok-family.family.rules c.args.answers.now c.in_ok-table.table c.in_ok-table.ensures.table
-          (ap (λ (u : StartOn). u.item_count) inner) (ap (λ (u : StartOn). u.start) inner) ruled refl;
-      standing = c.can_stand.ensures.enough i.start c.args.k c.if-not-can_stand.false ((decides g (goal.at.invariant_of-result g c).In_ok-family).0 c.in_ok-table.ensures.broken);
+      tabled = c.in_ok-family.ensures.table;
+      standing = c.can_stand.ensures.enough i.start c.args.k c.if-not-can_stand.false ((decides g (goal.at.invariant_of-result g c).In_ok-copied).0 c.in_ok-family.ensures.fits);
     } in
-    rw (inner, ruled, c.in_ok-copied.ensures.items)
-    (asking i c.in_ok-blocks.blocks (yes_queries i.answers) c.in_ok-table.table c.next_query.result held (range g (goal.at.invariant_of-result g c).In_ok-blocks) (some-made c.args.n c.args.k c.in_ok-blocks.blocks (sym c.new.ensures.value ∙ c.in_ok-blocks.was)) c.next_query.ensures)
+    rw (c.in_ok-family.ensures.inner, c.in_ok-family.ensures.rules, c.in_ok-copied.ensures.items)
+    (asking i c.in_ok-blocks.blocks (yes_queries i.answers) c.in_ok-family.table c.next_query.result held (range g (goal.at.invariant_of-result g c).In_ok-blocks) (some-made c.args.n c.args.k c.in_ok-blocks.blocks (sym c.new.ensures.value ∙ c.in_ok-blocks.was)) c.next_query.ensures)
 
 pub returns-clause-made : goal.returns-clause-made
 returns-clause-made g c =
@@ -80,4 +60,4 @@ returns-clause-made g c =
 pub returns-clause-standing : goal.returns-clause-standing
 returns-clause-standing g c =
     rw (c.in_ok-family.ensures.inner, c.in_ok-copied.ensures.items)
-    (c.can_stand.ensures.enough (start_of c.args.start) c.args.k c.if-not-can_stand.false ((decides g (goal.at.returns-clause-standing g c).In_ok-family).0 c.in_ok-table.ensures.broken))
+    (c.can_stand.ensures.enough (start_of c.args.start) c.args.k c.if-not-can_stand.false ((decides g (goal.at.returns-clause-standing g c).In_ok-copied).0 c.in_ok-family.ensures.fits))

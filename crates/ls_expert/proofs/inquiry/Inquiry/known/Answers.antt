@@ -1,5 +1,6 @@
 use Rattle.ls_expert.proofs.Vocabulary.{◌∙◌, Interview, ap, compat, interview_of, known, sym}
-use Rattle.ls_expert.proofs.Ruling.{own_blocks, ruled-compat}
+use Rattle.ls_standing.proofs.Ruling.{ruled-compat}
+use Rattle.ls_expert.proofs.Ruling.{own_blocks}
 use Rattle.ls_expert.proofs.inquiry.Inquiry.known.Goals as goal
 
 pub returns-clause-value : goal.returns-clause-value

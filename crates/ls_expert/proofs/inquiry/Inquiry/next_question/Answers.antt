@@ -1,6 +1,7 @@
 use Rattle.ls_expert.proofs.Vocabulary.{◌∙◌, ◌≡◌, BlockRange, IfSome, Interview, IsIn, None, Option, PlaceFor, Query, Some, ap, compat, interview_of, is_good, next_question, nothing, option_map, block_queries, subst, sym, true}
 use Rattle.ls_expert.proofs.Asking.{place-in, place-none, place-some}
-use Rattle.ls_expert.proofs.Ruling.{own_blocks, ruled-compat, question-good}
+use Rattle.ls_standing.proofs.Ruling.{ruled-compat}
+use Rattle.ls_expert.proofs.Ruling.{own_blocks, question-good}
 use Rattle.ls_expert.proofs.inquiry.Inquiry.next_question.Goals as goal
 
 pub returns-in_err-from-clause-value : goal.returns-in_err-from-clause-value

@@ -1,5 +1,5 @@
 use Rattle.ls_expert.proofs.Vocabulary.{◌∙◌, ◌≤◌, Answer, Interview, List, ap, length, rules_before, subst, sym, yes_queries}
-use Rattle.ls_expert.proofs.AnswerLists.{rules_before-few}
+use Rattle.ls_standing.proofs.AnswerLists.{rules_before-few}
 use Rattle.ls_expert.proofs.inquiry.Inquiry.rules_before.Goals as goal
 
 pub returns-clause-few : goal.returns-clause-few

@@ -1,5 +1,5 @@
 use Rattle.ls_expert.proofs.Vocabulary.{◌∙◌, Answer, Interview, List, StartOn, TableState, answer_with, ap, arith, compat, interview_of, is_good, remove, retracted, rules_before}
-use Rattle.ls_expert.proofs.Ruling.{ruled-compat}
+use Rattle.ls_standing.proofs.Ruling.{ruled-compat}
 use Rattle.ls_expert.proofs.Asking.{asking}
 use Rattle.ls_expert.proofs.Retracting.{held-without_yes, rule-within, good-of, steps-over}
 use Rattle.ls_expert.proofs.inquiry.Inquiry.take_back_yes.Goals as goal

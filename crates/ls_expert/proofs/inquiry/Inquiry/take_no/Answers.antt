@@ -1,5 +1,5 @@
 use Rattle.ls_expert.proofs.Vocabulary.{◌∙◌, Interview, IsTabled, ap, compat, false, interview_of, refusal}
-use Rattle.ls_expert.proofs.Ruling.{ruled-compat}
+use Rattle.ls_standing.proofs.Ruling.{ruled-compat}
 use Rattle.ls_expert.proofs.Asking.{still-asking}
 use Rattle.ls_expert.proofs.Taking.{held-no, tabled-no}
 use Rattle.ls_expert.proofs.inquiry.Inquiry.take_no.Goals as goal

@@ -1,5 +1,5 @@
 use Rattle.ls_expert.proofs.Vocabulary.{◌++◌, ◌∙◌, ◌∷◌, ◌≡◌, Interview, IsTabled, List, Query, StartOn, TableRoom, [], accepted, ap, ap₂, arith, compat, interview_of, known, refusal, sym, true}
-use Rattle.ls_expert.proofs.Ruling.{ruled-compat}
+use Rattle.ls_standing.proofs.Ruling.{ruled-compat}
 use Rattle.ls_expert.proofs.Asking.{still-asking}
 use Rattle.ls_expert.proofs.Retracting.{steps-over}
 use Rattle.ls_expert.proofs.Taking.{held-yes, tabled-yes, tabled-forced}

@@ -1,5 +1,5 @@
 use Rattle.ls_expert.proofs.Vocabulary.{◌∙◌, ◌≡◌, Answer, IfOk, IfOk-weaker, Interview, List, Query, ap, eqb, filter, is_good, list_all, not, subst, true, yes_queries}
-use Rattle.ls_expert.proofs.AnswerLists.{good-others}
+use Rattle.ls_standing.proofs.AnswerLists.{good-others}
 use Rattle.ls_expert.proofs.inquiry.Inquiry.yes_others.Goals as goal
 
 pub returns-clause-good : goal.returns-clause-good

@@ -1,5 +1,5 @@
 use Rattle.ls_expert.proofs.Vocabulary.{◌∙◌, ◌≡◌, Interview, List, Query, ap, is_good, list_all, subst, true}
-use Rattle.ls_expert.proofs.AnswerLists.{all-told}
+use Rattle.ls_standing.proofs.AnswerLists.{all-told}
 use Rattle.ls_expert.proofs.inquiry.Inquiry.yes_queries.Goals as goal
 
 pub returns-clause-good : goal.returns-clause-good

@@ -1,6 +1,6 @@
 use Rattle.ls_expert.proofs.Vocabulary.{◌∙◌, IfOk-weaker, List, Query, StartOn, ℕ, ap₂, is_good, list_all}
 use Rattle.ls_theory.specs.Starts as theory
-use Rattle.ls_expert.proofs.AnswerLists.{all-told}
+use Rattle.ls_standing.proofs.AnswerLists.{all-told}
 use Rattle.ls_expert.proofs.inquiry.resumed.family_with.Goals as goal
 
 pub with_rules-requires : goal.with_rules-requires

@@ -1,5 +1,5 @@
 use Rattle.ls_expert.proofs.Vocabulary.{◌∙◌, ◌≡◌, Interview, IsFollowed, List, Query, Some, answer_with, ap, subst, sym, yes_queries}
-use Rattle.ls_expert.proofs.AnswerLists.{yes_queries-without_no}
+use Rattle.ls_standing.proofs.AnswerLists.{yes_queries-without_no}
 use Rattle.ls_expert.proofs.interview.Interview.retract.Goals as goal
 
 pub invariant_of-self : goal.invariant_of-self

@@ -1,5 +1,5 @@
 use Rattle.ls_expert.proofs.Vocabulary.{◌+◌, Interview, IsFollowed, List, Query, ap, length, subst, sym, yes_queries}
-use Rattle.ls_expert.proofs.AnswerLists.{yes_queries-yes}
+use Rattle.ls_standing.proofs.AnswerLists.{yes_queries-yes}
 use Rattle.ls_expert.proofs.interview.Interview.take_yes.Goals as goal
 
 pub invariant_of-self-2 : goal.invariant_of-self-2

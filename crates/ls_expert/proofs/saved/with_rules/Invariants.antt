@@ -1,9 +1,0 @@
-use Rattle.ls_expert.proofs.Vocabulary.{◌≡◌, take}
-use Rattle.ls_expert.proofs.saved.with_rules.Given as goal
-
--- the queries so far are rules
-abbrev pub invariant-loop-rule : goal.invariant-loop-rule
-invariant-loop-rule l = record {
-  inner : l.family.inner ≡ l.fn.first;
-  rules : l.family.rules ≡ take l.rule-index l.rules;
-}
