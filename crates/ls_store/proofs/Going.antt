@@ -1,10 +1,11 @@
 -- How the parts of a session go on one after another.
-use Rattle.ls_store.proofs.Vocabulary.{◌∙◌, ◌≡◌, Cause, Data, Err, IfErr, IfOk, Interview, IsErrAnd, IsReadAs, IsSessionFault, List, None, Ok, Option, Result, Session, Settings, Some, Start, Text, Version, ℕ, and_then, ap, block_field, interview_in, length, names_field, or_cause, pupils_field, read_interview, read_object, refl, session_from, session_of, settings_in, start_field, subst, sym, told, version_field}
+use Rattle.ls_store.proofs.Vocabulary.{◌∙◌, ◌≡◌, Cause, Data, Err, IfErr, IfOk, Interview, IsErrAnd, IsReadAs, IsSessionFault, List, None, Ok, Option, Pupil, Result, Session, Settings, Some, Start, Text, Version, ℕ, and_then, ap, block_field, interview_in, length, names_field, or_cause, pupils_field, read_interview, read_object, refl, session_from, session_of, settings_in, start_field, subst, sym, told, version_field}
 use Rattle.ls_files.specs.declared.cause.Cause.TheVariants as cause
+use Rattle.ls_store.specs.Stored.{held_in}
 use Rattle.ls_store.specs.declared.fault.SessionFault.{SessionFault}
 use Rattle.ls_store.specs.declared.fault.SessionFault.TheVariants.{BadSession, Memory}
-use Rattle.ls_store.specs.declared.part_fault.PartFault.{PartFault}
-use Rattle.ls_store.specs.declared.part_fault.PartFault.TheVariants as part
+use Rattle.ls_codecs.specs.declared.part_fault.PartFault.{PartFault}
+use Rattle.ls_codecs.specs.declared.part_fault.PartFault.TheVariants as part
 
 -- ---- one part
 
@@ -75,6 +76,22 @@ after_names v d n names = and_then (settings_in v n d) (after_settings v n d nam
 
 abbrev pub after_version : Data → Version → Result Session Cause
 after_version d v = or_cause cause.Items (names_field.find_in d) (λ names. after_names v d (length names) names)
+
+-- the interview and the pupils
+abbrev pub after_held : Version → ℕ → Data → Interview → Result (Interview × List Pupil) Cause
+after_held v n d i = or_cause cause.Pupils ((pupils_field v n).find_in d) (λ ps. Ok (i, ps))
+
+retold : {X Y Z : Type 0} (f : SessionFault) (r : Result X Cause) (o : Option Y) (make : X → Y → Z) → IsSessionFault (and_then r (λ x. or_cause cause.Pupils o (λ y. let p : Result (X × Y) Cause = Ok (x, y) in p))) f
+    → IsSessionFault (and_then r (λ x. or_cause cause.Pupils o (λ y. let z : Result Z Cause = Ok (make x y) in z))) f
+retold (Memory m) r o make h = tt
+retold (BadSession b) (Err c) o make h = let same : c ≡ b = cc h in ap Err same
+retold (BadSession b) (Ok x) None make h = let same : cause.Pupils ≡ b = cc h in ap Err same
+retold (BadSession b) (Ok x) (Some y) make h = absurd (cc h)
+
+-- a fault of them is one of the session
+pub held-fault : (v : Version) (n : ℕ) (d : Data) (names : List Text) (s : Settings) (f : SessionFault) → IsSessionFault (held_in v n d) f → IsSessionFault (after_settings v n d names s) f
+held-fault v n d names s f h =
+    retold f (interview_in n d) ((pupils_field v n).find_in d) (λ i ps. let made : Session = record { names = names; interview = i; settings = s; pupils = ps } in made) h
 
 pub begun : (d : Data) → session_from d ≡ or_cause cause.Version (version_field.find_in d) (after_version d)
 unfolding session_from

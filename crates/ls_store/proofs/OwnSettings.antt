@@ -1,7 +1,7 @@
 -- The settings that an object has.
-use Rattle.ls_store.proofs.Vocabulary.{◌≡◌, Data, List, Ratios, Settings, Some, Version, ℕ, ap, length, limits_field, odds_field, settings_fields, settings_parts, sym}
-use Rattle.ls_store.proofs.Inverse.{zip-some}
-use Rattle.ls_store.proofs.Read.{odds-read}
+use Rattle.ls_store.proofs.Vocabulary.{◌≡◌, Data, Settings, Some, Version, ℕ, length, limits_field, odds_field, settings_fields, settings_parts}
+use Rattle.ls_codecs.proofs.Inverse.{zip-some}
+use Rattle.ls_codecs.proofs.Read.{odds-read}
 
 -- the settings that are read are those of n items
 pub settings-count : (v : Version) (n : ℕ) (d : Data) (s : Settings) → (settings_fields v n).find_in d ≡ Some (settings_parts s) → length s.ratios ≡ n

@@ -2,10 +2,10 @@
 use Rattle.ls_store.proofs.Vocabulary.{ArePupils, Bool, Data, Err, IsErrAnd, IsReadAs, List, None, Ok, Option, Pupil, PupilCase, Result, Some, [], and_from, and_parts, ap, append_assoc, ap₂, are_apart, are_pupils, as_array, bytes_eq, case_name, cases_Bool, cond, drop, false, get_or, have_own_names, inl, inr, is_called, items_view, kept_if, le-leb, leb, length, length-map, list_any, lt-leb, map, map_push, most_pupils, not, option_and_then, option_map, pupil_of_case, pupils_of, read_each, read_list, refl, subst, suc, sym, true, view, ℕ, ◌&&◌, ◌++◌, ◌+◌, ◌<◌, ◌||◌, ◌∙◌, ◌∷◌, ◌≡◌, ◌≤◌}
 use Rattle.std.proofs.lemmas.Slice.Eq.{bytes_eq-Decides}
 use Rattle.serde_json.specs.declared.value.Value.{Value}
-use Rattle.ls_store.specs.declared.part_fault.PartFault.{PartFault}
-use Rattle.ls_store.specs.declared.part_fault.PartFault.TheVariants as part
+use Rattle.ls_codecs.specs.declared.part_fault.PartFault.{PartFault}
+use Rattle.ls_codecs.specs.declared.part_fault.PartFault.TheVariants as part
 use Rattle.ls_set.proofs.Sets.{and-false}
-use Rattle.ls_store.proofs.Walks.{IsReadTo, read-last, read-next, read-none}
+use Rattle.ls_codecs.proofs.Walks.{IsReadTo, read-last, read-next, read-none}
 
 abbrev names_of : List Pupil → List (List ℕ)
 names_of ps = map (λ p. p.name) ps

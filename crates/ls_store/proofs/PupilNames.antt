@@ -1,6 +1,6 @@
 -- The names of pupils that are read, among those that stand.
-use Rattle.ls_store.proofs.Vocabulary.{◌∙◌, ◌≡◌, Bool, Data, Err, IfOk, IsReadAs, List, None, Ok, Option, Pupil, PupilCase, PupilParts, Query, Ratios, Reply, Result, Some, Start, Text, Version, ℕ, ap, both, case_name, cond, false, is_called, is_pupil, is_some, is_some-position, kept_if, list_any, name_field, option_map, option_zip, position, pupil_codec, pupil_from, pupil_of_case, replies_field, settings_fields, start_field, subst, sym, true, yes_field}
-use Rattle.ls_store.specs.declared.part_fault.PartFault.{PartFault}
+use Rattle.ls_store.proofs.Vocabulary.{◌∙◌, ◌≡◌, Bool, Data, Err, IfOk, IsReadAs, List, None, Ok, Option, Pupil, PupilCase, Query, Ratios, Reply, Result, Some, Start, Text, Version, ℕ, ap, both, case_name, cond, false, is_called, is_pupil, is_some, is_some-position, kept_if, list_any, name_field, option_map, option_zip, position, pupil_codec, pupil_from, pupil_of_case, replies_field, settings_fields, start_field, subst, sym, true, yes_field}
+use Rattle.ls_codecs.specs.declared.part_fault.PartFault.{PartFault}
 
 -- ---- the name of a pupil is the one that stands in its object
 

@@ -4,7 +4,7 @@ use Rattle.ls_theory.specs.Settings.{Settings, most_states}
 use Rattle.ls_laws.specs.Families.{IsFamily}
 use Rattle.ls_laws.proofs.Families.{compat-IsFamily}
 use Rattle.ls_weight.proofs.Weighable.{family-weighable}
-use Rattle.ls_expert.proofs.Ruling.{ruled-compat}
+use Rattle.ls_standing.proofs.Ruling.{ruled-compat}
 
 pub are-states : (inner : StartOn) (rules : List Query) (n : ℕ) (start : Start) (own : List Query) (sets : List Items) → inner ≡ (let s : StartOn = record { item_count = n; start = start } in s) → rules ≡ own
     → sets ≡ filter (breaks_none rules) (compat inner.item_count inner.start []) → sets ≡ compat n start own

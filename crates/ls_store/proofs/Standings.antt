@@ -4,10 +4,10 @@ use Rattle.std.specs.declared.alloc.AllocError.{AllocError}
 use Rattle.ls_theory.specs.declared.block_fault.BlockFault.{BlockFault}
 use Rattle.ls_expert.specs.declared.standing_fault.StandingFault.{StandingFault}
 use Rattle.ls_expert.specs.declared.standing_fault.StandingFault.TheVariants.{BadBlock, TooWide, BadAnswers, Memory}
-use Rattle.ls_expert.specs.Held as held
-use Rattle.ls_store.specs.Whole as whole
-use Rattle.ls_store.proofs.Sound.{stands-standing}
-use Rattle.ls_store.proofs.WrittenAnswers.{stands-from}
+use Rattle.ls_standing.specs.Standing as held
+use Rattle.ls_codecs.specs.Whole as whole
+use Rattle.ls_codecs.proofs.Sound.{stands-standing}
+use Rattle.ls_codecs.proofs.WrittenAnswers.{stands-from}
 
 -- ---- the parts
 

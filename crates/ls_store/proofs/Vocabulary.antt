@@ -1,73 +1,44 @@
 -- The words that the proofs of this crate cite, passed on from one place.
-pub use Rattle.std.proofs.Common.{Bool, Equal, Err, Greater, IfErr, IfOk, IsErrAnd, IsUtf8, Less, List, None, Ok, Option, Result, Some, [], ap, append-nil, append_assoc, ap₂, arith, codes, cond, drop, drop-cons, eq-eqb, eqb, eqb-true, false, filter, find, get_or, inl, inr, is_eq, is_none, le-leb, leb, leb-true, length, lt-ltb, ltb, ltb-false, ltb-true, map, max, ne_eqb, not, option_and_then, option_map, refl, replicate, rules, subst, suc, sym, take, true, true≢false, zero, ℕ, ◌&&◌, ◌++◌, ◌+◌, ◌-◌, ◌<◌, ◌^◌, ◌||◌, ◌∙◌, ◌∷◌, ◌≡◌, ◌≤◌}
-pub use Rattle.std.proofs.lemmas.Bool.{agree_below_at, and_from, and_parts, cases_Bool, false_from_ne_true, lt-leb, not-false, not-true, not_from_false, or_cases}
-pub use Rattle.std.proofs.lemmas.List.{length-map, length_push, map_push, take-append-drop, take_more}
-pub use Rattle.std.proofs.lemmas.Map.Keys.{IsStrictlyIncreasing-from_sorted, sorted_from_strictly_increasing}
+pub use Rattle.std.proofs.Common.{Bool, Err, IfErr, IfOk, IsErrAnd, List, None, Ok, Option, Result, Some, [], ap, append_assoc, ap₂, arith, codes, cond, drop, eqb, false, filter, get_or, inl, inr, is_none, le-leb, leb, leb-true, length, map, not, option_and_then, option_map, refl, rules, subst, suc, sym, take, true, true≢false, ℕ, ◌&&◌, ◌++◌, ◌+◌, ◌<◌, ◌||◌, ◌∙◌, ◌∷◌, ◌≡◌, ◌≤◌}
+pub use Rattle.std.proofs.lemmas.Bool.{and_from, and_parts, cases_Bool, false_from_ne_true, lt-leb}
+pub use Rattle.std.proofs.lemmas.List.{length-map, length_push, map_push}
 pub use Rattle.std.proofs.lemmas.Result.{IfOk-weaker}
-pub use Rattle.std.proofs.lemmas.Str.{IsUtf8-append, IsUtf8-from_ascii, IsUtf8-from_is_utf8, is_utf8-from_IsUtf8}
-pub use Rattle.std.specs.BTreeSet.{contains}
-pub use Rattle.std.specs.Cmp.Lexicographic.{pointwise, pointwise_decides}
-pub use Rattle.std.specs.List.{AllByRecursion, list_all, list_any, position}
-unfoldable pub use Rattle.std.specs.List.{IsDistinct}
-unfoldable pub use Rattle.std.specs.List.Sorted.{IsStrictlySortedBy}
-pub use Rattle.std.specs.Option.{option_map_or, option_or, option_zip}
-pub use Rattle.std.specs.Ordering.{nat_cmp}
-pub use Rattle.std.specs.Prelude.{IfSome, decimal, is_some, unwrap_or, ⊤}
-pub use Rattle.std.specs.Result.{is_ok, result_ok}
+pub use Rattle.std.specs.List.{list_all, list_any, position}
+pub use Rattle.std.specs.Option.{option_zip}
+pub use Rattle.std.specs.Prelude.{IfSome, is_some}
+pub use Rattle.std.specs.Result.{is_ok}
 pub use Rattle.std.specs.Str.{bytes_eq}
-unfoldable pub use Rattle.std.specs.Str.{chars, is_utf8}
-pub use Rattle.json.proofs.Printed.Utf8.{IsUtf8-are_ascii, IsUtf8-boolean, IsUtf8-quoted, are_ascii}
-pub use Rattle.ls_domain.proofs.Numbers.{is_name-utf8}
-pub use Rattle.ls_domain.proofs.Readings.{names_of_words-again, names_of_words-read}
-pub use Rattle.ls_domain.specs.Domains.{IsDomain, is_name, names_of_words}
-unfoldable pub use Rattle.ls_domain.specs.Domains.{names_from}
-pub use Rattle.ls_expert.specs.Held.{interview_on}
+pub use Rattle.ls_domain.specs.Domains.{is_name}
+pub use Rattle.ls_standing.specs.Standing.{interview_on}
 pub use Rattle.ls_expert.specs.Saved.{IsStandingFault}
-pub use Rattle.ls_expert.specs.Starts.{IsStartOn, StartOn, start_of}
-pub use Rattle.ls_files.specs.Codecs.{Codec, Fields, at_key, booleans, both, four_values, fours, kept_if, lists, mapped, numbers, objects, only_if, pair_value, pairs, parsed, read_four, read_object, read_pair, texts, two_values}
-pub use Rattle.ls_files.specs.SessionCodecs.{PupilParts, answer_codec, answer_from, answers_field, base_codec, block_codec, block_field, item_codec, limits_codec, limits_field, name_field, names_codec, names_field, next_field, odds_codec, odds_field, pupil_codec, pupil_fields, pupil_from, pupil_parts, pupils_codec, pupils_field, query_codec, ratio_codec, ratio_in, ratios_codec, replies_field, reply_codec, set_codec, settings_fields, settings_from, settings_parts, start_codec, start_field, start_from, start_value, start_within, surmise_codec, version_codec, version_field, yes_field}
-pub use Rattle.ls_files.specs.SessionFiles.{and_then, interview_from, interview_in, or_cause, read_interview, session_value, settings_in}
+pub use Rattle.ls_standing.specs.Starts.{IsStartOn, StartOn, start_of}
+pub use Rattle.ls_files.specs.Codecs.{both, kept_if, lists, numbers, read_object}
+pub use Rattle.ls_files.specs.SessionCodecs.{PupilParts, answer_codec, answers_field, block_field, limits_field, name_field, names_field, next_field, odds_field, pupil_codec, pupil_from, pupils_field, query_codec, replies_field, reply_codec, settings_fields, settings_parts, start_codec, start_field, version_field, yes_field}
+pub use Rattle.ls_files.specs.SessionFiles.{and_then, interview_from, interview_in, or_cause, read_interview, settings_in}
 unfoldable pub use Rattle.ls_files.specs.SessionFiles.{session_from, session_of, session_text}
-pub use Rattle.ls_files.proofs.CodecLaws.{IsReadBack, booleans-back, fewer, fours-back, kept, key-back, lists-back, mapped-back, numbers-back, only_if-back, pairs-back, parsed-back, texts-back, zipped}
-pub use Rattle.ls_files.proofs.Texts.{IsPlain, read_object-compact_text}
-pub use Rattle.ls_files.specs.Sessions.{Pupil, Session, most_pupils, pupil_states}
-pub use Rattle.ls_files.specs.Standing.{are_apart, are_made, are_pupils, follow, is_ascending, is_asked, is_base}
+pub use Rattle.ls_files.specs.Sessions.{Pupil, Session, most_pupils}
+pub use Rattle.ls_files.specs.Standing.{are_apart, are_made, are_pupils, follow, is_asked}
 unfoldable pub use Rattle.ls_files.specs.Standing.{is_pupil, stands}
-pub use Rattle.ls_files.specs.SurmiseFiles.{in_order, list_value, read_each, read_list, wide}
-unfoldable pub use Rattle.ls_files.specs.SurmiseFiles.{surmise_from}
+pub use Rattle.ls_files.specs.SurmiseFiles.{list_value, read_each, read_list}
 pub use Rattle.ls_files.specs.declared.cause.Cause.{Cause}
 pub use Rattle.ls_files.specs.declared.version.Version.{Version}
-pub use Rattle.ls_laws.proofs.Breaks.{good-from}
-pub use Rattle.ls_laws.specs.Spans.{AreOn}
 pub use Rattle.ls_lines.specs.{Text}
-unfoldable pub use Rattle.ls_lines.specs.{is_of}
-pub use Rattle.ls_lists.proofs.Every.{All-given, All-list_all, each, list_all-All}
 pub use Rattle.ls_lists.proofs.Places.{drop-next, is_some-position}
 pub use Rattle.ls_pupils.specs.Cases.{ArePupils, IsCase, case_name, pupil_of_case, pupils_of}
 pub use Rattle.ls_pupils.specs.Own.{have_own_names, is_called}
 pub use Rattle.ls_pupils.specs.declared.cases.PupilCase.{PupilCase}
-pub use Rattle.ls_set.proofs.Cursors.{nibble_of-lt, only, read_back}
-pub use Rattle.ls_set.proofs.Members.{Each-among, among-append, among-filter, among-here, among-there}
-pub use Rattle.ls_set.proofs.Order.{among-subsets, subsets_from-in_order}
-pub use Rattle.ls_set.proofs.Sets.{Decides-is_same, IsWithin-from, is_within-from}
-pub use Rattle.ls_set.specs.{Items, is_among, is_good, is_same, most_items}
+pub use Rattle.ls_set.specs.{Items, is_good, most_items}
 pub use Rattle.ls_set.specs.declared.query.Query.{Query}
-pub use Rattle.ls_theory.specs.{BlockRange, Interview, accepted, all_clauses, are_limits, are_ratios, are_settings, based, begun, breaks_none, clauses_of, first_missing, has_share, is_compatible, is_ratio, is_same_query, most_answers, most_number, most_states, no_queries, reply_fault, spaces_of}
-unfoldable pub use Rattle.ls_theory.specs.{asked, base, blocks, compat, families, fitting_spaces, flaw, half_split, imbalance, interior, is_too_wide, leader, made, weight}
+pub use Rattle.ls_theory.specs.{BlockRange, Interview, breaks_none, is_same_query, most_states, reply_fault}
+unfoldable pub use Rattle.ls_theory.specs.{asked, compat, made}
 pub use Rattle.ls_theory.specs.Settings.{Settings}
-unfoldable pub use Rattle.ls_theory.specs.Settings.{heavy_after}
-pub use Rattle.ls_theory.specs.Starts.{Clauses, Free, Sets, Start}
+pub use Rattle.ls_theory.specs.Starts.{Start}
 pub use Rattle.ls_theory.specs.declared.answer.Answer.{Answer}
-pub use Rattle.ls_theory.specs.declared.base_fault.BaseFault.{BaseFault}
-pub use Rattle.ls_theory.specs.declared.ratio.Ratio.{Ratio}
 pub use Rattle.ls_theory.specs.declared.ratio.Ratios.{Ratios}
 pub use Rattle.ls_theory.specs.declared.reply.Reply.{Reply}
 pub use Rattle.ls_weight.specs.Weighings.{IsWeighable, Weighing}
-pub use Rattle.serde_json.specs.Data.{Data, Items as Values, Members, Num, array, boolean, depth, float, item, items_depth, member, members_depth, negative, no_items, no_members, null, number, object, put, string, unsigned}
-pub use Rattle.serde_json.specs.Find.{as_array, as_bool, as_object, as_str, get}
-pub use Rattle.serde_json.specs.Read.{max_depth, of_items, of_json, of_members, read}
+pub use Rattle.serde_json.specs.Data.{Data, Items as Values, Members, array, item, no_members, object, put, string}
+pub use Rattle.serde_json.specs.Find.{as_array}
 pub use Rattle.serde_json.specs.View.{items_of, items_view, members_view, view}
-pub use Rattle.serde_json.specs.Written.{comma_if, compact_text, has_float, items_have_float, items_outline, items_text, members_have_float, members_outline, members_text, outline}
-pub use Rattle.ls_store.specs.{IsNarrow, IsPupil, IsStanding, IsStart, IsWhole}
-pub use Rattle.ls_store.specs.Faults.{IsRead, IsReadAs, IsSessionFault, told}
-pub use Rattle.ls_store.specs.QueryOrders.{query_order, same-by_query_order, same_queries}
+pub use Rattle.ls_store.specs.Faults.{IsSessionFault, told}
+pub use Rattle.ls_codecs.specs.Faults.{IsReadAs}

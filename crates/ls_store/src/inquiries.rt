@@ -2,13 +2,12 @@
 ghost use Rattle.std.specs.Prelude.{◌≡◌, ◌<◌, ◌≤◌, true};
 ghost use Rattle.serde_json.specs.View.{view};
 ghost use Rattle.ls_set.specs.{most_items};
-ghost use Rattle.ls_expert.specs.Starts.{start_of, IsStartOn};
+ghost use Rattle.ls_standing.specs.Starts.{start_of, IsStartOn};
 ghost use Rattle.ls_files.specs.SessionFiles.{read_interview};
 ghost use Rattle.ls_files.specs.Standing.{are_made};
-ghost use Rattle.ls_store.specs.Faults.{IsRead};
+ghost use Rattle.ls_codecs.specs.Faults.{IsRead};
 
-use crate::keys::{read_at, read_list_at};
-use crate::part_fault::PartFault;
+use ls_codecs::{PartFault, read_at, read_list_at};
 use ls_expert::{Inquiry, StandingFault, Start};
 use ls_files::Version;
 use ls_interior::Steps;

@@ -3,7 +3,7 @@ ghost use Rattle.std.specs.Prelude.{◌≡◌, ℕ, List, Ok};
 ghost use Rattle.std.specs.Bool.{Decides};
 ghost use Rattle.ls_set.specs.{Items};
 ghost use Rattle.ls_theory.specs.{Interview, based};
-ghost use Rattle.ls_store.specs.Whole.{IsStanding, IsWhole};
+ghost use Rattle.ls_codecs.specs.Whole.{IsStanding, IsWhole};
 ghost use Rattle.ls_files.specs.Sessions.{Session};
 ghost use Rattle.ls_files.specs.Standing.{is_base, stands};
 ghost use Rattle.ls_files.specs.{session_of, session_text};

@@ -2,27 +2,15 @@
 //! a whole session is read as that session.
 #![tactic(auto)]
 
-mod apart;
-mod blocks;
 mod fault;
-mod formats;
 mod inquiries;
-mod keys;
 mod laws;
-mod lists;
-mod names;
-mod objects;
-mod part_fault;
 mod parts;
 mod printing;
 mod pupils;
-mod queries;
-mod ratios;
 mod reading;
 mod replaying;
 mod saved;
-mod single;
-mod starts;
 mod written_pupils;
 
 pub use fault::SessionFault;

@@ -6,12 +6,8 @@ ghost use Rattle.ls_files.specs.{session_text};
 ghost use Rattle.ls_files.specs.SessionFiles.{session_value};
 ghost use Rattle.ls_pupils.specs.Cases.{pupils_of, ArePupils};
 
-use crate::formats::ToValue;
-use crate::keys::put_at;
-use crate::lists::write_list;
-use crate::names::names_value;
-use crate::ratios::put_settings;
-use crate::starts::start_value;
+use crate::written_pupils::cases_value;
+use ls_codecs::{names_value, put_at, put_settings, start_value, write_list};
 use ls_domain::Domain;
 use ls_expert::Inquiry;
 use ls_pupils::PupilCases;
@@ -37,7 +33,7 @@ fn session_value(
 {
     let n = inquiry.items();
     let mut map = Map::new(alloc);
-    let pupils = write_list(alloc, n, pupils.as_slice())?;
+    let pupils = cases_value(alloc, n, pupils.as_slice())?;
     put_at(alloc, &mut map, "pupils", pupils)?;
     put_at(alloc, &mut map, "next", Value::from(inquiry.next_number()))?;
     let answers = write_list(alloc, n, inquiry.standing())?;

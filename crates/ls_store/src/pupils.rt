@@ -10,16 +10,12 @@ ghost use Rattle.ls_files.specs.SessionCodecs.{name_field, pupil_codec, pupils_c
 ghost use Rattle.ls_files.specs.SessionCodecs.{pupils_field, settings_fields, settings_parts};
 ghost use Rattle.ls_pupils.specs.Own.{is_called};
 ghost use Rattle.ls_pupils.specs.Cases.{case_name, pupil_of_case, pupils_of, IsCase, ArePupils};
-ghost use Rattle.ls_store.specs.Faults.{IsReadAs};
-ghost use Rattle.ls_store.specs.declared.part_fault.PartFault.TheVariants.{Bad};
+ghost use Rattle.ls_codecs.specs.Faults.{IsReadAs};
+ghost use Rattle.ls_codecs.specs.declared.part_fault.PartFault.TheVariants.{Bad};
 
-use crate::apart::are_apart;
-use crate::keys::{read_at, read_list_at};
-use crate::part_fault::PartFault;
-use crate::ratios::{read_limits, read_odds};
 use crate::replaying::pupil_after;
-use crate::starts::read_start;
 use ls_assess::Reply;
+use ls_codecs::{PartFault, are_apart, read_at, read_limits, read_list_at, read_odds, read_start};
 use ls_files::Version;
 use ls_interior::Steps;
 use ls_lines::{Kind, Word};

@@ -1,11 +1,11 @@
 // Pupils of saved sessions: their states are listed, and their replies are given once more.
-ghost use Rattle.std.specs.Prelude.{◌≡◌, ◌<◌, ◌≤◌, ◌&&◌, [], true, length, nat_le, is_none};
+ghost use Rattle.std.specs.Prelude.{◌≡◌, ◌<◌, ◌≤◌, ◌&&◌, [], true, filter, length, nat_le, is_none};
 ghost use Rattle.std.specs.Prelude.{is_some, Some, IfOk, IfSome};
 ghost use Rattle.std.specs.List.{list_all};
 ghost use Rattle.ls_set.specs.{is_good};
-ghost use Rattle.ls_theory.specs.{compat, heavy_after, most_states};
+ghost use Rattle.ls_theory.specs.{breaks_none, compat, heavy_after, most_states};
 ghost use Rattle.ls_weight.specs.Weighings.{IsWeighable};
-ghost use Rattle.ls_expert.specs.Starts.{start_of, IsStartOn};
+ghost use Rattle.ls_standing.specs.Starts.{start_of, IsStartOn};
 ghost use Rattle.ls_files.specs.{follow};
 ghost use Rattle.ls_files.specs.Codecs.{kept_if};
 
@@ -41,6 +41,23 @@ fn family_of(
     Ok(family)
 }
 
+// The sets of the family, where there are not too many to be a pupil's states.
+fn listed<L: Ledger>(
+    alloc: Global,
+    family: &Ruled<OnItems>,
+    steps: &mut Steps<L>,
+) -> Result<Option<SetList>, AllocError>
+    ensures { IfOk result (λ found. found ≡ kept_if (λ f. nat_le (length f) most_states)
+        (Some (filter (breaks_none family.now.rules)
+        (compat family.now.inner.item_count family.now.inner.start [])))) }
+{
+    match list_all(alloc, &Counted::new(family), MOST_STATES, steps) {
+        Ok(states) => Ok(Some(states)),
+        Err(ListFault::More) => Ok(None),
+        Err(ListFault::Memory(e)) => Err(e),
+    }
+}
+
 // The sets that meet the start and break no query, where there are not too many to be a pupil's
 // states.
 fn states_of<L: Ledger>(
@@ -57,11 +74,7 @@ fn states_of<L: Ledger>(
         (Some (compat n (start_of start.now) yes.now))) }
 {
     let family = family_of(alloc, n, start, yes)?;
-    match list_all(alloc, &Counted::new(&family), MOST_STATES, steps) {
-        Ok(states) => Ok(Some(states)),
-        Err(ListFault::More) => Ok(None),
-        Err(ListFault::Memory(e)) => Err(e),
-    }
+    listed(alloc, &family, steps)
 }
 
 // The pupil over the states before any reply, where they can be weighed under the settings.

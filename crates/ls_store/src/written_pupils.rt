@@ -1,33 +1,48 @@
 // Pupils, written.
-use crate::formats::ToValue;
-use crate::keys::{put_at, text_value};
-use crate::lists::write_list;
-use crate::ratios::put_settings;
-use crate::starts::start_value;
+ghost use Rattle.std.specs.Prelude.{◌≡◌, ◌≤◌, IfOk};
+ghost use Rattle.std.specs.List.{All};
+ghost use Rattle.serde_json.specs.View.{view};
+ghost use Rattle.ls_set.specs.{most_items};
+ghost use Rattle.ls_files.specs.SessionCodecs.{pupil_codec};
+ghost use Rattle.ls_files.specs.SurmiseFiles.{list_value};
+ghost use Rattle.ls_files.specs.declared.version.Version.TheVariants as version;
+ghost use Rattle.ls_pupils.specs.Cases.{pupil_of_case, IsCase};
+
+use ls_codecs::{put_at, put_settings, start_value, text_value, write_list};
 use ls_pupils::PupilCase;
 use serde_json::{Map, Value};
 use std::alloc::{AllocError, Global};
 
-impl ToValue for PupilCase {
-    ghost use Rattle.ls_files.specs.SessionCodecs.{pupil_codec};
-    ghost use Rattle.ls_files.specs.declared.version.Version.TheVariants as version;
-    ghost use Rattle.ls_pupils.specs.Cases.{pupil_of_case, IsCase};
+// The object of a pupil.
+fn case_value(alloc: Global, n: u32, case: &PupilCase) -> Result<Value, AllocError>
+    requires few { n ≤ most_items }
+    requires fine { IsCase n case.now }
+    ensures { IfOk result (λ v.
+        view v ≡ (pupil_codec version.Ratios n).write (pupil_of_case case.now)) }
+{
+    let mut map = Map::new(alloc);
+    let replies = write_list(alloc, n, case.pupil.replies())?;
+    put_at(alloc, &mut map, "replies", replies)?;
+    let yes = write_list(alloc, n, case.yes.as_slice())?;
+    put_at(alloc, &mut map, "yes", yes)?;
+    let start = start_value(alloc, n, &case.start)?;
+    put_at(alloc, &mut map, "start", start)?;
+    put_settings(alloc, n, &mut map, &case.settings)?;
+    let name = text_value(alloc, case.name.as_str())?;
+    put_at(alloc, &mut map, "name", name)?;
+    Ok(Value::Object(map))
+}
 
-    ghost is_fine = { IsCase };
-
-    ghost writes = { λ n c. (pupil_codec version.Ratios n).write (pupil_of_case c) };
-
-    fn to_value(&self, alloc: Global, n: u32) -> Result<Value, AllocError> {
-        let mut map = Map::new(alloc);
-        let replies = write_list(alloc, n, self.pupil.replies())?;
-        put_at(alloc, &mut map, "replies", replies)?;
-        let yes = write_list(alloc, n, self.yes.as_slice())?;
-        put_at(alloc, &mut map, "yes", yes)?;
-        let start = start_value(alloc, n, &self.start)?;
-        put_at(alloc, &mut map, "start", start)?;
-        put_settings(alloc, n, &mut map, &self.settings)?;
-        let name = text_value(alloc, self.name.as_str())?;
-        put_at(alloc, &mut map, "name", name)?;
-        Ok(Value::Object(map))
+/// The list of the objects of pupils.
+pub fn cases_value(alloc: Global, n: u32, cases: &[PupilCase]) -> Result<Value, AllocError>
+    requires few { n ≤ most_items }
+    requires fine { All (IsCase n) cases.now }
+    ensures { IfOk result (λ v. view v ≡ list_value (λ c.
+        (pupil_codec version.Ratios n).write (pupil_of_case c)) cases.now) }
+{
+    let mut values = Vec::new(alloc);
+    for case in cases {
+        values.push(case_value(alloc, n, case)?)?;
     }
+    Ok(Value::Array(values))
 }

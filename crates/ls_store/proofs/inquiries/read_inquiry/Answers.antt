@@ -1,5 +1,5 @@
 use Rattle.ls_store.proofs.Vocabulary.{◌∙◌, Answer, IsStandingFault, List, ap, interview_on, rules, subst, view}
-use Rattle.ls_expert.specs.Starts.{start_of}
+use Rattle.ls_standing.specs.Starts.{start_of}
 use Rattle.ls_store.proofs.Standings.{standing, refused}
 use Rattle.ls_store.proofs.inquiries.read_inquiry.Goals as goal
 

@@ -1,5 +1,5 @@
-use Rattle.ls_store.proofs.RoundTrip.{read_back}
-use Rattle.ls_store.proofs.Read.{read_whole}
+use Rattle.ls_codecs.proofs.RoundTrip.{read_back}
+use Rattle.ls_codecs.proofs.Read.{read_whole}
 use Rattle.ls_store.proofs.laws.sessions_are_read_back.Goals as goal
 
 pub returns-clause-back : goal.returns-clause-back

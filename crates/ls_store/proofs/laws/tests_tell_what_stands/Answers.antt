@@ -1,6 +1,6 @@
-use Rattle.ls_store.proofs.WrittenAnswers.{stands-from}
-use Rattle.ls_store.proofs.WrittenStarts.{is_base-from}
-use Rattle.ls_store.proofs.Sound.{stands-standing, is_base-based}
+use Rattle.ls_codecs.proofs.WrittenAnswers.{stands-from}
+use Rattle.ls_codecs.proofs.WrittenStarts.{is_base-from}
+use Rattle.ls_codecs.proofs.Sound.{stands-standing, is_base-based}
 use Rattle.ls_store.proofs.laws.tests_tell_what_stands.Goals as goal
 
 pub returns-clause-answers : goal.returns-clause-answers

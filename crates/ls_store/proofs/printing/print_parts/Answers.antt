@@ -1,5 +1,5 @@
 use Rattle.ls_store.proofs.Vocabulary.{IfOk-weaker, Session, pupils_of, session_text}
-use Rattle.ls_store.proofs.RoundTrip.{session-exact}
+use Rattle.ls_codecs.proofs.RoundTrip.{session-exact}
 use Rattle.ls_store.proofs.printing.print_parts.Goals as goal
 
 pub returns : goal.returns

@@ -1,4 +1,4 @@
-use Rattle.ls_store.proofs.Vocabulary.{◌∙◌, ap, is_some, pupil_of_case, view}
+use Rattle.ls_store.proofs.Vocabulary.{◌∙◌, ap, is_some, view}
 use Rattle.ls_store.proofs.PupilNames.{name-there, name-free}
 use Rattle.ls_store.proofs.pupils.next_case.Goals as goal
 

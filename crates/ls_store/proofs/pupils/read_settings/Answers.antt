@@ -1,5 +1,5 @@
 use Rattle.ls_store.proofs.Vocabulary.{◌≤◌, most_items, subst, sym, view}
-use Rattle.ls_store.proofs.Read.{limits-read, odds-read}
+use Rattle.ls_codecs.proofs.Read.{limits-read, odds-read}
 use Rattle.ls_store.proofs.pupils.read_settings.Goals as goal
 
 pub from_ratios-requires-clause-few : goal.from_ratios-requires-clause-few

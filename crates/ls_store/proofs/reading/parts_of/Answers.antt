@@ -1,6 +1,6 @@
-use Rattle.ls_store.proofs.Vocabulary.{◌∙◌, ◌≡◌, ArePupils, IsSessionFault, Some, interview_in, names_field, pupils_field, pupils_of, session_from, settings_in, subst, sym, version_field, view}
+use Rattle.ls_store.proofs.Vocabulary.{◌∙◌, ◌≡◌, IsSessionFault, Ok, names_field, session_from, settings_in, subst, sym, version_field, view}
 use Rattle.ls_files.specs.declared.cause.Cause.TheVariants as cause
-use Rattle.ls_store.proofs.Going.{after_interview, after_settings, after_version, begun, fault-on, gone, named, passed_on, some, told-err, told-of, told-ok}
+use Rattle.ls_store.proofs.Going.{after_settings, after_version, begun, fault-on, named, passed_on, some, told-err, told-ok}
 use Rattle.ls_store.proofs.reading.parts_of.Goals as goal
 
 pub returns-in_err-version-clause-fault : goal.returns-in_err-version-clause-fault
@@ -25,57 +25,21 @@ returns-in_err-settings-clause-fault g c =
     let d = view c.args.object.now in
     let v = c.in_ok-version.version in
     let names = c.in_ok-domain.domain in
-    let n = c.count-n.result in
+    let n = c.count.result in
     let f = c.in_err-settings.field-0.0 in
     let e = told-ok (λ v. v) cause.Version (version_field.find_in d) c.read_version.result v c.read_version.ensures c.in_ok-version.ensures in
     let h = told-ok (λ x. x) cause.Items (names_field.find_in d) c.read_domain.result names c.read_domain.ensures c.in_ok-domain.ensures in
     passed_on (session_from d) f c.from_residual-in_err-settings.result c.from_residual-in_err-settings.ensures.1
-    (subst (λ r. IsSessionFault r f) (sym (named d v names n c.count-n.ensures.value e h)) (fault-on (settings_in v n d) (after_settings v n d names) f c.in_err-settings.ensures.fault))
+    (subst (λ r. IsSessionFault r f) (sym (named d v names n c.count.ensures.value e h)) (fault-on (settings_in v n d) (after_settings v n d names) f c.in_err-settings.ensures.fault))
 
-pub returns-in_err-inquiry-clause-fault : goal.returns-in_err-inquiry-clause-fault
-returns-in_err-inquiry-clause-fault g c =
-    let d = view c.args.object.now in
-    let v = c.in_ok-version.version in
-    let names = c.in_ok-domain.domain in
-    let n = c.count-n.result in
-    let s = c.in_ok-settings.settings in
-    let f = c.in_err-inquiry.field-0.0 in
-    let e = told-ok (λ v. v) cause.Version (version_field.find_in d) c.read_version.result v c.read_version.ensures c.in_ok-version.ensures in
-    let h = told-ok (λ x. x) cause.Items (names_field.find_in d) c.read_domain.result names c.read_domain.ensures c.in_ok-domain.ensures in
-    let is = named d v names n c.count-n.ensures.value e h ∙ gone (settings_in v n d) s (after_settings v n d names) c.in_ok-settings.ensures.settings in
-    passed_on (session_from d) f c.from_residual-in_err-inquiry.result c.from_residual-in_err-inquiry.ensures.1
-    (subst (λ r. IsSessionFault r f) (sym is) (fault-on (interview_in n d) (after_interview v n d names s) f c.in_err-inquiry.ensures.fault))
+pub parts_after-requires-clause-version : goal.parts_after-requires-clause-version
+parts_after-requires-clause-version g c =
+    told-ok (λ v. v) cause.Version (version_field.find_in (view c.args.object.now)) c.read_version.result c.in_ok-version.version c.read_version.ensures c.in_ok-version.ensures
 
-pub returns-in_err-pupils-clause-fault : goal.returns-in_err-pupils-clause-fault
-returns-in_err-pupils-clause-fault g c =
-    let d = view c.args.object.now in
-    let v = c.in_ok-version.version in
-    let names = c.in_ok-domain.domain in
-    let n = c.count-n.result in
-    let s = c.in_ok-settings.settings in
-    let f = c.in_err-pupils.field-0.0 in
-    let e = told-ok (λ v. v) cause.Version (version_field.find_in d) c.read_version.result v c.read_version.ensures c.in_ok-version.ensures in
-    let h = told-ok (λ x. x) cause.Items (names_field.find_in d) c.read_domain.result names c.read_domain.ensures c.in_ok-domain.ensures in
-    let is = named d v names n c.count-n.ensures.value e h ∙ gone (settings_in v n d) s (after_settings v n d names) c.in_ok-settings.ensures.settings
-    ∙ gone (interview_in n d) c.in_ok-inquiry.inquiry (after_interview v n d names s) c.in_ok-inquiry.ensures.interview in
-    passed_on (session_from d) f c.from_residual-in_err-pupils.result c.from_residual-in_err-pupils.ensures.1
-    (subst (λ r. IsSessionFault r f) (sym is) (told-err pupils_of cause.Pupils ((pupils_field v n).find_in d) c.read_pupils.result _ f c.read_pupils.ensures.value c.in_err-pupils.ensures))
+pub parts_after-requires-clause-names : goal.parts_after-requires-clause-names
+parts_after-requires-clause-names g c =
+    told-ok (λ x. x) cause.Items (names_field.find_in (view c.args.object.now)) c.read_domain.result c.in_ok-domain.domain c.read_domain.ensures c.in_ok-domain.ensures
 
-pub returns-clause-session : goal.returns-clause-session
-returns-clause-session g c =
-    let d = view c.args.object.now in
-    let v = c.in_ok-version.version in
-    let names = c.in_ok-domain.domain in
-    let n = c.count-n.result in
-    let s = c.in_ok-settings.settings in
-    let ps = c.in_ok-pupils.pupils in
-    let e = told-ok (λ v. v) cause.Version (version_field.find_in d) c.read_version.result v c.read_version.ensures c.in_ok-version.ensures in
-    let h = told-ok (λ x. x) cause.Items (names_field.find_in d) c.read_domain.result names c.read_domain.ensures c.in_ok-domain.ensures in
-    let k = told-ok pupils_of cause.Pupils ((pupils_field v n).find_in d) c.read_pupils.result ps c.read_pupils.ensures.value c.in_ok-pupils.ensures in
-    named d v names n c.count-n.ensures.value e h ∙ gone (settings_in v n d) s (after_settings v n d names) c.in_ok-settings.ensures.settings
-    ∙ gone (interview_in n d) c.in_ok-inquiry.inquiry (after_interview v n d names s) c.in_ok-inquiry.ensures.interview ∙ some cause.Pupils _ (pupils_of ps) _ k
-
-pub returns-clause-pupils : goal.returns-clause-pupils
-returns-clause-pupils g c =
-    let ps = c.in_ok-pupils.pupils in
-    subst (λ m. ArePupils m ps) (sym c.in_ok-inquiry.ensures.items) (told-of (ArePupils c.count-n.result) cause.Pupils c.read_pupils.result ps c.read_pupils.ensures.cases c.in_ok-pupils.ensures)
+pub parts_after-requires-clause-settings : goal.parts_after-requires-clause-settings
+parts_after-requires-clause-settings g c =
+    subst (λ m. settings_in c.in_ok-version.version m (view c.args.object.now) ≡ Ok c.in_ok-settings.settings) c.count.ensures.value c.in_ok-settings.ensures.settings

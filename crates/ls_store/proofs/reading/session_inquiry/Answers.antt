@@ -1,6 +1,6 @@
-use Rattle.ls_store.proofs.Vocabulary.{◌∙◌, ◌≡◌, IfErr, IfOk, IfOk-weaker, IsSessionFault, IsStartOn, Ok, Some, block_field, interview_in, or_cause, read_interview, start_field, start_of, subst, sym, view}
+use Rattle.ls_store.proofs.Vocabulary.{◌∙◌, ◌≡◌, IfErr, IfOk, IfOk-weaker, IsSessionFault, IsStartOn, Ok, block_field, interview_in, read_interview, start_field, start_of, subst, sym, view}
 use Rattle.ls_files.specs.declared.cause.Cause.TheVariants as cause
-use Rattle.ls_store.proofs.Read.{block-read, interview-read}
+use Rattle.ls_codecs.proofs.Read.{block-read, interview-read}
 use Rattle.ls_store.proofs.Going.{inquired, passed_on, some, told-err, told-fault, told-last, told-of, told-ok}
 use Rattle.ls_store.proofs.reading.session_inquiry.Goals as goal
 

@@ -1,6 +1,6 @@
 use Rattle.ls_store.proofs.Vocabulary.{◌∙◌, ◌≡◌, ◌≤◌, IsSessionFault, Ok, Some, ap, length, limits_field, most_items, odds_field, settings_in, subst, sym, view}
 use Rattle.ls_files.specs.declared.cause.Cause.TheVariants as cause
-use Rattle.ls_store.proofs.Read.{limits-read, odds-read}
+use Rattle.ls_codecs.proofs.Read.{limits-read, odds-read}
 use Rattle.ls_store.proofs.Going.{passed_on, some, told-ok, told-err}
 use Rattle.ls_store.proofs.reading.session_settings.Goals as goal
 

@@ -1,5 +1,0 @@
-use Rattle.ls_store.proofs.Vocabulary.{◌≡◌, map, string, take, view}
-use Rattle.ls_store.proofs.names.names_value.Given as goal
-
-abbrev pub invariant-loop-i : goal.invariant-loop-i
-invariant-loop-i l = map view l.values.items ≡ map string (take l.i l.domain)

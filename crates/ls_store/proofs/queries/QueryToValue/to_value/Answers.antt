@@ -1,5 +1,0 @@
-use Rattle.ls_store.proofs.Vocabulary.{good-from}
-use Rattle.ls_store.proofs.queries.QueryToValue.to_value.Goals as goal
-
-pub to_value-requires-clause-fine : goal.to_value-requires-clause-fine
-to_value-requires-clause-fine c = ((good-from c.args.n c.args.self.now c.requires.fine).small, tt)
