@@ -1,31 +1,33 @@
 -- Answers that a safe interview accepts, and those that it does not.
-use Rattle.std.proofs.Common.{ℕ, suc, ◌+◌, ◌≡◌, true, false, cond, List, [], ◌∷◌, ◌++◌, length}
+use Rattle.std.proofs.Common.{ℕ, suc, ◌+◌, ◌≡◌, true, cond, List, [], ◌∷◌, ◌++◌, length}
 use Rattle.std.proofs.Common.{option_map, Option, Some, None, refl, sym, ap, ap₂, ◌∙◌, subst}
 use Rattle.std.specs.List.{list_all}
 use Rattle.std.specs.Prelude.{if◌then◌else◌, nat_le}
 use Rattle.std.specs.Option.{option_or}
-use Rattle.std.proofs.lemmas.Bool.{and_from, and_parts}
-use Rattle.ls_set.specs.ItemSet.{Items}
+use Rattle.ls_set.specs.ItemSet.{Items, full}
 use Rattle.ls_set.specs.Query.{is_good}
 use Rattle.ls_set.specs.declared.query.Query.{Query}
 use Rattle.ls_theory.specs.Answering.{most_answers}
 use Rattle.ls_theory.specs.Bases.{base, most_base_sets}
+use Rattle.ls_theory.specs.Verdict.{is_learning_space}
 use Rattle.ls_laws.specs.Families.{IsFamily}
 use Rattle.ls_laws.specs.Spans.{spanned}
 use Rattle.ls_laws.proofs.Families.{family_sets}
 use Rattle.ls_laws.proofs.Spans.{spanned-base}
-use Rattle.ls_base.specs.Bases.{BaseState, family}
+use Rattle.ls_base.specs.Bases.{IsBase, family}
 use Rattle.ls_origins.specs.Safe.{accepted_number, all_tried, awaited, coming, marked}
 use Rattle.ls_origins.specs.Safe.{marked_settled}
-use Rattle.ls_origins.specs.Safe.{marked_turn, safe, safe_refusal, turn_past, waiting}
+use Rattle.ls_origins.specs.Safe.{marked_turn, safe, safe_refusal, turn_past}
 use Rattle.ls_origins.specs.declared.safe_answer.SafeAnswer.{SafeAnswer}
 use Rattle.ls_origins.specs.declared.safe_fault.SafeFault.{SafeFault}
 use Rattle.ls_origins.specs.declared.safe_fault.SafeFault.TheVariants as Refused
-use Rattle.ls_safe.specs.Turns.{unmarked}
-use Rattle.ls_safe.specs.Interviews.{SafeState, IsSafeOf, IsSafeFaultOf, IsSettled}
+use Rattle.ls_safe.specs.Turns.{is_over, unmarked}
+use Rattle.ls_safe.specs.Interviews.{AreWitnesses, IsEnd, IsSafe, IsSafeFaultOf, IsSafeOf}
+use Rattle.ls_safe.specs.Interviews.{SafeState}
 use Rattle.ls_safe.specs.Interviews.{marks_of, past_fault, plain_refusal, queries_of}
+use Rattle.ls_safe.proofs.OnWay.{way-ends}
 use Rattle.ls_safe.proofs.Turns.{safe-family}
-use Rattle.ls_safe.proofs.Marked.{marked-more, marked-queries, marked-safe, passes-kept}
+use Rattle.ls_safe.proofs.Marked.{marked-more, marked-queries, marked-safe}
 use Rattle.ls_safe.proofs.Marked.{waiting-more}
 use Rattle.std.proofs.Common.{◌<◌, ◌≤◌, add-one, position}
 use Rattle.std.proofs.lemmas.Bool.{le-leb, lt-leb}
@@ -68,56 +70,42 @@ number-is n f queries s i =
 
 pub answered : (n : ℕ) (f : List Items) (queries : List Query) (s t : SafeState) (q : Query)
     → IsSafeOf n f queries s → base (family t.base) ≡ t.base.sets
-    → IsSettled s.base (s.answers ++ coming s.answers q ∷ []) t.answers t.base
+    → IsEnd s.base (s.answers ++ coming s.answers q ∷ []) t.base t.answers t.witnesses
     → IsSafeOf n f (queries ++ q ∷ []) t
-answered n f queries s t q i is_base h =
+answered n f queries s t q i is_base e =
+    let ends =
+    way-ends s.base t.base (s.answers ++ coming s.answers q ∷ []) t.answers e.way e.over in
     let turned : marked_turn n (marks_of s.base s.answers) q ≡ marks_of t.base t.answers =
     subst (λ m. marked_settled m (marks_of s.base (s.answers ++ coming s.answers q ∷ []))
-    ≡ marks_of t.base t.answers) i.items h.1 in
+    ≡ marks_of t.base t.answers) i.items ends.0 in
     let made : marked n f (queries ++ q ∷ []) ≡ marks_of t.base t.answers =
     marked-more n f queries q
     ∙ ap (λ m. marked_turn n m q) (sym (marks-are n f queries s i)) ∙ turned in
     record {
-      items = h.0.items ∙ i.items;
+      items = e.way.learned.items ∙ i.items;
       base_sets = sym is_base ∙ ap (λ m. base m.family) (sym made);
       answers = ap (λ m. m.answers) (sym made);
       is_family = i.is_family;
       learning = i.learning;
     }
 
-pub good-more : (n : ℕ) (answers : List SafeAnswer) (a : SafeAnswer)
-    → list_all (is_good n) (queries_of answers) ≡ true → is_good n a.query ≡ true
-    → list_all (is_good n) (queries_of (answers ++ a ∷ [])) ≡ true
-good-more n [] a all good = and_from (is_good n a.query) true good refl
-good-more n (x ∷ answers) a all good =
-    let b = and_parts (is_good n x.query) (list_all (is_good n) (queries_of answers)) all in
-    and_from (is_good n x.query) (list_all (is_good n) (queries_of (answers ++ a ∷ []))) b.0
-    (good-more n answers a b.1 good)
-
-pub good-settled : (b t : BaseState) (answers after : List SafeAnswer)
-    → list_all (is_good b.item_count) (queries_of answers) ≡ true
-    → IsSettled b answers after t
-    → list_all (is_good t.item_count) (queries_of after) ≡ true
-good-settled b t answers after good h =
-    let n = b.item_count in
-    let kept : queries_of after ≡ queries_of answers =
-    ap (λ m. queries_of m.answers) (sym h.1)
-    ∙ passes-kept (λ a. a.query) (λ a. refl) n (length (waiting answers)) (marks_of b answers) in
-    ap₂ (λ m qs. list_all (is_good m) qs) h.0.items kept ∙ good
+-- what the end of a turn leaves is a safe interview
+pub safe-after : (s t : SafeState) (q : Query) → IsBase t.base
+    → IsEnd s.base (s.answers ++ coming s.answers q ∷ []) t.base t.answers t.witnesses → IsSafe t
+safe-after s t q is_base e =
+    let same = sym e.way.learned.items in
+    record {
+      is_base = is_base;
+      learning =
+          subst (λ m. is_learning_space (full m) (family t.base) ≡ true) same
+          e.way.learned.learning;
+      good = subst (λ m. list_all (is_good m) (queries_of t.answers) ≡ true) same e.way.good;
+      over = subst (λ m. list_all (is_over m (family t.base)) t.answers ≡ true) same e.over;
+      witnesses =
+          subst (λ m. AreWitnesses m (family t.base) t.answers t.witnesses) same e.witnesses;
+    }
 
 -- ---- what is not
-
-pub plain-good : (n : ℕ) (answers : List Query) (r : Query) → plain_refusal n answers r ≡ None
-    → is_good n r ≡ true
-plain-good n answers r e =
-    elim (is_good n r) as
-    (λ b. option_or (cond b None (Some Refused.BadQuery))
-    (option_or (option_map Refused.Repeat (accepted_number answers r))
-    (if nat_le most_answers (length answers) then Some Refused.Full else None)) ≡ None
-    → b ≡ true) [
-      | true ↦ λ _. refl
-      | false ↦ λ e. cc
-    ] e
 
 or-assoc : {X : Type 0} (a b c d : Option X)
     → option_or a (option_or b (option_or c d)) ≡ option_or (option_or a (option_or b c)) d
@@ -156,16 +144,17 @@ past-is n f queries s r i =
     (waits ∙ ap (λ m. awaited m r)
     (ap unmarked (marks-are n f queries s i) ∙ marked-safe n f queries))
 
-pub accepted : (n : ℕ) (f : List Items) (queries : List Query) (s : SafeState) (r : Query)
+pub accepted : (n : ℕ) (f : List Items) (queries : List Query) (s t : SafeState) (r : Query)
     → IsSafeOf n f queries s
     → plain_refusal s.base.item_count (queries_of s.answers) r ≡ None
-    → past_fault (all_tried s.base.item_count
-    (unmarked (marks_of s.base (s.answers ++ coming s.answers r ∷ [])))) ≡ None
+    → IsEnd s.base (s.answers ++ coming s.answers r ∷ []) t.base t.answers t.witnesses
     → safe_refusal n f queries r ≡ None
-accepted n f queries s r i plain past =
+accepted n f queries s t r i plain e =
+    let ends =
+    way-ends s.base t.base (s.answers ++ coming s.answers r ∷ []) t.answers e.way e.over in
     refusal-is n f queries r
     ∙ ap₂ option_or (sym (plain-is n f queries s r i) ∙ plain)
-    (sym (past-is n f queries s r i) ∙ past)
+    (sym (past-is n f queries s r i) ∙ ends.1)
 
 pub refused-past : (n : ℕ) (f : List Items) (queries : List Query) (s : SafeState) (r : Query)
     (e : SafeFault) → IsSafeOf n f queries s

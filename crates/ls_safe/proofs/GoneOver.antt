@@ -1,5 +1,5 @@
 -- Passes over the answers of a safe interview, as code makes them.
-use Rattle.std.proofs.Common.{ℕ, ◌<◌, ◌≡◌, Bool, true, false, cond, not, ◌&&◌, List, []}
+use Rattle.std.proofs.Common.{ℕ, ◌<◌, ◌≡◌, true, false, cond, not, ◌&&◌, List, []}
 use Rattle.std.proofs.Common.{◌∷◌, ◌++◌, take, drop, length, option_map, Some, None, refl}
 use Rattle.std.proofs.Common.{sym, ap, ap₂, ◌∙◌, subst, inl, inr, append-nil}
 use Rattle.std.specs.Prelude.{◌||◌, slice_index}
@@ -11,7 +11,7 @@ use Rattle.std.proofs.Math.Seq.{take-suc}
 use Rattle.std.proofs.lemmas.List.{map-append, take-append-drop, take-set, drop-set}
 use Rattle.std.specs.Prelude.{◌+◌, slice_set}
 use Rattle.std.proofs.Common.{get_or, add-one}
-use Rattle.ls_safe.specs.Interviews.{IsTrialOf, IsPassOf, queries_of}
+use Rattle.ls_safe.specs.Interviews.{IsLearningOn, IsTrialOf, marks_of, queries_of}
 use Rattle.ls_safe.proofs.Marking.{marked-at, none-marked}
 use Rattle.ls_set.specs.ItemSet.{Items, full}
 use Rattle.ls_set.specs.Query.{is_good}
@@ -28,7 +28,7 @@ use Rattle.ls_origins.specs.Safe.{trial, is_safe, waiting, tried, first_past, ma
 use Rattle.ls_origins.specs.declared.safe_answer.SafeAnswer.{SafeAnswer}
 use Rattle.ls_origins.specs.declared.safe_fault.SafeFault.{SafeFault}
 use Rattle.ls_origins.specs.declared.safe_fault.SafeFault.TheVariants as Refused
-use Rattle.ls_safe.specs.Turns.{is_passed, is_past, is_still}
+use Rattle.ls_safe.specs.Turns.{is_over, is_passed, is_past, is_still}
 use Rattle.ls_safe.specs.Interviews.{IsSafeFaultOf, past_fault}
 use Rattle.ls_safe.proofs.Turns.{left-family}
 use Rattle.ls_safe.proofs.Tries.{trial-space}
@@ -42,6 +42,17 @@ trial-left b t r items sets =
     let f = left-family b.item_count (family b) r (spanned-IsFamily b.item_count b.sets) in
     ap₂ spanned items sets ∙ spanned-base b.item_count (trial r (family b)) f.in_order
     (family_sets b.item_count (trial r (family b)) f)
+
+-- where no base set breaks the query the trial is the family itself
+pub trial-same : (b : BaseState) (r : Query) → base (trial r (family b)) ≡ b.sets
+    → is_learning_space (full b.item_count) (family b) ≡ true → IsTrialOf b r b
+trial-same b r same learning =
+    let left = trial-left b b r refl (sym same) in
+    record {
+      items = refl;
+      left = left;
+      can = subst (λ f. is_learning_space (full b.item_count) f ≡ true) left learning;
+    }
 
 is_learned-space : (whole : Items) (f : List Items) → is_learning_space whole f ≡ true
     → is_space whole f ≡ true
@@ -73,9 +84,14 @@ trial-cannot n f g r k i j is e =
 
 -- ---- answers that a pass goes over
 
--- the answer is applied, or was tried
-abbrev pub is_over : ℕ → List Items → SafeAnswer → Bool
-is_over n f a = a.applied || is_still most_base_sets n f a.query
+pub over-last : (n : ℕ) (f : List Items) (xs : List SafeAnswer) (a : SafeAnswer)
+    → list_all (is_over n f) xs ≡ true → is_over n f a ≡ true
+    → list_all (is_over n f) (xs ++ a ∷ []) ≡ true
+over-last n f [] a over h = and_from (is_over n f a) true h refl
+over-last n f (x ∷ xs) a over h =
+    let b = and_parts (is_over n f x) (list_all (is_over n f) xs) over in
+    and_from (is_over n f x) (list_all (is_over n f) (xs ++ a ∷ [])) b.0
+    (over-last n f xs a b.1 h)
 
 pub over-more : (n : ℕ) (f : List Items) (answers : List SafeAnswer) (place : ℕ) (a : SafeAnswer)
     → place < length answers → a ≡ get_or answers place a
@@ -85,14 +101,7 @@ over-more n f answers place a less at over h =
     ap (λ k. list_all (is_over n f) (take k answers)) (add-one place)
     ∙ ap (list_all (is_over n f)) (take-suc answers place a less)
     ∙ ap (λ x. list_all (is_over n f) (take place answers ++ x ∷ [])) (sym at)
-    ∙ more (take place answers) over
-  where
-    more : (xs : List SafeAnswer) → list_all (is_over n f) xs ≡ true
-        → list_all (is_over n f) (xs ++ a ∷ []) ≡ true
-    more [] over = and_from (is_over n f a) true h refl
-    more (x ∷ xs) over =
-        let b = and_parts (is_over n f x) (list_all (is_over n f) xs) over in
-        and_from (is_over n f x) (list_all (is_over n f) (xs ++ a ∷ [])) b.0 (more xs b.1)
+    ∙ over-last n f (take place answers) a over h
 
 pub over-applied : (n : ℕ) (f : List Items) (a : SafeAnswer) → a.applied ≡ true
     → is_over n f a ≡ true
@@ -106,15 +115,18 @@ unpast g e =
       | false ↦ λ _. refl
     ] e
 
-pub over-tried : (n : ℕ) (f : List Items) (a : SafeAnswer) → is_safe n f a.query ≡ false
-    → past_fault (trial a.query f ∷ []) ≡ None → is_over n f a ≡ true
-over-tried n f a off e =
+pub over-within : (n : ℕ) (f : List Items) (a : SafeAnswer) → is_safe n f a.query ≡ false
+    → is_past most_base_sets (trial a.query f) ≡ false → is_over n f a ≡ true
+over-within n f a off within =
     elim a.applied as (λ b. (b || is_still most_base_sets n f a.query) ≡ true) [
       | true ↦ refl
       | false ↦ and_from (not (is_safe n f a.query))
-          (not (is_past most_base_sets (trial a.query f)))
-          (ap not off) (ap not (unpast (trial a.query f) e))
+          (not (is_past most_base_sets (trial a.query f))) (ap not off) (ap not within)
     ]
+
+pub over-tried : (n : ℕ) (f : List Items) (a : SafeAnswer) → is_safe n f a.query ≡ false
+    → past_fault (trial a.query f ∷ []) ≡ None → is_over n f a ≡ true
+over-tried n f a off e = over-within n f a off (unpast (trial a.query f) e)
 
 pub over-passed : (n : ℕ) (f : List Items) (before : List SafeAnswer)
     → list_all (is_over n f) before ≡ true → list_all (is_passed n f) before ≡ true
@@ -186,77 +198,72 @@ parted answers place a less at =
     sym (take-append-drop place answers)
     ∙ ap (λ l. take place answers ++ l) (drop-next answers place a less at)
 
-replaced : (answers : List SafeAnswer) (place : ℕ) (a : SafeAnswer) → place < length answers
+pub replaced : (answers : List SafeAnswer) (place : ℕ) (a : SafeAnswer) → place < length answers
     → slice_set answers place a ≡ take place answers ++ a ∷ drop (place + 1) answers
 replaced answers place a less =
     sym (take-append-drop place (slice_set answers place a))
     ∙ ap₂ (λ xs ys. xs ++ ys) (take-set answers place a) (drop-set answers place a less)
 
-same_at : (answers : List SafeAnswer) (place : ℕ) (a m : SafeAnswer) → place < length answers
+pub same_at : (answers : List SafeAnswer) (place : ℕ) (a m : SafeAnswer) → place < length answers
     → a ≡ get_or answers place a → m ≡ get_or answers place m → m ≡ a
 same_at answers place a m less at there =
     let same : m ∷ drop (place + 1) answers ≡ a ∷ drop (place + 1) answers =
     sym (drop-next answers place m less there) ∙ drop-next answers place a less at in
     cc
 
-pub pass-trials : (n : ℕ) (f : List Items) (answers : List SafeAnswer) (place : ℕ) (a : SafeAnswer)
-    → place < length answers → a ≡ get_or answers place a → a.applied ≡ false
-    → list_all (is_over n f) (take place answers) ≡ true
-    → past_fault (tried n f (waiting answers))
-    ≡ past_fault (trial a.query f
-    ∷ cond (is_safe n f a.query) [] (tried n f (waiting (drop (place + 1) answers))))
-pass-trials n f answers place a less at off over =
-    ap (λ l. past_fault (tried n f (waiting l))) (parted answers place a less at)
-    ∙ over-past n f (take place answers) (a ∷ drop (place + 1) answers) over
-    ∙ waits a (drop (place + 1) answers) off
+-- the trials of a pass, from an answer that waits on
+pub pass-trials : (n : ℕ) (f : List Items) (before : List SafeAnswer) (a : SafeAnswer)
+    (rest : List SafeAnswer) → a.applied ≡ false → list_all (is_over n f) before ≡ true
+    → past_fault (tried n f (waiting (before ++ a ∷ rest)))
+    ≡ past_fault (trial a.query f ∷ cond (is_safe n f a.query) [] (tried n f (waiting rest)))
+pass-trials n f before a rest off over =
+    over-past n f before (a ∷ rest) over ∙ waits a rest off
   where
     waits : (a : SafeAnswer) (rest : List SafeAnswer) → a.applied ≡ false
         → past_fault (tried n f (waiting (a ∷ rest)))
         ≡ past_fault (trial a.query f ∷ cond (is_safe n f a.query) [] (tried n f (waiting rest)))
     waits a rest off = rw off refl
 
-pub pass-some : (b t : BaseState) (answers : List SafeAnswer) (place : ℕ) (a m : SafeAnswer)
-    → place < length answers → a ≡ get_or answers place a → m ≡ get_or answers place m
-    → a.applied ≡ false
-    → list_all (is_over b.item_count (family b)) (take place answers) ≡ true
-    → IsTrialOf b a.query t
-    → IsPassOf b answers
-    (slice_set answers place (record { number = m.number; query = m.query; applied = true }))
-    (Some t)
-pass-some b t answers place a m less at there off over i =
+-- the answer with a mark
+abbrev pub applied_now : SafeAnswer → SafeAnswer
+applied_now a = record { number = a.number; query = a.query; applied = true }
+
+-- one answer was marked, the first that waits and can be applied: there is the base of its trial
+pub record IsMarked (b : BaseState) (answers : List SafeAnswer) (t : BaseState)
+    (after : List SafeAnswer) : Type 0 where
+  pub learned : IsLearningOn b.item_count t
+  pub marks : marked_first b.item_count (family b) answers ≡ Some (marks_of t after)
+
+pub pass-some : (b t : BaseState) (before : List SafeAnswer) (a : SafeAnswer)
+    (rest : List SafeAnswer) → a.applied ≡ false
+    → list_all (is_over b.item_count (family b)) before ≡ true → IsTrialOf b a.query t
+    → IsMarked b (before ++ a ∷ rest) t (before ++ applied_now a ∷ rest)
+pass-some b t before a rest off over i =
     let n = b.item_count in
     let f = family b in
-    let before = take place answers in
-    let rest = drop (place + 1) answers in
-    let mark : SafeAnswer → SafeAnswer =
-    λ x. record { number = x.number; query = x.query; applied = true } in
-    let listed : answers
+    let listed : before ++ a ∷ rest
     ≡ before ++ record { number = a.number; query = a.query; applied = false } ∷ rest =
-    parted answers place a less at
-    ∙ ap (λ x. before ++ record { number = a.number; query = a.query; applied = x } ∷ rest) off in
-    let after : slice_set answers place (mark m) ≡ before ++ mark a ∷ rest =
-    replaced answers place (mark m) less
-    ∙ ap (λ x. before ++ mark x ∷ rest) (same_at answers place a m less at there) in (
-      record {
+    ap (λ x. before ++ record { number = a.number; query = a.query; applied = x } ∷ rest) off in
+    record {
+      learned = record {
         items = i.items;
         learning = subst (λ g. is_learning_space (full n) g ≡ true) (sym i.left) i.can;
-      },
-      ap (marked_first n f) listed
+      };
+      marks =
+          ap (marked_first n f) listed
           ∙ marked-at n f before a.number a.query rest (over-passed n f before over) i.can
-          ∙ ap₂ (λ g l. Some (record { family = g; answers = l })) (sym i.left) (sym after),
-    )
+          ∙ ap (λ g. Some (record { family = g; answers = before ++ applied_now a ∷ rest }))
+          (sym i.left);
+    }
 
-pub pass-none : (b : BaseState) (answers : List SafeAnswer)
-    → list_all (is_over b.item_count (family b)) answers ≡ true
-    → (marked_first b.item_count (family b) answers ≡ None)
-    × (past_fault (tried b.item_count (family b) (waiting answers)) ≡ None)
-pass-none b answers over =
-    let n = b.item_count in
-    let f = family b in (
-      none-marked n f answers (over-passed n f answers over),
-      ap (λ l. past_fault (tried n f (waiting l))) (sym (append-nil answers))
-          ∙ over-past n f answers [] over,
-    )
+pub pass-none : (n : ℕ) (f : List Items) (answers : List SafeAnswer)
+    → list_all (is_over n f) answers ≡ true
+    → (marked_first n f answers ≡ None) × (past_fault (tried n f (waiting answers)) ≡ None)
+pass-none n f answers over = (
+  none-marked n f answers (over-passed n f answers over),
+  ap (λ l. past_fault (tried n f (waiting l))) (sym (append-nil answers))
+      ∙ over-past n f answers [] over,
+)
 
 pub good-at : (n : ℕ) (answers : List SafeAnswer) (place : ℕ) (a : SafeAnswer)
     → place < length answers → a ≡ get_or answers place a

@@ -15,7 +15,6 @@ use Rattle.ls_origins.specs.Safe.{is_safe, marked, safe, waiting}
 use Rattle.std.proofs.Common.{not}
 use Rattle.std.specs.List.{list_all}
 use Rattle.ls_safe.proofs.Turns.{safe-ends}
-use Rattle.ls_origins.specs.declared.safe_answer.SafeAnswer.{SafeAnswer}
 use Rattle.ls_safe.specs.Interviews.{SafeState, IsSafeOf}
 use Rattle.ls_safe.proofs.Marked.{marked-safe}
 
@@ -31,12 +30,11 @@ learned whole f space e =
       | false ↦ λ e. cc
     ] e
 
-pub begun : (b t : BaseState) (answers : List SafeAnswer) → t ≡ b → answers ≡ []
+pub begun : (b : BaseState) (s : SafeState) → s.base ≡ b → s.answers ≡ []
     → base (family b) ≡ b.sets → is_space (full b.item_count) (family b) ≡ true
-    → base_verdict (family b) ≡ Learning
-    → IsSafeOf b.item_count (family b) [] (record { base = t; answers = answers })
+    → base_verdict (family b) ≡ Learning → IsSafeOf b.item_count (family b) [] s
 unfolding marked
-begun b t answers same none is_base space e = record {
+begun b s same none is_base space e = record {
   items = ap (λ x. x.item_count) same;
   base_sets = ap (λ x. x.sets) same ∙ sym is_base;
   answers = none;

@@ -5,4 +5,6 @@ pub mod Tries
 pub mod Interviews
 pub mod GoneOver
 pub mod OnWay
+pub mod Witnesses
+pub mod Steps
 pub mod Accepted

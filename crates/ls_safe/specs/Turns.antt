@@ -1,10 +1,10 @@
 -- What laws say of the turns of a safe interview.
-use Rattle.std.specs.Prelude.{ℕ, ◌≡◌, Bool, true, not, ◌&&◌, nat_lt, List, ◌∷◌, ◌++◌, length}
+use Rattle.std.specs.Prelude.{ℕ, ◌≡◌, Bool, true, not, ◌&&◌, ◌||◌, nat_lt, List, ◌∷◌, ◌++◌, length}
 use Rattle.std.specs.List.{list_all}
 use Rattle.ls_set.specs.ItemSet.{Items}
 use Rattle.ls_set.specs.declared.query.Query.{Query}
 use Rattle.ls_theory.specs.Queries.{breaks}
-use Rattle.ls_theory.specs.Bases.{base}
+use Rattle.ls_theory.specs.Bases.{base, most_base_sets}
 use Rattle.ls_origins.specs.Safe.{Safe, Marks, trial, is_safe, waiting}
 use Rattle.ls_origins.specs.declared.safe_answer.SafeAnswer.{SafeAnswer}
 
@@ -46,3 +46,7 @@ is_still limit n f r = not (is_safe n f r) && not (is_past limit (trial r f))
 -- so it is of each answer that waits
 abbrev pub are_still : ℕ → ℕ → Safe → Bool
 are_still limit n s = list_all (is_still limit n s.family) s.waiting
+
+-- the answer is applied, or was tried
+abbrev pub is_over : ℕ → List Items → SafeAnswer → Bool
+is_over n f a = a.applied || is_still most_base_sets n f a.query

@@ -8,6 +8,7 @@ mod open_fault;
 mod passes;
 mod safe;
 mod trials;
+mod trying;
 mod turning;
 
 pub use ls_origins::{SafeAnswer, SafeFault};

@@ -10,19 +10,19 @@ ghost use Rattle.ls_theory.specs.Verdict.{base_verdict, is_learning_space};
 ghost use Rattle.ls_theory.specs.declared.verdict.BaseVerdict.TheVariants.{Learning};
 ghost use Rattle.ls_base.specs.Bases.{family};
 ghost use Rattle.ls_theory.specs.Answering.{is_same_query};
-ghost use Rattle.ls_origins.specs.Safe.{coming, is_safe, marked, safe, safe_refusal};
+ghost use Rattle.ls_origins.specs.Safe.{is_safe, marked, safe, safe_refusal};
 ghost use Rattle.ls_origins.specs.Safe.{waiting};
 ghost use Rattle.ls_safe.specs.Interviews.{IsSafeOf, IsOpenFaultOf, IsSafeFaultOf};
 ghost use Rattle.ls_safe.specs.Interviews.{plain_refusal, queries_of};
 
 use crate::open_fault::OpenFault;
-use crate::turning::settle;
+use crate::turning::turn;
 use ls_base::Base;
 use ls_interior::Inside;
 use ls_origins::{SafeAnswer, SafeFault};
-use ls_set::Query;
+use ls_set::{ItemSet, Query};
 use ls_space::{BaseVerdict, test_base};
-use std::alloc::{AllocError, Global};
+use std::alloc::Global;
 use std::marker::Model;
 
 /// The most answers that are accepted.
@@ -36,25 +36,14 @@ fn place_of(answers: &[SafeAnswer], q: &Query) -> Option<usize>
     answers.iter().position(|a| a.query == *q)
 }
 
-// The answers, with one more, which waits behind them.
-fn awaited(alloc: Global, answers: &[SafeAnswer], q: Query) -> Result<Vec<SafeAnswer>, AllocError>
-    ensures { IfOk result (λ v. v.items ≡ answers.now ++ coming answers.now q ∷ []) }
-{
-    let mut more = Vec::from_slice(alloc, answers)?;
-    more.push(SafeAnswer {
-        number: answers.len() as u64 + 1,
-        query: q,
-        applied: false,
-    })?;
-    Ok(more)
-}
-
 /// A safe interview: the answer Yes to a query is applied only where a learning space remains, and
 /// waits otherwise. It is known by the base of the family that remains.
 #[derive(Drop)]
 pub struct Safe {
     base: Base,
     answers: Vec<SafeAnswer>,
+    // Beside each answer that waits, a set of the base of its trial that is an atom at two items.
+    witnesses: Vec<ItemSet>,
     alloc: Global,
 }
 
@@ -63,9 +52,17 @@ impl Model for Safe {
 
     ghost Value = { SafeState };
 
-    ghost view = { λ s. record { base = s.base; answers = s.answers.items } };
+    ghost view = { λ s. record {
+      base = s.base;
+      answers = s.answers.items;
+      witnesses = s.witnesses.items;
+    } };
 
-    ghost invariant = { λ s. IsSafe (record { base = s.base; answers = s.answers.items }) };
+    ghost invariant = { λ s. IsSafe (record {
+      base = s.base;
+      answers = s.answers.items;
+      witnesses = s.witnesses.items;
+    }) };
 }
 
 impl Safe {
@@ -84,6 +81,7 @@ impl Safe {
             BaseVerdict::Learning => Ok(Safe {
                 base: b.copy()?,
                 answers: Vec::new(alloc),
+                witnesses: Vec::new(alloc),
                 alloc,
             }),
         }
@@ -151,10 +149,13 @@ impl Safe {
     {
         self.check(&q)?;
         let number = self.answers.len() as u64 + 1;
-        let mut answers = awaited(self.alloc, &self.answers, q)?;
-        let base = settle(&self.base, &mut answers)?;
-        self.base = base;
-        self.answers = answers;
+        turn(
+            self.alloc,
+            &mut self.base,
+            &mut self.answers,
+            &mut self.witnesses,
+            q,
+        )?;
         Ok(number)
     }
 }

@@ -1,119 +1,107 @@
-use Rattle.std.proofs.Common.{◌≡◌, ◌<◌, ◌≤◌, ◌∙◌, ◌+◌, length, drop, cond, [], ◌∷◌}
-use Rattle.std.proofs.Common.{ap, sym, subst, refl, rules, get_or}
-use Rattle.std.proofs.lemmas.List.{take_all}
-use Rattle.std.specs.List.{list_all}
+use Rattle.std.proofs.Common.{◌<◌, ◌≤◌, length, refl, rules, subst}
 use Rattle.std.proofs.lemmas.Result.{err_from_is_err_and}
-use Rattle.ls_base.specs.Bases.{family}
-use Rattle.ls_origins.specs.Safe.{trial, tried, waiting}
-use Rattle.ls_safe.specs.Interviews.{past_fault, IsTried, IsTrialOf}
-use Rattle.ls_safe.proofs.GoneOver.{is_over, over-more, over-applied, over-tried, fault-longer}
-use Rattle.ls_safe.proofs.GoneOver.{pass-trials, pass-some, pass-none, good-at}
+use Rattle.ls_safe.specs.Interviews.{IsTried}
+use Rattle.ls_safe.proofs.Steps.{going-begins, going-over, going-waits, going-same, going-left}
+use Rattle.ls_safe.proofs.Steps.{going-past, going-ends, going-good, going-many, going-witness}
 use Rattle.ls_safe.proofs.turning.pass.Goals as goal
-use Rattle.ls_safe.proofs.turning.pass.Goals.{then-not-answer+in_ok-trial+in_default}
-use Rattle.ls_safe.proofs.turning.pass.Goals.{else-not-answer}
+use Rattle.ls_safe.proofs.turning.pass.Goals.{then-not-is_over+in_ok-witness+in-Waits}
+use Rattle.ls_safe.proofs.turning.pass.Goals.{then-not-is_over+in_ok-witness+in-Same}
+use Rattle.ls_safe.proofs.turning.pass.Goals.{else-not-is_over}
 
 pub loop-place-init : goal.loop-place-init
-loop-place-init c = record { same = refl; over = refl }
+loop-place-init c =
+    going-begins c.args.b.now c.args.answers.now.items c.args.witnesses.now.items
+    c.requires.learning c.requires.good c.requires.witnesses
+
+pub index-requires-in-loop-place : goal.index-requires-in-loop-place
+index-requires-in-loop-place c =
+    let g = c.loop-place.invariant in
+    let many = going-many c.args.b.now c.args.answers.now.items c.loop-place.answers.items
+    c.loop-place.witnesses.items c.loop-place.place g in
+    let less : c.loop-place.place < length c.args.answers.now.items = search rules in
+    search (rules, many, less)
+
+pub is_over-requires-clause-good : goal.is_over-requires-clause-good
+is_over-requires-clause-good c =
+    let less : c.loop-place.place < length c.args.answers.now.items = search rules in
+    going-good c.args.b.now c.args.answers.now.items c.loop-place.answers.items
+    c.loop-place.witnesses.items c.loop-place.place c.index.result.now c.loop-place.invariant less
+    c.index.ensures
+
+pub is_over-requires-clause-witness : goal.is_over-requires-clause-witness
+is_over-requires-clause-witness c =
+    let less : c.loop-place.place < length c.args.answers.now.items = search rules in
+    going-witness c.args.b.now c.args.answers.now.items c.loop-place.answers.items
+    c.loop-place.witnesses.items c.loop-place.place c.index.result.now
+    c.index-in-loop-place.result.now c.loop-place.invariant less c.index.ensures
+    c.index-in-loop-place.ensures
 
 pub try_query-requires-clause-good : goal.try_query-requires-clause-good
 try_query-requires-clause-good c =
-    let i = c.loop-place.invariant in
-    let answers = c.args.answers.now.items in
-    let a = c.index.result.now in
-    let place = c.loop-place.place in
-    let less : place < length answers = search rules in
-    let at : a ≡ get_or answers place a =
-    c.index.ensures ∙ ap (λ l. get_or l place a) i.same in
-    good-at c.args.b.now.item_count answers place a less at c.requires.good
+    let less : c.loop-place.place < length c.args.answers.now.items = search rules in
+    going-good c.args.b.now c.args.answers.now.items c.loop-place.answers.items
+    c.loop-place.witnesses.items c.loop-place.place c.index.result.now c.loop-place.invariant less
+    c.index.ensures
 
-pub returns-in_err-trial-clause-past : goal.returns-in_err-trial-clause-past
-returns-in_err-trial-clause-past c =
-    let i = c.loop-place.invariant in
-    let b = c.args.b.now in
-    let n = b.item_count in
-    let f = family b in
-    let answers = c.args.answers.now.items in
-    let a = c.index.result.now in
-    let place = c.loop-place.place in
-    let less : place < length answers = search rules in
-    let at : a ≡ get_or answers place a =
-    c.index.ensures ∙ ap (λ l. get_or l place a) i.same in
+pub returns-in_err-witness-clause-past : goal.returns-in_err-witness-clause-past
+returns-in_err-witness-clause-past c =
+    let less : c.loop-place.place < length c.args.answers.now.items = search rules in
     let p = err_from_is_err_and c.from_residual.result c.from_residual.ensures.1 in
-    rw (p.1, p.2, pass-trials n f answers place a less at c.if-not-answer.true i.over)
-    (fault-longer (trial a.query f ∷ []) _ c.in_err-trial.field-0.0 c.in_err-trial.ensures.past)
+    rw (p.1, p.2)
+    (going-past c.args.b.now c.args.answers.now.items c.loop-place.answers.items
+    c.loop-place.witnesses.items c.loop-place.place c.index.result.now c.in_err-witness.field-0.0
+    c.loop-place.invariant less c.index.ensures
+    (c.if-not-is_over.ensures.waits refl) c.in_err-witness.ensures.past)
 
-pub returns-in-Some-clause-passed : goal.returns-in-Some-clause-passed
-returns-in-Some-clause-passed c =
-    let i = c.loop-place.invariant in
-    let b = c.args.b.now in
-    let answers = c.args.answers.now.items in
-    let a = c.index.result.now in
-    let m = c.index_mut.result.now in
-    let place = c.loop-place.place in
-    let less : place < length answers = search rules in
-    let at : a ≡ get_or answers place a =
-    c.index.ensures ∙ ap (λ l. get_or l place a) i.same in
-    let there : m ≡ get_or answers place m =
-    c.index_mut.ensures.value ∙ ap (λ l. get_or l place m) i.same in
-    rw i.same
-    (pass-some b c.in-Some.trial answers place a m less at there c.if-not-answer.true i.over
-    (subst (IsTried b a.query) c.in-Some.is c.in_ok-trial.ensures.tried))
+pub index_mut-requires : goal.index_mut-requires
+index_mut-requires c =
+    let g = c.loop-place.invariant in
+    let many = going-many c.args.b.now c.args.answers.now.items c.loop-place.answers.items
+    c.loop-place.witnesses.items c.loop-place.place g in
+    let less : c.loop-place.place < length c.args.answers.now.items = search rules in
+    search (rules, many, less)
 
-pub returns-in-Some-clause-few : goal.returns-in-Some-clause-few
-returns-in-Some-clause-few c =
-    let i = c.loop-place.invariant in
-    let b = c.args.b.now in
-    let n = b.item_count in
-    let f = family b in
-    let answers = c.args.answers.now.items in
-    let a = c.index.result.now in
-    let place = c.loop-place.place in
-    let less : place < length answers = search rules in
-    let at : a ≡ get_or answers place a =
-    c.index.ensures ∙ ap (λ l. get_or l place a) i.same in
-    let made : IsTrialOf b a.query c.in-Some.trial =
-    subst (IsTried b a.query) c.in-Some.is c.in_ok-trial.ensures.tried in
-    pass-trials n f answers place a less at c.if-not-answer.true i.over
-    ∙ ap (λ s. past_fault (trial a.query f
-    ∷ cond s [] (tried n f (waiting (drop (place + 1) answers))))) made.can
-    ∙ c.in_ok-trial.ensures.few
+pub returns-in-Left-clause-passed : goal.returns-in-Left-clause-passed
+returns-in-Left-clause-passed c =
+    let less : c.loop-place.place < length c.args.answers.now.items = search rules in
+    going-left c.args.b.now c.in-Left.next c.args.answers.now.items c.loop-place.answers.items
+    c.loop-place.witnesses.items c.loop-place.place c.index.result.now
+    c.index_mut-in-Left.result.now c.loop-place.invariant less c.index.ensures
+    c.index_mut-in-Left.ensures.value (c.if-not-is_over.ensures.waits refl)
+    (subst (IsTried c.args.b.now c.index.result.now.query) c.in-Left.is
+    c.in_ok-witness.ensures.tried)
+    c.in_ok-witness.ensures.few
 
 pub loop-place-preserved : goal.loop-place-preserved
 loop-place-preserved c =
-    let i = c.loop-place.invariant in
     let b = c.args.b.now in
-    let n = b.item_count in
-    let f = family b in
-    let answers = c.args.answers.now.items in
-    let a = c.index.result.now in
+    let old = c.args.answers.now.items in
+    let now = c.loop-place.answers.items in
+    let ks = c.loop-place.witnesses.items in
     let place = c.loop-place.place in
-    let less : place < length answers = search rules in
-    let at : a ≡ get_or answers place a =
-    c.index.ensures ∙ ap (λ l. get_or l place a) i.same in
-    record {
-      same = i.same;
-      over = over-more n f answers place a less at i.over (elim c.if-not-answer.branch [
-        | then-not-answer+in_ok-trial+in_default w ↦ over-tried n f a
-            (subst (IsTried b a.query) w.in_default.is w.in_ok-trial.ensures.tried)
-            w.in_ok-trial.ensures.few
-        | else-not-answer w ↦ over-applied n f a w.if-not-answer.false
-      ]);
-    }
+    let g = c.loop-place.invariant in
+    let a = c.index.result.now in
+    let less : place < length old = search rules in
+    elim c.if-not-is_over.branch [
+      | then-not-is_over+in_ok-witness+in-Waits w ↦
+          let made = subst (IsTried b a.query) w.in-Waits.is w.in_ok-witness.ensures.tried in
+          let h = going-waits b old now ks place a w.in-Waits.witness g less c.index.ensures made
+          w.in_ok-witness.ensures.few in
+          rw (w.answers-is, w.witnesses-is) h
+      | then-not-is_over+in_ok-witness+in-Same w ↦
+          let made = subst (IsTried b a.query) w.in-Same.is w.in_ok-witness.ensures.tried in
+          let h = going-same b old now ks place a w.index_mut-in-Same.result.now g less
+          c.index.ensures w.index_mut-in-Same.ensures.value (w.if-not-is_over.ensures.waits refl)
+          made w.in_ok-witness.ensures.few in
+          rw (w.answers-is, w.witnesses-is) h
+      | else-not-is_over w ↦
+          let h = going-over b old now ks place a g less c.index.ensures
+          (w.if-not-is_over.ensures.over refl) in
+          rw (w.answers-is, w.witnesses-is) h
+    ]
 
 pub returns-clause-passed : goal.returns-clause-passed
 returns-clause-passed c =
-    let i = c.loop-place.invariant in
-    let answers = c.args.answers.now.items in
-    let all : length answers ≤ c.loop-place.place = search rules in
-    let over = ap (list_all (is_over c.args.b.now.item_count (family c.args.b.now)))
-    (sym (take_all c.loop-place.place answers all)) ∙ i.over in
-    ((pass-none c.args.b.now answers over).0, i.same)
-
-pub returns-clause-few : goal.returns-clause-few
-returns-clause-few c =
-    let i = c.loop-place.invariant in
-    let answers = c.args.answers.now.items in
-    let all : length answers ≤ c.loop-place.place = search rules in
-    let over = ap (list_all (is_over c.args.b.now.item_count (family c.args.b.now)))
-    (sym (take_all c.loop-place.place answers all)) ∙ i.over in
-    (pass-none c.args.b.now answers over).1
+    let all : length c.args.answers.now.items ≤ c.loop-place.place = search rules in
+    going-ends c.args.b.now c.args.answers.now.items c.loop-place.answers.items
+    c.loop-place.witnesses.items c.loop-place.place c.loop-place.invariant all
