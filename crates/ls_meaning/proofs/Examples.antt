@@ -10,6 +10,9 @@ use Rattle.serde_json.proofs.OnLiterals.{serde_json_on_literals}
 use Rattle.csv.proofs.OnLiterals.{csv_on_literals}
 use Rattle.ls_files.specs.ClassTables.{columns_of, next_row, rows_from, class_in, class_of}
 use Rattle.ls_files.specs.{is_pupil, session_from, session_of, session_text, stands}
+use Rattle.ls_origins.specs.Safe.{marked, opened as opened_safe, safe, safe_refusal}
+use Rattle.ls_origins.specs.Skills.{any}
+use Rattle.ls_meaning.specs.Sessions.{saved}
 use Rattle.std.specs.FinMap as map
 use Rattle.json.specs.Print.{escape_byte}
 
@@ -263,3 +266,18 @@ settings = refl
 heavy : transcript map.empty (codes "items a\nodds 64 64\nlimits 19 90\npupil p\nlimits 20 90\npupil r") ≡ codes "ok 1\nok\nok\nok 2\nok\nno 35 20\n"
 unfolding answering
 heavy = refl
+
+-- an answer of the safe interview waits, and is applied after a later one; it isn't accepted twice
+safely : transcript map.empty (codes "safe-open\nitems a b c\nsafe a : b\nsafe-open\nsafe-open\nsafe z : a\nsafe a : a\nsafe a : b\nsafe b c : a\nsafe-list\nsafe c : a\nsafe-states 10\nsafe-states 1 after a\nsafe c : a\nsafe-close\nsafe-list")
+    ≡ codes "no 15 0\nok 3\nno 51\nok 3\nno 50\nno 15 2\nno 18\nok 1 applied 1 pending 0\nok 2 applied 1 pending 1\nanswer 1 applied\nanswer 2 pending\nsafe 1 1\nok 3 applied 3 pending 0\nset e {a b c}\nset a {a c}\nset 2 {c}\nset 0 {}\nmore no\nset 2 {c}\nmore yes\nno 52 3\nok\nno 51\n"
+unfolding answering safe marked safe_refusal any
+safely = refl
+
+-- it is no part of what is saved: a session with one has the text of one without
+unsaved : session_text (saved (record (started (codes "a" ∷ codes "b" ∷ [])) { safe = Some (opened_safe (started (codes "a" ∷ codes "b" ∷ [])).interview) })) ≡ session_text (saved (started (codes "a" ∷ codes "b" ∷ [])))
+unsaved = refl
+
+-- and `safe-open` is refused where the states are no learning space
+unsafe : transcript map.empty (codes "items a b\nyes a : b\nyes b : a\nsafe-open") ≡ codes "ok 2\nok 1\nok 2\nno 31 {a b} a b\n"
+unfolding answering
+unsafe = refl

@@ -1,8 +1,8 @@
 -- A reply begins with `no ` exactly where the response is a refusal.
-use Rattle.ls_meaning.proofs.Vocabulary.{◌++◌, ◌∷◌, ◌≡◌, Agreed, Bool, Done, List, Refused, Session, Shown, Silence, Text, [], bytes_of, codes, false, is_refusal, is_refused, line_of, refl}
+use Rattle.ls_meaning.proofs.Vocabulary.{◌∷◌, ◌≡◌, Accepted, Agreed, Done, List, Refused, Session, Shown, Silence, Text, [], bytes_of, false, is_refusal, is_refused, line_of, refl}
 use Rattle.ls_meaning.specs.Heads as head
 use Rattle.ls_meaning.specs.Heads.{Head, head_word}
-use Rattle.ls_meaning.specs.Lines.{Line, line, line_words, lines_of, shown_lines}
+use Rattle.ls_meaning.specs.Lines.{Line, line_words, lines_of, shown_lines}
 use Rattle.ls_meaning.specs.declared.response.Response.{Response}
 use Rattle.std.specs.Prelude.{map}
 
@@ -11,6 +11,8 @@ headed : (h : Head) (ws : List Text) (ls : List (List Text)) → is_refusal (byt
 unfolding bytes_of line_of
 headed head.Agree [] ls = refl
 headed head.Agree (w ∷ ws) ls = refl
+headed head.Answer [] ls = refl
+headed head.Answer (w ∷ ws) ls = refl
 headed head.Ask [] ls = refl
 headed head.Ask (w ∷ ws) ls = refl
 headed head.Base [] ls = refl
@@ -39,6 +41,8 @@ headed head.Report [] ls = refl
 headed head.Report (w ∷ ws) ls = refl
 headed head.Result [] ls = refl
 headed head.Result (w ∷ ws) ls = refl
+headed head.Safe [] ls = refl
+headed head.Safe (w ∷ ws) ls = refl
 headed head.Set [] ls = refl
 headed head.Set (w ∷ ws) ls = refl
 headed head.Settled [] ls = refl
@@ -63,4 +67,5 @@ is_refusal-lines_of s Silence = refl
 is_refusal-lines_of s (Refused refusal) = refl
 is_refusal-lines_of s (Done number) = refl
 is_refusal-lines_of s Agreed = refl
+is_refusal-lines_of s (Accepted number applied pending) = refl
 is_refusal-lines_of s (Shown what) = shown_is_no_refusal (shown_lines s.names s.interview what)

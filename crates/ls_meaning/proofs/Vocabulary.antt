@@ -20,4 +20,4 @@ unfoldable pub use Rattle.ls_meaning.specs.Texts.{bytes_of, line_of}
 pub use Rattle.ls_meaning.specs.Transcripts.{Marked, World, bare_lines, count_marks, is_some_refused, reply_at, transcript, unmarked, world_next}
 unfoldable pub use Rattle.ls_meaning.specs.Transcripts.{refuses, replies, world_after}
 pub use Rattle.ls_meaning.specs.declared.response.Refusal.TheVariants.{Answer, AnswersStand, BadClass, BadSession, BadSetting, Block, Cursor, Domain, DomainStands, FileFailed, Heavy, LargeFile, LongLine, ManyPupils, ManyStates, NoCommand, NoFile, NoPupil, NoState, NotLearning, NotOrder, NotStanding, NotState, Past, PupilStands, Reply, StartBase, StartSets, StartSurmise, TestedSets, Unnamed}
-pub use Rattle.ls_meaning.specs.declared.response.Response.TheVariants.{Agreed, Done, Refused, Shown, Silence}
+pub use Rattle.ls_meaning.specs.declared.response.Response.TheVariants.{Accepted, Agreed, Done, Refused, Shown, Silence}

@@ -2,6 +2,7 @@
 use Rattle.std.specs.Prelude.{ℕ, Bool, if◌then◌else◌, List, [], ◌∷◌, length, Option, Some, None}
 use Rattle.ls_theory.specs.{Interview}
 use Rattle.ls_theory.specs.Settings.{Settings}
+use Rattle.ls_origins.specs.Safe.{SafeInterview}
 use Rattle.ls_lines.specs.{Text}
 use Rattle.ls_meaning.specs.Sessions.{Session, Pupil}
 use Rattle.ls_meaning.specs.declared.response.Refusal.{Refusal}
@@ -65,6 +66,11 @@ changes_interview s c =
 abbrev pub changes_settings : Session → Change Settings → Effect
 changes_settings s c =
     record { response = c.response; session = record s { settings = c.next }; stored = None }
+
+-- its safe interview becomes another
+abbrev pub changes_safe : Session → Change (Option SafeInterview) → Effect
+changes_safe s c =
+    record { response = c.response; session = record s { safe = c.next }; stored = None }
 
 -- its pupils become others
 abbrev pub changes_pupils : Session → Change (List Pupil) → Effect

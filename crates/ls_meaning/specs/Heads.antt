@@ -4,6 +4,7 @@ use Rattle.ls_lines.specs.{Text}
 
 pub data Head : Type 0 where
   Agree : Head
+  Answer : Head
   Ask : Head
   Base : Head
   Class : Head
@@ -18,6 +19,7 @@ pub data Head : Type 0 where
   Relation : Head
   Report : Head
   Result : Head
+  Safe : Head
   Set : Head
   Settled : Head
   Skills : Head
@@ -27,6 +29,7 @@ pub data Head : Type 0 where
 
 abbrev pub head_word : Head → Text
 head_word Agree = codes "agree"
+head_word Answer = codes "answer"
 head_word Ask = codes "ask"
 head_word Base = codes "base"
 head_word Class = codes "class"
@@ -41,6 +44,7 @@ head_word Question = codes "question"
 head_word Relation = codes "relation"
 head_word Report = codes "report"
 head_word Result = codes "result"
+head_word Safe = codes "safe"
 head_word Set = codes "set"
 head_word Settled = codes "settled"
 head_word Skills = codes "skills"

@@ -16,6 +16,7 @@ use Rattle.ls_theory.specs.declared.asked.Asked.{Asked}
 use Rattle.ls_theory.specs.declared.asked.Asked.TheVariants.{Item, Over}
 use Rattle.ls_theory.specs.declared.fringe_pair.FringePair.{FringePair}
 use Rattle.ls_theory.specs.declared.outcome.Outcome.{Outcome}
+use Rattle.ls_origins.specs.declared.safe_answer.SafeAnswer.{SafeAnswer}
 use Rattle.ls_lines.specs.{Text}
 use Rattle.ls_domain.specs.Texts.{name_of, joined_names, set_text, fringe_words}
 use Rattle.ls_files.specs.SurmiseFiles.{surmise_text}
@@ -28,10 +29,11 @@ use Rattle.ls_meaning.specs.Heads as head
 use Rattle.ls_meaning.specs.Heads.{Head, head_word}
 use Rattle.ls_meaning.specs.Sessions.{Session}
 use Rattle.ls_meaning.specs.Refusals.{refusal_words, reason_word}
+use Rattle.ls_meaning.specs.SafeRows.{applied, pending}
 use Rattle.ls_meaning.specs.SkillRows.{delineated}
 use Rattle.ls_meaning.specs.declared.response.Response.{Response}
 use Rattle.ls_meaning.specs.declared.response.Response.TheVariants.{Silence, Refused, Done, Agreed}
-use Rattle.ls_meaning.specs.declared.response.Response.TheVariants.{Shown}
+use Rattle.ls_meaning.specs.declared.response.Response.TheVariants.{Accepted, Shown}
 use Rattle.ls_meaning.specs.declared.response.Shown.{Shown as Showing}
 use Rattle.ls_meaning.specs.declared.response.Shown.TheVariants as shown
 
@@ -173,6 +175,17 @@ cover_lines names pairs =
 abbrev pub agree_line : Bool → Line
 agree_line is_agreed = line head.Agree ((if is_agreed then codes "yes" else codes "no") ∷ [])
 
+-- an answer of the safe interview
+abbrev pub safe_line : SafeAnswer → Line
+safe_line a = line head.Answer
+    (decimal a.number ∷ (if a.applied then codes "applied" else codes "pending") ∷ [])
+
+-- the answers, and how many of them are applied and wait
+abbrev pub safe_lines : List SafeAnswer → List Line
+safe_lines answers =
+    map safe_line answers
+    ++ line head.Safe (decimal (applied answers) ∷ decimal (pending answers) ∷ []) ∷ []
+
 -- what is shown of an interview on named items, of a file, of a pupil or of a class
 abbrev pub shown_lines : List Text → Interview → Showing → List Line
 shown_lines names i (shown.Known known) = known_line known ∷ []
@@ -205,12 +218,20 @@ shown_lines names i (shown.Delineated model sets count after) =
 shown_lines names i (shown.Mesh left right count after) =
     page_lines names (page comes_before (mesh_of (length names) left right) after count)
 shown_lines names i (shown.Agree is_agreed) = agree_line is_agreed ∷ []
+shown_lines names i (shown.SafeAnswers answers) = safe_lines answers
 
 -- ---- all lines
+
+-- an answer of the safe interview was accepted: its number, and how many are applied and wait
+abbrev pub accepted_words : ℕ → ℕ → ℕ → List Text
+accepted_words number applied pending =
+    codes "ok" ∷ decimal number ∷ codes "applied" ∷ decimal applied
+    ∷ codes "pending" ∷ decimal pending ∷ []
 
 abbrev pub lines_of : Session → Response → List (List Text)
 lines_of s Silence = []
 lines_of s (Refused refusal) = (codes "no" ∷ refusal_words s.names refusal) ∷ []
 lines_of s (Done number) = (codes "ok" ∷ decimal number ∷ []) ∷ []
 lines_of s Agreed = (codes "ok" ∷ []) ∷ []
+lines_of s (Accepted number applied pending) = accepted_words number applied pending ∷ []
 lines_of s (Shown what) = map line_words (shown_lines s.names s.interview what)

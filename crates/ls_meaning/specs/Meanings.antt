@@ -11,6 +11,8 @@ use Rattle.ls_lines.specs.declared.edit.EditCommand.{EditCommand}
 use Rattle.ls_lines.specs.declared.edit.EditCommand.TheVariants as edits
 use Rattle.ls_lines.specs.declared.view.ViewCommand.{ViewCommand}
 use Rattle.ls_lines.specs.declared.view.ViewCommand.TheVariants as views
+use Rattle.ls_lines.specs.declared.safe.SafeCommand.{SafeCommand}
+use Rattle.ls_lines.specs.declared.safe.SafeCommand.TheVariants as safes
 use Rattle.ls_lines.specs.declared.setting.SettingCommand.{SettingCommand}
 use Rattle.ls_lines.specs.declared.setting.SettingCommand.TheVariants as settings
 use Rattle.ls_lines.specs.declared.pupil.PupilCommand.{PupilCommand}
@@ -22,6 +24,8 @@ use Rattle.ls_meaning.specs.declared.request.View.{View}
 use Rattle.ls_meaning.specs.declared.request.View.TheVariants as view
 use Rattle.ls_meaning.specs.declared.request.Edit.{Edit}
 use Rattle.ls_meaning.specs.declared.request.Edit.TheVariants as edit
+use Rattle.ls_meaning.specs.declared.request.SafeRequest.{SafeRequest}
+use Rattle.ls_meaning.specs.declared.request.SafeRequest.TheVariants as safe
 use Rattle.ls_meaning.specs.declared.request.Setting.{Setting}
 use Rattle.ls_meaning.specs.declared.request.Setting.TheVariants as setting
 use Rattle.ls_meaning.specs.declared.request.PupilRequest.{PupilRequest}
@@ -128,6 +132,26 @@ IsViewOn n (view.ProjectBase part) = IsWithin part (full n)
 IsViewOn n (view.Fringes k) = IsWithin k (full n)
 IsViewOn n (view.StateOf inner outer) = IsWithin inner (full n) × IsWithin outer (full n)
 IsViewOn n v = ⊤
+
+-- ---- what is asked of the safe interview
+
+-- the words that must name an item, with their places in the line
+abbrev pub safe_item_words : SafeCommand → List (ℕ × Text)
+safe_item_words (safes.Answer names item) = query_words names item
+safe_item_words c = []
+
+-- what is asked on the named items
+abbrev pub safe_of : List Text → SafeCommand → SafeRequest
+safe_of names safes.Open = safe.Open
+safe_of names (safes.Answer ws w) = safe.Answer (query_of names ws w)
+safe_of names safes.List = safe.List
+safe_of names (safes.States count after) = safe.States count (after_of (length names) after)
+safe_of names safes.Close = safe.Close
+
+-- the set of the cursor of what is asked is one of n items
+abbrev pub IsSafeOn : ℕ → SafeRequest → Type 0
+IsSafeOn n (safe.States count after) = IsAfterOn n after
+IsSafeOn n asked = ⊤
 
 -- ---- a change of the settings
 

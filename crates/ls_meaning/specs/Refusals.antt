@@ -1,7 +1,6 @@
 -- What a refusal tells: its code, and its details. Want of memory refuses no line, so the rows of
 -- `Memory` are never told.
 use Rattle.std.specs.Prelude.{ℕ, List, [], ◌∷◌, map, codes, decimal}
-use Rattle.ls_set.specs.{Items}
 use Rattle.ls_set.specs.declared.cursor.CursorFault.{CursorFault}
 use Rattle.ls_set.specs.declared.cursor.CursorFault.TheVariants as cursor
 use Rattle.ls_theory.specs.declared.answer_fault.AnswerFault.{AnswerFault}
@@ -16,6 +15,8 @@ use Rattle.ls_theory.specs.declared.reason.Reason.{Reason}
 use Rattle.ls_theory.specs.declared.reason.Reason.TheVariants.{Share, Budget}
 use Rattle.ls_theory.specs.declared.reply_fault.ReplyFault.{ReplyFault}
 use Rattle.ls_theory.specs.declared.reply_fault.ReplyFault.TheVariants as reply
+use Rattle.ls_origins.specs.declared.safe_fault.SafeFault.{SafeFault}
+use Rattle.ls_origins.specs.declared.safe_fault.SafeFault.TheVariants as safe
 use Rattle.ls_lines.specs.{Text}
 use Rattle.ls_domain.specs.declared.domain_fault.DomainFault.{DomainFault}
 use Rattle.ls_domain.specs.declared.domain_fault.DomainFault.TheVariants as domain
@@ -38,8 +39,9 @@ use Rattle.ls_meaning.specs.declared.response.Refusal.TheVariants.{NotLearning, 
 use Rattle.ls_meaning.specs.declared.response.Refusal.TheVariants.{ManyStates, Heavy, ManyPupils}
 use Rattle.ls_meaning.specs.declared.response.Refusal.TheVariants.{PupilStands, NoPupil, Reply}
 use Rattle.ls_meaning.specs.declared.response.Refusal.TheVariants.{BadSetting, BadClass, BadSession}
-use Rattle.ls_meaning.specs.declared.response.Refusal.TheVariants.{NotBuilt, Skills, PartSets, Mesh}
-use Rattle.ls_meaning.specs.declared.response.Refusal.TheVariants.{StartRelation}
+use Rattle.ls_meaning.specs.declared.response.Refusal.TheVariants.{Skills, PartSets, Mesh}
+use Rattle.ls_meaning.specs.declared.response.Refusal.TheVariants.{StartRelation, SafeStands}
+use Rattle.ls_meaning.specs.declared.response.Refusal.TheVariants.{NoSafe, Safe}
 
 -- where the names are those of the items
 abbrev pub detail_word : List Text → Detail → Text
@@ -75,6 +77,14 @@ answer_notice answer.ForcedYes = told 20 []
 answer_notice (answer.ForcedNo by) = told 21 (Number by ∷ [])
 answer_notice answer.Full = told 22 []
 answer_notice (answer.Memory e) = told 22 []
+
+-- answers that a safe interview doesn't take
+abbrev pub safe_notice : SafeFault → Notice
+safe_notice safe.BadQuery = told 18 []
+safe_notice (safe.Repeat number) = told 52 (Number number ∷ [])
+safe_notice safe.Full = told 22 []
+safe_notice (safe.Past count) = told 53 (Number count ∷ [])
+safe_notice (safe.Memory e) = told 22 []
 
 -- texts that are no cursor
 abbrev pub cursor_notice : CursorFault → Notice
@@ -165,7 +175,9 @@ refusal_notice (Reply fault) = reply_notice fault
 refusal_notice BadSetting = told 43 []
 refusal_notice (BadClass row) = told 41 (Number row ∷ [])
 refusal_notice (BadSession cause) = told 42 (Word (cause_word cause) ∷ [])
-refusal_notice NotBuilt = told 49 []
+refusal_notice SafeStands = told 50 []
+refusal_notice NoSafe = told 51 []
+refusal_notice (Safe fault) = safe_notice fault
 refusal_notice (Skills fault) = skill_notice fault
 refusal_notice (PartSets side fault) = part_notice side fault
 refusal_notice (Mesh fault) = mesh_notice fault

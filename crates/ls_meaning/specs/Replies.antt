@@ -11,6 +11,7 @@ use Rattle.ls_lines.specs.declared.file.FileCommand.{FileCommand}
 use Rattle.ls_lines.specs.declared.file.FileCommand.TheVariants as files
 use Rattle.ls_lines.specs.declared.edit.EditCommand.{EditCommand}
 use Rattle.ls_lines.specs.declared.view.ViewCommand.{ViewCommand}
+use Rattle.ls_lines.specs.declared.safe.SafeCommand.{SafeCommand}
 use Rattle.ls_lines.specs.declared.setting.SettingCommand.{SettingCommand}
 use Rattle.ls_lines.specs.declared.pupil.PupilCommand.{PupilCommand}
 use Rattle.ls_meaning.specs.Texts.{bytes_of}
@@ -18,18 +19,19 @@ use Rattle.ls_meaning.specs.Sessions.{Session, has_domain}
 use Rattle.ls_meaning.specs.Scenes.{Calls}
 use Rattle.ls_meaning.specs.Meanings.{unnamed, edit_item_words, edit_of, view_item_words, view_of}
 use Rattle.ls_meaning.specs.Meanings.{setting_item_words, setting_of, pupil_item_words, pupil_of}
-use Rattle.ls_meaning.specs.Meanings.{after_of}
+use Rattle.ls_meaning.specs.Meanings.{after_of, safe_item_words, safe_of}
 use Rattle.ls_meaning.specs.Lines.{lines_of}
 use Rattle.ls_meaning.specs.Effects.{Effect, Change, answers, changes}
-use Rattle.ls_meaning.specs.Effects.{changes_interview, changes_settings, changes_pupils}
+use Rattle.ls_meaning.specs.Effects.{changes_interview, changes_safe, changes_settings}
+use Rattle.ls_meaning.specs.Effects.{changes_pupils}
 use Rattle.ls_meaning.specs.Rows.{items_row, load_items_row, start_row, test_row, view_row}
 use Rattle.ls_meaning.specs.Rows.{edit_row}
 use Rattle.ls_meaning.specs.SkillRows.{skills_row}
 use Rattle.ls_meaning.specs.MeshRows.{mesh_agree_row, mesh_row}
+use Rattle.ls_meaning.specs.SafeRows.{safe_row}
 use Rattle.ls_meaning.specs.Pupils.{setting_row, pupil_row, class_row}
 use Rattle.ls_meaning.specs.Saving.{save_row, open_row}
 use Rattle.ls_meaning.specs.declared.response.Refusal.TheVariants.{NoCommand, LongLine, Unnamed}
-use Rattle.ls_meaning.specs.declared.response.Refusal.TheVariants.{NotBuilt}
 use Rattle.ls_meaning.specs.declared.request.SkillModel.TheVariants.{Disjunctive, Conjunctive}
 use Rattle.ls_meaning.specs.declared.request.StartFile.TheVariants as start_file
 use Rattle.ls_meaning.specs.declared.response.Response.{Response}
@@ -83,6 +85,11 @@ abbrev pub view_effect : Session → ViewCommand → Effect
 view_effect s c = unless_unnamed s (unnamed s.names (view_item_words c))
     (answers s (view_row s.interview (view_of s.names c)))
 
+-- what is asked of the safe interview
+abbrev pub safe_effect : Session → SafeCommand → Effect
+safe_effect s c = unless_unnamed s (unnamed s.names (safe_item_words c))
+    (changes_safe s (safe_row s.interview s.safe (safe_of s.names c)))
+
 -- a change of the settings
 abbrev pub setting_effect : Session → SettingCommand → Effect
 setting_effect s c = unless_unnamed s (unnamed s.names (setting_item_words c))
@@ -106,9 +113,9 @@ command_effect s calls (command.Opening c) = changes (opening_row s calls c)
 command_effect s calls (command.File c) = in_domain s (file_effect s calls c)
 command_effect s calls (command.Edit c) = in_domain s (edit_effect s c)
 command_effect s calls (command.View c) = in_domain s (view_effect s c)
+command_effect s calls (command.Safe c) = in_domain s (safe_effect s c)
 command_effect s calls (command.Setting c) = in_domain s (setting_effect s c)
 command_effect s calls (command.Pupil c) = in_domain s (pupil_effect s c)
-command_effect s calls (command.Safe c) = answers s (Refused NotBuilt)
 
 -- words, which may be no command
 abbrev pub words_effect : Session → Calls → List Text → Option Command → Effect

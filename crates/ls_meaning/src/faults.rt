@@ -3,11 +3,12 @@ ghost use Rattle.std.specs.Prelude.{◌≡◌};
 ghost use Rattle.ls_meaning.specs.Notices.{notice_of};
 ghost use Rattle.ls_meaning.specs.Refusals.{answer_notice, base_notice, block_notice, cause_word};
 ghost use Rattle.ls_meaning.specs.Refusals.{cursor_notice, domain_notice, reason_word};
-ghost use Rattle.ls_meaning.specs.Refusals.{reply_notice, sets_notice, surmise_notice};
+ghost use Rattle.ls_meaning.specs.Refusals.{reply_notice, safe_notice, sets_notice, surmise_notice};
 
 use crate::notices::{Detail, Notice};
 use ls_domain::DomainFault;
 use ls_files::{Cause, FamilyFault};
+use ls_origins::SafeFault;
 use ls_set::CursorFault;
 use ls_theory::{AnswerFault, BaseFault, BlockFault, Reason, ReplyFault, SurmiseFault};
 
@@ -54,6 +55,19 @@ pub(crate) fn answer_notice(fault: AnswerFault) -> Notice
         AnswerFault::ForcedNo { by } => Notice::number(21, by),
         AnswerFault::Full => Notice::bare(22),
         AnswerFault::Memory(_) => Notice::bare(22),
+    }
+}
+
+// Answers that a safe interview doesn't take.
+pub(crate) fn safe_notice(fault: SafeFault) -> Notice
+    ensures { notice_of result ≡ safe_notice fault }
+{
+    match fault {
+        SafeFault::BadQuery => Notice::bare(18),
+        SafeFault::Repeat { number } => Notice::number(52, number),
+        SafeFault::Full => Notice::bare(22),
+        SafeFault::Past { count } => Notice::number(53, count as u64),
+        SafeFault::Memory(_) => Notice::bare(22),
     }
 }
 

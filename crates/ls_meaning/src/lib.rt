@@ -7,8 +7,10 @@ mod file_faults;
 mod notices;
 mod request;
 mod response;
+mod safe;
 
 pub use faults::reason_word;
 pub use notices::{Detail, Notice};
-pub use request::{Edit, PupilRequest, Setting, SkillModel, StartFile, View};
+pub use request::{Edit, PupilRequest, SafeRequest, Setting, SkillModel, StartFile, View};
 pub use response::{Refusal, Response, Shown};
+pub use safe::{count_applied, count_pending};

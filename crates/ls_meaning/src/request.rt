@@ -65,6 +65,27 @@ pub enum Edit {
     Retract { number: u64 },
 }
 
+/// What is asked of the safe interview, or done with it.
+#[derive(Clone, Copy)]
+pub enum SafeRequest {
+    /// It begins with the states of the interview.
+    Open,
+    /// The expert answers Yes to a query.
+    Answer {
+        query: Query,
+    },
+    /// The answers, and which of them are applied.
+    List,
+    /// At most `count` states that remain: those after a set, or the first ones; or why the
+    /// cursor's text is none.
+    States {
+        count: u32,
+        after: Result<Option<ItemSet>, CursorFault>,
+    },
+    /// It ends.
+    Close,
+}
+
 /// How the settings are to change.
 #[derive(Clone, Copy)]
 pub enum Setting {

@@ -2,13 +2,13 @@
 use crate::SkillModel;
 use crate::faults::{
     answer_notice, base_notice, block_notice, cause_word, cursor_notice, domain_notice,
-    reply_notice, sets_notice, surmise_notice,
+    reply_notice, safe_notice, sets_notice, surmise_notice,
 };
 use crate::file_faults::{mesh_notice, pair_notice, part_notice, skill_notice};
 use crate::notices::{Detail, Notice};
 use ls_domain::DomainFault;
 use ls_files::{Cause, FamilyFault, Results};
-use ls_origins::{Covers, MeshFault, PairFault, RelationFault, SkillFault};
+use ls_origins::{Covers, MeshFault, PairFault, RelationFault, SafeAnswers, SafeFault, SkillFault};
 use ls_set::{CursorFault, ItemList, ItemSet, Query, SetList};
 use ls_theory::{
     AnswerFault, Asked, BaseFault, BaseVerdict, BlockFault, FringePair, Known, Outcome, ReplyFault,
@@ -22,9 +22,18 @@ pub enum Response {
     Silence,
     Refused(Refusal),
     /// The command was carried out, with the number that it tells.
-    Done { number: u64 },
+    Done {
+        number: u64,
+    },
     /// The command was carried out, and there is no number to tell.
     Agreed,
+    /// The safe interview accepted an answer, which has the number. So many answers are applied,
+    /// and so many wait.
+    Accepted {
+        number: u64,
+        applied: u64,
+        pending: u64,
+    },
     Shown(Shown),
 }
 
@@ -108,6 +117,7 @@ pub enum Shown {
     Covers(Covers),
     /// At most `count` of the states that a skill map delineates, those after a set or the first
     /// ones, and whether a further one follows. Of the skills' sets those of the base are enough.
+    /// By any one skill they are the unions of these sets.
     Delineated {
         model: SkillModel,
         sets: SetList,
@@ -124,6 +134,8 @@ pub enum Shown {
     },
     /// Whether two parts agree on the items of both.
     Agree(bool),
+    /// The answers of the safe interview, each with a mark where it is applied.
+    SafeAnswers(SafeAnswers),
 }
 
 /// Why a line is refused.
@@ -212,8 +224,6 @@ pub enum Refusal {
     BadSession {
         cause: Cause,
     },
-    /// The command is one of the safe interview, which isn't built yet.
-    NotBuilt,
     /// The file is no skill map.
     Skills(SkillFault),
     /// The file of a side, which is 1 or 2, is no list of sets.
@@ -225,6 +235,12 @@ pub enum Refusal {
     Mesh(MeshFault),
     /// The file of pairs gives no start.
     StartRelation(PairFault),
+    /// A safe interview stands already.
+    SafeStands,
+    /// No safe interview stands.
+    NoSafe,
+    /// The safe interview doesn't take the answer.
+    Safe(SafeFault),
 }
 
 impl Refusal {
@@ -282,11 +298,13 @@ impl Refusal {
             Refusal::BadSetting => Notice::bare(43),
             Refusal::BadClass { row } => Notice::number(41, u64::from(row)),
             Refusal::BadSession { cause } => Notice::word(42, cause_word(cause)),
-            Refusal::NotBuilt => Notice::bare(49),
             Refusal::Skills(fault) => skill_notice(fault),
             Refusal::PartSets { side, fault } => part_notice(side, fault),
             Refusal::Mesh(fault) => mesh_notice(fault),
             Refusal::StartRelation(fault) => pair_notice(fault),
+            Refusal::SafeStands => Notice::bare(50),
+            Refusal::NoSafe => Notice::bare(51),
+            Refusal::Safe(fault) => safe_notice(fault),
         }
     }
 }

@@ -1,6 +1,7 @@
 -- A command keeps a session whole where it has a domain.
 use Rattle.ls_reached.proofs.Vocabulary.{◌++◌, ◌∙◌, ◌∷◌, ◌≡◌, Bool, Calls, Effect, Err, IsDomain, IsKept, IsWhole, List, None, Ok, Option, Refusal, Result, Session, Some, Text, ℕ, [], ap, bytes_fetched, command, command_effect, command_of, cond, cons_option, cut, drop, false, filter_map, forms, front, has_domain, is_long, is_name, is_of, line_effect, names_of_table, names_of_words, one, opened_by, option_map, parts, refl, session_of, session_text, slice_get, slice_index_or, started, started_by, stores, subst, take, true, words, words_effect, ⊤}
-use Rattle.ls_meaning.specs.{edit_of, file_effect, in_domain, opening_row, pupil_of, setting_of, unless_unnamed}
+use Rattle.ls_meaning.specs.{edit_of, file_effect, in_domain, opening_row, pupil_of, saved, setting_of, taken_up, unless_unnamed}
+use Rattle.ls_files.specs.Sessions.{Session as SavedSession}
 use Rattle.ls_lines.specs.{pupil_name}
 use Rattle.std.proofs.lemmas.Option.{none-some, same_Some}
 use Rattle.ls_lines.specs.declared.kind.Kind.{Kind}
@@ -22,8 +23,8 @@ use Rattle.ls_lines.specs.declared.command.Command.TheVariants as command
 use Rattle.ls_domain.specs.declared.domain_fault.DomainFault.{DomainFault}
 use Rattle.ls_domain.proofs.Readings.{names_of_words-read, names_of_table-read}
 use Rattle.ls_files.specs.declared.cause.Cause.{Cause}
-use Rattle.ls_store.proofs.Inverse.{chosen, map-some, then-some}
-use Rattle.ls_store.proofs.Read.{read_whole}
+use Rattle.ls_codecs.proofs.Inverse.{chosen, map-some, then-some}
+use Rattle.ls_codecs.proofs.Read.{read_whole}
 use Rattle.ls_meaning.specs.declared.request.StartFile.TheVariants as start_file
 use Rattle.ls_meaning.specs.declared.request.PupilRequest.TheVariants as pupil
 use Rattle.ls_reached.proofs.Refusals.{changed-holds, none-both}
@@ -94,8 +95,8 @@ started-kept : (s : Session) (refusals : List Refusal) (reading : Result (List T
 started-kept s refusals (Ok names) kept domain = changed-holds IsKept s (started names) (refusals ++ []) _ kept (λ e some. started-whole names (domain names refl))
 started-kept s refusals (Err fault) kept domain = changed-holds IsKept s (started []) (refusals ++ _ ∷ []) _ kept (λ e. absurd (let no = (none-both refusals _ e).1 in cc no))
 
-opened-kept : (s : Session) (refusals : List Refusal) (reading : Result Session Cause) → IsKept s → ((read : Session) → reading ≡ Ok read → IsWhole read) → IsKept (opened_by s refusals reading).next
-opened-kept s refusals (Ok read) kept whole = changed-holds IsKept s read (refusals ++ []) _ kept (λ e some. whole read refl)
+opened-kept : (s : Session) (refusals : List Refusal) (reading : Result SavedSession Cause) → IsKept s → ((read : SavedSession) → reading ≡ Ok read → IsWhole read) → IsKept (opened_by s refusals reading).next
+opened-kept s refusals (Ok read) kept whole = changed-holds IsKept s (taken_up read) (refusals ++ []) _ kept (λ e some. whole read refl)
 opened-kept s refusals (Err cause) kept whole = changed-holds IsKept s s (refusals ++ _ ∷ []) _ kept (λ e. kept)
 
 opening-kept : (s : Session) (calls : Calls) (c : OpeningCommand) → IsKept s → IsKept (opening_row s calls c).next
@@ -106,24 +107,24 @@ opening-kept s calls (openings.Reopen file) kept = let bytes = bytes_fetched (ca
 
 -- ---- what needs one
 
-stored-whole : (s : Session) (refusals : List Refusal) (name : Text) (bytes : List ℕ) → IsWhole s → IsWhole (stores s refusals name bytes).session
+stored-whole : (s : Session) (refusals : List Refusal) (name : Text) (bytes : List ℕ) → IsWhole (saved s) → IsWhole (saved (stores s refusals name bytes).session)
 stored-whole s [] name bytes h = h
 stored-whole s (refusal ∷ refusals) name bytes h = h
 
-file-whole : (s : Session) (calls : Calls) (c : FileCommand) → IsWhole s → IsWhole (file_effect s calls c).session
+file-whole : (s : Session) (calls : Calls) (c : FileCommand) → IsWhole (saved s) → IsWhole (saved (file_effect s calls c).session)
 file-whole s calls (files.StartSurmise file) h = start-whole s h start_file.Surmise (calls.file file)
 file-whole s calls (files.StartBase file) h = start-whole s h start_file.Base (calls.file file)
 file-whole s calls (files.StartRelation file) h = start-whole s h start_file.Relation (calls.file file)
 file-whole s calls (files.Test file) h = h
 file-whole s calls (files.Class file) h = h
-file-whole s calls (files.Save file) h = stored-whole s _ file (session_text s) h
+file-whole s calls (files.Save file) h = stored-whole s _ file (session_text (saved s)) h
 file-whole s calls (files.SkillsAny file count after) h = h
 file-whole s calls (files.SkillsAll file count after) h = h
 file-whole s calls (files.Mesh left right count after) h = h
 file-whole s calls (files.MeshAgree left right) h = h
 
 -- where a word names no item nothing changes
-unless-whole : (s : Session) (places : List ℕ) (e : Effect) → IsWhole s → IsWhole e.session → IsWhole (unless_unnamed s places e).session
+unless-whole : (s : Session) (places : List ℕ) (e : Effect) → IsWhole (saved s) → IsWhole (saved e.session) → IsWhole (saved (unless_unnamed s places e).session)
 unless-whole s [] e h whole = whole
 unless-whole s (place ∷ places) e h whole = h
 
@@ -138,7 +139,7 @@ either-kept : (b : Bool) (x y : Effect) → (b ≡ true → IsKept x.session) �
 either-kept true x y first second = first refl
 either-kept false x y first second = second
 
-in_domain-kept : (s : Session) (e : Effect) → IsKept s → (IsWhole s → IsWhole e.session) → IsKept (in_domain s e).session
+in_domain-kept : (s : Session) (e : Effect) → IsKept s → (IsWhole (saved s) → IsWhole (saved e.session)) → IsKept (in_domain s e).session
 in_domain-kept s e kept whole = either-kept (has_domain s) e _ (λ some other. whole (kept some)) kept
 
 -- ---- commands and lines
@@ -153,7 +154,7 @@ command-kept s calls (command.View c) kept named = in_domain-kept s _ kept (λ h
 command-kept s calls (command.Setting c) kept named = in_domain-kept s _ kept (λ h. unless-whole s _ _ h (set-whole s h (setting_of s.names c)))
 command-kept s calls (command.Pupil c) kept named =
     in_domain-kept s _ kept (λ h. unless-whole s _ _ h (pupils-whole s h (pupil_name c) (pupil_of s.names c) (begins-named s.names c named)))
-command-kept s calls (command.Safe c) kept named = kept
+command-kept s calls (command.Safe c) kept named = in_domain-kept s _ kept (λ h. unless-whole s _ _ h h)
 
 words-kept : (s : Session) (calls : Calls) (ws : List Text) (o : Option Command) → IsKept s → ((c : Command) → o ≡ Some c → IsNamed c) → IsKept (words_effect s calls ws o).session
 words-kept s calls ws None kept named = kept

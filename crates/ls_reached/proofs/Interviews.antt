@@ -1,11 +1,11 @@
 -- A whole session stays whole when its interview or its settings change.
-use Rattle.ls_reached.proofs.Vocabulary.{◌++◌, ◌∙◌, ◌∷◌, ◌≡◌, BlockRange, Bool, Err, Fetched, Free, Interview, IsDomain, IsStanding, IsStart, IsWhole, List, Ok, Refusal, Result, Session, Start, StartFile, Text, ℕ, [], accepted, and_from, and_parts, ap, are_made, begun, block_refusals, bytes_fetched, edit_row, eq-eqb, eqb, eqb-true, false, file_refusals, is_ok, length, length-replicate, length-set, list_all, list_all-set, made, nil_from_length, not, not-false, refl, refusal, refuse, replicate, retracted, set, setting_row, standing-back, standing-taken, start_read, start_row, started, starts_by, subst, sym, true}
+use Rattle.ls_reached.proofs.Vocabulary.{◌++◌, ◌∙◌, ◌∷◌, ◌≡◌, BlockRange, Bool, Err, Fetched, Free, Interview, IsDomain, IsStanding, IsStart, IsWhole, List, Ok, Refusal, Result, Session, Start, StartFile, Text, ℕ, [], accepted, and_from, and_parts, ap, are_made, begun, block_refusals, bytes_fetched, edit_row, eq-eqb, eqb, eqb-true, false, file_refusals, is_ok, length, length-replicate, length-set, list_all, list_all-set, made, nil_from_length, not, not-false, refl, refusal, refuse, replicate, retracted, saved, set, setting_row, standing-back, standing-taken, start_read, start_row, started, starts_by, subst, sym, true}
 use Rattle.ls_theory.specs.declared.answer.Answer.{Answer}
 use Rattle.ls_theory.specs.declared.block_fault.BlockFault.{BlockFault}
 use Rattle.ls_theory.specs.declared.ratio.Ratios.{Ratios}
 use Rattle.ls_theory.specs.Settings.{Settings, are_ratios, are_limits, are_settings, standard, with_all, with_item}
 use Rattle.ls_settings.proofs.Kept.{list_all-replicate}
-use Rattle.ls_expert.specs.Held as held
+use Rattle.ls_standing.specs.Standing as held
 use Rattle.ls_expert.proofs.Holding.{made-one, standing-begun, standing-blocks, standing-start}
 use Rattle.ls_meaning.specs.declared.response.Refusal.TheVariants as refusal_of
 use Rattle.ls_meaning.specs.declared.request.Edit.{Edit}
@@ -30,7 +30,7 @@ standard-settings n =
     let own : Ratios = record { right = record { a = 8; b = 1 }; wrong = record { a = 8; b = 1 } } in
     and_from _ _ (and_from _ _ (eq-eqb _ n (length-replicate n own)) (list_all-replicate are_ratios n own refl)) refl
 
-pub started-whole : (names : List Text) → IsDomain names → IsWhole (started names)
+pub started-whole : (names : List Text) → IsDomain names → IsWhole (saved (started names))
 started-whole names domain =
     let n = length names in
     record {
@@ -44,14 +44,14 @@ started-whole names domain =
       apart = refl;
     }
 
-module _ (s : Session) (h : IsWhole s) where
+module _ (s : Session) (h : IsWhole (saved s)) where
   abbrev i : Interview
   i = s.interview
 
   -- another interview on the items
   with-interview : (start : Start) (block : ℕ) (answers : List Answer) (next : ℕ) → IsStart i.count start → are_made i.count block ≡ true
       → IsStanding (record { count = i.count; start = start; block = block; answers = answers; next = next })
-      → IsWhole (record s { interview = record { count = i.count; start = start; block = block; answers = answers; next = next } })
+      → IsWhole (saved (record s { interview = record { count = i.count; start = start; block = block; answers = answers; next = next } }))
   with-interview start block answers next starts blocks stands =
       record { domain = h.domain; count = h.count; settings = h.settings; start = starts; blocks = blocks; answers = stands; pupils = h.pupils; apart = h.apart }
 
@@ -62,7 +62,7 @@ module _ (s : Session) (h : IsWhole s) where
   made-from (Err fault) e = absurd (cc e)
 
   abbrev Holds : Interview → Type 0
-  Holds j = IsWhole (record s { interview = j })
+  Holds j = IsWhole (saved (record s { interview = j }))
 
   pub edited-whole : (what : Edit) → Holds (edit_row i what).next
   edited-whole (edit.Blocks size) =
@@ -98,7 +98,7 @@ module _ (s : Session) (h : IsWhole s) where
   -- ---- settings
 
   abbrev HoldsBy : Settings → Type 0
-  HoldsBy settings = IsWhole (record s { settings = settings })
+  HoldsBy settings = IsWhole (saved (record s { settings = settings }))
 
   with-settings : (settings : Settings) → are_settings i.count settings ≡ true → HoldsBy settings
   with-settings settings fit =

@@ -8,10 +8,10 @@ use Rattle.ls_theory.specs.declared.asked.Asked.{Asked}
 use Rattle.ls_theory.specs.declared.asked.Asked.TheVariants.{Item, Over}
 use Rattle.ls_theory.specs.declared.reply.Reply.{Reply}
 use Rattle.ls_theory.specs.declared.reply_fault.ReplyFault.{ReplyFault}
-use Rattle.ls_expert.proofs.AnswerLists.{all-told}
-use Rattle.ls_store.proofs.WrittenAnswers.{apart-from}
-use Rattle.ls_store.proofs.Sound.{apart-distinct}
-use Rattle.ls_meaning.specs.Sessions.{Session, Pupil, pupil_states}
+use Rattle.ls_standing.proofs.AnswerLists.{all-told}
+use Rattle.ls_codecs.proofs.WrittenAnswers.{apart-from}
+use Rattle.ls_codecs.proofs.Sound.{apart-distinct}
+use Rattle.ls_meaning.specs.Sessions.{Session, Pupil, pupil_states, saved}
 use Rattle.ls_meaning.specs.declared.response.Refusal.TheVariants as refusal_of
 use Rattle.ls_meaning.specs.declared.request.PupilRequest.{PupilRequest}
 use Rattle.ls_meaning.specs.declared.request.PupilRequest.TheVariants as pupil
@@ -69,7 +69,7 @@ can-begin settings count e =
       light = ap is_none (no-fault refusal_of.Heavy (heavy_after settings count) parts.1);
     }
 
-module _ (s : Session) (h : IsWhole s) where
+module _ (s : Session) (h : IsWhole (saved s)) where
   abbrev i : Interview
   i = s.interview
 
@@ -87,7 +87,7 @@ module _ (s : Session) (h : IsWhole s) where
   -- ---- the rows
 
   abbrev Holds : List Pupil → Type 0
-  Holds ps = IsWhole (record s { pupils = ps })
+  Holds ps = IsWhole (saved (record s { pupils = ps }))
 
   with-pupils : (ps : List Pupil) → AllByRecursion (IsPupil i.count) ps → AreOwn ps → Holds ps
   with-pupils ps each own =

@@ -20,7 +20,7 @@ use Rattle.ls_order.proofs.PairRows.{pairs-more, pairs-none}
 use Rattle.ls_order.proofs.Related.{preorder-surmise}
 use Rattle.ls_order.proofs.Strict.{own-order}
 use Rattle.ls_order.proofs.Surmised.{order-again}
-use Rattle.ls_store.proofs.Surmises.{narrow-read}
+use Rattle.ls_codecs.proofs.Surmises.{narrow-read}
 use Rattle.ls_lines.specs.{words}
 
 -- ---- the pairs of a file

@@ -22,8 +22,8 @@ use Rattle.ls_files.specs.SurmiseFiles.{Table, table_of, is_table_named, row_und
 use Rattle.ls_files.specs.declared.family_fault.FamilyFault.{FamilyFault}
 use Rattle.ls_family.proofs.Fitting.{sets-fit, each-fits}
 use Rattle.ls_surmise.proofs.Files.{clauses-on, row-named}
-use Rattle.ls_store.proofs.WrittenStarts.{base-small}
-use Rattle.ls_store.proofs.Surmises.{narrow-read}
+use Rattle.ls_codecs.proofs.WrittenStarts.{base-small}
+use Rattle.ls_codecs.proofs.Surmises.{narrow-read}
 use Rattle.ls_meaning.specs.Rows.{start_of_relation}
 use Rattle.ls_meaning.specs.declared.request.StartFile.TheVariants as start_file
 use Rattle.ls_reached.proofs.Relations.{relation-start}

@@ -12,12 +12,12 @@ pub use Rattle.ls_expert.proofs.Taking.{distinct-last, standing-taken}
 pub use Rattle.ls_lines.specs.{Text, front, is_long, one}
 unfoldable pub use Rattle.ls_lines.specs.{command, command_of, cut, forms, is_of, lines, parts, spelling, words}
 pub use Rattle.ls_lists.proofs.Every.{All-append, All-filter, All-given, All-map, each, list_all-set}
-pub use Rattle.ls_meaning.specs.{Calls, Effect, Fetched, Marked, Missing, Session, World, asked_of, begin_refusals, begun_over, block_refusals, bytes_fetched, calls_of, changed, edit_row, file_refusals, has_domain, has_name, most_pupils, new_pupil, opened_by, pupil_row, pupil_with, refuse, refuse_fault, replied, reply_row, setting_row, start_of_base, start_of_clauses, start_of_sets, start_read, start_row, started, started_by, starts_by, stores, weighing_refusals, with_pupil, words_effect, world_next}
+pub use Rattle.ls_meaning.specs.{Calls, Effect, Fetched, Marked, Missing, Session, World, asked_of, begin_refusals, begun_over, block_refusals, bytes_fetched, calls_of, changed, edit_row, file_refusals, has_domain, has_name, most_pupils, new_pupil, opened_by, pupil_row, pupil_with, refuse, refuse_fault, replied, reply_row, saved, setting_row, start_of_base, start_of_clauses, start_of_sets, start_read, start_row, started, started_by, starts_by, stores, weighing_refusals, with_pupil, words_effect, world_next}
 unfoldable pub use Rattle.ls_meaning.specs.{command_effect, line_effect, world_after}
 pub use Rattle.ls_meaning.specs.declared.response.Refusal.{Refusal}
 pub use Rattle.ls_meaning.specs.declared.request.StartFile.{StartFile}
 pub use Rattle.ls_files.specs.{are_made, are_pupils, follow, is_asked, session_of, session_text}
-pub use Rattle.ls_store.specs.{IsNarrow, IsPupil, IsStanding, IsStart, IsWhole}
+pub use Rattle.ls_codecs.specs.{IsNarrow, IsPupil, IsStanding, IsStart, IsWhole}
 unfoldable pub use Rattle.ls_files.specs.{is_pupil}
 pub use Rattle.ls_set.specs.{Items, is_good}
 unfoldable pub use Rattle.ls_set.specs.{bound, comes_before, differing, empty, full, has, is_same, is_within, items, least, len, meet, minus, single, union, with}

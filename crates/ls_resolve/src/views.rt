@@ -61,8 +61,8 @@ pub fn resolve_view(
     })
 }
 
-/// The set of the cursor after which a page of sets of `n` items begins, if there is one; or why the
-/// cursor's text is none.
+/// The set of the cursor after which a page of sets of `n` items begins, if there is one; or why
+/// the cursor's text is none.
 pub fn read_after(n: u32, after: &Option<Word>) -> Result<Option<ItemSet>, CursorFault>
     requires { n ≤ PLACES }
     ensures read { result ≡ after_of n after.now }

@@ -106,6 +106,16 @@ pub line-result : (name count reason set : Text)
 unfolding line_of
 line-result name count reason set = simp append_assoc
 
+pub line-accepted : (number applied pending : Text)
+    → ((((((codes "ok " ++ number) ++ codes " applied ") ++ applied) ++ codes " pending ") ++ pending) ++ 10 ∷ []) ≡ line_of (codes "ok" ∷ number ∷ codes "applied" ∷ applied ∷ codes "pending" ∷ pending ∷ [])
+unfolding line_of
+line-accepted number applied pending = simp append_assoc
+
+pub line-answered : (number mark : Text)
+    → (((codes "answer " ++ number) ++ 32 ∷ []) ++ mark) ++ 10 ∷ [] ≡ line_bytes (line head.Answer (number ∷ mark ∷ []))
+unfolding line_of
+line-answered number mark = simp append_assoc
+
 -- ---- images of a list behind a first word
 
 pub line-images : {X : Type 0} (w : Text) (f : X → Text) (xs : List X) → (w ++ spaced f xs) ++ 10 ∷ [] ≡ line_of (w ∷ map f xs)

@@ -59,6 +59,7 @@ pub use Rattle.ls_meaning.specs.{known_line, learned, learning_line, learning_re
 pub use Rattle.ls_meaning.specs.{line_bytes, line_words, lines_bytes, lines_of, more_line}
 pub use Rattle.ls_meaning.specs.{notice_words, outcome_line, page_lines, past_refusal, path_line}
 pub use Rattle.ls_meaning.specs.{path_lines, paths_shown, project_row, question_line, reason_word}
+pub use Rattle.ls_meaning.specs.{accepted_words, applied, pending, safe_line, safe_lines}
 pub use Rattle.ls_meaning.specs.{refusal_words, refuse, refuse_fault, result_line, set_line}
 pub use Rattle.ls_meaning.specs.{shown_lines, started, state_line, state_shown, states_row}
 pub use Rattle.ls_meaning.specs.{surmise_line, verdict_line, view_row}

@@ -12,6 +12,7 @@ mod refusals;
 mod relations;
 mod responses;
 mod room;
+mod safe;
 mod set_texts;
 mod skills;
 mod structures;

@@ -19,6 +19,7 @@ use crate::lines::{put_line, put_numbered};
 use crate::listing::{put_base, put_page};
 use crate::refusals::put_refusal;
 use crate::relations::{put_covers, put_no_relation};
+use crate::safe::{put_accepted, put_safe_answers};
 use crate::skills::put_skills;
 use crate::structures::{put_delineated, put_mesh};
 use crate::surmise::put_surmise;
@@ -78,6 +79,11 @@ fn put_unshown<K: Sink>(texts: Option<&SetTexts>, response: &Response, room: &mu
         Response::Refused(refusal) => put_refusal(texts, refusal, room, out),
         Response::Done { number } => put_done(*number, room, out),
         Response::Agreed => put_agreed(room, out),
+        Response::Accepted {
+            number,
+            applied,
+            pending,
+        } => put_accepted(*number, *applied, *pending, room, out),
         Response::Shown(_) => unreachable!(),
     }
 }
@@ -145,6 +151,7 @@ pub fn put_shown<K: Sink, L: Ledger>(
             put_mesh(texts, left, right, *after, *count, room, out, steps);
         }
         Shown::Agree(is_agreed) => put_agreement(*is_agreed, room, out),
+        Shown::SafeAnswers(answers) => put_safe_answers(answers, room, out),
     }
 }
 

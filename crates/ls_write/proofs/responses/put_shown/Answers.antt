@@ -7,7 +7,7 @@ use Rattle.ls_write.proofs.Vocabulary.{path_lines, paths, projection, question_l
 use Rattle.ls_write.proofs.Vocabulary.{skills_line, state_line, subst, surmise_line, sym}
 use Rattle.ls_write.proofs.Vocabulary.{verdict_line}
 use Rattle.ls_laws.specs.Spans.{AreOn}
-use Rattle.ls_expert.specs.Starts.{StartOn}
+use Rattle.ls_standing.specs.Starts.{StartOn}
 use Rattle.ls_origins.specs.Meshes.{mesh_of, part_items}
 use Rattle.ls_meaning.specs.SkillRows.{delineated}
 use Rattle.ls_write.proofs.Saying.{says_as, says_then}

@@ -1,4 +1,4 @@
-use Rattle.ls_write.proofs.Vocabulary.{◌∙◌, ◌∷◌, [], codes, decimal, names_in, option_copied, refusal_words, session_with, sym}
+use Rattle.ls_write.proofs.Vocabulary.{◌∙◌, ◌∷◌, [], accepted_words, codes, decimal, names_in, option_copied, refusal_words, session_with, sym}
 use Rattle.ls_write.proofs.Saying.{says_as, says_nothing}
 use Rattle.ls_write.proofs.LineBytes.{bytes_of-none, bytes_of-one}
 use Rattle.ls_write.proofs.Showing.{said-same}
@@ -19,3 +19,8 @@ returns-in-Done g c = λ s i.
 pub returns-in-Agreed : goal.returns-in-Agreed
 returns-in-Agreed g c = λ s i.
     says_as (sym (bytes_of-one (codes "ok" ∷ [])) ∙ said-same (session_with s (names_in (option_copied c.args.texts)) i) c.in-Agreed.is) c.put_agreed.ensures
+
+pub returns-in-Accepted : goal.returns-in-Accepted
+returns-in-Accepted g c = λ s i.
+    let a = c.in-Accepted in
+    says_as (sym (bytes_of-one (accepted_words a.number a.applied a.pending)) ∙ said-same (session_with s (names_in (option_copied c.args.texts)) i) a.is) c.put_accepted.ensures
