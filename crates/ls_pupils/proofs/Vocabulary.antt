@@ -8,7 +8,7 @@ pub use Rattle.std.proofs.lemmas.Result.{IfOk-weaker}
 pub use Rattle.std.proofs.lemmas.Slice.Eq.{bytes_eq-Decides, slice_eq-Decides}
 pub use Rattle.std.specs.List.{All, list_all, list_any, position}
 pub use Rattle.std.specs.Prelude.{Decides, bytes_eq}
-pub use Rattle.ls_expert.specs.Starts.{IsStartOn, start_of}
+pub use Rattle.ls_standing.specs.Starts.{IsStartOn, start_of}
 pub use Rattle.ls_laws.proofs.Families.{compat-IsFamily}
 pub use Rattle.ls_laws.specs.Families.{IsFamily}
 pub use Rattle.ls_lists.proofs.Every.{list_any-map}

@@ -2,7 +2,7 @@
 ghost use Rattle.std.specs.Prelude.{◌≡◌, ◌<◌, true, false, Ok, length, IfSome, IfOk, OnErr};
 ghost use Rattle.std.specs.List.{list_any};
 ghost use Rattle.ls_theory.specs.{compatible_sets, yes_queries};
-ghost use Rattle.ls_expert.specs.Starts.{start_of};
+ghost use Rattle.ls_standing.specs.Starts.{start_of};
 ghost use Rattle.ls_meaning.specs.{begin_row, most_pupils};
 ghost use Rattle.ls_pupils.specs.Own.{is_called};
 ghost use Rattle.ls_pupils.specs.Cases.{case_name, pupils_of, IsOwnCase, ArePupils, changed_to};

@@ -1,12 +1,2 @@
 mod Vocabulary
-mod Decided
-mod Fetched
-mod TwoFetched
-mod TwoParts
-mod Cursors
-mod Stored
-mod Meant
-mod FilesShown
-mod Sayable
 mod Steps
-mod Trailed

@@ -1,6 +1,6 @@
 -- A line that was decided, and then written.
 use Rattle.ls_session.proofs.Vocabulary.{[], ◌∙◌, ◌≡◌, AllocError, Bool, Calls, Decides, Effect, Err, Folder, IsErrAnd, IsErrOf, List, Ok, Option, Response, Result, Session, ShelfState, Silence, ℕ, answers, ap, ap₂, arith, bytes_of, false, inl, inr, is_refusal, is_refused, line_effect, lines_of, refl, reply_of, subst, sym}
-use Rattle.ls_session.proofs.Decided.{decides_made, files_stay}
+use Rattle.ls_state.proofs.Decided.{decides_made, files_stay}
 use Rattle.std.specs.Io.KnownBytes.{Appends}
 use Rattle.std.proofs.KnownBytes.{Keeps-refl, Appends-nil}
 use Rattle.ls_edge.specs.Causes.{AppendsFront}

@@ -5,7 +5,7 @@ use Rattle.std.specs.Io.KnownBytes.{Appends, Keeps}
 use Rattle.ls_edge.specs.Causes.{Rose, AppendsFront}
 use Rattle.ls_edge.specs.Files.{Folder}
 use Rattle.ls_meaning.specs.{Calls, Effect, Session, is_refusal, reply_of}
-use Rattle.ls_session.specs.Decides.{Sees, IsDecided}
+use Rattle.ls_state.specs.Decides.{Sees, IsDecided}
 
 -- the bytes were appended, and it is told whether they begin with `no `
 pub record Said (before after : Option (List ℕ)) (bytes : List ℕ) (refused : Bool) : Type 0 where

@@ -1,8 +1,2 @@
-pub mod States
-pub mod Readings
-pub mod TwoFiles
-pub mod Decides
-pub mod Parts
-pub mod Standing
 pub mod Follows
 pub mod Faults

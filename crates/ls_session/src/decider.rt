@@ -2,16 +2,16 @@
 ghost use Rattle.std.specs.Prelude.{◌≡◌, None};
 ghost use Rattle.ls_meaning.specs.{bytes_of, command_effect, has_domain, line_effect, lines_of};
 ghost use Rattle.ls_write.specs.Rooms.{Says};
-ghost use Rattle.ls_session.specs.Decides.{Decides, shelf_state};
-ghost use Rattle.ls_session.specs.Standing.{IsAfterLine, standing_session};
+ghost use Rattle.ls_state.specs.Decides.{Decides, shelf_state};
+ghost use Rattle.ls_state.specs.Standing.{IsAfterLine, standing_session};
 
 mod opening;
 
-use crate::state::State;
 use ls_edge::{Shelf, Sink};
 use ls_interior::Steps;
 use ls_lines::{Command, LONGEST_LINE, LineFault, read_command};
 use ls_meaning::{Refusal, Response};
+use ls_state::State;
 use ls_write::{Room, put_bare};
 use std::alloc::{AllocError, Global};
 use std::sync::ledger::Ledger;
@@ -92,7 +92,10 @@ impl Decider {
                 Some(state) => state.attend(command, steps),
                 None => Ok(without_domain()),
             },
-            Command::Safe(_) => Ok(Response::Refused(Refusal::NotBuilt)),
+            Command::Safe(command) => match &mut self.state {
+                Some(state) => state.safe(command),
+                None => Ok(without_domain()),
+            },
         }
     }
 

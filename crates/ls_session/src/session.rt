@@ -39,7 +39,7 @@ fn is_passed(line: &[u8]) -> bool
 
 impl Model for Session {
     ghost use Rattle.ls_meaning.specs.{Session as State};
-    ghost use Rattle.ls_session.specs.Standing.{standing_session, IsIdle};
+    ghost use Rattle.ls_state.specs.Standing.{standing_session, IsIdle};
 
     ghost Value = { State };
 

@@ -3,7 +3,7 @@ use Rattle.ls_shell.proofs.Vocabulary.{◌||◌, ◌∙◌, ◌≡◌, ◌⊎◌
 use Rattle.std.proofs.Math.Path.{fun_ext}
 use Rattle.std.specs.declared.option.Option.{Option}
 use Rattle.ls_lines.specs.declared.ended.Ended.TheVariants.{Whole, Long}
-use Rattle.ls_session.specs.Decides.{Sees, IsDecided}
+use Rattle.ls_state.specs.Decides.{Sees, IsDecided}
 
 -- where the files are told, what was seen is the folder, with the line's mark
 pub seen_whole : (calls : Calls) (folder : Option Folder) (before now : ℕ) (m : Folder) → Sees calls folder before now → folder ≡ Some m → calls ≡ calls_of m calls.failed

@@ -1,5 +1,5 @@
 use Rattle.ls_session.proofs.Vocabulary.{◌∙◌, ap, changes, items_row-begins, names_of_words, standing_session, sym}
-use Rattle.ls_session.proofs.Decided.{makes_as}
+use Rattle.ls_state.proofs.Decided.{makes_as}
 use Rattle.ls_session.proofs.decider.Decider.begin.Goals as goal
 
 pub returns : goal.returns

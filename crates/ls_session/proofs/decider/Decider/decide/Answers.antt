@@ -1,5 +1,5 @@
 use Rattle.ls_session.proofs.Vocabulary.{ap, command_effect, refl, standing_session}
-use Rattle.ls_session.proofs.Decided.{decides_at, decides_made, decides_refused, decides_standing, edit-stored, pupil-stored, setting-stored, view-stored}
+use Rattle.ls_state.proofs.Decided.{decides_at, decides_made, decides_refused, decides_standing, edit-stored, pupil-stored, safe-stored, setting-stored, view-stored}
 use Rattle.ls_session.proofs.decider.Decider.decide.Goals as goal
 
 pub returns-in-Nothing : goal.returns-in-Nothing
@@ -53,8 +53,10 @@ pub returns-in-None-state-4 : goal.returns-in-None-state-4
 unfolding command_effect
 returns-in-None-state-4 g c = decides_refused c.in-Pupil.is c.in-None-state-4.is (λ calls. refl) c.without_domain-in-None-state-4.ensures
 
-pub returns-in-Safe : goal.returns-in-Safe
+pub returns-in-Some-state-5 : goal.returns-in-Some-state-5
 unfolding command_effect
-returns-in-Safe g c =
-    decides_made (λ calls. ap (command_effect (standing_session c.args.self.now.state) calls) c.in-Safe.is) refl
-    (record { response = refl; session = refl; undone = tt })
+returns-in-Some-state-5 g c = decides_standing c.in-Safe.is c.in-Some-state-5.is (decides_made (λ calls. refl) (safe-stored c.in-Some-state-5.state c.in-Safe.command) c.safe.ensures)
+
+pub returns-in-None-state-5 : goal.returns-in-None-state-5
+unfolding command_effect
+returns-in-None-state-5 g c = decides_refused c.in-Safe.is c.in-None-state-5.is (λ calls. refl) c.without_domain-in-None-state-5.ensures

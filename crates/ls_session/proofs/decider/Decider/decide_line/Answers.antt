@@ -1,5 +1,5 @@
 use Rattle.ls_session.proofs.Vocabulary.{Err, ap, line_effect-command, line_effect-fault, line_effect-long, refl, standing_session}
-use Rattle.ls_session.proofs.Decided.{decides_as, decides_made, decides_nothing}
+use Rattle.ls_state.proofs.Decided.{decides_as, decides_made, decides_nothing}
 use Rattle.ls_session.proofs.decider.Decider.decide_line.Goals as goal
 
 pub returns-then-line-gt-LONGEST_LINE : goal.returns-then-line-gt-LONGEST_LINE

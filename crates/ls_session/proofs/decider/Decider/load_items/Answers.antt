@@ -1,6 +1,6 @@
 use Rattle.ls_session.proofs.Vocabulary.{[], ◌∙◌, ◌≡◌, Effect, Fetched, List, Ok, Refusal, Session, ℕ, ap, bytes_fetched, changes, false, file_refusals, has_domain, load_items_row, load_items_row-begins, load_items_row-stands, names_of_table, refl, standing_session, started_by, sym}
-use Rattle.ls_session.proofs.Decided.{decides_made, makes_as}
-use Rattle.ls_session.proofs.Fetched.{decides_read, decides_unfetched, decides_unread}
+use Rattle.ls_state.proofs.Decided.{decides_made, makes_as}
+use Rattle.ls_state.proofs.Fetched.{decides_read, decides_unfetched, decides_unread}
 use Rattle.ls_session.proofs.decider.Decider.load_items.Goals as goal
 
 abbrev loads : Session → Fetched → Effect

@@ -1,5 +1,5 @@
 use Rattle.ls_session.proofs.Vocabulary.{Calls, Effect, OpeningCommand, Session, changes, opening_row, refl, standing_session}
-use Rattle.ls_session.proofs.Decided.{decides_at, decides_made}
+use Rattle.ls_state.proofs.Decided.{decides_at, decides_made}
 use Rattle.ls_session.proofs.decider.Decider.open.Goals as goal
 
 abbrev effect : Session → OpeningCommand → Calls → Effect

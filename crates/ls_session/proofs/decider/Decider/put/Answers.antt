@@ -1,5 +1,5 @@
 use Rattle.ls_session.proofs.Vocabulary.{IsAfterLine, Option, Session, standing_session, subst}
-use Rattle.ls_session.proofs.Sayable.{nothing_shown}
+use Rattle.ls_state.proofs.Sayable.{nothing_shown}
 use Rattle.ls_session.proofs.decider.Decider.put.Goals as goal
 
 pub put_bare-requires : goal.put_bare-requires

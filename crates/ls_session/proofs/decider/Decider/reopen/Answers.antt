@@ -1,6 +1,6 @@
 use Rattle.ls_session.proofs.Vocabulary.{[], ◌∙◌, Effect, Fetched, List, Ok, Refusal, Session, ℕ, ap, changes, open_row, opened_by, refl, session_of, standing_session, sym}
-use Rattle.ls_session.proofs.Decided.{makes_as}
-use Rattle.ls_session.proofs.Fetched.{decides_read, decides_unfetched, decides_unread}
+use Rattle.ls_state.proofs.Decided.{makes_as}
+use Rattle.ls_state.proofs.Fetched.{decides_read, decides_unfetched, decides_unread}
 use Rattle.ls_session.proofs.decider.Decider.reopen.Goals as goal
 
 abbrev opens : Session → Fetched → Effect

@@ -1,5 +1,5 @@
 use Rattle.ls_session.proofs.Vocabulary.{◌∙◌, Decides, Err, line_effect, refl, shelf_state, wrote}
-use Rattle.ls_session.proofs.Decided.{after_line, decides_nothing}
+use Rattle.ls_state.proofs.Decided.{after_line, decides_nothing}
 use Rattle.ls_session.proofs.Steps.{follows_undone, follows_whole, follows_front, follows_of}
 use Rattle.ls_session.proofs.session.Session.answer.Goals as goal
 

@@ -1,5 +1,5 @@
 use Rattle.ls_session.proofs.Vocabulary.{[], ◌∙◌, ◌∷◌, ◌≡◌, AllocError, Decides, Err, Folder, List, LongLine, Ok, Option, Refused, Response, Result, Session, ShelfState, ℕ, ap, append-nil, bytes_of, codes, is_long, length, line_effect, line_effect-long, line_of, longest_line, ltb-true, refl, refusal_words, says_as, sym, true, wrote}
-use Rattle.ls_session.proofs.Decided.{decides_made, decides_nothing}
+use Rattle.ls_state.proofs.Decided.{decides_made, decides_nothing}
 use Rattle.ls_session.proofs.Steps.{follows_undone, follows_whole, follows_front, follows_of, moves_wrote, told_failed}
 use Rattle.ls_session.proofs.session.Session.refuse_long.Goals as goal
 

@@ -1,0 +1,170 @@
+-- What a fetch lets a command see, and a command that is carried out by it.
+use Rattle.ls_state.proofs.Vocabulary.{[], ◌++◌, ◌<◌, ◌==◌, ◌∙◌, ◌∷◌, ◌≡◌, AllocError, Answer, AnswersStand, Bool, Bytes, Calls, Decides, Effect, Err, Failed, FetchCause, Fetched, FetchedFrom, Fetches, FileFailed, Folder, GivesBytes, IsErrAnd, IsErrOf, IsFetched, LargeFile, List, Makes, MatchResult, Missing, NoFile, None, Ok, Option, Refusal, Refused, Response, Result, SeesFile, Session, ShelfState, Some, Text, TooLarge, Vec, ℕ, answers, ap, arith, bytes_fetched, changes_interview, cond, false, fetched_from, file_refusals, in_domain, in_domain-some, length, longest_file, ltb, ne_eqb, not, refl, refuse, start_read, start_row, starts_by, subst, sym, true, true≢false}
+use Rattle.ls_state.specs.Decides.{Fetching}
+use Rattle.ls_state.proofs.Decided.{calls_told, files_stay, makes_as, makes_nothing, sees_told}
+use Rattle.std.specs.declared.alloc.Global.{Global}
+use Rattle.std.specs.FinMap as map
+use Rattle.std.proofs.lemmas.Result.{on_ok_weaker, on_err_weaker}
+use Rattle.ls_edge.specs.declared.traits.FetchFault.{FetchFault}
+use Rattle.ls_edge.specs.declared.traits.FetchFault.TheVariants as fetch
+use Rattle.ls_meaning.specs.declared.request.StartFile.{StartFile}
+
+-- ---- what a shelf answered, as a command gets it, and as a call gives it
+
+abbrev pub answer_of : Result (Vec ℕ Global) FetchFault → Result (Result (Vec ℕ Global) Refusal) AllocError
+answer_of (Ok bytes) = Ok (Ok bytes)
+answer_of (Err fetch.Missing) = Ok (Err NoFile)
+answer_of (Err (fetch.TooLarge length)) = Ok (Err (LargeFile length))
+answer_of (Err fetch.Failed) = Ok (Err FileFailed)
+answer_of (Err (fetch.Memory e)) = Err e
+
+abbrev given_by : Result (Vec ℕ Global) FetchFault → Fetched
+given_by (Ok bytes) = Bytes bytes.items
+given_by (Err fetch.Missing) = Missing
+given_by (Err (fetch.TooLarge length)) = TooLarge length
+given_by (Err fetch.Failed) = Failed
+given_by (Err (fetch.Memory e)) = Missing
+
+abbrev is_failed : Result (Vec ℕ Global) FetchFault → Bool
+is_failed (Err fetch.Failed) = true
+is_failed r = false
+
+failed_only : (r : Result (Vec ℕ Global) FetchFault) → is_failed r ≡ true → IsErrOf r fetch.Failed
+failed_only (Ok v) e = absurd (cc e)
+failed_only (Err fetch.Missing) e = absurd (cc e)
+failed_only (Err (fetch.TooLarge n)) e = absurd (cc e)
+failed_only (Err fetch.Failed) e = refl
+failed_only (Err (fetch.Memory x)) e = absurd (cc e)
+
+given_failed : (r : Result (Vec ℕ Global) FetchFault) → given_by r ≡ Failed → is_failed r ≡ true
+given_failed (Ok v) e = absurd (cc e)
+given_failed (Err fetch.Missing) e = absurd (cc e)
+given_failed (Err (fetch.TooLarge n)) e = absurd (cc e)
+given_failed (Err fetch.Failed) e = refl
+given_failed (Err (fetch.Memory x)) e = absurd (cc e)
+
+-- ---- of the file that was fetched, the line sees what was fetched
+
+fetched_is : (r : Result (Vec ℕ Global) FetchFault) → IsFetched (given_by r) (answer_of r)
+fetched_is (Ok v) = refl
+fetched_is (Err fetch.Missing) = refl
+fetched_is (Err (fetch.TooLarge n)) = refl
+fetched_is (Err fetch.Failed) = refl
+fetched_is (Err (fetch.Memory e)) = tt
+
+bytes_are : (r : Result (Vec ℕ Global) FetchFault) (bytes : List ℕ) → GivesBytes bytes r → IsFetched (cond (is_failed r) Failed (Bytes bytes)) (answer_of r)
+bytes_are (Ok v) bytes h = ap Bytes (sym h)
+bytes_are (Err fetch.Missing) bytes h = absurd h
+bytes_are (Err (fetch.TooLarge n)) bytes h = absurd h
+bytes_are (Err fetch.Failed) bytes h = refl
+bytes_are (Err (fetch.Memory e)) bytes h = tt
+
+told_is : (o : Option (List ℕ)) (r : Result (Vec ℕ Global) FetchFault) → FetchedFrom o r → IsFetched (fetched_from (is_failed r) o) (answer_of r)
+told_is None r h = subst (λ x. IsFetched Missing (answer_of x)) (sym h) refl
+told_is (Some bytes) r h =
+    elim (ltb longest_file (length bytes)) as (λ t. MatchResult (cond t (Err (fetch.TooLarge (length bytes))) (Ok bytes)) (λ b. GivesBytes b r) (λ e. r ≡ Err e) → IsFetched (cond t (TooLarge (length bytes)) (cond (is_failed r) Failed (Bytes bytes))) (answer_of r)) [
+      | true ↦ λ e. subst (λ x. IsFetched (TooLarge (length bytes)) (answer_of x)) (sym e) refl
+      | false ↦ λ g. bytes_are r bytes g
+    ] h
+
+seen_is : (folder left : Option Folder) (name : Text) (r : Result (Vec ℕ Global) FetchFault) → Fetches folder left name r → IsFetched ((calls_told folder (given_by r) (is_failed r)).file name) (answer_of r)
+seen_is None left name r h = fetched_is r
+seen_is (Some m) left name r h = told_is (map.get m name) r h.1
+
+-- what was answered of the file of a name, by the name that was passed
+pub sees_file : {before after : ShelfState} {name passed : Text} {r answered : Result (Vec ℕ Global) FetchFault} → passed ≡ name → Fetches before.files after.files passed r → FetchCause before.faults after.faults r → r ≡ answered → SeesFile name before after (answer_of answered)
+sees_file {before} {after} {name} {passed} {r} {answered} same fetches cause is =
+    subst (λ x. SeesFile name before after (answer_of x)) is (subst (λ (n : Text). SeesFile n before after (answer_of r)) same (record {
+      calls = calls_told before.files (given_by r) (is_failed r);
+      sees = sees_told before.files (given_by r) (is_failed r) before.faults after.faults (given_failed r) (λ f. cause.failed (failed_only r f));
+      given = seen_is before.files after.files passed r fetches;
+      kept = fetches.0;
+      later = cause.later;
+    }))
+
+-- ---- what a command does by what it fetches
+
+-- an effect that stores nothing and depends on the folder
+module _ {s : Session} (whole : Calls → Effect) (none : (calls : Calls) → (whole calls).stored ≡ None) (depends : ((a b : Calls) → whole a ≡ whole b) → ⊥) where
+  pub decides_seen : {IsGiven : Calls → Type 0} {before after : ShelfState} {new : Session} {r : Result Response AllocError} (seen : Fetching IsGiven before after) → Makes (whole seen.calls) s new r → Decides whole s new before after r
+  decides_seen {IsGiven} {before} {after} {new} {r} seen h = record {
+    calls = seen.calls;
+    sees = seen.sees;
+    response = h.response;
+    decided = on_ok_weaker r (λ at. record {
+      session = at;
+      files = λ m told. rw (none seen.calls) (files_stay before.files after.files seen.kept m told);
+    }) h.session;
+    undone = on_err_weaker r (λ at. (at, seen.kept)) h.undone;
+    alone = λ one. absurd (depends one);
+    later = seen.later;
+  }
+
+  -- memory ran out
+  pub decides_unseen : {IsGiven : Calls → Type 0} {before after : ShelfState} (seen : Fetching IsGiven before after) (P : AllocError → Type 0) (r : Result Response AllocError) → IsErrAnd r P → Decides whole s s before after r
+  decides_unseen seen P (Ok x) e = absurd e
+  decides_unseen seen P (Err x) e = decides_seen seen makes_nothing
+
+-- the folder gives no file, or none that can be fetched
+abbrev pub calls_missing : Calls
+calls_missing = record { file = λ _. Missing; failed = false }
+
+abbrev pub calls_failed : Calls
+calls_failed = record { file = λ _. Failed; failed = true }
+
+pub refused_apart : (s : Session) → answers s (Refused NoFile) ≡ answers s (Refused FileFailed) → ⊥
+refused_apart s e =
+    let told : Refused NoFile ≡ Refused FileFailed = ap (λ (e : Effect). e.response) e in
+    cc told
+
+-- A refusal of the file is all that is told of it; one that is missing and one that could not be fetched are refused by different ones.
+module _ {s : Session} (whole : Fetched → Effect) (effect : List Refusal → List ℕ → Effect) (same : (given : Fetched) → whole given ≡ effect (file_refusals given) (bytes_fetched given))
+    (refuses : (refusal : Refusal) (bytes : List ℕ) → effect (refusal ∷ []) bytes ≡ answers s (Refused refusal)) (stores_none : (refusals : List Refusal) (bytes : List ℕ) → (effect refusals bytes).stored ≡ None) where
+  depends : (name : Text) → ((a b : Calls) → whole (a.file name) ≡ whole (b.file name)) → ⊥
+  depends name one = refused_apart s (sym (same Missing ∙ refuses NoFile []) ∙ one calls_missing calls_failed ∙ same Failed ∙ refuses FileFailed [])
+
+  none : (name : Text) (calls : Calls) → (whole (calls.file name)).stored ≡ None
+  none name calls = let given = calls.file name in ap (λ (e : Effect). e.stored) (same given) ∙ stores_none (file_refusals given) (bytes_fetched given)
+
+  -- memory ran out
+  pub decides_unfetched : (name : Text) {IsGiven : Calls → Type 0} {before after : ShelfState} (seen : Fetching IsGiven before after) (P : AllocError → Type 0) (r : Result Response AllocError) → IsErrAnd r P → Decides (λ calls. whole (calls.file name)) s s before after r
+  decides_unfetched name seen P r e = decides_unseen (λ calls. whole (calls.file name)) (none name) (depends name) seen P r e
+
+  module _ {name : Text} {before after : ShelfState} {fetched : Result (Result (Vec ℕ Global) Refusal) AllocError} (seen : SeesFile name before after fetched) where
+    -- the bytes were fetched
+    pub decides_read : {bytes : Vec ℕ Global} {new : Session} {r : Result Response AllocError} → fetched ≡ Ok (Ok bytes) → Makes (effect [] bytes.items) s new r → Decides (λ calls. whole (calls.file name)) s new before after r
+    decides_read {bytes} {new} {r} is h =
+        let given : seen.calls.file name ≡ Bytes bytes.items = subst (IsFetched (seen.calls.file name)) is seen.given in
+        decides_seen (λ calls. whole (calls.file name)) (none name) (depends name) seen (makes_as (ap whole given ∙ same (Bytes bytes.items)) h)
+
+    -- or refused
+    pub decides_unread : {refusal : Refusal} → fetched ≡ Ok (Err refusal) → Decides (λ calls. whole (calls.file name)) s s before after (Ok (Refused refusal))
+    decides_unread {refusal} is =
+        let given = seen.calls.file name in
+        let refused : file_refusals given ≡ refusal ∷ [] = subst (IsFetched given) is seen.given in
+        decides_seen (λ calls. whole (calls.file name)) (none name) (depends name) seen
+        (makes_as (same given ∙ ap (λ (rs : List Refusal). effect rs (bytes_fetched given)) refused ∙ refuses refusal (bytes_fetched given))
+        (record { response = refl; session = refl; undone = tt }))
+
+-- ---- a start from a file
+
+abbrev pub loads : StartFile → Session → Fetched → Effect
+loads kind s given = in_domain s (changes_interview s (start_row kind s given))
+
+abbrev pub starts : StartFile → Session → List Refusal → List ℕ → Effect
+starts kind s refusals bytes = changes_interview s (starts_by s.interview refusals (start_read kind s.names bytes))
+
+module _ (kind : StartFile) (s : Session) (some : 0 < length s.names) where
+  -- an answer stands
+  pub loads-stands : (length s.interview.answers == 0) ≡ false → (given : Fetched) → loads kind s given ≡ answers s (Refused AnswersStand)
+  loads-stands stands given =
+      in_domain-some s _ some ∙ ap (λ b. changes_interview s (starts_by s.interview (refuse AnswersStand (not b) ++ file_refusals given) (start_read kind s.names (bytes_fetched given)))) stands
+
+  -- or none does
+  pub loads-starts : (length s.interview.answers == 0) ≡ true → (given : Fetched) → loads kind s given ≡ starts kind s (file_refusals given) (bytes_fetched given)
+  loads-starts none given =
+      in_domain-some s _ some ∙ ap (λ b. changes_interview s (starts_by s.interview (refuse AnswersStand (not b) ++ file_refusals given) (start_read kind s.names (bytes_fetched given)))) none
+
+pub no_answers : (answers : List Answer) → (length answers == 0) ≡ true → answers ≡ []
+no_answers [] e = refl
+no_answers (a ∷ answers) e = absurd (true≢false (sym e ∙ ne_eqb (length (a ∷ answers)) 0 (λ e. omega arith)))

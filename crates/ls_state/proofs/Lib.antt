@@ -1,0 +1,12 @@
+mod Vocabulary
+pub mod Decided
+pub mod Fetched
+mod TwoFetched
+mod TwoParts
+mod Cursors
+mod Stored
+mod Meant
+mod FilesShown
+mod SafeShown
+pub mod Sayable
+mod Trailed
