@@ -76,7 +76,8 @@ fn show(alloc: Global, base: &Base, asked: View) -> Result<Response, AllocError>
             base: SetList::from_slice(alloc, base.sets())?,
         })),
         View::Relation => relation(alloc, base),
-        _ => unreachable!(),
+        View::Known { .. } | View::Ask | View::Fringes { .. } => unreachable!(),
+        View::States { .. } | View::Project { .. } => unreachable!(),
     }
 }
 

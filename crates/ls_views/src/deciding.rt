@@ -43,7 +43,9 @@ pub fn decide<L: Ledger>(inquiry: &Inquiry, view: &View, steps: &mut Steps<L>) -
         View::States { count, after } => states(*count, after),
         View::Project { part, count, after } => projected(*part, *count, after),
         View::Fringes { set } => fringes_at(inquiry, *set),
-        _ => unreachable!(),
+        View::Base | View::Surmise | View::Learning | View::ProjectBase { .. } => unreachable!(),
+        View::StateOf { .. } | View::Paths { .. } => unreachable!(),
+        View::SkillMap | View::Relation => unreachable!(),
     }
 }
 
