@@ -2,8 +2,8 @@
 use crate::text::{Trouble, number, push_line, push_open_lines};
 use std::alloc::{AllocError, Global};
 
-// A line's mark, and what stands behind it.
-fn parts(line: &str) -> (&str, &str) {
+/// A line's mark, and what stands behind it.
+pub fn parts(line: &str) -> (&str, &str) {
     line.split_once(' ').unwrap_or((line, ""))
 }
 
@@ -58,15 +58,13 @@ pub fn script_of(alloc: Global, case: &str) -> Result<Vec<u8>, Trouble> {
     Ok(script)
 }
 
-/// The replies to the lines of the script that end within so many bytes.
-pub fn replies_of(alloc: Global, case: &str, taken: usize) -> Result<Vec<u8>, Trouble> {
+/// The replies.
+pub fn replies_of(alloc: Global, case: &str) -> Result<Vec<u8>, Trouble> {
     let mut replies = Vec::new(alloc);
-    let mut script = Vec::new(alloc);
     for line in case.lines() {
         match parts(line) {
-            ("<", body) if taken < usize::MAX => push_line(&mut script, case, body)?,
-            (">", body) if script.len() <= taken => push_line(&mut replies, case, body)?,
-            ("~", body) if script.len() <= taken => push_open_lines(&mut replies, body)?,
+            (">", body) => push_line(&mut replies, case, body)?,
+            ("~", body) => push_open_lines(&mut replies, body)?,
             _ => {}
         }
     }
@@ -115,6 +113,11 @@ pub fn tells(case: &str, name: &str) -> bool {
     case.lines().any(|line| matches!(parts(line), ("=" | "-", told) if told == name))
 }
 
+/// Whether the folder has a file of that name before the run.
+pub fn tells_before(case: &str, name: &str) -> bool {
+    case.lines().any(|line| parts(line) == ("@", name))
+}
+
 // Whether a line has one of the forms. A line of a file has one of its own before.
 fn is_line(line: &str, has_file: bool) -> bool {
     match parts(line) {
@@ -122,7 +125,7 @@ fn is_line(line: &str, has_file: bool) -> bool {
         ("|", _) => has_file,
         ("!", fault) => matches!(
             fault.split(' ').next(),
-            Some("source" | "sink" | "shelf" | "source-each" | "sink-each" | "cut")
+            Some("source" | "sink" | "shelf" | "source-each" | "sink-each" | "shelf-each" | "cut")
         ),
         _ => false,
     }

@@ -4,6 +4,7 @@
 
 mod case;
 mod extent;
+mod fault;
 mod text;
 mod trial;
 

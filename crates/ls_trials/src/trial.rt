@@ -1,8 +1,10 @@
 // Runs of the program over objects in memory, as a case gives them.
 use crate::case::{
-    File, files_of, is_formed, last_of, numbers_of, replies_of, script_of, tells, words_of,
+    File, files_of, is_formed, last_of, numbers_of, replies_of, script_of, tells, tells_before,
+    words_of,
 };
 use crate::extent::{Extent, extent_of};
+use crate::fault::{Side, failed_run};
 use crate::text::{Trouble, number};
 use ls_edge::{FetchFault, MemShelf, MemSink, MemSource, Shelf};
 use ls_shell::lspace;
@@ -39,11 +41,18 @@ fn meets<R: Threads + Sync + AllocGlobal>(
     Ok(extent == wanted.extent && u64::from(status) == wanted.status)
 }
 
-// The folder before a run, which has no more than so many bytes of each file.
+// The folder before a run, which has no more than so many bytes of each file. Where it lacks the
+// file of a script that is named, the script's own lines are that file.
 fn shelf_of(alloc: Global, case: &str, most: usize) -> Result<MemShelf, Trouble> {
     let mut shelf = MemShelf::new(alloc, numbers_of(alloc, case, "! shelf")?);
     for file in &files_of(alloc, case, "@")? {
         shelf.put(file.name, file.front(most))?;
+    }
+    let script = script_of(alloc, case)?;
+    if let ["--script", name] = words_of(alloc, case)?.as_slice() {
+        if !tells_before(case, name) && !script.is_empty() {
+            shelf.put(name, &script)?;
+        }
     }
     Ok(shelf)
 }
@@ -96,7 +105,7 @@ fn is_left(alloc: Global, case: &str, shelf: &mut MemShelf, most: usize) -> Resu
 
 // What a run to the end is to write. Its status is told by the replies, where the case doesn't.
 fn whole_of(alloc: Global, case: &str) -> Result<Wanted, Trouble> {
-    let replies = replies_of(alloc, case, usize::MAX)?;
+    let replies = replies_of(alloc, case)?;
     let mut lines = replies.split(|b| *b == b'\n');
     let is_refused = lines.any(|line| line.starts_with(b"no "));
     let status = last_of(case, "?").map_or(Ok(u64::from(is_refused)), number)?;
@@ -108,6 +117,20 @@ fn whole_of(alloc: Global, case: &str) -> Result<Wanted, Trouble> {
     })
 }
 
+// Whether a run writes, ends and leaves what is wanted, over no more than so many bytes of each
+// file.
+fn run_holds<R: Threads + Sync + AllocGlobal>(
+    rt: &R,
+    case: &str,
+    piece: usize,
+    most: usize,
+    wanted: &Wanted,
+) -> Result<bool, Trouble> {
+    let mut shelf = shelf_of(rt.alloc(), case, most)?;
+    let is_met = meets(rt, case, piece, &mut shelf, wanted)?;
+    Ok(is_met && is_left(rt.alloc(), case, &mut shelf, most)?)
+}
+
 // Whether a run to the end holds, over no more than so many bytes of each file.
 fn whole_holds<R: Threads + Sync + AllocGlobal>(
     rt: &R,
@@ -115,9 +138,7 @@ fn whole_holds<R: Threads + Sync + AllocGlobal>(
     piece: usize,
     most: usize,
 ) -> Result<bool, Trouble> {
-    let mut shelf = shelf_of(rt.alloc(), case, most)?;
-    let is_met = meets(rt, case, piece, &mut shelf, &whole_of(rt.alloc(), case)?)?;
-    Ok(is_met && is_left(rt.alloc(), case, &mut shelf, most)?)
+    run_holds(rt, case, piece, most, &whole_of(rt.alloc(), case)?)
 }
 
 // Whether runs hold over each front of the files but the whole of the first.
@@ -136,34 +157,21 @@ fn fronts_hold<R: Threads + Sync + AllocGlobal>(
     Ok(true)
 }
 
-// What a run is to write of which so many calls were made before one of the source, or of the sink,
-// fails: the replies to the lines that were read whole, or a front of all replies.
-fn part_of(alloc: Global, case: &str, piece: usize, made: u64) -> Result<Wanted, Trouble> {
-    let made = usize::try_from(made).map_err(|_| Trouble::Form)?;
-    let is_read = last_of(case, "! source").is_some();
-    let (taken, extent, status) = if is_read {
-        (piece.saturating_mul(made), Extent::Whole, 3)
-    } else {
-        (usize::MAX, Extent::Front, 4)
-    };
-    let replies = replies_of(alloc, case, taken)?;
-    Ok(Wanted {
-        replies,
-        extent,
-        status,
-    })
-}
-
-// Whether a run holds after so many calls of which the next one fails, as the case says.
-fn part_holds<R: Threads + Sync + AllocGlobal>(
+// Whether a run holds in which the call after so many fails.
+fn failed_holds<R: Threads + Sync + AllocGlobal>(
     rt: &R,
     case: &str,
     piece: usize,
-    made: u64,
+    side: Side,
+    made: usize,
 ) -> Result<bool, Trouble> {
-    let wanted = part_of(rt.alloc(), case, piece, made)?;
-    let mut shelf = shelf_of(rt.alloc(), case, usize::MAX)?;
-    meets(rt, case, piece, &mut shelf, &wanted)
+    let run = failed_run(rt.alloc(), case, side, piece, made)?;
+    let mut wanted = whole_of(rt.alloc(), &run.case)?;
+    match run.most {
+        Some(most) => wanted.replies.truncate(most),
+        None => wanted.extent = Extent::Front,
+    }
+    run_holds(rt, &run.case, piece, usize::MAX, &wanted)
 }
 
 // Whether the runs hold in which each of so many calls fails in turn, and one in which the call
@@ -172,19 +180,27 @@ fn each_holds<R: Threads + Sync + AllocGlobal>(
     rt: &R,
     case: &str,
     piece: usize,
-    side: &str,
+    side: Side,
     calls: u64,
 ) -> Result<bool, Trouble> {
-    for made in 0..calls {
-        let call = made.saturating_add(1);
-        let failing = format!(in rt.alloc(); "{case}\n! {side} {call}")?;
-        if !part_holds(rt, &failing, piece, made)? {
+    let made = usize::try_from(calls).map_err(|_| Trouble::Form)?;
+    for made in 0..made {
+        if !failed_holds(rt, case, piece, side, made)? {
             return Ok(false);
         }
     }
+    let name = side.name();
     let call = calls.saturating_add(1);
-    let whole = format!(in rt.alloc(); "{case}\n! {side} {call}")?;
+    let whole = format!(in rt.alloc(); "{case}\n! {name} {call}")?;
     whole_holds(rt, &whole, piece, usize::MAX)
+}
+
+// The calls that fail in turn, where a case says so, and how many a run makes.
+fn each_of(case: &str) -> Option<(Side, &str)> {
+    let of = |words, side| last_of(case, words).map(|calls| (side, calls));
+    of("! source-each", Side::Source)
+        .or_else(|| of("! sink-each", Side::Sink))
+        .or_else(|| of("! shelf-each", Side::Shelf))
 }
 
 // Whether a case holds where one read and one write move at most so many bytes.
@@ -193,12 +209,10 @@ fn holds<R: Threads + Sync + AllocGlobal>(
     case: &str,
     piece: usize,
 ) -> Result<bool, Trouble> {
-    if last_of(case, "! cut").is_some() {
+    if let Some((side, calls)) = each_of(case) {
+        each_holds(rt, case, piece, side, number(calls)?)
+    } else if last_of(case, "! cut").is_some() {
         fronts_hold(rt, case, piece)
-    } else if let Some(calls) = last_of(case, "! source-each") {
-        each_holds(rt, case, piece, "source", number(calls)?)
-    } else if let Some(calls) = last_of(case, "! sink-each") {
-        each_holds(rt, case, piece, "sink", number(calls)?)
     } else {
         whole_holds(rt, case, piece, usize::MAX)
     }
