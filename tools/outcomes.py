@@ -50,11 +50,18 @@ def stops(case, written):
         before = after
 
 
+def is_file(told, text):
+    """Whether a file is as told. Where that is by its length, it has to look like a session."""
+    if isinstance(told, bytes):
+        return text == told
+    return (len(text) == told and text.startswith(b'{"answers":[')
+            and text.endswith(b',"version":2}'))
+
+
 def has(wanted, folder):
     """Whether a folder has these files and no others."""
     return wanted.keys() == folder.keys() and all(
-        folder[name] == told if isinstance(told, bytes) else len(folder[name]) == told
-        for name, told in wanted.items())
+        is_file(told, folder[name]) for name, told in wanted.items())
 
 
 def shown(folder):

@@ -1,6 +1,7 @@
 """Runs the program on cases, each time in a folder of its own."""
 import os
 import shutil
+import signal
 import subprocess
 import sys
 import tempfile
@@ -41,6 +42,16 @@ def folder_of(path):
     return {it.name: it.read_bytes() if it.is_file() else b"" for it in Path(path).iterdir()}
 
 
+def ends_of(running):
+    """What a process wrote to its two outputs, and whether it came to an end in time. Otherwise it
+    is ended, and so is each process that it has started."""
+    try:
+        return *running.communicate(timeout=PATIENCE), True
+    except subprocess.TimeoutExpired:
+        os.killpg(running.pid, signal.SIGKILL)
+        return *running.communicate(), False
+
+
 def run_case(case, command, environment):
     """A run of the case by this command, to which its words are added. The script is a file, from
     which it is read; with words there is none."""
@@ -49,10 +60,9 @@ def run_case(case, command, environment):
             (Path(folder) / name).write_bytes(text)
         script.write(b"" if case.words else case.script())
         script.seek(0)
-        try:
-            done = subprocess.run([*command, *case.words], stdin=script, cwd=folder,
-                                  env={**os.environ, **environment}, capture_output=True,
-                                  timeout=PATIENCE, close_fds=False)
-        except subprocess.TimeoutExpired as late:
-            return Run(None, late.stdout or b"", late.stderr or b"", folder_of(folder))
-        return Run(done.returncode, done.stdout, done.stderr, folder_of(folder))
+        with subprocess.Popen([*command, *case.words], stdin=script, stdout=subprocess.PIPE,
+                              stderr=subprocess.PIPE, cwd=folder, start_new_session=True,
+                              env={**os.environ, **environment}) as running:
+            written, complaints, in_time = ends_of(running)
+        status = running.returncode if in_time else None
+        return Run(status, written, complaints, folder_of(folder))
