@@ -9,7 +9,7 @@ from typing import NamedTuple
 
 OPEN = b"\0"  # ends a reply line that goes on with anything
 ESCAPES = {"n": b"\n", "r": b"\r", "t": b"\t", "\\": b"\\"}
-PASSED_OVER = re.compile(r"% |! (source|sink)-each ")
+PASSED_OVER = re.compile(r"% |! (source|sink|shelf)-each |\$ --script script$")
 
 
 class Misformed(Exception):
@@ -170,7 +170,8 @@ def case_of(title, lines):
 
 def read_cases(path):
     """The cases of a file, each with the title of its group. Cases of a group that differ in the
-    sizes of pieces and in the calls that fail, which are passed over here, are one."""
+    sizes of pieces, in the call that fails in turn, or in whether the script is a file's, are one.
+    Those in which a call fails that they tell are left out."""
     for group in path.read_text(encoding="latin-1").split("\n== ")[1:]:
         front, *parts = group.split("\n# ")
         title, *own = front.split("\n")
@@ -178,7 +179,7 @@ def read_cases(path):
         for part in parts or [""]:
             lines = [line for line in own + part.split("\n")[1:] if not PASSED_OVER.match(line)]
             lines = [line for line in lines if line]
-            if lines not in seen:
+            if lines not in seen and not any(line.startswith("! ") for line in lines):
                 seen.append(lines)
                 name = title if len(seen) == 1 else f"{title}: {part.split(chr(10))[0]}"
                 try:
