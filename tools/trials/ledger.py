@@ -32,7 +32,7 @@ class Safe:
 class Ledger:
     def __init__(self, files):
         self.files, self.kept = files, {}
-        self.names = None
+        self.names, self.answers, self.next, self.pupils, self.safe = None, {}, 1, {}, None
 
     def begin(self, names):
         """A domain is given."""

@@ -49,7 +49,9 @@ class Trial:
     def answer(self, asked):
         """The replies to the lines of some `AtEnd` or of some `Anew`, for each of them."""
         lines = [line for one in asked for line in one.lines]
-        if isinstance(asked[0], AtEnd):
+        if not lines:
+            found = []
+        elif isinstance(asked[0], AtEnd):
             found = self.run(self.lines + lines).replies[len(self.lines):]
         else:
             files = {name: text for one in asked for name, text in one.files.items()}
