@@ -165,7 +165,11 @@ class Files:
         if rng.random() < 0.5 or size > 8:
             base = sets.base_of(self.family_on(range(size)))
             start = {"base": [sets.cursor(own, size) for own in base]}
-        return self.json({
+        told = {
             "version": version, "items": self.names, "start": start, "block": 1,
             "answers": answers, "next": rng.randint(9, 12), "odds": odds, "note": "by hand",
-            "limits": [rng.randint(1, 20), rng.randint(51, 99)], "pupils": []})
+            "limits": [rng.randint(1, 20), rng.randint(51, 99)], "pupils": []}
+        if rng.random() < 0.25:
+            key = rng.choice(sorted(told))
+            told[key] = rng.choice([0, "free", [], [told[key]], {}, told["limits"], None])
+        return self.json(told)

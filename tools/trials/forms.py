@@ -1,5 +1,6 @@
 """The forms of the commands and the codes that refuse them, as the table of docs/COMMANDS.md has
 them, and how a line is cut into words. So the trials hold the program against its document."""
+import functools
 import re
 from pathlib import Path
 
@@ -25,10 +26,11 @@ KINDS = {
 
 
 class Form:
-    """One form of a command: its words, each a word itself or a kind, once or any number of times."""
+    """One form of a command: its words or kinds of words, each once or any number of times."""
 
     def __init__(self, text, codes):
-        words = text.replace("\\|", "|").split()
+        self.text = text.replace("\\|", "|")
+        words = self.text.split()
         self.parts = []
         for place, word in enumerate(words):
             if word != "..":
@@ -82,17 +84,23 @@ for one in FORMS:
 HEADS = sorted({one.head for one in FORMS})
 
 
-def words_of(line):
-    """The words of a line; one carriage return at its end is passed over."""
+@functools.lru_cache(maxsize=1 << 14)
+def cut(line):
     text = line[:-1] if line.endswith("\r") else line
     return re.findall(r"[:|]|[^ \t,:|]+", text)
 
 
+def words_of(line):
+    """The words of a line; one carriage return at its end is passed over."""
+    return list(cut(line))
+
+
 def is_silent(line):
     """Whether a line has no reply: it has no words, or it is a note."""
-    return line.lstrip(" \t").startswith("#") or not words_of(line)
+    return line.lstrip(" \t").startswith("#") or not cut(line)
 
 
+@functools.lru_cache(maxsize=1 << 14)
 def form_of(line):
     """The form that a line has, or else the place that is told by its refusal."""
     size = len(line.encode("utf-8", "surrogateescape"))

@@ -109,22 +109,41 @@ def the_saved_text_tells_the_session(trial):
 
 
 def the_way_of_a_script_is_of_no_account(trial):
-    """By its name, with other line ends, and line by line, a script has the same replies."""
+    """With other line ends, by its name, and line by line, a script has the same replies."""
     script = program.encode("".join(line + "\n" for line in trial.lines))
     wanted = trial.main.output, trial.main.status
-    if not any(line.endswith("\r") or len(line) > 65000 for line in trial.lines):
-        crossed = script.replace(b"\n", b"\r\n")
-        same(trial.program.call(crossed, trial.files), wanted, "with carriage returns")
-    same(trial.program.call(script[:-1], trial.files), wanted, "without the last line end"
-         ) if trial.lines and trial.lines[-1] else None
+    ways = trial.world.rng("ways").sample([crossed, unended, named, line_by_line], 2)
+    return sum(way(trial, script, wanted) for way in ways)
+
+
+def crossed(trial, script, wanted):
+    if any(line.endswith("\r") or len(line) > 65000 for line in trial.lines):
+        return 0
+    found = trial.program.call(script.replace(b"\n", b"\r\n"), trial.files)
+    same(found, wanted, "with a carriage return before each line feed")
+    return 1
+
+
+def unended(trial, script, wanted):
+    same(trial.program.call(script[:-1], trial.files), wanted, "without the last line end")
+    return 1
+
+
+def named(trial, script, wanted):
     files = {**trial.files, "script": script}
     same(trial.program.call(b"", files, ["--script", "script"]), wanted, "by --script")
-    if trial.world.rng("live").random() < 0.5:
-        live = trial.program.live(trial.files)
+    return 1
+
+
+def line_by_line(trial, script, wanted):
+    live = trial.program.live(trial.files)
+    try:
         for line in trial.lines:
             live.say(line)
-        same(live.end(), wanted, "line by line")
-    return 3
+    finally:
+        found = live.end()
+    same(found, wanted, "line by line")
+    return 1
 
 
 CHECKS = [

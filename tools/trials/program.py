@@ -1,9 +1,9 @@
 """Runs the program on a script in a folder that has the files of a trial and no others."""
 import os
+import select
 import shutil
 import subprocess
 import tempfile
-from pathlib import Path
 from trials import replies
 from trials.replies import Differs
 
@@ -41,13 +41,16 @@ class Program:
             os.unlink(os.path.join(self.folder, name))
         for name, text in files.items():
             if self.there.get(name) != text:
-                Path(self.folder, name).write_bytes(text)
+                with open(os.path.join(self.folder, name), "wb") as file:
+                    file.write(text)
         self.there = dict(files)
 
     def look(self):
         """The files of the folder as they are now."""
-        self.there = {name: Path(self.folder, name).read_bytes()
-                      for name in os.listdir(self.folder)}
+        self.there = {}
+        for name in os.listdir(self.folder):
+            with open(os.path.join(self.folder, name), "rb") as file:
+                self.there[name] = file.read()
         return dict(self.there)
 
     def call(self, script, files, words=()):
@@ -91,27 +94,36 @@ class Live:
 
     def say(self, line):
         """The reply to a line, or None where it is silent."""
-        self.running.stdin.write(encode(line + "\n"))
-        if replies.forms.is_silent(line):
-            return None
-        text = b""
+        return self.say_all([line])[0]
+
+    def say_all(self, lines):
+        """The replies to some lines, which are written at once."""
+        self.running.stdin.write(encode("".join(line + "\n" for line in lines)))
+        text, piece = b"", b""
         while True:
-            piece = os.read(self.running.stdout.fileno(), 1 << 20)
-            text += piece
             try:
-                reply = replies.cut([line], text.decode("utf-8", "replace"))[0]
+                found = replies.cut(lines, text.decode("utf-8", "replace"))
+                self.output += text
+                return found
             except Differs:
+                piece = self.piece()
+                text += piece
                 if not piece:
                     raise
-                continue
-            self.output += text
-            return reply
+
+    def piece(self):
+        """What is written next; nothing at the end."""
+        stream = self.running.stdout.fileno()
+        if not select.select([stream], [], [], PATIENCE)[0]:
+            raise Differs(f"no reply came within {PATIENCE} seconds")
+        return os.read(stream, 1 << 20)
 
     def end(self):
         """Ends the script: what was written in all, and the status."""
-        self.running.stdin.close()
-        rest = self.running.stdout.read()
-        self.running.stdout.close()
-        status = self.running.wait()
+        try:
+            rest, _ = self.running.communicate(timeout=PATIENCE)
+        except subprocess.TimeoutExpired:
+            self.running.kill()
+            rest, _ = self.running.communicate()
         self.program.look()
-        return self.output + rest, status
+        return self.output + rest, self.running.returncode

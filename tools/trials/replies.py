@@ -2,7 +2,6 @@
 
 A reply is a text with its line ends. The last line of a reply tells its end, so what is written can
 be cut by the lines of the script alone."""
-import functools
 import re
 from trials import forms, sets
 
@@ -68,11 +67,6 @@ REFUSALS = {code: re.compile(rf"no {code}{' ' if details else ''}{details}\n")
 PATTERNS = {word: re.compile(shape) for word, shape in SHAPES.items()}
 
 
-@functools.lru_cache(maxsize=4096)
-def form_of(line):
-    return forms.form_of(line)
-
-
 def is_refusal(reply):
     return reply is not None and reply.startswith("no ")
 
@@ -104,7 +98,7 @@ def cut(lines, text):
         if forms.is_silent(line):
             found.append(None)
             continue
-        form, place = form_of(line)
+        form, place = forms.form_of(line)
         shape = form and PATTERNS[form.head[0]].match(text, start)
         end = shape.end() if shape else refusal_end(line, form, place, text, start)
         found.append(text[start:end])
@@ -127,7 +121,7 @@ def listing(reply, names):
             raise Differs(f"the cursor and the set of {line!r} aren't one")
         found.append(own)
     if found != sets.in_order(set(found)):
-        raise Differs(f"the sets of a listing aren't in order, or one stands twice: {reply[:300]!r}")
+        raise Differs(f"the sets aren't in order, or one stands twice: {reply[:300]!r}")
     return found, lines[-1]
 
 

@@ -50,7 +50,7 @@ class Maker:
 
     def __init__(self, rng, names, files):
         self.rng, self.names, self.size, self.files = rng, names, len(names), files
-        self.answers, self.pupils = 0, ["Ann", "Bea", names[0]]
+        self.answers, self.begun = 0, []
 
     def name(self):
         return self.rng.choice(self.names) if self.rng.random() < 0.99 else "stranger"
@@ -64,6 +64,18 @@ class Maker:
         if drawn < 0.9:
             return self.rng.choice(self.files.by_kind[kind])
         return self.rng.choice([*self.files.texts, "s1"]) if drawn < 0.97 else "nowhere"
+
+    def pupil(self):
+        """The name of a pupil, mostly of one that has begun."""
+        if self.begun and self.rng.random() < 0.9:
+            return self.rng.choice(self.begun)
+        return self.rng.choice(["Ann", "Bea", self.names[0]])
+
+    def pupil_line(self):
+        if self.rng.random() < 0.01:
+            return [f"pupil p{number}" for number in range(17)]
+        self.begun.append(self.rng.choice(["Ann", "Bea", self.names[0]]))
+        return f"pupil {self.begun[-1]}"
 
     def cursor(self):
         if self.rng.random() < 0.06:
@@ -104,7 +116,7 @@ class Maker:
     def replies_line(self):
         """Replies of a pupil on each item in some order: now and then one is on the item asked."""
         own = set(self.some_names())
-        pupil = self.rng.choice(self.pupils)
+        pupil = self.pupil()
         return [f"reply {pupil} {name} {'right' if name in own else 'wrong'}"
                 for name in self.rng.sample(self.names, self.size)]
 
@@ -147,10 +159,9 @@ class Maker:
             "mesh": lambda: f"mesh {self.file('part')} {self.file('part')} "
                             + self.page(self.cursor),
             "mesh-agree": lambda: f"mesh-agree {self.file('part')} {self.file('part')}",
-            "pupil": lambda: f"pupil {rng.choice(self.pupils)}",
-            "question": lambda: f"question {rng.choice(self.pupils)}",
-            "report": lambda: f"report {rng.choice(self.pupils)}",
-            "close": lambda: f"close {rng.choice(self.pupils)}",
+            "question": lambda: f"question {self.pupil()}",
+            "report": lambda: f"report {self.pupil()}",
+            "close": lambda: f"close {self.pupil()}",
             "class": lambda: f"class {self.file('pupils')}",
             "save": lambda: f"save s{rng.randint(1, 2)}",
             "open": lambda: f"open {rng.choice(['s1', 's1', 's2', self.file('kept')])}",
@@ -194,13 +205,14 @@ class Maker:
     def script(self):
         """The lines of a script."""
         rng = self.rng
-        weights = [rng.choice([1, 2, 6]) for _ in GROUPS]
-        weights[-1] = 1
+        weights = [rng.choice([3, 6, 10]), *(rng.choice([1, 2, 6]) for _ in range(3)), 1]
         words = ["items" if rng.random() < 0.8 else "load-items"]
         if rng.random() < (0.5 if self.size <= 8 else 1):
             words.append("start")
         words += ["blocks"] if rng.random() < 0.4 else []
-        for group in rng.choices(list(GROUPS), weights, k=rng.randint(8, 30)):
+        for group in rng.choices(list(GROUPS), weights, k=rng.randint(8, 36)):
+            first = {"safe": "safe-open", "pupils": "pupil"}.get(group)  # else all are refused
+            words += [first] if first and first not in words else []
             words.append(rng.choice(GROUPS[group]))
         if rng.random() < 0.1:
             words[:0] = [rng.choice(GROUPS[rng.choice(list(GROUPS))])]
