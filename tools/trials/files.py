@@ -114,8 +114,8 @@ class Files:
     def json(self, value):
         """A JSON text in some layout, its keys in any order."""
         keys = self.rng.sample(sorted(value), len(value))
-        return json.dumps({key: value[key] for key in keys}, indent=self.rng.choice([None, 0, 2]),
-                          ensure_ascii=self.rng.random() < 0.5)
+        own, layout = {key: value[key] for key in keys}, self.rng.choice([None, None, 1])
+        return json.dumps(own, indent=layout, ensure_ascii=self.rng.random() < 0.5)
 
     def pairs(self):
         rng, lines = self.rng, []

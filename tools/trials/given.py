@@ -53,7 +53,7 @@ def the_conjunctive_states_are_the_complements(trial):
 
 def part_of(trial, name):
     """The items of a part, and its states."""
-    family = ledger.family_of(trial.files[name].decode(), trial.ledger.place)
+    family = ledger.family_of(ledger.text_of(trial.files[name]), trial.ledger.place)
     items = 0
     for own in family:
         items |= own
@@ -113,7 +113,7 @@ def a_test_tells_the_first_that_holds(trial):
     made = 0
     for name, reply in zip(found, (yield AtEnd(f"test {name}" for name in found))):
         if not replies.is_refusal(reply):
-            family = ledger.family_of(trial.files[name].decode(), trial.ledger.place)
+            family = ledger.family_of(ledger.text_of(trial.files[name]), trial.ledger.place)
             same(reply, tested(set(family), names), f"`test {name}`")
             made += 1
     return made

@@ -33,10 +33,11 @@ class Ledger:
     def __init__(self, files):
         self.files, self.kept = files, {}
         self.names, self.answers, self.next, self.pupils, self.safe = None, {}, 1, {}, None
+        self.left = None
 
     def begin(self, names):
         """A domain is given."""
-        self.names, self.size = names, len(names)
+        self.names, self.size, self.left = names, len(names), None
         self.place = {name: place for place, name in enumerate(names)}
         self.start, self.block, self.answers, self.next = ("free", None), 1, {}, 1
         self.limits = (30, 90)
@@ -56,13 +57,18 @@ class Ledger:
         """The sets that the start and the Yes answers leave, in order; None where they are many."""
         if not self.is_small():
             return None
+        queries = tuple(query for yes, query in self.answers.values() if yes)
+        if self.left is None or self.left[:2] != (self.start, queries):
+            self.left = self.start, queries, self.left_by(queries)
+        return self.left[2]
+
+    def left_by(self, queries):
         kind, value = self.start
         every = range(sets.full(self.size), -1, -1)
         if kind == "surmise":
             every = sets.clause_states(value, self.size)
         elif kind == "base":
             every = [own for own in every if sets.reached(own, value) == own]
-        queries = [query for yes, query in self.answers.values() if yes]
         return [own for own in every
                 if not any(sets.breaks(own, query, self.size) for query in queries)]
 
@@ -79,11 +85,11 @@ class Ledger:
         self.begin(words)
 
     def line_load_items(self, words, reply):
-        text = self.files[words[0]].decode("utf-8-sig")
+        text = text_of(self.files[words[0]]).removeprefix("\ufeff")
         self.begin([row[0] for row in csv.reader(io.StringIO(text, newline="")) if row])
 
     def line_start(self, words, reply):
-        text = self.files[words[1]].decode()
+        text = text_of(self.files[words[1]])
         if words[0] == "surmise":
             ways = json.loads(text)
             self.start = "surmise", [sets.in_order(self.set_of(clause) for clause in ways[name])
@@ -208,6 +214,11 @@ class Ledger:
             "answers": answers, "block": self.block, "items": self.names, "limits": self.limits,
             "next": self.next, "odds": self.ratios, "pupils": pupils,
             "start": self.start_json(self.start), "version": 2})
+
+
+def text_of(own):
+    """The text of a file, also where some bytes aren't UTF-8, as in a note."""
+    return own.decode("utf-8", "surrogateescape")
 
 
 def family_of(text, place):

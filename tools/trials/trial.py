@@ -6,6 +6,7 @@ the replies to its lines. Those of all checks of one round are asked in one run,
 So such lines may change nothing, or, in `Anew`, nothing but the start."""
 import functools
 import inspect
+import traceback
 from trials import ledger
 from trials.replies import Differs
 
@@ -21,7 +22,9 @@ class Anew:
     """Lines that are asked in a new session on the same items, with further files."""
 
     def __init__(self, lines, files):
-        self.lines, self.files = list(lines), {name: text.encode() for name, text in files.items()}
+        self.lines = list(lines)
+        self.files = {name: text if isinstance(text, bytes) else text.encode()
+                      for name, text in files.items()}
 
 
 class Trial:
@@ -73,8 +76,8 @@ class Trial:
                 asked[check] = move()
             except StopIteration as end:
                 ended[check] = end.value, None
-            except Differs as difference:
-                ended[check] = 1, str(difference)
+            except Exception as fault:  # also where a reply is such that the check itself breaks
+                ended[check] = 1, told(fault)
 
         for check in checks:
             if inspect.isgeneratorfunction(check):
@@ -113,6 +116,14 @@ class Trial:
                     except Differs as difference:
                         found[check] = difference
         return found
+
+
+def told(fault):
+    """What differed, or where a check broke."""
+    if isinstance(fault, Differs):
+        return str(fault)
+    place = traceback.extract_tb(fault.__traceback__)[-1]
+    return f"the check broke in {place.name}, line {place.lineno}: {fault!r}"
 
 
 def same(found, wanted, what):
