@@ -2,7 +2,6 @@
 
 The session is that of the ledger, and each reply is worked out from docs/COMMANDS.md. Where a reply
 depends on a file, or there are many items, only the refusals that the session decides are held."""
-import itertools
 import math
 from trials import forms, interview, ledger, lines, listings, pupils, replies, safely, sets, spaces
 from trials.replies import Differs

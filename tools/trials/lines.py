@@ -1,6 +1,5 @@
 """Checks of lines and replies, of refused lines, of saved sessions, and of how a script comes."""
-from trials import forms, ledger, program, replies, sets
-from trials.replies import Differs
+from trials import forms, ledger, program, replies
 from trials.trial import same
 
 KEPT = "kept-by-the-trial"

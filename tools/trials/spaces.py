@@ -1,6 +1,6 @@
 """Checks of the states and of what is told of them: base, surmise function, relation, skill map,
 fringes; and that each of these, put into a file, gives the same states."""
-from trials import ledger, listings, replies, sets
+from trials import listings, replies, sets
 from trials.trial import AtEnd, Anew, same
 
 MOST = 65536
