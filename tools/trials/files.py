@@ -90,9 +90,10 @@ class Files:
     def family(self):
         """All unions of some sets, or all but one or two of these."""
         family = sets.unions(self.family_on(range(self.size)))
-        if self.rng.random() < 0.4:
-            for _ in range(self.rng.randint(1, 2)):
-                family -= {self.rng.choice(sorted(family) or [0])}
+        if self.rng.random() < 0.5:
+            joined = family - {0, sets.full(self.size), *sets.base_of(family)}
+            pool = sorted(joined if joined and self.rng.random() < 0.8 else family)
+            family -= set(self.rng.choices(pool, k=self.rng.randint(1, 2)))
         return self.set_lines(family)
 
     def part(self):

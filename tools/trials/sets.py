@@ -3,6 +3,7 @@
 A set is a whole number of as many bits as there are items, in which item 0 has the highest bit. So
 the order of sets, by which a set with the least item on which two differ comes first, is that of
 falling numbers. Nothing here has anything of the program in it."""
+import functools
 import json
 
 
@@ -15,9 +16,10 @@ def full(size):
     return (1 << size) - 1
 
 
+@functools.lru_cache(maxsize=1 << 14)
 def members(own, size):
     """The items of a set, in their order."""
-    return [item for item in range(size) if own & bit(item, size)]
+    return tuple(item for item in range(size) if own & bit(item, size))
 
 
 def set_of(items, size):
