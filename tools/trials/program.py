@@ -28,7 +28,8 @@ class Program:
 
     def __init__(self, path):
         self.path = path
-        self.folder = tempfile.mkdtemp(dir=MEMORY if os.path.isdir(MEMORY) else None)
+        self.folder = tempfile.mkdtemp(prefix="lspace-trials-",
+                                       dir=MEMORY if os.path.isdir(MEMORY) else None)
         self.there = {}
         self.runs = 0
 
