@@ -196,8 +196,37 @@ def renumbered(text, gone):
     return text
 
 
+def an_expert_is_asked_until_one_space_is_left(trial):
+    """An expert who has a space in mind answers what is asked, by ever larger blocks."""
+    rng, names, made = trial.world.rng("expert"), trial.names(), 0
+    size = len(names)
+    if not 2 <= size <= 5:
+        return 0
+    drawn = [rng.randrange(1 << size) for _ in range(rng.randint(0, 5))]
+    space = sets.unions([*drawn, sets.full(size)])
+    live = trial.program.live(trial.files)
+    try:
+        live.say(f"items {' '.join(names)}")
+        for block in range(1, size):
+            queries = {f"ask {sets.query_text(query, names)}\n": query
+                       for query in sets.queries(size, block)}
+            live.say(f"blocks {block}")
+            while (asked := live.say("ask")) != "settled\n":
+                query = queries.pop(asked, None)
+                same(query is not None, True, f"whether {asked!r} is new and of blocks of {block}")
+                yes = not any(sets.breaks(own, query, size) for own in space)
+                made += 1
+                same(live.say(asked.replace("ask", "yes" if yes else "no", 1)[:-1]),
+                     f"ok {made}\n", f"the reply to the expert's answer to {asked!r}")
+        told = live.say("states")
+    finally:
+        live.end()
+    same(replies.listing(told, names)[0], sets.in_order(space), "the states when all is settled")
+    return 1
+
+
 CHECKS = [
     known_is_what_all_fitting_spaces_say, known_fits_the_states, the_first_open_query_is_asked,
     what_is_known_refuses_its_opposite, an_open_query_takes_either_answer,
-    a_retracted_answer_was_never_given,
+    a_retracted_answer_was_never_given, an_expert_is_asked_until_one_space_is_left,
 ]

@@ -1,8 +1,7 @@
 """Checks of lines and replies, of refused lines, of saved sessions, and of how a script comes."""
 from trials import forms, ledger, program, replies
-from trials.trial import same
+from trials.trial import KEPT, same
 
-KEPT = "kept-by-the-trial"
 AGAIN = "kept-again"
 
 
@@ -54,15 +53,16 @@ def unknown_place(form, words, book):
 
 
 def refused_lines_change_nothing(trial):
-    """The script without its refused lines has the same other replies."""
+    """The script without its refused lines has the same other replies, and the same session."""
     kept = [(line, reply) for line, reply in zip(trial.lines, trial.main.replies)
             if not replies.is_refusal(reply)]
     if len(kept) == len(trial.lines):
         return 0
-    again = trial.run([line for line, _ in kept])
+    again = trial.run([*(line for line, _ in kept), f"save {KEPT}"])
     for (line, reply), other in zip(kept, again.replies):
         same(other, reply, f"without the refused lines, the reply to {line!r}")
-    same(again.status, 0, "the status without the refused lines")
+    same(again.status, 0 if trial.ledger.names else 1, "the status without the refused lines")
+    same(trial.program.look().get(KEPT), trial.saved, "what is saved without the refused lines")
     return len(kept)
 
 
@@ -101,9 +101,7 @@ def the_saved_text_tells_the_session(trial):
     """At the end of the script `save` writes what the accepted lines come to."""
     if trial.ledger.names is None:
         return 0
-    trial.run([*trial.lines, f"save {KEPT}"])
-    found = trial.program.look()[KEPT].decode()
-    same(found, trial.ledger.saved(), "the saved text of the session")
+    same(trial.saved.decode(), trial.ledger.saved(), "the saved text of the session")
     return 1
 
 

@@ -10,6 +10,8 @@ import traceback
 from trials import ledger
 from trials.replies import Differs
 
+KEPT = "kept-by-the-trial"
+
 
 class AtEnd:
     """Lines that are asked behind the script of the world."""
@@ -44,6 +46,12 @@ class Trial:
     def ledger(self):
         """What the script came to."""
         return ledger.follow(self.lines, self.main.replies, self.files)
+
+    @functools.cached_property
+    def saved(self):
+        """What is saved behind the script; None without a domain."""
+        self.run([*self.lines, f"save {KEPT}"])
+        return self.program.look().get(KEPT)
 
     def names(self):
         """The names of the items at the end of the script; none without a domain."""
