@@ -2,7 +2,6 @@ mod Vocabulary
 pub mod Decided
 pub mod Fetched
 mod TwoFetched
-mod TwoParts
 mod Cursors
 mod Stored
 mod Meant

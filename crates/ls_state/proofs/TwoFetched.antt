@@ -2,9 +2,9 @@
 use Rattle.ls_state.proofs.Vocabulary.{[], ◌++◌, ◌∙◌, ◌∷◌, ◌≡◌, AllocError, Bool, Bytes, Calls, Decides, Effect, Err, Failed, Fetched, FileFailed, Folder, FolderStays, IsErrAnd, IsFetched, List, Makes, Missing, NoFile, None, Ok, Option, Refusal, Refused, Response, Result, Rose, SeesFile, Session, ShelfState, Some, Text, TooLarge, Vec, ℕ, answers, ap, ap₂, arith, bytes_eq, bytes_fetched, calls_of, cond, false, fetched_from, file_refusals, length, longest_file, ltb, refl, subst, sym, true}
 use Rattle.ls_state.proofs.Decided.{failed_from, files_stay, makes_as}
 use Rattle.ls_state.proofs.Fetched.{calls_failed, calls_missing, decides_seen, decides_unseen, refused_apart}
-use Rattle.ls_state.specs.TwoFiles.{right_bytes}
+use Rattle.ls_contents.specs.TwoFiles.{right_bytes}
 use Rattle.ls_state.specs.Decides.{AreFetched, Fetching, SeesFiles}
-use Rattle.ls_state.specs.declared.fetching.TwoFiles.{TwoFiles}
+use Rattle.ls_contents.specs.declared.meshes.TwoFiles.{TwoFiles}
 use Rattle.ls_meaning.specs.MeshRows.{two_files}
 use Rattle.std.specs.declared.alloc.Global.{Global}
 use Rattle.std.specs.FinMap as map

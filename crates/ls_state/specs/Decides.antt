@@ -13,8 +13,8 @@ use Rattle.ls_meaning.specs.{calls_of, file_refusals, folder_with}
 use Rattle.ls_meaning.specs.declared.response.Refusal.{Refusal}
 use Rattle.ls_meaning.specs.declared.response.Response.{Response}
 use Rattle.ls_meaning.specs.MeshRows.{two_files}
-use Rattle.ls_state.specs.TwoFiles.{right_bytes}
-use Rattle.ls_state.specs.declared.fetching.TwoFiles.{TwoFiles}
+use Rattle.ls_contents.specs.TwoFiles.{right_bytes}
+use Rattle.ls_contents.specs.declared.meshes.TwoFiles.{TwoFiles}
 
 -- ---- without the folder
 

@@ -1,20 +1,10 @@
--- What is read is what the definitions read, unless memory ran out.
-use Rattle.std.specs.Prelude.{◌≡◌, List, length, Result, Ok, Err, IfOk, IfErr}
-use Rattle.ls_theory.specs.Starts as theory
+-- Names that are read are what the definitions read, unless memory ran out.
+use Rattle.std.specs.Prelude.{◌≡◌, List, Result, Ok, IfOk, IfErr}
 use Rattle.ls_lines.specs.{Text}
 use Rattle.ls_domain.specs.Domains.{IsDomainFault}
 use Rattle.ls_domain.specs.declared.domain_fault.DomainFault.{DomainFault}
-use Rattle.ls_standing.specs.Starts.{start_of, IsStartOn}
-use Rattle.ls_standing.specs.declared.start.Start.{Start}
-use Rattle.ls_meaning.specs.declared.response.Refusal.{Refusal}
 
 -- the names of a domain, or why they are none
 pub record AreNamesRead (reading read : Result (List Text) DomainFault) : Type 0 where
   pub names : IfOk read (λ names. reading ≡ Ok names)
   pub fault : IfErr read (IsDomainFault reading)
-
--- a start on the named items, or a refusal
-abbrev pub IsStartRead : List Text → Result theory.Start Refusal → Result Start Refusal → Type 0
-IsStartRead names reading (Ok start) =
-    (reading ≡ Ok (start_of start)) × IsStartOn (length names) start
-IsStartRead names reading (Err refusal) = reading ≡ Err refusal

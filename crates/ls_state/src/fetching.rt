@@ -1,8 +1,7 @@
 // Files that commands fetch.
-ghost use Rattle.std.specs.Prelude.{◌≡◌};
 ghost use Rattle.ls_state.specs.Decides.{SeesFile, SeesFiles, shelf_state};
-ghost use Rattle.ls_state.specs.TwoFiles.{right_bytes};
 
+use ls_contents::TwoFiles;
 use ls_edge::{FetchFault, Shelf};
 use ls_lines::Word;
 use ls_meaning::Refusal;
@@ -19,25 +18,6 @@ pub fn fetch<H: Shelf>(file: &Word, shelf: &mut H) -> Result<Result<Vec<u8>, Ref
         Err(FetchFault::TooLarge { bytes }) => Ok(Err(Refusal::LargeFile { bytes })),
         Err(FetchFault::Failed) => Ok(Err(Refusal::FileFailed)),
         Err(FetchFault::Memory(e)) => Err(e),
-    }
-}
-
-/// The bytes of two files. Where both have one name, `right` is left out.
-#[derive(Drop)]
-pub struct TwoFiles {
-    pub left: Vec<u8>,
-    pub right: Option<Vec<u8>>,
-}
-
-impl TwoFiles {
-    /// The bytes of the second file.
-    pub fn right(&self) -> &[u8]
-        ensures { result.now ≡ right_bytes self.now }
-    {
-        match &self.right {
-            Some(bytes) => bytes,
-            None => &self.left,
-        }
     }
 }
 

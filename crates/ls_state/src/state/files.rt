@@ -1,22 +1,17 @@
 // Commands that fetch or store a file, where a domain stands.
-ghost use Rattle.std.specs.Prelude.{◌≡◌, [], IfOk, length};
-ghost use Rattle.ls_files.specs.SetFiles.{sets_of};
 ghost use Rattle.ls_meaning.specs.{Session, answers, changes_interview, class_row, file_effect};
 ghost use Rattle.ls_meaning.specs.{in_domain, refuse, save_row, start_row, stores, test_row};
-ghost use Rattle.ls_meaning.specs.{tested_by};
 ghost use Rattle.ls_state.specs.Decides.{Decides, shelf_state};
 
 use crate::fetching::fetch;
 use crate::starting::start_from;
 use crate::state::State;
-use ls_domain::Domain;
+use ls_contents::test_sets;
 use ls_edge::{LONGEST_FILE, Shelf, StoreFault};
-use ls_family::{Family, FamilyFault};
 use ls_interior::Steps;
 use ls_lines::{FileCommand, Word};
-use ls_meaning::{Refusal, Response, Shown, SkillModel, StartFile};
+use ls_meaning::{Refusal, Response, SkillModel, StartFile};
 use ls_pupils::assess_class;
-use ls_space::test;
 use ls_store::print_parts;
 use std::alloc::{AllocError, Global};
 use std::sync::ledger::Ledger;
@@ -166,23 +161,6 @@ impl State {
             return Ok(Response::Refused(Refusal::LargeFile { bytes }));
         }
         store(file, &text, shelf)
-    }
-}
-
-// The verdict on the family that the bytes of a file give, or the refusal of bytes that give none.
-fn test_sets<R: Threads + Sync>(
-    rt: &R,
-    alloc: Global,
-    domain: &Domain,
-    bytes: &[u8],
-) -> Result<Response, AllocError>
-    ensures { IfOk result (λ r.
-        r ≡ tested_by (length domain.now) [] (sets_of domain.now bytes.now)) }
-{
-    match Family::from_text(alloc, domain, bytes) {
-        Ok(family) => Ok(Response::Shown(Shown::Tested(test(rt, alloc, &family)?))),
-        Err(FamilyFault::Memory(e)) => Err(e),
-        Err(fault) => Ok(Response::Refused(Refusal::TestedSets(fault))),
     }
 }
 

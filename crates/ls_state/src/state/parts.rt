@@ -1,23 +1,17 @@
 // Meshes of the parts of two files.
-ghost use Rattle.std.specs.Prelude.{◌≡◌, [], IfOk, length};
-ghost use Rattle.ls_files.specs.SetFiles.{sets_of};
+ghost use Rattle.std.specs.Prelude.{length};
 ghost use Rattle.ls_meaning.specs.{after_of, answers, in_domain};
-ghost use Rattle.ls_meaning.specs.MeshRows.{agreed_by, mesh_agree_row, mesh_row, meshed_by};
+ghost use Rattle.ls_meaning.specs.MeshRows.{mesh_agree_row, mesh_row};
 ghost use Rattle.ls_state.specs.Decides.{Decides, shelf_state};
-ghost use Rattle.ls_state.specs.Parts.{IsMeshRead, IsPartRead};
-ghost use Rattle.ls_state.specs.TwoFiles.{right_bytes};
 
-use crate::fetching::{TwoFiles, fetch_both};
+use crate::fetching::fetch_both;
 use crate::state::State;
-use ls_domain::Domain;
+use ls_contents::{agreement, page_of_mesh};
 use ls_edge::Shelf;
-use ls_family::{Family, FamilyFault, files_have_sets_of_items};
 use ls_lines::Word;
-use ls_meaning::{Refusal, Response, Shown};
-use ls_mesh::{Mesh, MeshFault};
+use ls_meaning::{Refusal, Response};
 use ls_resolve::read_after;
-use ls_set::{ItemSet, SetList};
-use std::alloc::{AllocError, Global};
+use std::alloc::AllocError;
 
 impl State {
     // `mesh FILE FILE COUNT` and `mesh FILE FILE COUNT after CURSOR`. It is not made part of its
@@ -65,80 +59,5 @@ impl State {
             Ok(files) => agreement(self.alloc, domain, &files),
             Err(refusal) => Ok(Response::Refused(refusal)),
         }
-    }
-}
-
-// A page of the mesh of the parts of two files, or the refusal of files that give none.
-fn page_of_mesh(
-    alloc: Global,
-    domain: &Domain,
-    files: &TwoFiles,
-    count: u32,
-    after: Option<ItemSet>,
-) -> Result<Response, AllocError>
-    ensures { IfOk result (λ r. r ≡ meshed_by (length domain.now) count after []
-        (sets_of domain.now files.now.left.items) (sets_of domain.now (right_bytes files.now))) }
-{
-    match read_mesh(alloc, domain, files)? {
-        Ok(mesh) => Ok(Response::Shown(Shown::Mesh {
-            left: SetList::from_slice(alloc, mesh.left())?,
-            right: SetList::from_slice(alloc, mesh.right())?,
-            count,
-            after,
-        })),
-        Err(refusal) => Ok(Response::Refused(refusal)),
-    }
-}
-
-// Whether the parts of two files agree, or the refusal of files that give none.
-fn agreement(alloc: Global, domain: &Domain, files: &TwoFiles) -> Result<Response, AllocError>
-    ensures { IfOk result (λ r. r ≡ agreed_by (length domain.now) []
-        (sets_of domain.now files.now.left.items) (sets_of domain.now (right_bytes files.now))) }
-{
-    match read_mesh(alloc, domain, files)? {
-        Ok(mesh) => Ok(Response::Shown(Shown::Agree(mesh.agree(alloc)?))),
-        Err(refusal) => Ok(Response::Refused(refusal)),
-    }
-}
-
-// The mesh of the parts of two files, or the refusal of files that give none.
-fn read_mesh(
-    alloc: Global,
-    domain: &Domain,
-    files: &TwoFiles,
-) -> Result<Result<Mesh, Refusal>, AllocError>
-    ensures { IfOk result (IsMeshRead (length domain.now)
-        (sets_of domain.now files.now.left.items) (sets_of domain.now (right_bytes files.now))) }
-{
-    files_have_sets_of_items();
-    let left = match read_part(alloc, domain, 1, &files.left)? {
-        Ok(family) => family,
-        Err(refusal) => return Ok(Err(refusal)),
-    };
-    let right = match read_part(alloc, domain, 2, files.right())? {
-        Ok(family) => family,
-        Err(refusal) => return Ok(Err(refusal)),
-    };
-    match Mesh::from_sets(alloc, domain.count(), left.members(), right.members()) {
-        Ok(mesh) => Ok(Ok(mesh)),
-        Err(MeshFault::Memory(e)) => Err(e),
-        Err(fault) => Ok(Err(Refusal::Mesh(fault))),
-    }
-}
-
-// The sets of the file of a side, which is 1 or 2, or the refusal of a file that is no list of
-// sets.
-fn read_part(
-    alloc: Global,
-    domain: &Domain,
-    side: u32,
-    bytes: &[u8],
-) -> Result<Result<Family, Refusal>, AllocError>
-    ensures { IfOk result (IsPartRead side (sets_of domain.now bytes.now)) }
-{
-    match Family::from_text(alloc, domain, bytes) {
-        Ok(family) => Ok(Ok(family)),
-        Err(FamilyFault::Memory(e)) => Err(e),
-        Err(fault) => Ok(Err(Refusal::PartSets { side, fault })),
     }
 }

@@ -1,9 +1,11 @@
 -- What two files that are refused as parts tell.
-use Rattle.ls_state.proofs.Vocabulary.{[], ◌++◌, ◌∷◌, ◌≡◌, Items, List, Ok, Refusal, Result, ap, refl, ℕ}
+use Rattle.std.proofs.Common.{[], ◌++◌, ◌∷◌, ◌≡◌, List, Ok, Result, ap, refl, ℕ}
+use Rattle.ls_set.specs.{Items}
 use Rattle.ls_files.specs.declared.family_fault.FamilyFault.{FamilyFault}
 use Rattle.ls_meaning.specs.Effects.{refuse_fault}
 use Rattle.ls_meaning.specs.MeshRows.{part_refusals, two_parts}
 use Rattle.ls_meaning.specs.Rows.{sets_read}
+use Rattle.ls_meaning.specs.declared.response.Refusal.{Refusal}
 use Rattle.ls_meaning.specs.declared.response.Refusal.TheVariants.{Mesh}
 use Rattle.ls_origins.specs.Meshes.{mesh_fault}
 
@@ -12,11 +14,17 @@ module _ (n : ℕ) (left right : Result (List Items) FamilyFault) where
   meshed = refuse_fault Mesh (mesh_fault n (sets_read left) (sets_read right))
 
   -- the first is no list of sets
-  pub first_refused : (refusal : Refusal) → part_refusals 1 left ≡ refusal ∷ [] → (rest : List Refusal) × (two_parts n left right ≡ refusal ∷ rest)
-  first_refused refusal e = (part_refusals 2 right ++ meshed, ap (λ (rs : List Refusal). rs ++ part_refusals 2 right ++ meshed) e)
+  pub first_refused : (refusal : Refusal) → part_refusals 1 left ≡ refusal ∷ []
+      → (rest : List Refusal) × (two_parts n left right ≡ refusal ∷ rest)
+  first_refused refusal e = (
+    part_refusals 2 right ++ meshed,
+    ap (λ (rs : List Refusal). rs ++ part_refusals 2 right ++ meshed) e,
+  )
 
   -- or it is one, and the second is none
-  pub second_refused : (sets : List Items) (refusal : Refusal) → left ≡ Ok sets → part_refusals 2 right ≡ refusal ∷ [] → (rest : List Refusal) × (two_parts n left right ≡ refusal ∷ rest)
+  pub second_refused : (sets : List Items) (refusal : Refusal) → left ≡ Ok sets
+      → part_refusals 2 right ≡ refusal ∷ []
+      → (rest : List Refusal) × (two_parts n left right ≡ refusal ∷ rest)
   second_refused sets refusal read e =
       let none : part_refusals 1 left ≡ [] = ap (part_refusals 1) read in
       (meshed, rw (none, e) refl)
