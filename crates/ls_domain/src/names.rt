@@ -16,8 +16,8 @@ use std::marker::Model;
 const HINTS: usize = 2_048;
 
 /// Distinct names, in the order in which they were put.
-// At the place of a name there is a hint, which is some number: mostly the name's own. The name with
-// that number is compared, so a wrong hint costs a look into the set and no more.
+// At the place of a name there is a hint, which is a number: mostly the name's own. The name that
+// has the number is compared, so a wrong hint costs a look into the set and no more.
 #[derive(Drop)]
 pub(crate) struct Names {
     alloc: Global,
