@@ -1,5 +1,5 @@
 -- Names and their numbers.
-use Rattle.ls_domain.proofs.Vocabulary.{◌++◌, ◌+◌, ◌<◌, ◌∙◌, ◌∷◌, ◌≡◌, ◌≢◌, AllZip, AreNames, IsAscii, IsDistinct, IsUtf8, IsWithin, Items, List, None, PLACES, Some, String, Text, ℕ, [], ap, ap₂, arith, bytes_eq, cases_Bool, false, full, get_or, has, inl, inr, is_name, is_named, is_some, is_some-position, item_of, items_of, length, length-append, list_all-append, ltb, map, map-append, members, name_of, nat_list_eq_equiv, nat_tests, number_of, position_or_len, refl, same_set, set_of, string_bytes, sym, take, take_more, true, with}
+use Rattle.ls_domain.proofs.Vocabulary.{◌++◌, ◌+◌, ◌<◌, ◌∙◌, ◌∷◌, ◌≡◌, ◌≢◌, AllZip, AreNames, IsAscii, IsDistinct, IsUtf8, IsWithin, Items, List, None, OnSome, Option, PLACES, Some, String, Text, ℕ, [], ap, and_parts, ap₂, arith, bytes_eq, cases_Bool, false, full, get_or, has, inl, inr, is_name, is_named, is_some, is_some-position, item_of, items_of, length, length-append, list_all-append, ltb, map, map-append, members, name_of, nat_list_eq_equiv, nat_tests, number_of, position_or_len, refl, same_Some, same_set, set_of, slice_get, string_bytes, suc, sym, take, take_more, true, with, zero, list_all}
 use Rattle.std.proofs.lemmas.List.Elements.{All-head}
 use Rattle.std.proofs.lemmas.List.Quantifiers.{position-Some}
 use Rattle.std.proofs.lemmas.List.Sums.{position_or_len_is}
@@ -38,11 +38,48 @@ is_named-none names w e = sym (is_some-position (bytes_eq w) names) ∙ ap is_so
 pub item_of-some : (names : List Text) (w : Text) (i : ℕ) → number_of names w ≡ Some i → item_of names w ≡ i
 item_of-some names w i e = rw e refl
 
+-- the item at a place of the texts whose bytes are the names
+at_place : {Y : Type 0} (ks : List (String Y)) (i : ℕ) (k : String Y) → Some k ≡ slice_get ks i → (i < length (map string_bytes ks)) × (name_of (map string_bytes ks) i ≡ string_bytes k)
+at_place [] i k e = cc
+at_place (x ∷ ks) zero k e = (omega arith, ap string_bytes (same_Some x k (sym e)))
+at_place (x ∷ ks) (suc i) k e = let rest = at_place ks i k e in (omega (arith, rest.0), rest.1)
+
+-- a hint is right where the text at its place is the word
+pub hint-right : {Y : Type 0} (ks : List (String Y)) (names : List Text) (i : ℕ) (k : String Y) (w : Text) → map string_bytes ks ≡ names → AreNames names → Some k ≡ slice_get ks i → string_bytes k ≡ w → number_of names w ≡ Some i
+hint-right ks names i k w is are e same =
+    let at : (i < length names) × (name_of names i ≡ string_bytes k) = rw (← is) (at_place ks i k e) in
+    ap (number_of names) (sym same ∙ sym at.1) ∙ number_of-name_of names i are.distinct at.0
+
+-- a word that an item has is a name
+named-is_name : (names : List Text) (w : Text) → list_all is_name names ≡ true → is_named names w ≡ true → is_name w ≡ true
+named-is_name [] w all named = cc
+named-is_name (v ∷ names) w all named =
+    let parts = and_parts (is_name v) (list_all is_name names) all in
+    elim (cases_Bool (bytes_eq w v)) [
+      | inl e ↦ ap is_name ((bytes_eq-Decides w v).0 e) ∙ parts.0
+      | inr e ↦ named-is_name names w parts.1 (rw e at named)
+    ]
+
+pub numbered-is_name : (names : List Text) (w : Text) (r : Option ℕ) → AreNames names → r ≡ number_of names w → OnSome r (is_name w ≡ true)
+numbered-is_name names w None are e = tt
+numbered-is_name names w (Some i) are e = named-is_name names w are.named (is_named-some names w i (sym e))
+
+pub numbered-place : (names : List Text) (w : Text) (i : ℕ) → AreNames names → number_of names w ≡ Some i → i < PLACES
+numbered-place names w i are e = let lt = (position-Some (bytes_eq w) names i [] e).0 in let few = are.few in omega (arith, lt, few)
+
 -- ---- one name more
 
 -- a name is text
 pub is_name-utf8 : (w : Text) → is_name w ≡ true → IsUtf8 w
 is_name-utf8 w e = IsUtf8-from_ascii w (All-head IsAscii w [] (front-ascii (One Name) (w ∷ []) 1 (rw e refl)))
+
+-- and what is no text has no number
+pub number-none : (names : List Text) (w : Text) → AreNames names → (IsUtf8 w → ⊥) → None ≡ number_of names w
+number-none names w are other =
+    elim (number_of names w) as (λ o. number_of names w ≡ o → None ≡ o) [
+      | None ↦ λ e. refl
+      | Some i ↦ λ e. absurd (other (is_name-utf8 w (numbered-is_name names w (Some i) are (sym e))))
+    ] refl
 
 pub AreNames-nil : AreNames []
 unfolding IsDistinct

@@ -1,5 +1,5 @@
 -- The words that the proofs of this crate cite, passed on from one place.
-pub use Rattle.std.proofs.Common.{◌++◌, ◌+◌, ◌-◌, ◌<◌, ◌==◌, ◌∙◌, ◌∷◌, ◌≡◌, ◌≢◌, ◌≤◌, Bool, Bor, Err, Global, List, None, Ok, Result, Some, String, ℕ, [], ap, append-nil, append_assoc, ap₂, arith, cond, drop, eq-eqb, false, filter, get_or, inl, inr, is_some, le-ltb, length, length-append, lt-ltb, ltb, ltb-true, map, nat_le, ne_eqb, not, option_map, refl, slice_get, string_bytes, subst, suc, sym, take, true, unwrap_or, zero, zero-add}
+pub use Rattle.std.proofs.Common.{◌++◌, ◌+◌, ◌-◌, ◌<◌, ◌==◌, ◌∙◌, ◌∷◌, ◌≡◌, ◌≢◌, ◌≤◌, Bool, Bor, Err, Global, List, None, Ok, OnSome, Result, Some, String, ℕ, [], ap, append-nil, append_assoc, ap₂, arith, cond, drop, eq-eqb, false, filter, get_or, inl, inr, is_some, le-ltb, length, length-append, lt-ltb, ltb, ltb-true, map, nat_le, ne_eqb, not, option_map, refl, slice_get, string_bytes, subst, suc, sym, take, true, unwrap_or, zero, zero-add}
 pub use Rattle.std.proofs.Math.Seq.{take-append_seam}
 pub use Rattle.std.proofs.lemmas.Bool.{and_from, and_parts, cases_Bool, cases_lt, le-leb}
 pub use Rattle.std.proofs.lemmas.Bool.Decides.{nat_tests}

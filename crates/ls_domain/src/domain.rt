@@ -1,11 +1,12 @@
 // Domains.
 ghost use Rattle.std.specs.Prelude.{◌≡◌, ◌<◌, ◌≤◌, ◌++◌, None, Some, Ok, length, IfOk, IfErr};
-ghost use Rattle.std.specs.Prelude.{IfSome, OnOk, OnErr};
+ghost use Rattle.std.specs.Prelude.{IfSome, OnOk, OnErr, OnSome, true};
 ghost use Rattle.std.specs.Io.{StartsWith};
 ghost use Rattle.ls_set.specs.{IsWithin, full};
 ghost use Rattle.ls_domain.specs.Texts.{name_of, joined_names, set_text};
 ghost use Rattle.ls_domain.specs.Meanings.{number_of, items_of, first_unnamed};
-ghost use Rattle.ls_domain.specs.Domains.{IsDomain, IsDomainFault, names_of_words, names_of_table};
+ghost use Rattle.ls_domain.specs.Domains.{IsDomain, IsDomainFault, is_name, names_of_words};
+ghost use Rattle.ls_domain.specs.Domains.{names_of_table};
 
 use crate::names::Names;
 use crate::table::{first_field, first_records};
@@ -90,7 +91,17 @@ impl Domain {
         ensures within { IfSome result (λ i. i < length self.now) }
         ensures place { IfSome result (λ i. i < PLACES) }
     {
-        self.names.number(name)
+        self.names.number(name.as_bytes())
+    }
+
+    /// The item whose name is the word, or `None` where no item's is. The word may be any bytes.
+    pub fn item_named(&self, word: &[u8]) -> Option<u32>
+        ensures value { result ≡ number_of self.now word.now }
+        ensures name { OnSome result (is_name word.now ≡ true) }
+        ensures within { IfSome result (λ i. i < length self.now) }
+        ensures place { IfSome result (λ i. i < PLACES) }
+    {
+        self.names.number(word)
     }
 
     /// The name of item `i`, which is empty where there is no such item.

@@ -6,6 +6,7 @@ ghost use Rattle.ls_files.specs.SetFiles.{sets_of, found_from, IsFamilyFault};
 
 use crate::found::Found;
 use crate::member::order_of;
+use crate::place::first_place;
 use crate::set_line::read_line;
 use ls_domain::Domain;
 use ls_files::FamilyFault;
@@ -98,7 +99,7 @@ fn first_line(text: &[u8]) -> (&[u8], Option<&[u8]>)
         (λ more. (lines text.now ≡ result.0.now ∷ lines more.now)
         × (length more.now < length text.now)) }
 {
-    match text.iter().position(|b| *b == b'\n') {
+    match first_place(b'\n', text) {
         None => (text, None),
         Some(end) => (&text[..end], Some(&text[end + 1..])),
     }

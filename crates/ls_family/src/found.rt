@@ -38,7 +38,7 @@ impl Found {
         }
     }
 
-    // Takes one line more.
+    // Takes one line more. After a fault nothing is said of the sets.
     pub(crate) fn take_line(&mut self, row: usize, line: SetLine) -> Result<(), FamilyFault>
         ensures ok { OnOk result (with_line self.old row line ≡ Ok self.new) }
         ensures fault { IfErr result (IsFamilyFault (with_line self.old row line)) }
@@ -56,17 +56,16 @@ impl Found {
         ensures ok { OnOk result (with_set self.old row set ≡ Ok self.new) }
         ensures fault { IfErr result (IsFamilyFault (with_set self.old row set)) }
     {
-        let member = Member::new(set);
-        if let Some(first) = self.rows.get(&member).copied() {
+        let Ok(repeated) = self.rows.insert(Member::new(set), row) else {
+            return Err(FamilyFault::Memory(AllocError));
+        };
+        if let Some(first) = repeated {
             return Err(FamilyFault::Repeat { row, first });
         }
-        if self.rows.len() >= MOST_MEMBERS {
+        if self.rows.len() > MOST_MEMBERS {
             return Err(FamilyFault::TooMany { row });
         }
-        match self.rows.insert(member, row) {
-            Ok(_) => Ok(()),
-            Err(_) => Err(FamilyFault::Memory(AllocError)),
-        }
+        Ok(())
     }
 
     // The sets, in their order.

@@ -5,6 +5,7 @@ mod family;
 mod found;
 mod laws;
 mod member;
+mod place;
 mod set_line;
 
 pub use family::Family;

@@ -4,8 +4,10 @@ ghost use Rattle.std.specs.List.{list_all};
 ghost use Rattle.ls_lines.specs.{is_blank, parts_words, without_return};
 ghost use Rattle.ls_files.specs.SetFiles.{unindented, until_brace, words_within, set_named};
 ghost use Rattle.ls_files.specs.SetFiles.{body_read, line_read};
-ghost use Rattle.ls_family.specs.Words.{with_word};
+ghost use Rattle.ls_domain.specs.Domains.{is_name};
+ghost use Rattle.ls_family.specs.Words.{items_known, with_word};
 
+use crate::place::first_place;
 use ls_domain::Domain;
 use ls_files::SetLine;
 use ls_lines::Kind;
@@ -74,7 +76,7 @@ fn unindented(line: &[u8]) -> &[u8]
 fn until_brace(line: &[u8]) -> Option<&[u8]>
     ensures { option_map (λ part. part.now) result ≡ until_brace line.now }
 {
-    let Some(end) = line.iter().position(|b| *b == b'}') else {
+    let Some(end) = first_place(b'}', line) else {
         return None;
     };
     if are_blank(&line[end + 1..]) {
@@ -88,26 +90,38 @@ fn until_brace(line: &[u8]) -> Option<&[u8]>
 fn set_named(d: &Domain, part: &[u8]) -> SetLine
     ensures { result ≡ set_named d.now (words_within part.now) }
 {
+    match items_known(d, part) {
+        Some(set) => SetLine::Set(set),
+        None if are_names(part) => SetLine::Unknown,
+        None => SetLine::Bad,
+    }
+}
+
+// Whether each word is a name.
+fn are_names(part: &[u8]) -> bool
+    ensures { result ≡ list_all is_name (words_within part.now) }
+{
     part.split(|b| parts_words(*b))
         .filter(|word| !word.is_empty())
-        .fold(SetLine::Set(ItemSet::empty()), |line, word| {
-            with_word(d, line, word)
+        .all(|word| Kind::Name.takes(word))
+}
+
+// The set of the words' items, if each word is a name that an item has.
+fn items_known(d: &Domain, part: &[u8]) -> Option<ItemSet>
+    ensures { result ≡ items_known d.now (words_within part.now) }
+{
+    part.split(|b| parts_words(*b))
+        .filter(|word| !word.is_empty())
+        .fold(Some(ItemSet::empty()), |set, word| {
+            with_word(d, set, word)
         })
 }
 
-// What a line is with one word more between its braces.
-fn with_word(d: &Domain, line: SetLine, word: &[u8]) -> SetLine
-    ensures { result ≡ with_word d.now line word.now }
+// The set, if there is one, with the item of one word more.
+fn with_word(d: &Domain, set: Option<ItemSet>, word: &[u8]) -> Option<ItemSet>
+    ensures { result ≡ with_word d.now set word.now }
 {
-    if !Kind::Name.takes(word) {
-        return SetLine::Bad;
-    }
-    let SetLine::Set(set) = line else {
-        return line;
-    };
-    let name = str::from_utf8(word).unwrap();
-    match d.number(name) {
-        None => SetLine::Unknown,
-        Some(item) => SetLine::Set(set.with(item)),
-    }
+    let set = set?;
+    let item = d.item_named(word)?;
+    Some(set.with(item))
 }

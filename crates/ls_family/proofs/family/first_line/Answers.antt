@@ -1,4 +1,4 @@
-use Rattle.ls_family.proofs.Vocabulary.{◌+◌, ◌<◌, ◌==◌, List, None, Some, YieldsList-from_slice, ℕ, arith, length, length-drop, lines, position_from_yields_List, rules, subst, take_rest, tests}
+use Rattle.ls_family.proofs.Vocabulary.{◌+◌, ◌<◌, ◌==◌, arith, length, length-drop, lines, take_rest}
 use Rattle.ls_lines.proofs.Cuts.{split_uncut, split_first}
 use Rattle.ls_family.proofs.family.first_line.Goals as goal
 
@@ -6,13 +6,13 @@ pub returns-in-None : goal.returns-in-None
 unfolding lines
 returns-in-None c =
     let text = c.args.text.now in
-    split_uncut (λ b. b == 10) text (position_from_yields_List (λ b. b == 10) _ _ None c.in-None.ensures.ran (YieldsList-from_slice text cc) (λ x b q k. search (rules, tests)))
+    split_uncut (λ b. b == 10) text c.in-None.ensures.place
 
 pub returns-in-Some : goal.returns-in-Some
 unfolding lines
 returns-in-Some c =
     let text = c.args.text.now in
     let end = c.in-Some.end in
-    let at = position_from_yields_List (λ b. b == 10) _ _ (Some end) c.in-Some.ensures.ran (YieldsList-from_slice text cc) (λ x b q k. search (rules, tests)) in
-    let within : end < length text = subst (λ (b : List ℕ). end < length b) c.iter.ensures.rest c.in-Some.ensures.bound in
+    let at = c.in-Some.ensures.place in
+    let within : end < length text = c.in-Some.ensures.within in
     rw (take_rest text (end + 1)) (split_first (λ b. b == 10) text end at, omega (arith, length-drop (end + 1) text))

@@ -1,12 +1,12 @@
-use Rattle.ls_family.proofs.Vocabulary.{◌∙◌, Set, YieldsList-at, YieldsList-from_filter, ap, fold, fold_from_yields_List, length, nat_lt, parts_words, rules, tests, with_word, words_within}
-use Rattle.std.proofs.lemmas.Iterator.Splits.{YieldsList-from_slice_split}
-use Rattle.ls_family.proofs.Words.{words-named}
+use Rattle.ls_family.proofs.Vocabulary.{◌∙◌, sym, words_within}
+use Rattle.ls_family.proofs.Words.{set-bad, set-known, set-unknown}
 use Rattle.ls_family.proofs.set_line.set_named.Goals as goal
 
-pub returns : goal.returns
-returns c =
-    let names = c.args.d.now in
-    let words = words_within c.args.part.now in
-    fold_from_yields_List _ (with_word names) _ _ c.fold.ensures.ran (YieldsList-from_filter _ (λ w. nat_lt 0 (length w)) (YieldsList-at c.filter.ensures.source (YieldsList-from_slice_split _ parts_words c.args.part.now c.split.ensures.rest c.split.ensures.done c.split.ensures.closure (λ x r q k. search (rules, tests)))) c.filter.ensures.closure (λ x r q k. search (rules, tests))) (λ line x b q k. search (rules, tests))
-    ∙ ap (λ s. fold (with_word names) (Set s) words) c.empty.ensures
-    ∙ words-named names words
+pub returns-in-Some : goal.returns-in-Some
+returns-in-Some c = sym (set-known c.args.d.now (words_within c.args.part.now) c.in-Some.set (sym c.items_known.ensures ∙ c.in-Some.is))
+
+pub returns-in-None : goal.returns-in-None
+returns-in-None c = sym (set-unknown c.args.d.now (words_within c.args.part.now) (sym c.items_known.ensures ∙ c.in-None.is) (sym c.are_names.ensures ∙ c.if-are_names.true))
+
+pub returns-in-None-2 : goal.returns-in-None-2
+returns-in-None-2 c = sym (set-bad c.args.d.now (words_within c.args.part.now) (sym c.are_names.ensures ∙ c.if-are_names.false))

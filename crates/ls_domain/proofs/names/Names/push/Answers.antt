@@ -15,8 +15,8 @@ pub returns-clause-ok : goal.returns-clause-ok
 returns-clause-ok c =
     ap (map string_bytes) c.in_ok-insert.ensures.keys ∙ inserted c.self.inside.set.keys c.in_ok-text.text c.args.self.now c.args.name.now c.self.view_is c.in_ok-text.ensures.ok c.requires.new
 
-pub invariant_of-self-2 : goal.invariant_of-self-2
-invariant_of-self-2 c =
+pub invariant_of-self-3 : goal.invariant_of-self-3
+invariant_of-self-3 c =
     let are : AreNames c.args.self.now = subst AreNames c.self.view_is c.self.invariant in
     let is = ap (map string_bytes) c.in_ok-insert.ensures.keys ∙ inserted c.self.inside.set.keys c.in_ok-text.text c.args.self.now c.args.name.now c.self.view_is c.in_ok-text.ensures.ok c.requires.new in
     subst AreNames (sym is) (AreNames-push c.args.self.now c.args.name.now are c.requires.name c.requires.new c.requires.room)
