@@ -34,7 +34,7 @@ any-joins k (s ∷ ss) gs =
 
 -- ---- joins of the least size
 
-less-proper : (l k : Items) → is_proper l k ≡ true → len l < len k
+pub less-proper : (l k : Items) → is_proper l k ≡ true → len l < len k
 less-proper l k p =
     let both = and_parts (is_within l k) (not (is_same l k)) p in
     elim (cases_lt (len l) (len k)) [

@@ -11,3 +11,5 @@ pub mod Followings
 pub mod Trails
 pub mod Reduced
 pub mod OwnItems
+pub mod Rising
+pub mod Grouped

@@ -32,7 +32,7 @@ comes_before-chain s t u a b = false_from_ne_true (comes_before s u) (λ h. elim
 pub order_of_sets : IsStrictWeakOrder comes_before
 order_of_sets = record { one_way = comes_before-asymmetric; chain = comes_before-chain }
 
-Each-from : (P : Items → Type 0) (f : List Items) → ((k : Items) → is_among f k ≡ true → P k) → AllByRecursion P f
+pub Each-from : (P : Items → Type 0) (f : List Items) → ((k : Items) → is_among f k ≡ true → P k) → AllByRecursion P f
 Each-from P [] h = tt
 Each-from P (t ∷ f) h = (h t (among-here t t f refl), Each-from P f (λ k c. h k (among-there k t f c)))
 

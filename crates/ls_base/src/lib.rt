@@ -6,6 +6,7 @@ mod atoms;
 mod base;
 mod fault;
 mod followed;
+mod groups;
 mod least;
 mod left;
 mod own;

@@ -1,12 +1,13 @@
 // The sets of a list that are not the union of others of it.
-ghost use Rattle.std.specs.Prelude.{◌≡◌, ◌≤◌, ℕ, length, reverse, IfOk, IsPermutation};
+ghost use Rattle.std.specs.Prelude.{◌≡◌, ◌≤◌, ℕ, length, IfOk, IsPermutation};
 ghost use Rattle.std.specs.Ordering.{is_lt};
 ghost use Rattle.std.specs.List.Sorted.{IsSortedBy};
 ghost use Rattle.ls_set.specs.{IsInOrder, Items, comes_before, is_among};
 ghost use Rattle.ls_theory.specs.{base};
 ghost use Rattle.ls_laws.specs.Spans.{AreOn, needed, spanned};
+ghost use Rattle.ls_base.specs.Sizes.{Rises};
 
-use crate::unions::is_union_of;
+use crate::groups::Found;
 use ls_set::ItemSet;
 use std::alloc::{AllocError, Global};
 use std::cmp::Ordering;
@@ -41,20 +42,27 @@ pub fn put_in_order(sets: &mut Vec<ItemSet>)
     sets.dedup();
 }
 
-// The sets of a list in order that are not the union of the others within them, the last first. A
-// set that lies within another comes after it, and is a union of those that were kept.
-fn needed_last_first(alloc: Global, sets: &[ItemSet]) -> Result<Vec<ItemSet>, AllocError>
-    requires in_order { IsInOrder sets.now }
-    ensures { IfOk result (λ v. reverse v.items ≡ needed sets.now) }
+// Sorts the sets by their numbers of items.
+fn sort_by_size(sets: &mut [ItemSet])
+    ensures permutation { IsPermutation sets.old sets.new }
+    ensures rises { Rises sets.new }
 {
-    let mut found = Vec::new(alloc);
-    for place in (0..sets.len()).rev() {
-        let set = sets[place];
-        if !is_union_of(&found, set) {
-            found.push(set)?;
+    sets.sort_unstable_by_key(|set| set.len());
+}
+
+// The sets of a list that are not the union of the others of it within them. The list rises, so a
+// set that lies within another comes before it, and is a union of those that were kept.
+fn needed_by_size(alloc: Global, sets: &[ItemSet]) -> Result<Vec<ItemSet>, AllocError>
+    requires rises { Rises sets.now }
+    ensures { IfOk result (λ v. v.items ≡ needed sets.now) }
+{
+    let mut found = Found::new(alloc)?;
+    for set in sets {
+        if !found.has_union(*set) {
+            found.push(*set)?;
         }
     }
-    Ok(found)
+    Ok(found.sets)
 }
 
 /// The sets of a list in order that are not the union of the others of it within them.
@@ -63,8 +71,10 @@ pub fn needed_sets(alloc: Global, sets: &[ItemSet]) -> Result<Vec<ItemSet>, Allo
     ensures needed { IfOk result (λ v. v.items ≡ needed sets.now) }
     ensures few { IfOk result (λ v. length v.items ≤ length sets.now) }
 {
-    let mut found = needed_last_first(alloc, sets)?;
-    found.reverse();
+    let mut by_size = Vec::from_slice(alloc, sets)?;
+    sort_by_size(&mut by_size);
+    let mut found = needed_by_size(alloc, &by_size)?;
+    put_in_order(&mut found);
     Ok(found)
 }
 

@@ -30,14 +30,6 @@ pub fn union_within(sets: &[ItemSet], s: ItemSet) -> ItemSet
     union
 }
 
-/// Whether the set is the union of those sets of the list that lie within it.
-#[tactic(auto, unfolding(ls_set::specs::ItemSet::is_same))]
-pub fn is_union_of(sets: &[ItemSet], set: ItemSet) -> bool
-    ensures { result ≡ is_same (interior sets.now set) set }
-{
-    union_within(sets, set) == set
-}
-
 /// The union of those sets of the list that lie within `s` and are not `s`.
 pub fn union_below(sets: &[ItemSet], s: ItemSet) -> ItemSet
     ensures { result ≡ union_below sets.now s }

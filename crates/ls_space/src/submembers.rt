@@ -1,10 +1,11 @@
 // The base of a family, by unions of proper submembers.
-ghost use Rattle.std.specs.Prelude.{◌≡◌, ◌<◌, length, reverse, IfOk};
+ghost use Rattle.std.specs.Prelude.{◌≡◌, ◌<◌, length, IfOk};
 ghost use Rattle.ls_set.specs.{IsInOrder, is_same};
 ghost use Rattle.ls_theory.specs.{interior};
 ghost use Rattle.ls_laws.specs.Spans.{needed};
 ghost use Rattle.ls_space.specs.NextSets.{is_union_of_next, unions_of_next};
 
+use ls_base::needed_sets;
 use ls_set::ItemSet;
 use rayon::prelude::*;
 use std::alloc::{AllocError, Global};
@@ -63,25 +64,20 @@ fn unions_of_next<R: Threads + Sync>(
         .collect(rt, alloc)
 }
 
-// The sets that are not the union of others, the last first. A set that lies within another comes
-// after it, and is a union of those that were found.
-fn base_last_first(
-    alloc: Global,
-    sets: &[ItemSet],
-    unions: &[bool],
-) -> Result<Vec<ItemSet>, AllocError>
+// The sets that are not told to be unions. What is told is a union of later ones that are not.
+fn sets_left(alloc: Global, sets: &[ItemSet], unions: &[bool]) -> Result<Vec<ItemSet>, AllocError>
     requires in_order { IsInOrder sets.now }
     requires unions { unions.now ≡ unions_of_next sets.now }
-    ensures { IfOk result (λ v. reverse v.items ≡ needed sets.now) }
+    ensures in_order { IfOk result (λ v. IsInOrder v.items) }
+    ensures needed { IfOk result (λ v. needed v.items ≡ needed sets.now) }
 {
-    let mut found = Vec::new(alloc);
-    for place in (0..sets.len()).rev() {
-        let set = sets[place];
-        if !unions[place] && !is_union_of(&found, set) {
-            found.push(set)?;
+    let mut left = Vec::new(alloc);
+    for place in 0..sets.len() {
+        if !unions[place] {
+            left.push(sets[place])?;
         }
     }
-    Ok(found)
+    Ok(left)
 }
 
 /// The sets of a family that are not the union of others of it.
@@ -94,7 +90,6 @@ pub fn base_sets<R: Threads + Sync>(
     ensures { IfOk result (λ v. v.items ≡ needed sets.now) }
 {
     let unions = unions_of_next(rt, alloc, sets)?;
-    let mut found = base_last_first(alloc, sets, &unions)?;
-    found.reverse();
-    Ok(found)
+    let left = sets_left(alloc, sets, &unions)?;
+    needed_sets(alloc, &left)
 }
