@@ -1,7 +1,7 @@
 // Families that are known by their interiors.
 ghost use Rattle.std.specs.Prelude.{◌≡◌, ℕ, ◌+◌, ◌<◌, ◌≤◌, true, List, IfSome};
 ghost use Rattle.ls_set.specs.{IsWithin, Items, full, is_among, without};
-ghost use Rattle.ls_theory.specs.{closure, interior};
+ghost use Rattle.ls_theory.specs.{closure, interior, outer_fringe};
 ghost use Rattle.ls_laws.specs.Families.{IsFamily};
 ghost use Rattle.ls_interior.specs.Keeping.{interior_keeping};
 
@@ -49,6 +49,25 @@ pub trait Inside {
         } else {
             None
         }
+    }
+
+    /// The items outside a member with which it is a member. Of a set that is no member any set of
+    /// items may be given. All items of the set are below `items()`.
+    ///
+    /// Here they are found by an interior an item; a family may find them faster.
+    fn outer_fringe(&self, member: ItemSet) -> ItemSet
+        requires { IsWithin member (full (item_count self.now)) }
+        ensures value { is_among (members self.now) member ≡ true →
+            result ≡ outer_fringe (item_count self.now) (members self.now) member }
+    {
+        let mut fringe = ItemSet::empty();
+        for item in 0..self.items() {
+            let more = member.with(item);
+            if !member.has(item) && more.is_within(self.inside(more)) {
+                fringe = fringe.with(item);
+            }
+        }
+        fringe
     }
 
     /// The members are a family on the items.

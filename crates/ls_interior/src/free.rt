@@ -51,4 +51,8 @@ impl Inside for Free {
     fn inside(&self, s: ItemSet) -> ItemSet {
         s
     }
+
+    fn outer_fringe(&self, member: ItemSet) -> ItemSet {
+        ItemSet::full(self.count).minus(member)
+    }
 }

@@ -1,5 +1,7 @@
 -- The items that can be added to a set, looked for among those outside it.
-use Rattle.ls_paths.proofs.Vocabulary.{◌&&◌, ◌+◌, ◌-◌, ◌<◌, ◌||◌, ◌∙◌, ◌≡◌, ◌≤◌, Bool, AreOn, Items, List, None, Some, ℕ, and-false, and_from, and_parts, ap, arith, cases_order, eq-eqb, eqb, false, false_from_ne_true, find, find_none, first_next, full, has, has-full, has-minus, has-with, inl, inr, is_among, is_next, least, least-cases, lt-ltb, ltb-true, minus, next_item_after, next_item, not, not_from_false, numbers_from, or_right, refl, suc, sym, true, true≢false, unwrap_or, with, zero}
+use Rattle.ls_paths.proofs.Vocabulary.{◌&&◌, ◌+◌, ◌-◌, ◌<◌, ◌||◌, ◌∙◌, ◌≡◌, ◌≤◌, Bool, AreOn, Items, List, None, Option, Some, ℕ, and_from, and_parts, ap, arith, cases_order, eq-eqb, eqb, false, false_from_ne_true, find, find_none, first_next, full, has, has-full, has-minus, has-with, inl, inr, is_among, is_next, least, least-cases, lt-ltb, ltb-true, minus, next_item_after, next_item, not, numbers_from, or_right, refl, suc, sym, true, true≢false, unwrap_or, with, zero}
+use Rattle.ls_laws.proofs.ReadBack.{has-outer_fringe}
+use Rattle.ls_theory.specs.{outer_fringe}
 use Rattle.ls_theory.proofs.Numbers.{numbers_first}
 use Rattle.ls_query.proofs.QuerySets.{next_item-cases, next_item-none_left, least-none_left}
 use Rattle.ls_paths.proofs.Growths.{IsLearning, begins, some-next-outside}
@@ -14,11 +16,6 @@ find-from p n (suc d) a b e l none =
 
 find-here : (p : ℕ → Bool) (n i : ℕ) → i < n → p i ≡ true → find p (numbers_from i (n - i)) ≡ Some i
 find-here p n i l h = ap (find p) (numbers_first i n l) ∙ rw h refl
-
-find-past : (p : ℕ → Bool) (n i : ℕ) → i < n → p i ≡ false → find p (numbers_from i (n - i)) ≡ find p (numbers_from (suc i) (n - suc i))
-find-past p n i l h =
-    let e : find p (numbers_from i (n - i)) ≡ find p (numbers_from (i + 1) (n - (i + 1))) = ap (find p) (numbers_first i n l) ∙ rw h refl in
-    e ∙ ap (λ m. find p (numbers_from m (n - m))) (let q : i + 1 ≡ suc i = omega arith in q)
 
 -- ---- items outside a set
 
@@ -40,41 +37,27 @@ next-outside n f k i small h =
 not-next : (n : ℕ) (f : List Items) (k : Items) (i : ℕ) → AreOn n f → has (minus (full n) k) i ≡ false → is_next f k i ≡ false
 not-next n f k i small h = false_from_ne_true (is_next f k i) (λ a. true≢false (sym (next-outside n f k i small a) ∙ h))
 
-pub is-next : (n : ℕ) (f : List Items) (k : Items) (i : ℕ) → has (minus (full n) k) i ≡ true → is_among f (with k i) ≡ true → is_next f k i ≡ true
-is-next n f k i h a = and_from (not (has k i)) (is_among f (with k i)) (not_from_false (has k i) (outside-small n k i h).1) a
-
-no-next : (f : List Items) (k : Items) (i : ℕ) → is_among f (with k i) ≡ false → is_next f k i ≡ false
-no-next f k i a = ap (λ b. not (has k i) && b) a ∙ and-false (not (has k i))
-
 -- ---- the least that can be added above an item
-
--- the next item outside the set is the first of those above that may be
-above : (n : ℕ) (f : List Items) (k : Items) (item next : ℕ) → AreOn n f → next_item (minus (full n) k) item ≡ Some next → next_item_after n f k item ≡ find (is_next f k) (numbers_from next (n - next))
-above n f k item next small e =
-    let p = next_item-cases (minus (full n) k) item next e in
-    let l = (outside-small n k next p.1).0 in
-    let less = p.0 in
-    find-from (is_next f k) n (next - suc item) (suc item) next (omega arith) (omega arith) (λ j g h. not-next n f k j small (p.2 j (omega arith) h))
-
-pub above-found : (n : ℕ) (f : List Items) (k : Items) (item next : ℕ) → AreOn n f → next_item (minus (full n) k) item ≡ Some next → is_among f (with k next) ≡ true → next_item_after n f k item ≡ Some next
-above-found n f k item next small e a =
-    let p = next_item-cases (minus (full n) k) item next e in
-    above n f k item next small e ∙ find-here (is_next f k) n next (outside-small n k next p.1).0 (is-next n f k next p.1 a)
-
-pub above-passed : (n : ℕ) (f : List Items) (k : Items) (item next : ℕ) → AreOn n f → next_item (minus (full n) k) item ≡ Some next → is_among f (with k next) ≡ false → next_item_after n f k item ≡ next_item_after n f k next
-above-passed n f k item next small e a =
-    let p = next_item-cases (minus (full n) k) item next e in
-    above n f k item next small e ∙ find-past (is_next f k) n next (outside-small n k next p.1).0 (no-next f k next a)
 
 pub above-none : (n : ℕ) (f : List Items) (k : Items) (item : ℕ) → AreOn n f → next_item (minus (full n) k) item ≡ None → next_item_after n f k item ≡ None
 above-none n f k item small e =
     find_none (is_next f k) (suc item) (n - suc item) (λ j g h. not-next n f k j small (next_item-none_left (minus (full n) k) item j e (omega arith)))
 
-pub next-small : (n : ℕ) (k : Items) (item next : ℕ) → next_item (minus (full n) k) item ≡ Some next → next < n
-next-small n k item next e = (outside-small n k next (next_item-cases (minus (full n) k) item next e).1).0
+-- the next item of the outer fringe is the first that can be added
+pub fringe-after : (n : ℕ) (f : List Items) (k fringe : Items) (item : ℕ) → AreOn n f → fringe ≡ outer_fringe n f k → next_item fringe item ≡ next_item_after n f k item
+fringe-after n f k fringe item small is = go (next_item fringe item) refl
+  where
+    at : (i : ℕ) → has fringe i ≡ is_next f k i
+    at i = ap (λ s. has s i) is ∙ has-outer_fringe n f small k i
 
-pub next-above : (n : ℕ) (k : Items) (item next : ℕ) → next_item (minus (full n) k) item ≡ Some next → item < next
-next-above n k item next e = (next_item-cases (minus (full n) k) item next e).0
+    go : (r : Option ℕ) → next_item fringe item ≡ r → r ≡ next_item_after n f k item
+    go None e = sym (find_none (is_next f k) (suc item) (n - suc item) (λ j g h. sym (at j) ∙ next_item-none_left fringe item j e (omega arith)))
+    go (Some i) e =
+        let p = next_item-cases fringe item i e in
+        let can : is_next f k i ≡ true = sym (at i) ∙ p.1 in
+        let l = (outside-small n k i (next-outside n f k i small can)).0 in
+        let less = p.0 in
+        sym (find-from (is_next f k) n (i - suc item) (suc item) i (omega arith) (omega arith) (λ j g h. sym (at j) ∙ p.2 j (omega arith) h) ∙ find-here (is_next f k) n i l can)
 
 -- ---- the least that can be added
 
@@ -87,17 +70,6 @@ pub least-begin : (n : ℕ) (f : List Items) (k : Items) (item : ℕ) → AreOn 
 least-begin n f k item small e =
     let p = least-cases (minus (full n) k) item e in
     record { outside = p.0; none_below = λ j l. not-next n f k j small (p.1 j l) }
-
-pub least-passed : (n : ℕ) (f : List Items) (k : Items) (item next : ℕ) → AreOn n f → Least n f k item → is_among f (with k item) ≡ false → next_item (minus (full n) k) item ≡ Some next → Least n f k next
-least-passed n f k item next small h a e =
-    let p = next_item-cases (minus (full n) k) item next e in
-    record {
-      outside = p.1;
-      none_below = λ j l. elim (cases_order j item) [
-        | inl same ↦ ap (is_next f k) same ∙ no-next f k item a
-        | inr other ↦ elim other [ inl less ↦ h.none_below j less | inr more ↦ not-next n f k j small (p.2 j more l) ]
-      ];
-    }
 
 -- the item that is found is the least
 pub record IsFirst (n : ℕ) (f : List Items) (k : Items) (item : ℕ) : Type 0 where
@@ -113,9 +85,6 @@ found n f k item h a =
       member = (and_parts (not (has k item)) (is_among f (with k item)) a).1;
     }
 
-pub least-found : (n : ℕ) (f : List Items) (k : Items) (item : ℕ) → Least n f k item → is_among f (with k item) ≡ true → IsFirst n f k item
-least-found n f k item h a = found n f k item h (is-next n f k item h.outside a)
-
 -- the last item outside a member can be added where no lesser one can
 pub least-last : (n : ℕ) (f : List Items) (k : Items) (item : ℕ) → IsLearning n f → is_among f k ≡ true → Least n f k item → next_item (minus (full n) k) item ≡ None → IsFirst n f k item
 least-last n f k item learning c h e =
@@ -128,6 +97,35 @@ least-last n f k item learning c h e =
         | inr more ↦ absurd (true≢false (sym b.passes ∙ not-next n f k i learning.family.small (next_item-none_left (minus (full n) k) item i e more)))
       ]
     ])) ∙ b.passes)
+
+-- the least item of the outer fringe
+fringe-least : (n : ℕ) (f : List Items) (k fringe : Items) → AreOn n f → fringe ≡ outer_fringe n f k → least fringe ≡ find (is_next f k) (numbers_from 0 n)
+fringe-least n f k fringe small is = go (least fringe) refl
+  where
+    at : (i : ℕ) → has fringe i ≡ is_next f k i
+    at i = ap (λ s. has s i) is ∙ has-outer_fringe n f small k i
+
+    go : (r : Option ℕ) → least fringe ≡ r → r ≡ find (is_next f k) (numbers_from 0 n)
+    go None e = sym (find_none (is_next f k) 0 n (λ j _ h. sym (at j) ∙ least-none_left fringe j e))
+    go (Some i) e =
+        let p = least-cases fringe i e in
+        let can : is_next f k i ≡ true = sym (at i) ∙ p.0 in
+        let l = (outside-small n k i (next-outside n f k i small can)).0 in
+        sym (ap (λ m. find (is_next f k) (numbers_from 0 m)) (let q : n ≡ n - 0 = omega arith in q)
+        ∙ find-from (is_next f k) n i 0 i (omega arith) (omega arith) (λ j _ less. sym (at j) ∙ p.1 j less) ∙ find-here (is_next f k) n i l can)
+
+-- a member that has not all items has one
+pub fringe-first : (n : ℕ) (f : List Items) (k fringe : Items) (x item : ℕ) → IsLearning n f → is_among f k ≡ true → has (minus (full n) k) x ≡ true → fringe ≡ outer_fringe n f k → item ≡ unwrap_or (least fringe) 0
+    → IsFirst n f k item × (item < n)
+fringe-first n f k fringe x item learning c h is e =
+    let small = learning.family.small in
+    let b = begins (is_next f k) (numbers_from 0 n) (some-next-outside n f k x learning c h) in
+    let first : item ≡ first_next n f k = e ∙ ap (λ o. unwrap_or o 0) (fringe-least n f k fringe small is) in
+    let same : item ≡ b.first = first ∙ ap (λ o. unwrap_or o 0) b.found in
+    let can : is_next f k item ≡ true = ap (is_next f k) same ∙ b.passes in (
+      record { value = first; member = (and_parts (not (has k item)) (is_among f (with k item)) can).1 },
+      (outside-small n k item (next-outside n f k item small can)).0,
+    )
 
 -- where no item is outside, 0 is written and nothing is added
 pub least-none : (n : ℕ) (f : List Items) (k : Items) → AreOn n f → is_among f k ≡ true → 0 < n → least (minus (full n) k) ≡ None → IsFirst n f k 0

@@ -1,8 +1,8 @@
 -- Steps of a walk: a list that is written from a place on, and the sets that its items give.
-use Rattle.ls_paths.proofs.Vocabulary.{◌&&◌, ◌++◌, ◌+◌, ◌-◌, ◌<◌, ◌∙◌, ◌∷◌, ◌≡◌, ◌≤◌, Bool, IsWithin, Items, List, None, Option, Some, ℕ, [], and_from, and_parts, ap, append-nil, append_assoc, ap₂, arith, drop, drop_all, empty, eqb-true, false, first_growth, first_next, found-passes, full, get_or, has, has-full, has-with, inl, inr, is_among, is_fresh, is_grown, is_next, leaves_below, length, length-drop, length-set, length-take-le, lt-ltb, ltb-true, members, minus, next_item_after, next_growth, next_item, not, not_from_false, or_cases, grown_to, refl, same_set, set, subst, suc, sym, take, take_all, take_more_set, true, with, without, without-within, zero}
+use Rattle.ls_paths.proofs.Vocabulary.{◌&&◌, ◌++◌, ◌+◌, ◌-◌, ◌<◌, ◌∙◌, ◌∷◌, ◌≡◌, ◌≤◌, Bool, IsWithin, Items, List, None, Option, Some, ℕ, [], and_from, and_parts, ap, append-nil, append_assoc, ap₂, arith, drop, drop_all, empty, false, first_growth, first_next, found-passes, full, get_or, has, has-full, has-with, is_among, is_fresh, is_grown, is_next, leaves_below, length, length-drop, length-set, length-take-le, ltb-true, members, minus, next_item_after, next_growth, next_item, not, not_from_false, grown_to, refl, same_set, set, subst, suc, sym, take, take_all, take_more_set, true, true≢false, with, without, without-within, zero}
 use Rattle.std.proofs.lemmas.Bool.Decides.{nat_tests}
 use borrow.Rule.Slice.PartMut.{put_mid}
-use Rattle.ls_paths.proofs.Added.{next-above, next-small}
+use Rattle.std.specs.Option.{is_some}
 use Rattle.ls_paths.proofs.Levels.{fresh-at, grown-next, leaves-found, leaves-passed, next-broken, next-whole, reached-has, reached-next, taken-back}
 
 -- ---- sets of items below n
@@ -21,18 +21,14 @@ outside-more n k out i l e = ap (λ s. with s i) e ∙ same_set (with (minus (fu
 pub outside-next : (n : ℕ) (k out : Items) (i : ℕ) (r x : Option ℕ) → out ≡ minus (full n) k → r ≡ next_item out i → r ≡ x → next_item (minus (full n) k) i ≡ x
 outside-next n k out i r x e v is = ap (λ s. next_item s i) (sym e) ∙ sym v ∙ is
 
-pub goes-up : (n : ℕ) (k : Items) (item next : ℕ) → next_item (minus (full n) k) item ≡ Some next → n - next < n - item
-goes-up n k item next e = omega (arith, next-small n k item next e, next-above n k item next e)
+-- where nothing is found
+pub none-is : (o : Option ℕ) → is_some o ≡ false → o ≡ None
+none-is None h = refl
+none-is (Some i) h = absurd (true≢false h)
 
 -- what is asked of a set with one more item
 pub asked-of : (f : List Items) (k w : Items) (i : ℕ) (r b : Bool) → w ≡ with k i → r ≡ is_among f w → r ≡ b → is_among f (with k i) ≡ b
 asked-of f k w i r b e v is = ap (is_among f) (sym e) ∙ sym v ∙ is
-
-pub with-small : (n : ℕ) (k : Items) (i : ℕ) → IsWithin k (full n) → i < n → IsWithin (with k i) (full n)
-with-small n k i small l j h = elim (or_cases (has k j) _ (sym (has-with k i j) ∙ h)) [
-  | inl a ↦ small j a
-  | inr a ↦ ap (has (full n)) (eqb-true j i a) ∙ has-full n i ∙ lt-ltb i n l
-]
 
 pub item-small : (n : ℕ) (k : Items) (i : ℕ) → IsWithin k (full n) → has k i ≡ true → i < n
 item-small n k i small h = ltb-true i n (sym (has-full n i) ∙ small i h)
@@ -103,6 +99,16 @@ level-passed f order j k l fresh h e in_f =
 
 pub level-end : (n : ℕ) (f : List Items) (order : List ℕ) (j : ℕ) → length order ≤ j → is_grown f empty (take j order) ≡ true → next_growth n f order empty ≡ leaves_below n f empty order (length order)
 level-end n f order j l h = next-whole n f empty order (ap (is_grown f empty) (sym (take_all j order l)) ∙ h)
+
+-- the sets on the way of a growth are members
+pub grown-members : (f : List Items) (k : Items) (order : List ℕ) (m j : ℕ) → is_among f k ≡ true → is_grown f k (take m order) ≡ true → j ≤ m → is_among f (grown_to k (take j order)) ≡ true
+grown-members f k [] m zero c h l = c
+grown-members f k [] m (suc j) c h l = c
+grown-members f k (o ∷ os) m zero c h l = c
+grown-members f k (o ∷ os) zero (suc j) c h l = absurd (omega arith)
+grown-members f k (o ∷ os) (suc m) (suc j) c h l =
+    let p = and_parts (is_next f k o) (is_grown f (with k o) (take m os)) h in
+    grown-members f (with k o) os m j (and_parts (not (has k o)) (is_among f (with k o)) p.0).1 p.1 (omega arith)
 
 -- what can be added gives a member
 pub next-member : (n : ℕ) (f : List Items) (k : Items) (o i : ℕ) → next_item_after n f k o ≡ Some i → is_among f (with k i) ≡ true

@@ -7,10 +7,10 @@
 --         takes the least greater item that can be added in place of the next one,
 --         and then goes on as the first growth does
 --     leaves_below n f k order j      that at the last place below j at which there is one
-use Rattle.std.specs.Prelude.{ℕ, zero, suc, Bool, true, not, ◌&&◌, ◌==◌, List, [], ◌∷◌, ◌++◌}
+use Rattle.std.specs.Prelude.{ℕ, zero, suc, ◌<◌, ◌≡◌, Bool, true, not, ◌&&◌, ◌==◌, List, [], ◌∷◌, ◌++◌}
 use Rattle.std.specs.Prelude.{length, take, drop, Option, None, option_map, slice_index}
 use Rattle.std.specs.Option.{option_or}
-use Rattle.ls_set.specs.{Items, empty, has, with}
+use Rattle.ls_set.specs.{Items, empty, has, is_among, with}
 use Rattle.ls_paths.specs.Growths.{is_next, next_item_after, first_growth}
 
 abbrev pub grown_to : Items → List ℕ → Items
@@ -24,6 +24,11 @@ is_grown f k (i ∷ is) = is_next f k i && is_grown f (with k i) is
 abbrev pub is_fresh : Items → List ℕ → Bool
 is_fresh k [] = true
 is_fresh k (i ∷ is) = not (has k i) && is_fresh (with k i) is
+
+-- each set that fewer than m of the first items give is a member
+abbrev pub AreMembersBelow : List Items → List ℕ → ℕ → Type 0
+AreMembersBelow f order m =
+    (j : ℕ) → j < m → is_among f (grown_to empty (take j order)) ≡ true
 
 -- a learning path, as a growth of the empty set to all n items
 abbrev pub is_whole : ℕ → List Items → List ℕ → Bool

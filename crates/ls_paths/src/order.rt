@@ -4,7 +4,7 @@ ghost use Rattle.std.specs.Prelude.{IfSome, MatchBool};
 ghost use Rattle.ls_set.specs.{IsWithin, empty, full, set_of};
 ghost use Rattle.ls_theory.specs.{is_learning_space, is_order};
 ghost use Rattle.ls_paths.specs.Growths.{first_growth};
-ghost use Rattle.ls_paths.specs.Levels.{grown_to, is_fresh, leaves_below};
+ghost use Rattle.ls_paths.specs.Levels.{AreMembersBelow, grown_to, is_fresh, leaves_below};
 
 use crate::steps::{grow, leave};
 use ls_interior::Inside;
@@ -93,7 +93,7 @@ impl Order {
 
     // Makes of the order the growth that leaves it at the last place below the level at which one
     // can, or leaves the order as it is where none can. `k` is the set of the items before the
-    // level.
+    // level; without the last of them they are members, as fewer of them are.
     pub fn leave<F: Inside>(&mut self, f: &F, k: ItemSet, level: usize) -> bool
         requires learning { is_learning_space (full (F.item_count f.now)) (F.members f.now) ≡ true }
         requires fresh { is_fresh empty self.old ≡ true }
@@ -101,6 +101,7 @@ impl Order {
         requires level { level ≤ length self.old }
         requires set { k ≡ grown_to empty (take level self.old) }
         requires small { IsWithin k (full (F.item_count f.now)) }
+        requires members { AreMembersBelow (F.members f.now) self.old level }
         ensures { MatchBool result
             (leaves_below (F.item_count f.now) (F.members f.now) empty self.old level
             ≡ Some self.new)

@@ -73,7 +73,7 @@ first_at : (a : Items) (o : Option ℕ) → least a ≡ o → is_same a empty �
 first_at a None e h = absurd (true≢false (sym ((Decides-is_same a empty).1 (no_least a e)) ∙ h))
 first_at a (Some i) e h = (i, grind (arith, members, nat_tests), (least-cases a i e).0)
 
-first_item : (a : Items) → is_same a empty ≡ false → (i : ℕ) × (has (first_of a) i ≡ true) × (has a i ≡ true)
+pub first_item : (a : Items) → is_same a empty ≡ false → (i : ℕ) × (has (first_of a) i ≡ true) × (has a i ≡ true)
 first_item a h = first_at a (least a) refl h
 
 woken_first : (n : ℕ) (k : Items) (s : Round) (r : Query) → IsGood n r → After (begun k) s → ((i : ℕ) → is_same r.a (single i) ≡ true → has k i ≡ false → has s.kept r.q ≡ false)
@@ -116,7 +116,7 @@ whole k s a e = same_within s.kept k a.within (λ i h. elim (cases_Bool (has s.k
 -- ---- an item whose rules are passed over
 
 -- where the set of the item has no item that is kept, the item of a rule that begins with it is not kept
-head_gone : (heads : List Items) (r : Query) (i : ℕ) (k : Items) → meet (set_at heads i) k ≡ empty → IsFollower heads (first_of (several r.a)) r.q → has (first_of (several r.a)) i ≡ true → has k r.q ≡ false
+pub head_gone : (heads : List Items) (r : Query) (i : ℕ) (k : Items) → meet (set_at heads i) k ≡ empty → IsFollower heads (first_of (several r.a)) r.q → has (first_of (several r.a)) i ≡ true → has k r.q ≡ false
 head_gone heads r i k e h f =
     let here = h i f in
     false_from_ne_true (has k r.q) (λ x.

@@ -5,3 +5,4 @@ pub mod Rounds
 pub mod Begun
 pub mod Reaching
 pub mod Following
+pub mod Barred

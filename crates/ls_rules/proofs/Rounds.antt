@@ -8,7 +8,7 @@ use Rattle.ls_rules.proofs.Indexing.{indexed_rules}
 -- ---- sets
 
 -- an item that two sets have in common
-common_item : (k a : Items) → is_same (meet k a) empty ≡ false → (i : ℕ) × (has k i ≡ true) × (has a i ≡ true)
+pub common_item : (k a : Items) → is_same (meet k a) empty ≡ false → (i : ℕ) × (has k i ≡ true) × (has a i ≡ true)
 common_item k a h = elim (some_item (meet k a)) [
   | inl e ↦ absurd (true≢false (sym ((Decides-is_same (meet k a) empty).1 e) ∙ h))
   | inr x ↦ let p = and_parts (has k x.0) (has a x.0) (sym (has-meet k a x.0) ∙ x.1) in (x.0, p.0, p.1)

@@ -22,6 +22,7 @@ pub use Rattle.ls_set.specs.{IsWithin, Items, bound, empty, full, has, is_among,
 unfoldable pub use Rattle.ls_set.specs.{is_same, items, len}
 pub use Rattle.ls_set.specs.declared.query.Query.{Query}
 pub use Rattle.ls_theory.specs.{breaks, breaks_none, interior}
+pub use Rattle.ls_rules.specs.Barring.{barred}
 pub use Rattle.ls_rules.specs.Followers.{AreFollowed, Grows, IsFollower}
 pub use Rattle.ls_rules.specs.Parts.{first_of, several}
 pub use Rattle.ls_rules.specs.Places.{Covers, IsIndexOf, PlaceList, least_spare, lower, lowered, no_places, places_at, places_from, spare_at, spare_within}

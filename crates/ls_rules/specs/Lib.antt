@@ -5,3 +5,4 @@ pub mod Sets
 pub mod Followers
 pub mod Singles
 pub mod Waking
+pub mod Barring

@@ -1,6 +1,7 @@
 //! Families cut down by rules: the members of an inner family that break no query of a list.
 #![tactic(auto)]
 
+mod barring;
 mod followers;
 mod index;
 mod parts;

@@ -7,6 +7,7 @@ ghost use Rattle.ls_interior.specs.Keeping.{interior_keeping};
 ghost use Rattle.std.specs.List.{AllByRecursion};
 ghost use Rattle.ls_rules.specs.Waking.{Settling};
 
+use crate::barring::not_barred;
 use crate::followers::Followers;
 use crate::index::Index;
 use crate::parts::{first_of, several};
@@ -248,5 +249,22 @@ impl<F: Inside> Inside for Ruled<F> {
         } else {
             self.inside_ruled_without(member, item, keep)
         }
+    }
+
+    // A member breaks no rule, so with one item more it breaks only rules that ask about the item.
+    fn outer_fringe(&self, member: ItemSet) -> ItemSet {
+        let fringe = self.inner.outer_fringe(member);
+        if self.rules.is_empty() {
+            return fringe;
+        }
+        not_barred(
+            &self.rules,
+            &self.singles,
+            &self.starts,
+            &self.heads,
+            self.inner.items(),
+            member,
+            fringe,
+        )
     }
 }

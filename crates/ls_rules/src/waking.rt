@@ -90,8 +90,8 @@ fn wake(
         && look_keeping(rules, wakes.of(i), keep, round)
 }
 
-// What the items outside the set take with them by the rules of one item alone.
-fn lost_outside(singles: &Singles, set: ItemSet) -> ItemSet
+/// What the items outside the set take with them by the rules of one item alone.
+pub fn lost_outside(singles: &Singles, set: ItemSet) -> ItemSet
     ensures all { (i j : ℕ) → has set i ≡ false → has (set_at singles.now i) j ≡ true →
         has result j ≡ true }
     ensures no_other { (j : ℕ) → has result j ≡ true →

@@ -25,7 +25,7 @@ pub use Rattle.ls_lists.proofs.Sorted.{rising-from}
 pub use Rattle.ls_lists.specs.Lists.{IsRising}
 pub use Rattle.ls_rules.specs.Ruled.{RuledState}
 pub use Rattle.ls_set.proofs.Sets.{and-false, and-true, has-full, has-minus, is_within-from, minus-within}
-pub use Rattle.ls_set.specs.{IsWithin, Items, full, has, is_good, is_within, minus, subsets}
+pub use Rattle.ls_set.specs.{IsWithin, Items, full, has, is_among, is_good, is_within, minus, subsets}
 pub use Rattle.ls_set.specs.declared.query.Query.{Query}
 pub use Rattle.ls_theory.specs.{Interview, accepted, answer_with, base, breaks, breaks_none, interior, is_compatible, is_same_query, meets, no_queries, nos, retracted, some_breaks, yes_queries}
 unfoldable pub use Rattle.ls_theory.specs.{compat}

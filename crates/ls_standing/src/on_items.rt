@@ -74,4 +74,8 @@ impl Inside for OnItems {
     fn inside(&self, s: ItemSet) -> ItemSet {
         self.start.inside(self.n, s)
     }
+
+    fn outer_fringe(&self, member: ItemSet) -> ItemSet {
+        self.start.outer_fringe(self.n, member)
+    }
 }

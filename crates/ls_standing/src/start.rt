@@ -1,7 +1,7 @@
 // Starts of interviews.
-ghost use Rattle.std.specs.Prelude.{◌≡◌, ◌≤◌, [], IfOk};
-ghost use Rattle.ls_set.specs.{IsWithin, full};
-ghost use Rattle.ls_theory.specs.{base, compat, interior};
+ghost use Rattle.std.specs.Prelude.{◌≡◌, ◌≤◌, [], true, IfOk};
+ghost use Rattle.ls_set.specs.{IsWithin, full, is_among};
+ghost use Rattle.ls_theory.specs.{base, compat, interior, outer_fringe};
 
 use ls_base::Base;
 use ls_interior::Inside;
@@ -56,6 +56,22 @@ impl Start {
             Start::Free => s,
             Start::Clauses(surmise) => surmise.inside(s),
             Start::Sets(base) => base.inside(s),
+        }
+    }
+
+    /// The items outside a set that meets the start with which it meets the start. Of another set
+    /// any set of items may be given.
+    pub fn outer_fringe(&self, n: u32, member: ItemSet) -> ItemSet
+        requires few { n ≤ PLACES }
+        requires within { IsWithin member (full n) }
+        requires start { IsStartOn n self.now }
+        ensures { let f = compat n (start_of self.now) [] in
+            is_among f member ≡ true → result ≡ outer_fringe n f member }
+    {
+        match self {
+            Start::Free => ItemSet::full(n).minus(member),
+            Start::Clauses(surmise) => surmise.outer_fringe(member),
+            Start::Sets(base) => base.outer_fringe(member),
         }
     }
 

@@ -1,5 +1,6 @@
 use Rattle.ls_fringe.proofs.Vocabulary.{fringes, learning-parts, length, state_of-own}
-use Rattle.ls_fringe.proofs.Chosen.{inner-within, outer-within}
+use Rattle.ls_fringe.proofs.Chosen.{inner-within}
+use Rattle.ls_interior.proofs.Chosen.{outer-within}
 use Rattle.ls_fringe.proofs.Lines.{asks}
 use Rattle.ls_fringe.proofs.laws.fringes_are_read_back.Goals as goal
 

@@ -1,5 +1,5 @@
 use Rattle.ls_fringe.proofs.Vocabulary.{◌∙◌, ◌≡◌, ap, arith, keep_before, outer_fringe, sym, with}
-use Rattle.ls_fringe.proofs.Chosen.{below-start, below-taken, below-left, below-all, outer-within}
+use Rattle.ls_interior.proofs.Chosen.{below-start, below-taken, below-left, below-all, outer-within}
 use Rattle.ls_fringe.proofs.telling.outer_fringe.Goals as goal
 use Rattle.ls_fringe.proofs.telling.outer_fringe.Goals.{then-is_outer, else-is_outer}
 

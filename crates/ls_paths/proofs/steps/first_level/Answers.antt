@@ -1,5 +1,5 @@
-use Rattle.ls_paths.proofs.Vocabulary.{◌+◌, arith, get_or}
-use Rattle.ls_paths.proofs.Written.{asked-of, place-small, part-small, level-more, level-found, level-passed, level-end}
+use Rattle.ls_paths.proofs.Vocabulary.{◌+◌, arith, empty, get_or}
+use Rattle.ls_paths.proofs.Written.{asked-of, grown-members, place-small, part-small, level-more, level-found, level-passed, level-end}
 use Rattle.ls_paths.proofs.steps.first_level.Goals as goal
 
 pub with-reached-requires : goal.with-reached-requires
@@ -25,6 +25,7 @@ returns-then-not-is_member g c =
       level = omega (arith, c.loop-place-test.true);
       set = more;
       small = rw more (part-small n order (j + 1) c.requires.small);
+      members = λ i l. grown-members f empty order j i (g.met.F.Inside.is_family c.args.f.now).holds_empty c.loop-place.invariant.grown (omega arith);
       leaves = level-found n f order j c.loop-place.reached c.loop-place-test.true c.loop-place.invariant.grown c.loop-place.invariant.set (asked-of f c.loop-place.reached c.with-reached.result (get_or order j 0) c.is_member.result _ c.with-reached.ensures c.is_member.ensures c.if-not-is_member.true);
     }
 
@@ -37,6 +38,10 @@ loop-place-preserved g c =
       set = level-more order j c.loop-place.reached c.with-reached.result c.loop-place-test.true c.loop-place.invariant.set c.with-reached.ensures;
       grown = level-passed f order j c.loop-place.reached c.loop-place-test.true c.requires.fresh c.loop-place.invariant.grown c.loop-place.invariant.set (asked-of f c.loop-place.reached c.with-reached.result (get_or order j 0) c.is_member.result _ c.with-reached.ensures c.is_member.ensures c.if-not-is_member.false);
     }
+
+pub returns-clause-members : goal.returns-clause-members
+returns-clause-members g c = λ i l.
+    grown-members (g.F.Inside.members c.args.f.now) empty c.args.order.now c.loop-place.place i (g.met.F.Inside.is_family c.args.f.now).holds_empty c.loop-place.invariant.grown (omega arith)
 
 pub returns-clause-leaves : goal.returns-clause-leaves
 returns-clause-leaves g c =

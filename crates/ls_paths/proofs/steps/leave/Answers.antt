@@ -1,4 +1,4 @@
-use Rattle.ls_paths.proofs.Vocabulary.{◌-◌, ◌∙◌, ◌≡◌, List, None, Some, ℕ, ap, arith, full, get_or, minus, next_item_after, refl, sym}
+use Rattle.ls_paths.proofs.Vocabulary.{◌-◌, ◌∙◌, ◌≡◌, List, None, Some, ℕ, ap, arith, full, get_or, is_among, minus, next_item_after, refl, sym}
 use Rattle.ls_paths.proofs.Written.{outside-less, taken-at, leave-past, leave-write, next-member}
 use Rattle.ls_paths.proofs.steps.leave.Goals as goal
 
@@ -34,14 +34,15 @@ next_item-requires-clause-outside g c =
     let back = taken-at n order c.loop-place.order j c.loop-place.place c.loop-place.reached c.loop-place.outside (omega arith) (omega arith) c.requires.fresh inv.same inv.set inv.outside inv.small in
     c.with-outside.ensures ∙ back.outside ∙ ap (minus (full n)) (sym c.without-reached.ensures)
 
-pub next_item-requires-clause-small : goal.next_item-requires-clause-small
-next_item-requires-clause-small g c =
+pub next_item-requires-clause-member : goal.next_item-requires-clause-member
+next_item-requires-clause-member g c =
     let n = g.F.Inside.item_count c.args.f.now in
+    let f = g.F.Inside.members c.args.f.now in
     let order = c.args.order.now in
     let j = c.loop-place.place - 1 in
     let inv = c.loop-place.invariant in
     let back = taken-at n order c.loop-place.order j c.loop-place.place c.loop-place.reached c.loop-place.outside (omega arith) (omega arith) c.requires.fresh inv.same inv.set inv.outside inv.small in
-    rw c.without-reached.ensures back.small
+    ap (is_among f) (c.without-reached.ensures ∙ back.set) ∙ c.requires.members j (omega arith)
 
 pub next_item-requires-clause-item : goal.next_item-requires-clause-item
 next_item-requires-clause-item g c =

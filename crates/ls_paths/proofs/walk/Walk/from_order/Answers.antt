@@ -14,6 +14,9 @@ first_level-level-requires-clause-small g c = rw c.items.ensures (order-within (
 pub leave-has_path-requires-clause-fresh : goal.leave-has_path-requires-clause-fresh
 leave-has_path-requires-clause-fresh g c = order-fresh (g.F.Inside.item_count c.args.family.now) c.args.after.now c.requires.order
 
+pub leave-has_path-requires-clause-members : goal.leave-has_path-requires-clause-members
+leave-has_path-requires-clause-members g c = rw c.items.ensures at c.first_level-level.ensures.members
+
 pub invariant_of-result : goal.invariant_of-result
 invariant_of-result g c =
     let n = g.F.Inside.item_count c.args.family.now in
