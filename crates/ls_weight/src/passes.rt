@@ -62,7 +62,8 @@ fn weigh_state(weight: &mut u128, tables: &mut [u128], row: &[u8], reply: Reply,
 // Multiplies the weight of each state by `a` where it agrees with the reply, and else by `b`. The
 // cells of the tables become, for each byte in each group, the weights before of the states that
 // agree and have it.
-pub(crate) fn weigh(
+#[inline(always)]
+fn weigh_rows(
     weights: &mut [u128],
     tables: &mut [u128],
     bytes: &[u8],
@@ -89,5 +90,38 @@ pub(crate) fn weigh(
     for i in 0..weights.len() {
         let row = &bytes[width * i..width * (i + 1)];
         weigh_state(&mut weights[i], tables, row, reply, ratio);
+    }
+}
+
+// The same, by code of its own for rows of up to four bytes.
+pub(crate) fn weigh(
+    weights: &mut [u128],
+    tables: &mut [u128],
+    bytes: &[u8],
+    width: usize,
+    reply: Reply,
+    ratio: Ratio,
+)
+    requires item { reply.q / 8 < width }
+    requires rows { length bytes.now ≡ width * length weights.old }
+    requires tables { length tables.old ≡ table_cells * width }
+    requires some { 1 ≤ ratio.b }
+    requires order { ratio.b ≤ ratio.a }
+    requires grows { All (λ w. w * ratio.a < 2 ^ 128) weights.old }
+    requires fits { sum weights.old < 2 ^ 128 }
+    ensures weights { (i : ℕ) → i < length weights.old → slice_index weights.new i
+        ≡ slice_index weights.old i
+        * (if agrees_in (row_at bytes.now width i) reply then ratio.a else ratio.b) }
+    ensures tables { (g v : ℕ) → g < width → v < table_cells →
+        slice_index tables.new (table_cells * g + v)
+        ≡ cell_of bytes.now width reply weights.old (length weights.old) g v }
+    ensures bytes { (k : ℕ) → slice_index bytes.now k < table_cells }
+{
+    match width {
+        1 => weigh_rows(weights, tables, bytes, 1, reply, ratio),
+        2 => weigh_rows(weights, tables, bytes, 2, reply, ratio),
+        3 => weigh_rows(weights, tables, bytes, 3, reply, ratio),
+        4 => weigh_rows(weights, tables, bytes, 4, reply, ratio),
+        _ => weigh_rows(weights, tables, bytes, width, reply, ratio),
     }
 }

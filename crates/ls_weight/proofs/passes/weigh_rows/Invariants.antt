@@ -1,5 +1,5 @@
 use Rattle.ls_weight.proofs.Vocabulary.{◌*◌, ◌+◌, ◌<◌, ◌≡◌, ◌≤◌, ℕ, agrees_in, cell_of, cond, row_at, slice_index, table_cells}
-use Rattle.ls_weight.proofs.passes.weigh.Given as goal
+use Rattle.ls_weight.proofs.passes.weigh_rows.Given as goal
 
 -- the states before this one are weighed
 abbrev pub invariant-loop-i : goal.invariant-loop-i

@@ -1,7 +1,7 @@
 use Rattle.ls_weight.proofs.Vocabulary.{◌&&◌, ◌*◌, ◌+◌, ◌∙◌, ℕ, agrees_in, ap, arith, cond, eqb, get_or, get_or-replicate, length, refl, row_at, sym, table_cells}
 use Rattle.ls_weight.proofs.SumsBelow.{sum_below-none}
 use Rattle.ls_weight.proofs.Passing.{cell-fits, cell-next, row-full, row-is, row-index, row-long, written-done, written-left}
-use Rattle.ls_weight.proofs.passes.weigh.Goals as goal
+use Rattle.ls_weight.proofs.passes.weigh_rows.Goals as goal
 
 pub loop-i-init : goal.loop-i-init
 loop-i-init c = record {
