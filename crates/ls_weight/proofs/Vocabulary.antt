@@ -7,7 +7,7 @@ pub use Rattle.std.proofs.lemmas.List.{get_or-drop, get_or-map, get_or-replicate
 pub use Rattle.std.proofs.lemmas.List.FromFn.{get_or-map-range_with_len, length-map-range_with_len}
 pub use Rattle.std.proofs.lemmas.List.Sums.{get_or-le-sum_by, sum-map, sum_by-cons}
 pub use Rattle.std.specs.Int.{bit_at}
-pub use Rattle.std.specs.List.{All, IsFirstMaxByKey, list_all, range_with_len}
+pub use Rattle.std.specs.List.{All, IsFirstMaxByKey, length_refill, list_all, range_with_len}
 pub use Rattle.ls_laws.proofs.Weights.{mass-sum, weight-more}
 pub use Rattle.ls_set.specs.{Items, empty, full, has, is_among, is_within, most_items}
 pub use Rattle.ls_settings.proofs.Light.{light-total}
