@@ -4,6 +4,8 @@ pub mod Passing
 pub mod Rowing
 pub mod Cells
 pub mod Folding
+pub mod Marks
+pub mod Columned
 pub mod Leaders
 pub mod Kept
 pub mod After
