@@ -1,6 +1,6 @@
 -- Sets of items as rows of bytes: digit q % 8 of byte q / 8 is 1 where item q is in the set.
-use Rattle.std.specs.Prelude.{ℕ, ◌+◌, ◌*◌, ◌/◌, ◌%◌, ◌<◌, ◌≡◌, ◌≤◌, Bool, false, not, true, ◌&&◌, ◌==◌}
-use Rattle.std.specs.Prelude.{if◌then◌else◌, List, length, take, drop, slice_index, slice_index_or}
+use Rattle.std.specs.Prelude.{ℕ, ◌+◌, ◌*◌, ◌/◌, ◌%◌, ◌<◌, ◌≡◌, ◌≤◌, Bool, not, ◌&&◌, ◌==◌}
+use Rattle.std.specs.Prelude.{false, true, if◌then◌else◌, List, length, take, drop, slice_index, slice_index_or}
 use Rattle.std.specs.Prelude.{count_by, map}
 use Rattle.std.specs.Int.{bit_at}
 use Rattle.std.specs.List.{range_with_len}

@@ -1,6 +1,6 @@
 // For each item, which of listed states have it, as digits of words.
-ghost use Rattle.std.specs.Prelude.{◌≡◌, ◌+◌, ◌*◌, ◌/◌, ◌%◌, ◌<◌, ◌≤◌, ◌==◌, ℕ, length, slice_index};
-ghost use Rattle.std.specs.Prelude.{false, if◌then◌else◌, not, true, IfOk};
+ghost use Rattle.std.specs.Prelude.{◌≡◌, ◌+◌, ◌*◌, ◌/◌, ◌%◌, ◌<◌, ◌≤◌, ◌==◌, ℕ, length};
+ghost use Rattle.std.specs.Prelude.{false, if◌then◌else◌, not, slice_index, true, IfOk};
 ghost use Rattle.std.specs.Int.{bit_at};
 ghost use Rattle.ls_set.specs.{most_items};
 ghost use Rattle.ls_theory.specs.{most_states};

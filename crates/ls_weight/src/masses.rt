@@ -7,8 +7,8 @@ ghost use Rattle.ls_weight.specs.Rows.{width_of, row_at};
 use crate::passes::TABLE_CELLS;
 use ls_theory::Ratio;
 
-// Folds `2 * half` cells into `half`: each pair, of which the second has the lowest digit, becomes its
-// sum. The second ones in all are the result.
+// Folds `2 * half` cells into `half`: each pair becomes its sum. The second ones of the pairs in all
+// are the result, which are the cells of the bytes with the lowest digit.
 fn fold(tables: &mut [u128], start: usize, half: usize) -> u128
     requires within { start + 2 * half ≤ length tables.old }
     requires fits { sum_below (2 * half) (λ v. slice_index tables.old (start + v)) < 2 ^ 128 }
