@@ -3,6 +3,9 @@ pub mod SumsBelow
 pub mod Passing
 pub mod Rowing
 pub mod Cells
+pub mod Folding
+pub mod Marks
+pub mod Columned
 pub mod Leaders
 pub mod Kept
 pub mod After

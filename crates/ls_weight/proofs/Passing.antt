@@ -1,6 +1,6 @@
 -- What a pass over the states adds up.
-use Rattle.ls_weight.proofs.Vocabulary.{◌&&◌, ◌*◌, ◌+◌, ◌-◌, ◌<◌, ◌∙◌, ◌≡◌, ◌≤◌, Bool, List, Reply, ℕ, agrees_in, ap, arith, cases_lt, cell_of, cond, drop, eqb, false, get_or, get_or-drop, get_or-set_other, get_or-set_same, get_or-take, inl, inr, length, length-drop, length-take, mul-add, mul-le-mul_left, mul-one, row_at, set, sum, sum_below, sym, take, true}
-use Rattle.ls_weight.proofs.SumsBelow.{sum_below-next, sum_below-le, sum_below-fewer, sum_by-below}
+use Rattle.ls_weight.proofs.Vocabulary.{◌&&◌, ◌*◌, ◌+◌, ◌-◌, ◌<◌, ◌∙◌, ◌≡◌, ◌≤◌, Bool, IsColumn, List, Reply, ℕ, agrees_at, agrees_in, ap, arith, cases_lt, cell_of, cond, drop, eqb, false, get_or, get_or_past, get_or-drop, get_or-set_other, get_or-set_same, get_or-take, inl, inr, length, length-drop, length-take, mul-add, mul-le-mul_left, mul-one, not, refl, row_at, set, sum, sum_below, sym, take, true}
+use Rattle.ls_weight.proofs.SumsBelow.{sum_below-next, sum_below-over, sum_below-le, sum_below-fewer, sum_by-below}
 
 -- the part of the bytes for a state is its row
 pub row-is : (bytes : List ℕ) (width i : ℕ) → take (width * (i + 1) - width * i) (drop (width * i) bytes) ≡ row_at bytes width i
@@ -54,3 +54,50 @@ row-full bytes width m i e l =
 
 pub cell-next : (bytes : List ℕ) (width : ℕ) (r : Reply) (ws : List ℕ) (i g v : ℕ) → cell_of bytes width r ws i g v + cond (agrees_in (row_at bytes width i) r && eqb (get_or (row_at bytes width i) g 0) v) (get_or ws i 0) 0 ≡ cell_of bytes width r ws (i + 1) g v
 cell-next bytes width r ws i g v = sym (sum_below-next i (λ j. cond (agrees_in (row_at bytes width j) r && eqb (get_or (row_at bytes width j) g 0) v) (get_or ws j 0) 0))
+
+-- states that don't agree, and places behind the last state, add nothing
+pub cell-over : (bytes : List ℕ) (width : ℕ) (r : Reply) (ws : List ℕ) (m n g v : ℕ) → m ≤ n → ((k : ℕ) → m ≤ k → k < n → k < length ws → agrees_in (row_at bytes width k) r ≡ false) → cell_of bytes width r ws m g v ≡ cell_of bytes width r ws n g v
+cell-over bytes width r ws m n g v l h =
+    sum_below-over m n _ l (λ k a b. elim (cases_lt k (length ws)) [
+      | inl lt ↦ rw (h k a b lt) refl
+      | inr ge ↦
+          let none = get_or_past ws k 0 ge in
+          let le = part-le (agrees_in (row_at bytes width k) r && eqb (get_or (row_at bytes width k) g 0) v) (get_or ws k 0) in
+          omega arith
+    ])
+
+-- places in the column agree as rows do
+pub column-agrees : (column bytes : List ℕ) (width m k : ℕ) (r : Reply) → IsColumn column bytes width r.q m → k < m → agrees_at column r.right k ≡ agrees_in (row_at bytes width k) r
+column-agrees column bytes width m k r h l = ap (λ b. cond r.right b (not b)) (h.marks k l)
+
+-- ---- a step to the next state that agrees
+
+-- the weights of the states before a place that agree are multiplied by a, and no others
+pub record AreWeighed (agrees : ℕ → Bool) (a : ℕ) (old new : List ℕ) (i : ℕ) : Type 0 where
+  pub done : (k : ℕ) → k < i → k < length old → get_or new k 0 ≡ get_or old k 0 * cond (agrees k) a 1
+  pub left : (k : ℕ) → i ≤ k → get_or new k 0 ≡ get_or old k 0
+
+pub weighed-none : (agrees : ℕ → Bool) (a : ℕ) (old : List ℕ) (i : ℕ) → ((k : ℕ) → k < i → k < length old → agrees k ≡ false) → AreWeighed agrees a old old i
+weighed-none agrees a old i h = record { done = λ k b c. rw (h k b c) (sym (mul-one (get_or old k 0))); left = λ k b. refl }
+
+pub weighed-next : (agrees : ℕ → Bool) (a : ℕ) (old new : List ℕ) (i j y : ℕ) → AreWeighed agrees a old new i → length new ≡ length old → i < length old → agrees i ≡ true → y ≡ get_or old i 0 * a → i + 1 ≤ j → ((k : ℕ) → i + 1 ≤ k → k < j → k < length old → agrees k ≡ false) → AreWeighed agrees a old (set new i y) j
+weighed-next agrees a old new i j y h long here own e l none = record {
+  done = λ k b c. elim (cases_lt k i) [
+    | inl lt ↦ get_or-set_other new i k y 0 (omega arith) ∙ h.done k lt c
+    | inr ge ↦ elim (cases_lt i k) [
+      | inl lt ↦ rw (none k (omega arith) b c) (get_or-set_other new i k y 0 (omega arith) ∙ h.left k ge ∙ sym (mul-one (get_or old k 0)))
+      | inr le ↦ let same : k ≡ i = omega arith in rw (same, own) (get_or-set_same new i y 0 (omega arith) ∙ e)
+    ]
+  ];
+  left = λ k b. get_or-set_other new i k y 0 (omega arith) ∙ h.left k (omega arith);
+}
+
+-- ---- what agrees is multiplied first, and then the others
+
+pub factors : (w a b : ℕ) (t : Bool) → w * cond t a 1 * cond t 1 b ≡ w * cond t a b
+factors w a b true = mul-one (w * a)
+factors w a b false = ap (λ n. n * b) (mul-one w)
+
+pub factor-le : (w a b : ℕ) (t : Bool) → b ≤ a → w * cond t a b ≤ w * a
+factor-le w a b true l = omega arith
+factor-le w a b false l = mul-le-mul_left w l

@@ -46,6 +46,19 @@ unfolding sum_below
 sum_below-both zero f g = refl
 sum_below-both (suc n) f g = let rest = sum_below-both n f g in omega arith
 
+-- what adds nothing can be passed over
+pub sum_below-over : (m n : ℕ) (f : ℕ → ℕ) → m ≤ n → ((i : ℕ) → m ≤ i → i < n → f i ≡ 0) → sum_below m f ≡ sum_below n f
+unfolding sum_below
+sum_below-over m zero f l h = let e : m ≡ 0 = omega arith in rw e refl
+sum_below-over m (suc n) f l h = elim (cases_Bool (eqb m (suc n))) [
+  | inl e ↦ rw (eqb-true m (suc n) e) refl
+  | inr e ↦
+      let b : m ≤ n = grind (arith, nat_tests) in
+      let rest = sum_below-over m n f b (λ i a c. h i a (omega arith)) in
+      let none = h n b (omega arith) in
+      omega arith
+]
+
 -- of the numbers that pass, the one is counted where it passes
 pub sum_below-one : (n v w : ℕ) (p : ℕ → Bool) → v < n → sum_below n (λ i. cond (p i) (cond (eqb v i) w 0) 0) ≡ cond (p v) w 0
 unfolding sum_below

@@ -3,11 +3,11 @@ pub use Rattle.std.proofs.Common.{◌%◌, ◌&&◌, ◌*◌, ◌++◌, ◌+◌,
 pub use Rattle.std.proofs.Math.Nat.{add-mul, mul-add, mul-le-mul_left, mul-le-mul_right, mul-lt-mul_of_pos_right, mul-one, mul-zero, mul_comm}
 pub use Rattle.std.proofs.lemmas.Bool.{and_parts, cases_Bool, cases_lt}
 pub use Rattle.std.proofs.lemmas.Bool.Decides.{nat_tests}
-pub use Rattle.std.proofs.lemmas.List.{get_or-drop, get_or-map, get_or-replicate, get_or-set_other, get_or-set_same, get_or-take, get_or_default, length-append, length-drop, length-map, length-replicate, length-take, with_items_is}
+pub use Rattle.std.proofs.lemmas.List.{get_or-drop, get_or-map, get_or-replicate, get_or-set_other, get_or-set_same, get_or-take, get_or_default, get_or_past, length-append, length-drop, length-map, length-replicate, length-take, with_items_is}
 pub use Rattle.std.proofs.lemmas.List.FromFn.{get_or-map-range_with_len, length-map-range_with_len}
 pub use Rattle.std.proofs.lemmas.List.Sums.{get_or-le-sum_by, sum-map, sum_by-cons}
 pub use Rattle.std.specs.Int.{bit_at}
-pub use Rattle.std.specs.List.{All, IsFirstMaxByKey, list_all, range_with_len}
+pub use Rattle.std.specs.List.{All, IsFirstMaxByKey, length_refill, list_all, range_with_len}
 pub use Rattle.ls_laws.proofs.Weights.{mass-sum, weight-more}
 pub use Rattle.ls_set.specs.{Items, empty, full, has, is_among, is_within, most_items}
 pub use Rattle.ls_settings.proofs.Light.{light-total}
@@ -16,7 +16,7 @@ unfoldable pub use Rattle.ls_theory.specs.{leader, weight}
 pub use Rattle.ls_theory.specs.declared.ratio.Ratio.{Ratio}
 pub use Rattle.ls_theory.specs.declared.ratio.Ratios.{Ratios}
 pub use Rattle.ls_theory.specs.declared.reply.Reply.{Reply}
-pub use Rattle.ls_weight.specs.Rows.{AreRows, StateList, agreeing_with, agrees_in, cell_of, has_in, row_at, state_at, width_of}
+pub use Rattle.ls_weight.specs.Rows.{AreColumns, AreRows, IsColumn, IsFirstFrom, IsRest, StateList, agreeing_with, agrees_at, agrees_in, cell_of, has_in, is_marked, row_at, state_at, width_of, words_of}
 pub use Rattle.ls_weight.specs.Sums.{cells_with, table_cells}
 unfoldable pub use Rattle.ls_weight.specs.Sums.{sum_below}
 pub use Rattle.ls_weight.specs.Weighings.{AreKeptSums, IsWeighable, KeptSums, Weighing}

@@ -1,6 +1,7 @@
 //! Weights of knowledge states after a pupil's replies.
 #![tactic(auto)]
 
+mod columns;
 mod fault;
 mod heaviest;
 mod masses;

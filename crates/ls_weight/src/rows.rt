@@ -8,6 +8,7 @@ ghost use Rattle.ls_theory.specs.{agrees, most_states};
 ghost use Rattle.ls_weight.specs.Sums.{table_cells, cells_with};
 ghost use Rattle.ls_weight.specs.Rows.{width_of, row_at, has_in, state_at, agreeing_with, AreRows};
 
+use crate::columns::columns_of;
 use crate::passes;
 use ls_set::{ItemSet, PLACES, SetList};
 use ls_theory::{Ratio, Reply};
@@ -17,13 +18,14 @@ use std::marker::Model;
 /// Listed states of `n` items. Contracts see these alone.
 ///
 /// For each state the items are kept as a row of bytes, eight items a byte, and for each item, how
-/// many states have it.
+/// many states have it, and by the digits of a column of words, which.
 #[derive(Drop)]
 pub(crate) struct StateRows {
     n: u32,
     states: SetList,
     bytes: Vec<u8>,
     counts: Vec<u128>,
+    columns: Vec<u64>,
 }
 
 impl Model for StateRows {
@@ -34,7 +36,8 @@ impl Model for StateRows {
     ghost view = { λ r. record { item_count = r.n; states = r.states } };
 
     ghost invariant = { λ r.
-        IsRowed (record { item_count = r.n; states = r.states }) r.bytes.items r.counts.items };
+        IsRowed (record { item_count = r.n; states = r.states })
+        r.bytes.items r.counts.items r.columns.items };
 }
 
 // How many bytes hold `n` items.
@@ -106,11 +109,13 @@ impl StateRows {
     {
         let bytes = rows_of(alloc, states.as_slice(), n)?;
         let counts = counts_of(alloc, states.as_slice(), n)?;
+        let columns = columns_of(alloc, &bytes, n, states.len())?;
         Ok(StateRows {
             n,
             states,
             bytes,
             counts,
+            columns,
         })
     }
 
@@ -174,6 +179,16 @@ impl StateRows {
         ensures sums { (g : ℕ) → g < width_of self.now.item_count →
             sum (row_at tables.new table_cells g) ≤ sum weights.old }
     {
-        passes::weigh(weights, tables, &self.bytes, self.width(), reply, ratio);
+        let words = self.columns.len() / self.n as usize;
+        let column = &self.columns[words * reply.q as usize..words * (reply.q as usize + 1)];
+        passes::weigh(
+            weights,
+            tables,
+            &self.bytes,
+            self.width(),
+            column,
+            reply,
+            ratio,
+        );
     }
 }

@@ -188,7 +188,7 @@ impl Weights {
             .weigh(&mut self.weights, &mut self.tables, reply, ratio);
         let agreeing = agreeing_of(self.masses[q as usize], self.total, right);
         self.total = sum_after(self.total, agreeing, ratio);
-        weigh_masses(&mut self.masses, &self.tables, ratio);
+        weigh_masses(&mut self.masses, &mut self.tables, ratio);
         self.heaviest = heaviest_after(&self.weights, self.heaviest, stays);
         self.replies.push_reserved(reply);
     }
