@@ -63,7 +63,7 @@ own-one s own sets i had one less =
 
 -- ---- the sets of a base
 
-among-place : (f : List Items) (p : ℕ) (k : Items) → slice_get f p ≡ Some k → is_among f k ≡ true
+pub among-place : (f : List Items) (p : ℕ) (k : Items) → slice_get f p ≡ Some k → is_among f k ≡ true
 among-place [] p k e = absurd (cc e)
 among-place (t ∷ f) zero k e = among-here k t f (let q : k ≡ t = cc in q)
 among-place (t ∷ f) (suc p) k e = among-there k t f (among-place f p k e)
@@ -81,6 +81,13 @@ base-less f k order c =
     let is = base-needed f (base f) order (base-in_order f order) (base-member f) (base-spans f) in
     let g = base f in
     not-true (is_same (union_below g k) k) (and_parts (is_among g k) (not (is_same (union_below g k) k)) (sym (among-filter (λ l. not (is_same (union_below g l) l)) g k) ∙ ap (λ h. is_among h k) (sym is) ∙ c)).1
+
+-- so no set of a base is the union of those below it
+pub base-needs : (f sets : List Items) → IsInOrder f → base f ≡ sets → (k : Items)
+    → is_among sets k ≡ true → is_same (union_below sets k) k ≡ false
+base-needs f sets order is k c =
+    ap (λ g. is_same (union_below g k) k) (sym is)
+    ∙ base-less f k order (ap (λ g. is_among g k) is ∙ c)
 
 has-below : (g : List Items) (k : Items) (i : ℕ) → has (union_below g k) i ≡ list_any (λ l. has l i && is_within l k && not (is_same l k)) g
 has-below g k i =

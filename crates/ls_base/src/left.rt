@@ -1,13 +1,14 @@
 // The base of what a Yes leaves of a space.
-ghost use Rattle.std.specs.Prelude.{◌≡◌, ◌<◌, ◌≤◌, ◌++◌, map, filter, IfOk, OnOk};
+ghost use Rattle.std.specs.Prelude.{◌≡◌, ◌<◌, ◌≤◌, ◌++◌, true, false, map, filter, IfOk, OnOk};
+ghost use Rattle.ls_set.specs.{Items, is_among, is_same};
 ghost use Rattle.ls_theory.specs.{base, breaks, some_breaks};
-ghost use Rattle.ls_laws.specs.Spans.{touches, left_by, spanned};
+ghost use Rattle.ls_laws.specs.Spans.{touches, left_by, spanned, union_below};
 ghost use Rattle.ls_changes.specs.Least.{having};
 ghost use Rattle.ls_base.specs.Gains.{broken_in, broken_at, gained_at, gained_below};
 
 use crate::least::{least_sets, push_joins};
+use crate::own::own_items;
 use crate::reduction::put_in_order;
-use crate::unions::union_below;
 use ls_set::{ItemSet, PLACES, Query};
 use std::alloc::{AllocError, Global};
 
@@ -74,20 +75,28 @@ fn having(alloc: Global, sets: &[ItemSet], i: u32) -> Result<Vec<ItemSet>, Alloc
 
 // The set, with those of its items that no set of the list below it has.
 fn broken_in(sets: &[ItemSet], set: ItemSet) -> Broken
+    requires needed { is_same (union_below sets.now set) set ≡ false }
     ensures { result ≡ broken_in sets.now set }
 {
-    let items = set.minus(union_below(sets, set));
+    let items = own_items(sets, set);
     Broken { set, items }
 }
 
-// The sets that break the query.
+// The sets that break the query. None is the union of those below it.
 fn broken_sets(alloc: Global, sets: &[ItemSet], r: &Query) -> Result<Vec<Broken>, AllocError>
-    requires { r.now.q < PLACES }
+    requires place { r.now.q < PLACES }
+    requires needed { (k : Items) → is_among sets.now k ≡ true →
+        is_same (union_below sets.now k) k ≡ false }
     ensures { IfOk result (λ v.
         v.items ≡ map (broken_in sets.now) (filter (λ k. breaks k r.now) sets.now)) }
 {
-    let breaking = sets.iter().copied().filter(|set| breaks(*set, r));
-    breaking.map(|set| broken_in(sets, set)).collect(alloc)
+    let mut broken = Vec::new(alloc);
+    for set in sets {
+        if breaks(*set, r) {
+            broken.push(broken_in(sets, *set))?;
+        }
+    }
+    Ok(broken)
 }
 
 // Those that are atoms at the item.
@@ -154,8 +163,8 @@ pub fn base_left(
 ) -> Result<Vec<ItemSet>, AllocError>
     requires few_items { n ≤ PLACES }
     requires place { r.now.q < PLACES }
-    ensures { IfOk result (λ left. base (spanned n sets.now) ≡ sets.now →
-        base (left_by r.now (spanned n sets.now)) ≡ left.items) }
+    requires base { base (spanned n sets.now) ≡ sets.now }
+    ensures { IfOk result (λ left. base (left_by r.now (spanned n sets.now)) ≡ left.items) }
 {
     if !some_break(sets, r) {
         return Vec::from_slice(alloc, sets);

@@ -2,7 +2,7 @@
 ghost use Rattle.std.specs.Prelude.{◌≡◌};
 ghost use Rattle.ls_set.specs.{is_same};
 ghost use Rattle.ls_theory.specs.{interior};
-ghost use Rattle.ls_laws.specs.Spans.{is_proper, union_below};
+ghost use Rattle.ls_laws.specs.Spans.{is_proper};
 
 use ls_set::ItemSet;
 
@@ -28,20 +28,4 @@ pub fn union_within(sets: &[ItemSet], s: ItemSet) -> ItemSet
         }
     }
     union
-}
-
-/// The union of those sets of the list that lie within `s` and are not `s`.
-pub fn union_below(sets: &[ItemSet], s: ItemSet) -> ItemSet
-    ensures { result ≡ union_below sets.now s }
-{
-    let mut below = ItemSet::empty();
-    for set in sets {
-        if is_proper(*set, s) {
-            below = below.union(*set);
-            if below == s {
-                return below;
-            }
-        }
-    }
-    below
 }
