@@ -94,7 +94,7 @@ impl Order {
     // Makes of the order the growth that leaves it at the last place below the level at which one
     // can, or leaves the order as it is where none can. `k` is the set of the items before the
     // level; without the last of them they are members, as fewer of them are.
-    pub fn leave<F: Inside>(&mut self, f: &F, k: ItemSet, level: usize) -> bool
+    pub(crate) fn leave<F: Inside>(&mut self, f: &F, k: ItemSet, level: usize) -> bool
         requires learning { is_learning_space (full (F.item_count f.now)) (F.members f.now) ≡ true }
         requires fresh { is_fresh empty self.old ≡ true }
         requires fits { length self.old ≤ F.item_count f.now }
