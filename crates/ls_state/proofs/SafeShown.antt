@@ -1,6 +1,5 @@
 -- What is answered of the safe interview can be said.
 use Rattle.ls_state.proofs.Vocabulary.{[], ◌∷◌, ◌≡◌, CanSay, CursorFault, Err, Interview, IsAfterOn, IsSafeOn, Items, List, None, Ok, Option, Result, SafeCommand, SafeInterview, SafeRequest, Some, Text, ℕ, base, changed, first_family, length, safe_family, safe_of, safe_row, safe_states_row, subst}
-use Rattle.ls_origins.specs.Safe.{answered, opened}
 use Rattle.ls_laws.proofs.Atoms.{base-member}
 use Rattle.ls_laws.proofs.Families.{compat-IsFamily}
 use Rattle.ls_laws.specs.Spans.{AreOn}
