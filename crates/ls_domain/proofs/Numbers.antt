@@ -39,19 +39,24 @@ pub item_of-some : (names : List Text) (w : Text) (i : ℕ) → number_of names 
 item_of-some names w i e = rw e refl
 
 -- the item at a place of the texts whose bytes are the names
-at_place : {Y : Type 0} (ks : List (String Y)) (i : ℕ) (k : String Y) → Some k ≡ slice_get ks i → (i < length (map string_bytes ks)) × (name_of (map string_bytes ks) i ≡ string_bytes k)
+at_place : {Y : Type 0} (ks : List (String Y)) (i : ℕ) (k : String Y) → Some k ≡ slice_get ks i
+    → (i < length (map string_bytes ks)) × (name_of (map string_bytes ks) i ≡ string_bytes k)
 at_place [] i k e = cc
 at_place (x ∷ ks) zero k e = (omega arith, ap string_bytes (same_Some x k (sym e)))
 at_place (x ∷ ks) (suc i) k e = let rest = at_place ks i k e in (omega (arith, rest.0), rest.1)
 
 -- a hint is right where the text at its place is the word
-pub hint-right : {Y : Type 0} (ks : List (String Y)) (names : List Text) (i : ℕ) (k : String Y) (w : Text) → map string_bytes ks ≡ names → AreNames names → Some k ≡ slice_get ks i → string_bytes k ≡ w → number_of names w ≡ Some i
+pub hint-right : {Y : Type 0} (ks : List (String Y)) (names : List Text) (i : ℕ) (k : String Y)
+    (w : Text) → map string_bytes ks ≡ names → AreNames names → Some k ≡ slice_get ks i
+    → string_bytes k ≡ w → number_of names w ≡ Some i
 hint-right ks names i k w is are e same =
-    let at : (i < length names) × (name_of names i ≡ string_bytes k) = rw (← is) (at_place ks i k e) in
+    let at : (i < length names) × (name_of names i ≡ string_bytes k) =
+    rw (← is) (at_place ks i k e) in
     ap (number_of names) (sym same ∙ sym at.1) ∙ number_of-name_of names i are.distinct at.0
 
 -- a word that an item has is a name
-named-is_name : (names : List Text) (w : Text) → list_all is_name names ≡ true → is_named names w ≡ true → is_name w ≡ true
+named-is_name : (names : List Text) (w : Text) → list_all is_name names ≡ true
+    → is_named names w ≡ true → is_name w ≡ true
 named-is_name [] w all named = cc
 named-is_name (v ∷ names) w all named =
     let parts = and_parts (is_name v) (list_all is_name names) all in
@@ -60,12 +65,18 @@ named-is_name (v ∷ names) w all named =
       | inr e ↦ named-is_name names w parts.1 (rw e at named)
     ]
 
-pub numbered-is_name : (names : List Text) (w : Text) (r : Option ℕ) → AreNames names → r ≡ number_of names w → OnSome r (is_name w ≡ true)
+pub numbered-is_name : (names : List Text) (w : Text) (r : Option ℕ) → AreNames names
+    → r ≡ number_of names w → OnSome r (is_name w ≡ true)
 numbered-is_name names w None are e = tt
-numbered-is_name names w (Some i) are e = named-is_name names w are.named (is_named-some names w i (sym e))
+numbered-is_name names w (Some i) are e =
+    named-is_name names w are.named (is_named-some names w i (sym e))
 
-pub numbered-place : (names : List Text) (w : Text) (i : ℕ) → AreNames names → number_of names w ≡ Some i → i < PLACES
-numbered-place names w i are e = let lt = (position-Some (bytes_eq w) names i [] e).0 in let few = are.few in omega (arith, lt, few)
+pub numbered-place : (names : List Text) (w : Text) (i : ℕ) → AreNames names
+    → number_of names w ≡ Some i → i < PLACES
+numbered-place names w i are e =
+    let lt = (position-Some (bytes_eq w) names i [] e).0 in
+    let few = are.few in
+    omega (arith, lt, few)
 
 -- ---- one name more
 
@@ -74,7 +85,8 @@ pub is_name-utf8 : (w : Text) → is_name w ≡ true → IsUtf8 w
 is_name-utf8 w e = IsUtf8-from_ascii w (All-head IsAscii w [] (front-ascii (One Name) (w ∷ []) 1 (rw e refl)))
 
 -- and what is no text has no number
-pub number-none : (names : List Text) (w : Text) → AreNames names → (IsUtf8 w → ⊥) → None ≡ number_of names w
+pub number-none : (names : List Text) (w : Text) → AreNames names → (IsUtf8 w → ⊥)
+    → None ≡ number_of names w
 number-none names w are other =
     elim (number_of names w) as (λ o. number_of names w ≡ o → None ≡ o) [
       | None ↦ λ e. refl

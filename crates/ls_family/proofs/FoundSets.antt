@@ -32,11 +32,14 @@ in_order-keys [] h = tt
 in_order-keys (s ∷ ss) h = (Each-weaker (λ t. order_of s t ≡ Less) (λ t. comes_before s t ≡ true) (λ t. order-before s t) ss h.0, in_order-keys ss h.1)
 
 -- what a map has at a key that is a set, where the map's entries are the sets so far
-pub row-at : (rows found : Found) (key s : Items) (old : Option ℕ) → rows ≡ found → key ≡ s → old ≡ lookup (is_at (order_of key)) rows → old ≡ row_found found s
+pub row-at : (rows found : Found) (key s : Items) (old : Option ℕ) → rows ≡ found → key ≡ s
+    → old ≡ lookup (is_at (order_of key)) rows → old ≡ row_found found s
 row-at rows found key s old are same at = at ∙ row-get rows key ∙ ap₂ row_found are same
 
-pub put-inserted : (rows found : Found) (key s : Items) (row : ℕ) → rows ≡ found → key ≡ s → row_found found s ≡ None → insert_entry order_of rows key row ≡ inserted found s row
-put-inserted rows found key s row are same none = ap₂ (λ f k. insert_entry order_of f k row) are same ∙ placed-inserted found s row none
+pub put-inserted : (rows found : Found) (key s : Items) (row : ℕ) → rows ≡ found → key ≡ s
+    → row_found found s ≡ None → insert_entry order_of rows key row ≡ inserted found s row
+put-inserted rows found key s row are same none =
+    ap₂ (λ f k. insert_entry order_of f k row) are same ∙ placed-inserted found s row none
 
 -- ---- one set more
 

@@ -30,11 +30,13 @@ from_some names (w ∷ ws) s = elim (cases_Bool (is_name w)) [
 -- the words of a line one by one, from the empty set on, make the set of their items
 pub words-known : (names ws : List Text) → fold (with_word names) (Some empty) ws ≡ items_known names ws
 words-known names ws =
-    from_some names ws empty ∙ rw (union-empty_left (items_of names ws), is_some-position (λ w. not (is_named names w)) ws) refl
+    let first = is_some-position (λ w. not (is_named names w)) ws in
+    from_some names ws empty ∙ rw (union-empty_left (items_of names ws), first) refl
 
 -- ---- what a line is
 
-pub set-known : (names ws : List Text) (s : Items) → items_known names ws ≡ Some s → set_named names ws ≡ Set s
+pub set-known : (names ws : List Text) (s : Items) → items_known names ws ≡ Some s
+    → set_named names ws ≡ Set s
 set-known names ws s e = elim (cases_Bool (list_all is_name ws)) [
   | inr bad ↦ absurd (none-some s (rw bad at e))
   | inl good ↦ elim (cases_Bool (is_some (first_unnamed names ws))) [
@@ -45,7 +47,8 @@ set-known names ws s e = elim (cases_Bool (list_all is_name ws)) [
   ]
 ]
 
-pub set-unknown : (names ws : List Text) → items_known names ws ≡ None → list_all is_name ws ≡ true → set_named names ws ≡ Unknown
+pub set-unknown : (names ws : List Text) → items_known names ws ≡ None
+    → list_all is_name ws ≡ true → set_named names ws ≡ Unknown
 set-unknown names ws e good = elim (cases_Bool (is_some (first_unnamed names ws))) [
   | inl some ↦ rw (good, some) refl
   | inr none ↦
