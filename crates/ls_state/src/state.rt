@@ -72,11 +72,15 @@ impl State {
         ensures { IfOk result (λ s. s ≡ started domain) }
     {
         let count = domain.count();
-        let texts = SetTexts::new(alloc, domain)?;
         let settings = Settings::standard(alloc, count)?;
         let inquiry = Inquiry::new(alloc, count, Start::Free, steps)?;
-        let pupils = PupilCases::new(alloc);
-        Ok(State::of(alloc, texts, inquiry, settings, pupils))
+        let parts = Parts {
+            domain,
+            inquiry,
+            settings,
+            pupils: PupilCases::new(alloc),
+        };
+        State::of(alloc, parts)
     }
 
     /// The session that the bytes of a saved one give; its base is not followed yet, and no safe
@@ -90,32 +94,28 @@ impl State {
         ensures none { IfOk result (λ s. s.safe ≡ None) }
         ensures fault { IfErr result (IsSessionFault (session_of bytes.now)) }
     {
+        let parts = read_parts(alloc, bytes, steps)?;
+        Ok(State::of(alloc, parts)?)
+    }
+
+    // The state of the parts of a session; its base is not followed yet.
+    fn of(alloc: Global, parts: Parts) -> Result<State, AllocError>
+        requires items { length parts.domain ≡ parts.inquiry.count }
+        requires settings { length parts.settings.ratios ≡ parts.inquiry.count }
+        requires pupils { ArePupils parts.inquiry.count parts.pupils }
+        ensures { IfOk result (λ s. s ≡
+            state_session parts.domain parts.inquiry parts.settings parts.pupils None) }
+    {
         let Parts {
             domain,
             inquiry,
             settings,
             pupils,
-        } = read_parts(alloc, bytes, steps)?;
-        let texts = SetTexts::new(alloc, domain)?;
-        Ok(State::of(alloc, texts, inquiry, settings, pupils))
-    }
-
-    // The state of the parts of a session; its base is not followed yet.
-    fn of(
-        alloc: Global,
-        texts: SetTexts,
-        inquiry: Inquiry,
-        settings: Settings,
-        pupils: PupilCases,
-    ) -> State
-        requires items { length texts ≡ inquiry.count }
-        requires settings { length settings.ratios ≡ inquiry.count }
-        requires pupils { ArePupils inquiry.count pupils }
-        ensures { result ≡ state_session texts inquiry settings pupils None }
-    {
+        } = parts;
         // at least one
         let _ = inquiry.items();
-        State {
+        let texts = SetTexts::new(alloc, domain)?;
+        Ok(State {
             alloc,
             texts,
             inquiry,
@@ -123,7 +123,7 @@ impl State {
             settings,
             pupils,
             safe: None,
-        }
+        })
     }
 
     /// The names of the items.
