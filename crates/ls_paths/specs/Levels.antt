@@ -7,8 +7,9 @@
 --         takes the least greater item that can be added in place of the next one,
 --         and then goes on as the first growth does
 --     leaves_below n f k order j      that at the last place below j at which there is one
-use Rattle.std.specs.Prelude.{ℕ, zero, suc, ◌<◌, ◌≡◌, Bool, true, not, ◌&&◌, ◌==◌, List, [], ◌∷◌, ◌++◌}
-use Rattle.std.specs.Prelude.{length, take, drop, Option, None, option_map, slice_index}
+use Rattle.std.specs.Prelude.{ℕ, zero, suc, ◌<◌, ◌≡◌, Bool, true, not, ◌&&◌, ◌==◌}
+use Rattle.std.specs.Prelude.{List, [], ◌∷◌, ◌++◌, length, take, drop, slice_index}
+use Rattle.std.specs.Prelude.{Option, None, option_map}
 use Rattle.std.specs.Option.{option_or}
 use Rattle.ls_set.specs.{Items, empty, has, is_among, with}
 use Rattle.ls_paths.specs.Growths.{is_next, next_item_after, first_growth}
