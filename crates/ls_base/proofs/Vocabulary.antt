@@ -12,7 +12,7 @@ pub use Rattle.std.specs.List.{All, AllByRecursion, dedup, dedup_from, list_all,
 pub use Rattle.std.specs.Option.{option_map_or}
 pub use Rattle.ls_changes.specs.Least.{IsBelow, gained, has_none_within, having, joined, least_beside, least_sets, near}
 pub use Rattle.ls_laws.proofs.Atoms.{IsAtom-from, among-base, atom_within, base-member, base-spans}
-pub use Rattle.ls_laws.proofs.Counts.{as_many, len-zero}
+pub use Rattle.ls_laws.proofs.Counts.{as_many, len-one, len-single, len-zero}
 pub use Rattle.ls_laws.proofs.Interiors.{IsUnionFamily, from-interior, has-interior, interior-member, interior-whole, interior-within, subsets-IsUnionFamily, to-interior}
 pub use Rattle.ls_laws.proofs.Lists.{IsInOrder-filter, every-from, same_members, some-among, some-filter, some-from, some-same}
 pub use Rattle.ls_laws.proofs.Spans.{base-in_order, base-needed, base-of, spanned-IsUnionFamily, spanned-base, spanned-has, spanned-in_order, spanned-same, spanned-whole}
@@ -25,8 +25,8 @@ pub use Rattle.ls_lists.proofs.Places.{drop-next}
 pub use Rattle.ls_set.proofs.Ascending.{bound-has, least-cases}
 pub use Rattle.ls_set.proofs.Members.{Each-among, among-append, among-cases, among-filter, among-here, among-there}
 pub use Rattle.ls_set.proofs.Order.{among-subsets, comes_before-asymmetric, comes_before-at, comes_before-transitive, differs_first, either_first, subsets_from-in_order}
-pub use Rattle.ls_set.proofs.Sets.{Decides-is_same, IsWithin-from, has-differing, has-empty, has-full, has-minus, has-union, has-with, has-without, is_within-from, members, same_set, same_within, union-empty_left, union-empty_right, union-left, union-within, union_assoc}
-pub use Rattle.ls_set.specs.{IsInOrder, IsWithin, Items, bound, comes_before, differing, empty, full, has, is_among, is_good, is_within, minus, numbers_from, set_of, subsets, union, with, without}
+pub use Rattle.ls_set.proofs.Sets.{Decides-is_same, IsWithin-from, has-differing, has-empty, has-full, has-meet, has-minus, has-single, has-union, has-with, has-without, is_within-from, members, same_set, same_within, union-empty_left, union-empty_right, union-left, union-within, union_assoc}
+pub use Rattle.ls_set.specs.{IsInOrder, IsWithin, Items, bound, comes_before, differing, empty, full, has, is_among, is_good, is_within, meet, minus, numbers_from, set_of, single, subsets, union, with, without}
 unfoldable pub use Rattle.ls_set.specs.{is_same, items, least, len}
 pub use Rattle.ls_set.specs.declared.query.Query.{Query}
 pub use Rattle.ls_theory.specs.{Peak, Start, atom_items, atoms_at, base, base_size, based, breaks, compat, first_missing, is_atom_at, limited, most_base_sets, some_breaks, unions}

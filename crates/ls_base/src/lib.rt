@@ -19,6 +19,6 @@ pub use base::{Base, MOST_BASE_SETS};
 pub use fault::PastFault;
 pub use followed::Followed;
 pub use ls_theory::BaseFault;
-pub use own::own_items;
+pub use own::{own_items, own_items_but, single_items};
 pub use reduction::{needed_sets, put_in_order};
 pub use trail::{MOST_KEPT_SETS, Trail};

@@ -1,12 +1,14 @@
 -- The verdict on a space, by a walk over its base.
-use Rattle.ls_space.proofs.Vocabulary.{◌+◌, ◌-◌, ◌<◌, ◌∙◌, ◌≡◌, ◌≤◌, IsInOrder, Items, Learning, List, None, NotGraded, Some, ℕ, [], ap, base, base-below, base-in_order, base-needed, drop, drop-next, drop_all, false, first_double, get_or, graded_by, is_same, is_space, items, le-ltb, least, len, length, lt-ltb, minus, nat_lt, needed, no_first, not_graded, option_map_or, own_by, refl, slice_index, spanned, spanned-IsUnionFamily, spanned-has, sym, take, true, union_below, unions, unwrap_or, without}
+use Rattle.ls_space.proofs.Vocabulary.{◌+◌, ◌-◌, ◌<◌, ◌∙◌, ◌≡◌, ◌≤◌, IsInOrder, Items, Learning, List, None, NotGraded, Some, ℕ, [], ap, base, base-below, base-in_order, base-needed, drop, drop-next, drop_all, false, first_double, get_or, graded_by, is_same, is_space, items, le-ltb, least, len, length, lt-ltb, minus, nat_lt, needed, no_first, not_graded, option_map_or, own_by, refl, slice_index, spanned, spanned-IsUnionFamily, spanned-has, subst, sym, take, true, union_below, unions, unwrap_or, without}
 use Rattle.std.proofs.lemmas.Option.{unwrap_or-slice_get}
 use Rattle.ls_set.proofs.Firsts.{items-least}
 use Rattle.ls_theory.specs.declared.verdict.BaseVerdict.{BaseVerdict}
 use Rattle.ls_laws.proofs.Interiors.{space-to, unions-member}
 use Rattle.ls_laws.proofs.Atoms.{base-member, base-spans}
 use Rattle.ls_base.proofs.Spanned.{base-on}
-use Rattle.ls_base.proofs.OwnItems.{own-place, own-less}
+use Rattle.ls_base.proofs.OwnItems.{AreSingles, IsTold, own-less, own-place, singles-told}
+use Rattle.std.proofs.Common.{◌≢◌}
+use Rattle.ls_set.specs.{IsWithin, meet}
 
 -- ---- the two least items
 
@@ -29,6 +31,13 @@ module _ (b : List Items) (order : IsInOrder b) (whole : needed b ≡ b) where
   module _ (after : List Items) (i : ℕ) (k : Items) (l : i < length b) (e : k ≡ get_or b i k) (rest : after ≡ take (length b - (i + 1)) (drop (i + 1) b)) where
     pub judged-less : is_same (union_below after k) k ≡ false
     judged-less = own-less b b after i k order itself l e rest
+
+    -- what is known of single items lies below the set
+    pub judged-told : (singles : Items) → AreSingles singles b → len k ≢ 1 → IsTold k singles after
+    judged-told singles told many =
+        let same = own-place b b after i k order itself l e rest
+        ∙ ap (λ g. union_below g k) itself in
+        subst (λ u. IsWithin (meet k singles) u) (sym same) (singles-told singles k b told many)
 
     judged-own : (own : Items) → own ≡ minus k (union_below after k) → own ≡ own_by b k
     judged-own own is = is ∙ ap (minus k) (own-place b b after i k order itself l e rest ∙ ap (λ g. union_below g k) itself)

@@ -7,7 +7,7 @@ ghost use Rattle.ls_laws.specs.Spans.{needed};
 ghost use Rattle.ls_base.specs.Bases.{family};
 ghost use Rattle.ls_spans.specs.Verdicts.{graded_by};
 
-use ls_base::{Base, own_items};
+use ls_base::{Base, own_items_but, single_items};
 use ls_set::ItemSet;
 use ls_theory::BaseVerdict;
 
@@ -36,9 +36,10 @@ pub fn judge(base: &[ItemSet]) -> BaseVerdict
     requires needed { needed base.now ≡ base.now }
     ensures { result ≡ graded_by base.now base.now }
 {
+    let singles = single_items(base);
     for place in 0..base.len() {
         let set = base[place];
-        let own = own_items(&base[place + 1..], set);
+        let own = own_items_but(&base[place + 1..], set, singles);
         if own.len() > 1 {
             return not_graded(set, own);
         }
