@@ -4,6 +4,7 @@ pub mod LineBytes
 mod Pages
 mod Parts
 mod Groups
+mod Digits
 mod Quotes
 mod NameOrder
 mod Listed

@@ -32,8 +32,9 @@ pub use Rattle.ls_lists.proofs.Filters.{filter_true}
 pub use Rattle.ls_lists.proofs.Joins.{join-spaced, join-spaced-one, join_next, spaced-next}
 pub use Rattle.ls_lists.proofs.Places.{drop-next, drop-parts, part-kept, part-last}
 pub use Rattle.ls_lists.specs.Lists.{spaced}
-pub use Rattle.ls_set.specs.{Items, comes_before, cursor, full, is_among, is_good, items, meet}
-pub use Rattle.ls_set.specs.{numbers_from, set_of}
+pub use Rattle.ls_set.specs.{Items, comes_before, full, hex, is_among, is_good, items, meet}
+pub use Rattle.ls_set.specs.{nibble_of, numbers_from, set_of}
+unfoldable pub use Rattle.ls_set.specs.{cursor}
 unfoldable pub use Rattle.ls_set.specs.{has, single}
 pub use Rattle.ls_theory.specs.{Interview, Peak, PupilResult, atom_items, atom_sets, atoms_at, base}
 pub use Rattle.ls_theory.specs.{base_verdict, breaks_none, clauses_at, compat, compatible_sets}

@@ -1,35 +1,40 @@
 // The room of a reply.
 ghost use Rattle.std.specs.Prelude.{◌≡◌, ◌≤◌, ◌↔◌, ◌+◌, ◌++◌, ◌∷◌, [], None, Some, true};
-ghost use Rattle.std.specs.Prelude.{length, is_some, IfOk};
+ghost use Rattle.std.specs.Prelude.{length, is_some, take, IfOk};
 ghost use Rattle.ls_write.specs.Rooms.{Says, Sends, Ends, no_reply};
 
 use itoa::{Buffer, Integer};
 use ls_edge::{Sink, SinkFault, write_whole};
 use std::alloc::{AllocError, Global};
 use std::marker::Model;
+use std::simd::Simd;
 
 /// How many bytes a room has.
 pub const ROOM: usize = 32_768;
 
+// How many bytes are copied at once where a piece has no more. So many stand behind a room.
+const BLOCK: usize = 32;
+
 /// A room of fixed size, into which a reply is said before it reaches a sink. Nothing but `new`
 /// takes memory. The first fault of a sink is kept until `finish`, and no call of the sink is made
 /// after it.
+// The first `used` of the bytes are pending.
 #[derive(Drop)]
 pub struct Room {
     bytes: Vec<u8>,
+    used: usize,
     fault: Option<SinkFault>,
 }
 
 impl Model for Room {
-    ghost use Rattle.std.specs.Prelude.{◌≤◌};
-    ghost use Rattle.std.specs.Vec.{vec_capacity};
+    ghost use Rattle.std.specs.Prelude.{◌≡◌, ◌≤◌, length, take};
     ghost use Rattle.ls_write.specs.Rooms.{RoomState};
 
     ghost Value = { RoomState };
 
-    ghost view = { λ s. record { pending = s.bytes.items; fault = s.fault } };
+    ghost view = { λ s. record { pending = take s.used s.bytes.items; fault = s.fault } };
 
-    ghost invariant = { λ s. 32768 ≤ vec_capacity s.bytes };
+    ghost invariant = { λ s. (s.used ≤ 32768) × (length s.bytes.items ≡ 32800) };
 }
 
 impl Room {
@@ -38,12 +43,14 @@ impl Room {
         ensures { IfOk result (λ r. r ≡ no_reply) }
     {
         Ok(Room {
-            bytes: Vec::with_capacity(alloc, ROOM)?,
+            bytes: vec![in alloc; 0; ROOM + BLOCK]?,
+            used: 0,
             fault: None,
         })
     }
 
     /// Says the bytes. No call of the sink is made where they fit, nor after a fault.
+    #[inline(always)]
     pub(crate) fn put<K: Sink>(&mut self, bytes: &[u8], out: &mut K)
         ensures held { length self.old.pending + length bytes.now ≤ ROOM → out.new ≡ out.old }
         ensures idle { is_some self.old.fault ≡ true → out.new ≡ out.old }
@@ -56,6 +63,20 @@ impl Room {
             self.append(bytes);
         } else {
             self.put_long(bytes, out);
+        }
+    }
+
+    /// Says the first `count` of the bytes. It takes least where `BLOCK` bytes are there.
+    #[inline(always)]
+    pub(crate) fn put_front<K: Sink>(&mut self, bytes: &[u8], count: usize, out: &mut K)
+        requires { count ≤ length bytes.now }
+        ensures { Says (K.written out.old) (K.faults out.old) self.old (K.written out.new)
+            (K.faults out.new) self.new (take count bytes.now) }
+    {
+        if count <= BLOCK && BLOCK <= bytes.len() && self.has_space(count) {
+            self.append_front(bytes, count);
+        } else {
+            self.put(&bytes[..count], out);
         }
     }
 
@@ -98,8 +119,8 @@ impl Room {
         ensures none { self.new.pending ≡ [] }
         ensures idle { is_some self.old.fault ≡ true → out.new ≡ out.old }
     {
-        self.fault = send(self.fault, &self.bytes, out);
-        self.bytes.clear();
+        self.fault = send(self.fault, &self.bytes[..self.used], out);
+        self.used = 0;
     }
 
     /// Sends what is pending, and answers the first fault of the reply, if there was one. The room
@@ -131,7 +152,7 @@ impl Room {
     fn has_space(&self, count: usize) -> bool
         ensures { (result ≡ true) ↔ (length self.now.pending + count ≤ ROOM) }
     {
-        count <= ROOM && self.bytes.len() <= ROOM - count
+        count <= ROOM - self.used
     }
 
     // Says bytes for which there is space.
@@ -139,7 +160,21 @@ impl Room {
         requires { length self.old.pending + length bytes.now ≤ ROOM }
         ensures { self.new ≡ record self.old { pending = self.old.pending ++ bytes.now } }
     {
-        let _ = self.bytes.extend_from_slice(bytes);
+        let end = self.used + bytes.len();
+        self.bytes[self.used..end].copy_from_slice(bytes);
+        self.used = end;
+    }
+
+    // Says the first `count` of the bytes, for which there is space.
+    fn append_front(&mut self, bytes: &[u8], count: usize)
+        requires block { (count ≤ BLOCK) × (BLOCK ≤ length bytes.now) }
+        requires space { length self.old.pending + count ≤ ROOM }
+        ensures { self.new ≡
+            record self.old { pending = self.old.pending ++ take count bytes.now } }
+    {
+        let block = Simd::<u8, BLOCK>::from_slice(bytes);
+        block.copy_to_slice(&mut self.bytes[self.used..]);
+        self.used += count;
     }
 
     // Says bytes for which there may be no space.

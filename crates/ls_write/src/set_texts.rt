@@ -1,9 +1,9 @@
 // The names of sets, joined beforehand.
-ghost use Rattle.std.specs.Prelude.{◌≡◌, ◌+◌, ◌-◌, ◌*◌, ◌<◌, ◌≤◌, ◌++◌, ◌∷◌, length, drop};
+ghost use Rattle.std.specs.Prelude.{◌≡◌, ◌+◌, ◌-◌, ◌*◌, ◌<◌, ◌≤◌, ◌++◌, ◌∷◌, length, drop, take};
 ghost use Rattle.std.specs.Prelude.{IfOk, OnOk};
 ghost use Rattle.std.specs.List.{insert};
 ghost use Rattle.ls_lists.specs.Lists.{spaced};
-ghost use Rattle.ls_set.specs.{full, has, meet};
+ghost use Rattle.ls_set.specs.{cursor, cursor_length, full, has, meet};
 ghost use Rattle.ls_domain.specs.Domains.{IsDomain};
 ghost use Rattle.ls_domain.specs.Texts.{joined_names, name_of, names_of_set, set_text};
 ghost use Rattle.ls_meaning.specs.{line_bytes, set_line};
@@ -21,6 +21,10 @@ use std::marker::Model;
 
 // How many digits a cursor has at most.
 const MOST_DIGITS: usize = (PLACES as usize + 3) / 4;
+
+// The hexadecimal digits by their four bits turned round: the first item is the lowest bit of a
+// pattern, and the highest of a digit.
+const TURNED: [u8; 16] = *b"084c2a6e195d3b7f";
 
 /// The names of a domain's items, joined beforehand: for each eight items, a group, the texts of
 /// all its subsets, each name behind a space. So the names of a set are said by one text a group.
@@ -154,10 +158,9 @@ impl SetTexts {
     {
         let n = self.domain.count();
         let mut digits = [0u8; MOST_DIGITS];
-        let cursor = &mut digits[..cursor_length(n)];
-        s.to_cursor(n, cursor);
+        write_digits(s, n, &mut digits);
         room.put(b"set ", out);
-        room.put(cursor, out);
+        room.put_front(&digits, cursor_length(n), out);
         room.put(b" {", out);
         self.put_names(s, room, out);
         room.put(b"}\n", out);
@@ -186,9 +189,9 @@ impl SetTexts {
         if pattern == 0 {
             return skipped;
         }
-        let text = self.group_text(group, pattern);
-        let start = skipped.min(text.len());
-        room.put(&text[start..], out);
+        let (bytes, count) = self.group_from(group, pattern);
+        let start = skipped.min(count);
+        room.put_front(&bytes[start..], count - start, out);
         skipped - start
     }
 
@@ -197,7 +200,30 @@ impl SetTexts {
         requires { 8 * group < length self.now }
         ensures { result.now ≡ group_text self.now group pattern }
     {
-        self.texts.get(256 * group as usize + pattern as usize)
+        let (bytes, count) = self.group_from(group, pattern);
+        &bytes[..count]
+    }
+
+    // The bytes from the text of a pattern of a group on, and how many of them are that text.
+    fn group_from(&self, group: u32, pattern: u8) -> (&[u8], usize)
+        requires { 8 * group < length self.now }
+        ensures text { take result.1 result.0.now ≡ group_text self.now group pattern }
+        ensures within { result.1 ≤ length result.0.now }
+    {
+        self.texts.get_from(256 * group as usize + pattern as usize)
+    }
+}
+
+// Writes the digits of the set's cursor among `n` items, two for each group.
+fn write_digits(s: ItemSet, n: u32, digits: &mut [u8; MOST_DIGITS])
+    requires { n ≤ PLACES }
+    ensures { take (cursor_length n) digits.new ≡ cursor n s }
+{
+    for group in 0..n.div_ceil(8) {
+        let pattern = s.group(group);
+        let place = 2 * group as usize;
+        digits[place] = TURNED[pattern as usize % 16];
+        digits[place + 1] = TURNED[pattern as usize / 16];
     }
 }
 

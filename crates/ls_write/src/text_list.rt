@@ -1,5 +1,6 @@
 // Texts, one after another in one room.
-ghost use Rattle.std.specs.Prelude.{◌≡◌, ◌<◌, ◌≤◌, ◌++◌, ◌∷◌, [], length, slice_index_or, OnOk};
+ghost use Rattle.std.specs.Prelude.{◌≡◌, ◌<◌, ◌≤◌, ◌++◌, ◌∷◌, [], length, slice_index_or, take};
+ghost use Rattle.std.specs.Prelude.{OnOk};
 
 use std::alloc::{AllocError, Global};
 use std::marker::Model;
@@ -53,12 +54,13 @@ impl TextList {
         Ok(())
     }
 
-    // The text at index `k`.
-    pub(crate) fn get(&self, k: usize) -> &[u8]
+    // The bytes from the text at index `k` on, and how many of them are that text.
+    pub(crate) fn get_from(&self, k: usize) -> (&[u8], usize)
         requires { k < length self.now }
-        ensures { result.now ≡ slice_index_or self.now k [] }
+        ensures text { take result.1 result.0.now ≡ slice_index_or self.now k [] }
+        ensures within { result.1 ≤ length result.0.now }
     {
         let place = self.places[k];
-        &self.bytes[place.start..place.end]
+        (&self.bytes[place.start..], place.end - place.start)
     }
 }

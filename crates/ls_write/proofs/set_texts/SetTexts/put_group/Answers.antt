@@ -1,4 +1,6 @@
-use Rattle.ls_write.proofs.Vocabulary.{◌∙◌, [], ap, arith, drop, drop_min, drop_of_length-le, length, length-drop, sym, take, take-length}
+use Rattle.ls_write.proofs.Vocabulary.{◌∙◌, [], ap, arith, drop, drop_of_length-le, length, sym}
+use Rattle.std.proofs.Common.{length-take-le}
+use Rattle.ls_write.proofs.Parts.{front-left}
 use Rattle.ls_write.proofs.Saying.{says_as, says_nothing}
 use Rattle.ls_write.proofs.Groups.{group_text-of_set, group_text-none}
 use Rattle.ls_write.proofs.set_texts.SetTexts.put_group.Goals as goal
@@ -15,14 +17,18 @@ returns-then-pattern-eq0-clause-skipped g c =
 
 pub returns-clause-says : goal.returns-clause-says
 returns-clause-says g c =
-    let is = group_text-of_set c.args.self.now c.args.s c.args.group c.group-pattern.result c.group-pattern.ensures in
-    let text = c.group_text-text.ensures ∙ is in
-    let all = take-length (drop c.min-start.result c.group_text-text.result.now) in
-    let few = ap (λ n. take n (drop c.min-start.result c.group_text-text.result.now)) (sym (length-drop c.min-start.result c.group_text-text.result.now)) in
-    says_as (few ∙ all ∙ ap (λ n. drop n c.group_text-text.result.now) c.min-start.ensures ∙ drop_min c.args.skipped c.group_text-text.result.now ∙ ap (drop c.args.skipped) text) c.put.ensures.says
+    let pattern = c.group-pattern in
+    let from = c.group_from-count in
+    let start = c.min-start in
+    let is = group_text-of_set c.args.self.now c.args.s c.args.group pattern.result pattern.ensures in
+    let left = front-left from.result.0.now from.result.1 c.args.skipped start.result
+    from.ensures.within start.ensures in
+    says_as (left ∙ ap (drop c.args.skipped) (from.ensures.text ∙ is)) c.put_front.ensures
 
 pub returns-clause-skipped : goal.returns-clause-skipped
 returns-clause-skipped g c =
-    let is = group_text-of_set c.args.self.now c.args.s c.args.group c.group-pattern.result c.group-pattern.ensures in
-    let text = c.group_text-text.ensures ∙ is in
-    omega (arith, ap length text, c.min-start.ensures)
+    let pattern = c.group-pattern in
+    let from = c.group_from-count in
+    let is = group_text-of_set c.args.self.now c.args.s c.args.group pattern.result pattern.ensures in
+    let long = length-take-le from.result.1 from.result.0.now from.ensures.within in
+    omega (arith, ap length (from.ensures.text ∙ is), long, c.min-start.ensures)
