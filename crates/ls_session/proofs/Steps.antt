@@ -7,7 +7,7 @@ use Rattle.ls_edge.specs.Causes.{AppendsFront}
 use Rattle.ls_edge.specs.declared.traits.SinkFault.{SinkFault}
 use Rattle.ls_edge.specs.declared.traits.SinkFault.TheVariants as sink
 use Rattle.ls_meaning.proofs.Refusing.{is_refusal-lines_of}
-use Rattle.ls_write.specs.Rooms.{Wrote}
+use Rattle.ls_room.specs.Rooms.{Wrote}
 use Rattle.ls_session.specs.Faults.{step_fault}
 use Rattle.ls_session.specs.Follows.{Follows, MovesSink}
 use Rattle.ls_session.specs.declared.step_fault.StepFault.{StepFault}

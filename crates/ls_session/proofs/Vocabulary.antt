@@ -13,6 +13,6 @@ pub use Rattle.ls_meaning.specs.declared.response.Response.{Response}
 pub use Rattle.ls_meaning.specs.declared.response.Response.TheVariants.{Refused, Silence}
 pub use Rattle.ls_state.specs.Decides.{Decides, ShelfState, shelf_state}
 pub use Rattle.ls_state.specs.Standing.{IsAfterLine, standing_session}
-pub use Rattle.ls_write.proofs.Saying.{says_as, wrote}
+pub use Rattle.ls_room.proofs.Saying.{says_as, wrote}
 pub use Rattle.std.proofs.Common.{Bool, Err, IsErrAnd, IsErrOf, List, Ok, Option, Result, [], ap, append-nil, ap₂, arith, codes, false, inl, inr, length, ltb-true, refl, subst, sym, true, ℕ, ◌∙◌, ◌∷◌, ◌≡◌}
 pub use Rattle.std.specs.declared.alloc.AllocError.{AllocError}

@@ -1,7 +1,7 @@
 // What a line does, decided and not yet written.
 ghost use Rattle.std.specs.Prelude.{◌≡◌, None};
 ghost use Rattle.ls_meaning.specs.{bytes_of, command_effect, has_domain, line_effect, lines_of};
-ghost use Rattle.ls_write.specs.Rooms.{Says};
+ghost use Rattle.ls_room.specs.Rooms.{Says};
 ghost use Rattle.ls_state.specs.Decides.{Decides, shelf_state};
 ghost use Rattle.ls_state.specs.Standing.{IsAfterLine, standing_session};
 

@@ -5,7 +5,7 @@ ghost use Rattle.ls_edge.specs.Files.{Folder};
 ghost use Rattle.ls_lines.specs.{is_long};
 ghost use Rattle.ls_meaning.specs.{Calls, Session as State, answers, line_effect, started};
 ghost use Rattle.ls_meaning.specs.declared.response.Response.TheVariants.{Silence};
-ghost use Rattle.ls_write.specs.Rooms.{Ends, no_reply};
+ghost use Rattle.ls_room.specs.Rooms.{Ends, no_reply};
 ghost use Rattle.ls_session.specs.Follows.{Follows, MovesSink};
 
 use crate::StepFault;

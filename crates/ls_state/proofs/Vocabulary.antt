@@ -43,7 +43,7 @@ pub use Rattle.ls_theory.specs.{Interview, accepted, answer_with, retracted, yes
 unfoldable pub use Rattle.ls_theory.specs.{base, compat}
 pub use Rattle.ls_theory.specs.Settings.{Settings}
 pub use Rattle.ls_theory.specs.declared.answer.Answer.{Answer}
-pub use Rattle.ls_write.proofs.Saying.{says_as}
+pub use Rattle.ls_room.proofs.Saying.{says_as}
 pub use Rattle.ls_write.proofs.Showing.{can-view}
 pub use Rattle.ls_write.specs.Showing.{CanSay, is_shown}
 pub use Rattle.ls_state.specs.Decides.{Decides, IsDecided, IsFetched, Makes, MakesChange, Sees, SeesFile, ShelfState, shelf_state}

@@ -3,7 +3,7 @@ use Rattle.std.specs.Prelude.{◌≡◌, ℕ, List, [], Option, Some, None}
 use Rattle.std.specs.Option.{ForSome}
 use Rattle.ls_meaning.specs.{Calls, Session, line_effect, started}
 use Rattle.ls_meaning.specs.declared.response.Response.{Response}
-use Rattle.ls_write.specs.Rooms.{RoomState, no_reply}
+use Rattle.ls_room.specs.Rooms.{RoomState, no_reply}
 
 -- where no domain stands, the session that begins without names
 abbrev pub standing_session : Option Session → Session

@@ -4,7 +4,7 @@ ghost use Rattle.ls_files.specs.{session_of};
 ghost use Rattle.ls_store.specs.Faults.{IsSessionFault};
 ghost use Rattle.ls_meaning.specs.{bytes_of, edit_effect, in_domain, lines_of, pupil_effect};
 ghost use Rattle.ls_meaning.specs.{safe_effect, saved, setting_effect, started, view_effect};
-ghost use Rattle.ls_write.specs.Rooms.{Says};
+ghost use Rattle.ls_room.specs.Rooms.{Says};
 ghost use Rattle.ls_pupils.specs.Cases.{ArePupils};
 ghost use Rattle.ls_state.specs.Decides.{Makes};
 ghost use Rattle.ls_state.specs.Standing.{IsAfterLine};

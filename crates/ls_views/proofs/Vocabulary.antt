@@ -17,6 +17,6 @@ pub use Rattle.ls_meaning.specs.declared.request.View.{View}
 pub use Rattle.ls_meaning.specs.declared.response.Response.{Response}
 pub use Rattle.ls_meaning.specs.declared.response.Response.TheVariants.{Refused}
 pub use Rattle.ls_resolve.specs.{ResolvesInMemory}
-pub use Rattle.ls_write.proofs.Saying.{wrote}
+pub use Rattle.ls_room.proofs.Saying.{wrote}
 pub use Rattle.ls_write.specs.Showing.{CanSay, session_with}
 pub use Rattle.ls_views.specs.Views.{based_on, is_based}

@@ -7,7 +7,7 @@ ghost use Rattle.ls_meaning.specs.{Calls, IsViewOn, Session, answers, bytes_of, 
 ghost use Rattle.ls_meaning.specs.{is_refusal, lines_of, reply_of, view_row};
 ghost use Rattle.ls_theory.specs.{yes_queries};
 ghost use Rattle.ls_base.specs.Followed.{IsFollowed};
-ghost use Rattle.ls_write.specs.Rooms.{Wrote, no_reply};
+ghost use Rattle.ls_room.specs.Rooms.{Wrote, no_reply};
 ghost use Rattle.ls_write.specs.Showing.{CanSay, response_steps, session_with};
 ghost use Rattle.ls_views.specs.Views.{command_steps, view_steps};
 

@@ -1,11 +1,7 @@
 mod Vocabulary
-pub mod Saying
 pub mod LineBytes
 mod Pages
-mod Parts
-mod Groups
-mod Quotes
-mod NameOrder
+mod SkillQuotes
 mod Listed
 mod Rows
 mod ClauseTexts

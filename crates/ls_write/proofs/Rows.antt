@@ -12,7 +12,7 @@ use Rattle.std.proofs.lemmas.Map.Made.{AllPairs-from_IsDistinct}
 use Rattle.std.proofs.lemmas.Map.Text.{is_eq-slice_cmp}
 use Rattle.serde_json.specs.Data.{Data, object, Members, no_members, member, put}
 use Rattle.serde_json.specs.View.{items_of as values_of}
-use Rattle.ls_write.proofs.NameOrder.{numbers-All, by_name-All}
+use Rattle.ls_room.proofs.NameOrder.{numbers-All, by_name-All}
 
 -- ---- arrays
 

@@ -1,40 +1,32 @@
 -- The words that the proofs of this crate cite, passed on from one place.
-pub use Rattle.std.proofs.Common.{◌%◌, ◌&&◌, ◌*◌, ◌++◌, ◌+◌, ◌-◌, ◌/◌, ◌<◌, ◌^◌, ◌∙◌, ◌∷◌, ◌≡◌, ◌≢◌}
-pub use Rattle.std.proofs.Common.{◌≤◌, Bool, Bor, Equal, Err, Global, Greater, IfSome, Less, List}
-pub use Rattle.std.proofs.Common.{MatchOption, None, Ok, Option, Result, Some, Vec, ℕ, [], ap}
-pub use Rattle.std.proofs.Common.{append-nil, append_assoc, ap₂, arith, below_more, codes, cond}
-pub use Rattle.std.proofs.Common.{decimal, drop, eq-eqb, eqb, eqb-true, false, filter, get_or}
-pub use Rattle.std.proofs.Common.{if◌then◌else◌, inl, inr, is_lt, is_some, length, length-append}
-pub use Rattle.std.proofs.Common.{length-drop, lt-ltb, ltb, map, min, nat_cmp, ne_eqb, not}
-pub use Rattle.std.proofs.Common.{option_copied, refl, rules, subst, suc, sym, take}
-pub use Rattle.std.proofs.Common.{take-append-drop, true, zero}
-pub use Rattle.std.proofs.Math.ListN.{drop_of_length-le}
-pub use Rattle.std.proofs.Math.Seq.{take-append_seam, take-length}
-pub use Rattle.std.proofs.lemmas.Bool.{agree_below_at, and_from, and_parts, cases_Bool, cases_lt}
+pub use Rattle.std.proofs.Common.{◌%◌, ◌&&◌, ◌*◌, ◌++◌, ◌+◌, ◌-◌, ◌/◌, ◌<◌, ◌∙◌, ◌∷◌, ◌≡◌, ◌≢◌, ◌≤◌}
+pub use Rattle.std.proofs.Common.{Bool, Bor, Equal, Err, Greater, IfSome, Less, List, MatchOption}
+pub use Rattle.std.proofs.Common.{None, Ok, Option, Result, Some, ℕ, [], ap, append-nil}
+pub use Rattle.std.proofs.Common.{append_assoc, ap₂, arith, codes, cond, decimal, drop, eqb, false}
+pub use Rattle.std.proofs.Common.{filter, get_or, inl, inr, is_some, length, length-append, lt-ltb}
+pub use Rattle.std.proofs.Common.{ltb, map, not, option_copied, refl, rules, subst, suc, sym, take}
+pub use Rattle.std.proofs.Common.{true, zero}
+pub use Rattle.std.proofs.lemmas.Bool.{and_from, and_parts, cases_Bool}
 pub use Rattle.std.proofs.lemmas.Bool.Decides.{Decides-eqb, nat_tests}
-pub use Rattle.std.proofs.lemmas.Grind.{common_steps, flat_map-append}
-pub use Rattle.std.proofs.lemmas.List.{drop_all, drop_min, drop_more, get_or-append-add, get_or-map}
-pub use Rattle.std.proofs.lemmas.List.{get_or_past, length-map, map-append, map-id, take_all}
-pub use Rattle.std.proofs.lemmas.List.{take_more}
-pub use Rattle.std.proofs.lemmas.List.Elements.{All-cons, All-head, All-nil, All-tail}
-pub use Rattle.std.proofs.lemmas.List.Elements.{filter-append}
+pub use Rattle.std.proofs.lemmas.Grind.{flat_map-append}
+pub use Rattle.std.proofs.lemmas.List.{drop_all, drop_more, get_or-append-add, get_or-map}
+pub use Rattle.std.proofs.lemmas.List.{length-map, map-append, map-id, take_all, take_more}
+pub use Rattle.std.proofs.lemmas.List.Elements.{All-head, All-tail}
 pub use Rattle.std.proofs.lemmas.Simd.{map-map}
 pub use Rattle.std.proofs.lemmas.Slice.Eq.{bytes_eq-Decides, strip_prefix_is}
 pub use Rattle.std.specs.Cmp.Lexicographic.{pointwise, slice_cmp}
-pub use Rattle.std.specs.Int.{bit_at}
-pub use Rattle.std.specs.List.{All, IsDistinct, flat_map, insert, join_with_byte, list_all}
-pub use Rattle.std.specs.List.{slice_range}
+pub use Rattle.std.specs.List.{All, IsDistinct, join_with_byte}
 pub use Rattle.std.specs.Prelude.{slice_index}
 pub use Rattle.json.specs.Print.{escape, quoted}
 unfoldable pub use Rattle.json.specs.Print.{escape_byte}
 pub use Rattle.serde_json.specs.Written.{comma_if, compact_text, items_text, members_text}
 pub use Rattle.ls_lists.proofs.Filters.{filter_true}
-pub use Rattle.ls_lists.proofs.Joins.{join-spaced, join-spaced-one, join_next, spaced-next}
-pub use Rattle.ls_lists.proofs.Places.{drop-next, drop-parts, part-kept, part-last}
+pub use Rattle.ls_lists.proofs.Joins.{join-spaced, join-spaced-one, spaced-next}
+pub use Rattle.ls_lists.proofs.Places.{drop-next}
 pub use Rattle.ls_lists.specs.Lists.{spaced}
-pub use Rattle.ls_set.specs.{Items, comes_before, cursor, full, is_among, is_good, items, meet}
+pub use Rattle.ls_set.specs.{Items, comes_before, full, is_among, is_good, items, meet}
 pub use Rattle.ls_set.specs.{numbers_from, set_of}
-unfoldable pub use Rattle.ls_set.specs.{has, single}
+unfoldable pub use Rattle.ls_set.specs.{has}
 pub use Rattle.ls_theory.specs.{Interview, Peak, PupilResult, atom_items, atom_sets, atoms_at, base}
 pub use Rattle.ls_theory.specs.{base_verdict, breaks_none, clauses_at, compat, compatible_sets}
 pub use Rattle.ls_theory.specs.{double_atom, fringes, is_atom_at, is_learning_space, is_lex_before}
@@ -45,9 +37,8 @@ pub use Rattle.ls_laws.specs.Forced.{IsSound}
 pub use Rattle.ls_enum.proofs.Left.{more_steps}
 pub use Rattle.ls_enum.specs.Listings.{left_after}
 pub use Rattle.ls_paths.specs.Left.{paths_left}
-pub use Rattle.ls_lines.specs.{Text, is_name_byte}
-unfoldable pub use Rattle.ls_lines.specs.{is_of}
-pub use Rattle.ls_domain.specs.Domains.{IsDomain, is_name}
+pub use Rattle.ls_lines.specs.{Text}
+pub use Rattle.ls_domain.specs.Domains.{IsDomain}
 pub use Rattle.ls_domain.specs.Texts.{joined_names, name_of, set_text}
 unfoldable pub use Rattle.ls_domain.specs.Texts.{names_of_set}
 pub use Rattle.ls_files.specs.ClassResults.{result_of}
@@ -69,13 +60,12 @@ unfoldable pub use Rattle.ls_meaning.specs.{bytes_of, line_of}
 pub use Rattle.ls_meaning.specs.declared.request.View.{View}
 pub use Rattle.ls_meaning.specs.declared.response.Response.{Response}
 pub use Rattle.ls_meaning.specs.declared.response.Shown.{Shown}
+pub use Rattle.ls_room.specs.Rooms.{Says}
+pub use Rattle.ls_room.specs.Names.{insert_by_name, items_by_name, quoted_name}
+unfoldable pub use Rattle.ls_room.specs.Names.{by_name}
+pub use Rattle.ls_room.specs.SetTexts.{names_in}
 pub use Rattle.ls_write.specs.Paths.{IsTextOf, PathFront, paths_after}
-pub use Rattle.ls_write.specs.Rooms.{Ends, HasSaid, RoomState, Says, Sends, Wrote, no_reply}
-pub use Rattle.ls_write.specs.SetTexts.{group_count, group_items, group_text, names_in}
-pub use Rattle.ls_write.specs.SetTexts.{spaced_names}
-unfoldable pub use Rattle.ls_write.specs.SetTexts.{group_texts}
 pub use Rattle.ls_write.specs.Showing.{CanSay, CanShow, session_with}
 pub use Rattle.ls_write.specs.SkillTexts.{skills_row_text}
-pub use Rattle.ls_write.specs.SurmiseTexts.{clause_text, clauses_text, insert_by_name}
-pub use Rattle.ls_write.specs.SurmiseTexts.{items_by_name, listed, quoted_name, row_text}
-unfoldable pub use Rattle.ls_write.specs.SurmiseTexts.{by_name, rows_text}
+pub use Rattle.ls_write.specs.SurmiseTexts.{clause_text, clauses_text, listed, row_text}
+unfoldable pub use Rattle.ls_write.specs.SurmiseTexts.{rows_text}

@@ -1,5 +1,3 @@
-pub mod Rooms
-pub mod SetTexts
 pub mod SurmiseTexts
 pub mod SkillTexts
 pub mod Paths

@@ -3,7 +3,8 @@ use Rattle.std.specs.Prelude.{ℕ, false, List, ◌∷◌, [], ◌++◌}
 use Rattle.json.specs.Print.{quoted}
 use Rattle.ls_lines.specs.{Text}
 use Rattle.ls_files.specs.SkillFiles.{Skill, own_skills}
-use Rattle.ls_write.specs.SurmiseTexts.{listed, quoted_name}
+use Rattle.ls_room.specs.Names.{quoted_name}
+use Rattle.ls_write.specs.SurmiseTexts.{listed}
 
 -- names in brackets
 abbrev pub names_text : List Text → Text

@@ -1,42 +1,18 @@
 -- The text of a surmise function, piece by piece. Its items stand in the order of the bytes of
 -- their names.
-use Rattle.std.specs.Prelude.{ℕ, Bool, false, true, if◌then◌else◌, List, [], ◌∷◌, ◌++◌, length}
-use Rattle.std.specs.Ordering.{nat_cmp, is_lt}
-use Rattle.std.specs.Cmp.Lexicographic.{slice_cmp}
+use Rattle.std.specs.Prelude.{ℕ, Bool, false, true, List, [], ◌∷◌, ◌++◌}
 use Rattle.json.specs.Print.{quoted}
 use Rattle.serde_json.specs.Written.{comma_if}
-use Rattle.ls_set.specs.{Items, numbers_from}
+use Rattle.ls_set.specs.{Items}
 use Rattle.ls_theory.specs.{atoms_at}
 use Rattle.ls_lines.specs.{Text}
-use Rattle.ls_domain.specs.Texts.{name_of, names_of_set}
-
--- ---- the order of names
-
--- an item among others in order: it comes before the first whose name is greater
-abbrev pub insert_by_name : List Text → ℕ → List ℕ → List ℕ
-insert_by_name names i [] = i ∷ []
-insert_by_name names i (j ∷ js) =
-    if is_lt (slice_cmp nat_cmp (name_of names i) (name_of names j)) then i ∷ j ∷ js
-    else j ∷ insert_by_name names i js
-
--- some items in the order of their names
-unfoldable pub by_name : List Text → List ℕ → List ℕ
-by_name names [] = []
-by_name names (i ∷ is) = insert_by_name names i (by_name names is)
-
--- all items in that order
-abbrev pub items_by_name : List Text → List ℕ
-items_by_name names = by_name names (numbers_from 0 (length names))
-
--- ---- pieces
+use Rattle.ls_domain.specs.Texts.{names_of_set}
+use Rattle.ls_room.specs.Names.{items_by_name, quoted_name}
 
 -- a text for each, with a comma before it, but for the first where nothing stands before
 abbrev pub listed : {X : Type 0} → (X → Text) → Bool → List X → Text
 listed text later [] = []
 listed text later (x ∷ xs) = comma_if later ++ (text x ++ listed text true xs)
-
-abbrev pub quoted_name : List Text → ℕ → Text
-quoted_name names i = quoted (name_of names i)
 
 -- a clause: the names of its items in brackets
 abbrev pub clause_text : List Text → Items → Text

@@ -2,13 +2,12 @@
 ghost use Rattle.std.specs.Prelude.{◌∷◌, []};
 ghost use Rattle.ls_meaning.specs.{asked_line, fringes_line, outcome_line};
 ghost use Rattle.ls_meaning.specs.{line_bytes, lines_bytes};
-ghost use Rattle.ls_write.specs.Rooms.{Says};
+ghost use Rattle.ls_room.specs.Rooms.{Says};
 
 use crate::judging::put_fringes;
-use crate::lines::put_line;
-use crate::{Room, SetTexts};
 use ls_edge::Sink;
 use ls_meaning::reason_word;
+use ls_room::{Room, SetTexts, put_line};
 use ls_theory::{Asked, FringePair, Outcome};
 
 /// Says what a pupil is asked, or why its assessment is over.

@@ -2,13 +2,12 @@
 ghost use Rattle.std.specs.Prelude.{map};
 ghost use Rattle.ls_files.specs.ClassResults.{result_of};
 ghost use Rattle.ls_meaning.specs.{class_lines, line_bytes, lines_bytes, result_line};
-ghost use Rattle.ls_write.specs.Rooms.{Says};
+ghost use Rattle.ls_room.specs.Rooms.{Says};
 
-use crate::lines::put_numbered;
-use crate::{Room, SetTexts};
 use ls_edge::Sink;
 use ls_files::{ClassResult, Results};
 use ls_meaning::reason_word;
+use ls_room::{Room, SetTexts, put_numbered};
 
 /// Says what is known of the pupils of a class, and how many they are.
 pub fn put_class<K: Sink>(texts: &SetTexts, results: &Results, room: &mut Room, out: &mut K)

@@ -1,11 +1,10 @@
 // The lines of commands that were carried out.
 ghost use Rattle.std.specs.Prelude.{[], ◌∷◌, codes, decimal};
 ghost use Rattle.ls_meaning.specs.{line_of};
-ghost use Rattle.ls_write.specs.Rooms.{Says};
+ghost use Rattle.ls_room.specs.Rooms.{Says};
 
-use crate::Room;
-use crate::lines::{put_line, put_numbered};
 use ls_edge::Sink;
+use ls_room::{Room, put_line, put_numbered};
 
 /// Says the line of a command that was carried out, with the number that it tells.
 pub fn put_done<K: Sink>(number: u64, room: &mut Room, out: &mut K)

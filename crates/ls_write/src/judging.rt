@@ -3,11 +3,10 @@ ghost use Rattle.std.specs.Prelude.{◌∷◌, [], ◌++◌};
 ghost use Rattle.ls_lists.specs.Lists.{spaced};
 ghost use Rattle.ls_meaning.specs.{double_words, fringes_line, learning_line, line_bytes};
 ghost use Rattle.ls_meaning.specs.{state_line, verdict_line};
-ghost use Rattle.ls_write.specs.Rooms.{Says};
+ghost use Rattle.ls_room.specs.Rooms.{Says};
 
-use crate::lines::{put_line, put_numbered};
-use crate::{Room, SetTexts};
 use ls_edge::Sink;
+use ls_room::{Room, SetTexts, put_line, put_numbered};
 use ls_set::ItemSet;
 use ls_theory::{BaseVerdict, FringePair, Verdict};
 

@@ -4,13 +4,12 @@ ghost use Rattle.std.specs.Option.{ForSome};
 ghost use Rattle.ls_set.specs.{IsWithin, comes_before, full};
 ghost use Rattle.ls_theory.specs.{page};
 ghost use Rattle.ls_meaning.specs.{base_lines, lines_bytes, page_lines, set_line};
-ghost use Rattle.ls_write.specs.Rooms.{Says};
+ghost use Rattle.ls_room.specs.Rooms.{Says};
 
-use crate::lines::{put_more, put_numbered};
-use crate::{Room, SetTexts};
 use ls_edge::Sink;
 use ls_enum::States;
 use ls_interior::{Counted, Inside, Interior, Steps};
+use ls_room::{Room, SetTexts, put_more, put_numbered};
 use ls_set::ItemSet;
 use std::sync::ledger::Ledger;
 

@@ -3,12 +3,12 @@ ghost use Rattle.std.specs.Prelude.{◌≡◌, ◌<◌, ◌≤◌, ◌++◌, ◌
 ghost use Rattle.std.specs.Prelude.{IfSome};
 ghost use Rattle.std.specs.List.{All};
 ghost use Rattle.ls_meaning.specs.{line_bytes, path_line};
-ghost use Rattle.ls_write.specs.Rooms.{Says};
+ghost use Rattle.ls_room.specs.Rooms.{Says};
 ghost use Rattle.ls_write.specs.Paths.{IsTextOf, no_front};
 
-use crate::{Room, SetTexts};
 use arrayvec::ArrayVec;
 use ls_edge::Sink;
+use ls_room::{Room, SetTexts};
 use ls_set::PLACES;
 use std::marker::Model;
 

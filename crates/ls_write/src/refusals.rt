@@ -2,12 +2,12 @@
 ghost use Rattle.std.specs.Prelude.{◌∷◌, codes, option_copied};
 ghost use Rattle.ls_lists.specs.Lists.{spaced};
 ghost use Rattle.ls_meaning.specs.{detail_of, detail_word, line_of, refusal_words};
-ghost use Rattle.ls_write.specs.Rooms.{Says};
-ghost use Rattle.ls_write.specs.SetTexts.{names_in};
+ghost use Rattle.ls_room.specs.Rooms.{Says};
+ghost use Rattle.ls_room.specs.SetTexts.{names_in};
 
-use crate::{Room, SetTexts};
 use ls_edge::Sink;
 use ls_meaning::{Detail, Refusal};
+use ls_room::{Room, SetTexts};
 
 /// Says the line of a refusal: its code and its details. `texts` has the names of the items, where
 /// a domain stands.

@@ -5,12 +5,11 @@ ghost use Rattle.ls_domain.specs.Texts.{name_of};
 ghost use Rattle.ls_origins.specs.Relations.{pair_of};
 ghost use Rattle.ls_meaning.specs.{line_bytes, lines_bytes};
 ghost use Rattle.ls_meaning.specs.Lines.{cover_line, cover_lines, no_relation_line};
-ghost use Rattle.ls_write.specs.Rooms.{Says};
+ghost use Rattle.ls_room.specs.Rooms.{Says};
 
-use crate::lines::{put_line, put_numbered};
-use crate::{Room, SetTexts};
 use ls_edge::Sink;
 use ls_origins::{Cover, Covers, RelationFault};
+use ls_room::{Room, SetTexts, put_line, put_numbered};
 
 /// Says the covers of a relation, and how many they are.
 pub fn put_covers<K: Sink>(texts: &SetTexts, covers: &Covers, room: &mut Room, out: &mut K)

@@ -2,13 +2,12 @@
 ghost use Rattle.std.specs.Prelude.{◌≡◌, codes, if◌then◌else◌, map};
 ghost use Rattle.ls_meaning.specs.{accepted_words, line_bytes, line_of, lines_bytes, safe_line};
 ghost use Rattle.ls_meaning.specs.{safe_lines};
-ghost use Rattle.ls_write.specs.Rooms.{Says};
+ghost use Rattle.ls_room.specs.Rooms.{Says};
 
-use crate::Room;
-use crate::lines::put_numbered;
 use ls_edge::Sink;
 use ls_meaning::{count_applied, count_pending};
 use ls_origins::{SafeAnswer, SafeAnswers};
+use ls_room::{Room, put_numbered};
 
 /// Says the line of an answer that was accepted: its number, and how many answers are applied and
 /// wait.

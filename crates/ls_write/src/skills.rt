@@ -5,13 +5,13 @@ ghost use Rattle.json.specs.Print.{quoted};
 ghost use Rattle.ls_files.specs.SkillFiles.{base_skills, own_skills, skill_name};
 ghost use Rattle.ls_meaning.specs.{line_bytes};
 ghost use Rattle.ls_meaning.specs.Lines.{skills_line};
-ghost use Rattle.ls_write.specs.Rooms.{Says};
+ghost use Rattle.ls_room.specs.Rooms.{Says};
 ghost use Rattle.ls_write.specs.SurmiseTexts.{listed};
 ghost use Rattle.ls_write.specs.SkillTexts.{skills_row_text};
 
 use crate::surmise::put_comma;
-use crate::{Room, SetTexts};
 use ls_edge::Sink;
+use ls_room::{Room, SetTexts};
 use ls_set::{ItemSet, PLACES};
 
 /// Says the line of the skill map that has a skill for each of these sets: for each item the names

@@ -8,16 +8,15 @@ ghost use Rattle.ls_origins.specs.Meshes.{mesh_of, part_items};
 ghost use Rattle.ls_origins.specs.Skills.{duals};
 ghost use Rattle.ls_meaning.specs.{lines_bytes, page_lines};
 ghost use Rattle.ls_meaning.specs.SkillRows.{delineated};
-ghost use Rattle.ls_write.specs.Rooms.{Says};
+ghost use Rattle.ls_room.specs.Rooms.{Says};
 ghost use Rattle.ls_write.specs.Showing.{delineated_steps};
 
-use crate::lines::put_more;
 use crate::listing::put_page;
-use crate::{Room, SetTexts};
 use ls_edge::Sink;
 use ls_interior::{Counted, Interior, Steps};
 use ls_meaning::SkillModel;
 use ls_mesh::{Both, Unions};
+use ls_room::{Room, SetTexts, put_more};
 use ls_set::ItemSet;
 use ls_skill::next_dual;
 use std::sync::ledger::Ledger;

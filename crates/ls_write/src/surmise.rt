@@ -7,11 +7,11 @@ ghost use Rattle.ls_set.specs.{set_of};
 ghost use Rattle.ls_domain.specs.Texts.{names_of_set};
 ghost use Rattle.ls_theory.specs.{atom_items, atoms_at, clauses_at};
 ghost use Rattle.ls_meaning.specs.{line_bytes, surmise_line};
-ghost use Rattle.ls_write.specs.Rooms.{Says};
+ghost use Rattle.ls_room.specs.Rooms.{Says};
 ghost use Rattle.ls_write.specs.SurmiseTexts.{listed, clause_text, row_text};
 
-use crate::{Room, SetTexts};
 use ls_edge::Sink;
+use ls_room::{Room, SetTexts};
 use ls_set::{ItemSet, PLACES};
 
 /// Says the line of a surmise function: for each item the atoms at it among the sets of a base, as

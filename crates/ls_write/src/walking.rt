@@ -5,15 +5,14 @@ ghost use Rattle.ls_set.specs.{full};
 ghost use Rattle.ls_theory.specs.{is_learning_space, is_lex_before, is_order, page, paths};
 ghost use Rattle.ls_paths.specs.Left.{paths_left};
 ghost use Rattle.ls_meaning.specs.{lines_bytes, path_lines};
-ghost use Rattle.ls_write.specs.Rooms.{Says};
+ghost use Rattle.ls_room.specs.Rooms.{Says};
 ghost use Rattle.ls_write.specs.Paths.{paths_after};
 
-use crate::lines::put_more;
 use crate::path_text::{PathText, put_path};
-use crate::{Room, SetTexts};
 use ls_edge::Sink;
 use ls_interior::Inside;
 use ls_paths::{Order, Walk};
+use ls_room::{Room, SetTexts, put_more};
 use ls_set::{ItemList, PLACES};
 
 // The walk over the paths after an order of all items, or over all of them.

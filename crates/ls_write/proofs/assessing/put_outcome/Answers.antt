@@ -1,5 +1,5 @@
 use Rattle.ls_write.proofs.Vocabulary.{◌∷◌, [], set_text}
-use Rattle.ls_write.proofs.Saying.{says_as, says_nothing, says_then}
+use Rattle.ls_room.proofs.Saying.{says_as, says_nothing, says_then}
 use Rattle.ls_write.proofs.LineBytes.{line-outcome}
 use Rattle.ls_write.proofs.assessing.put_outcome.Goals as goal
 

@@ -1,5 +1,5 @@
 use Rattle.ls_write.proofs.Vocabulary.{◌++◌, ◌+◌, ◌-◌, ◌∙◌, ◌≡◌, ◌≤◌, [], append_assoc, arith, left_after, line_bytes, more_steps, refl, set_line, subst, sym}
-use Rattle.ls_write.proofs.Saying.{says_as, says_nothing, says_then, says_void}
+use Rattle.ls_room.proofs.Saying.{says_as, says_nothing, says_then, says_void}
 use Rattle.ls_write.proofs.Pages.{page_bytes, page-next, page-ended, page-full, some-left}
 use Rattle.ls_write.proofs.listing.put_listing.Goals as goal
 

@@ -1,6 +1,6 @@
 use Rattle.ls_write.proofs.Vocabulary.{◌∙◌, ◌∷◌, [], ap, detail_of, detail_word, names_in, names_of_set, option_copied, sym}
 use Rattle.ls_meaning.specs.declared.notices.Detail.{Detail}
-use Rattle.ls_write.proofs.Saying.{says_as}
+use Rattle.ls_room.proofs.Saying.{says_as}
 use Rattle.ls_write.proofs.refusals.put_detail.Goals as goal
 
 -- a set has no names where no domain stands

@@ -1,7 +1,7 @@
 use Rattle.ls_write.proofs.Vocabulary.{◌++◌, ◌∙◌, ◌∷◌, ◌≡◌, List, Text, [], ap, arith, codes, decimal, detail_of, detail_word, line_of, map-map, names_in, notice_words, option_copied, spaced, sym}
 use Rattle.ls_meaning.specs.Told.{Notice}
 use Rattle.ls_meaning.specs.declared.notices.Detail.{Detail as Held}
-use Rattle.ls_write.proofs.Saying.{says_as, says_then}
+use Rattle.ls_room.proofs.Saying.{says_as, says_then}
 use Rattle.ls_write.proofs.LineBytes.{line-spaced}
 use Rattle.ls_write.proofs.refusals.put_refusal.Goals as goal
 

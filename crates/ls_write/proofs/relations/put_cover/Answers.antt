@@ -1,5 +1,5 @@
 use Rattle.ls_write.proofs.Vocabulary.{◌∷◌, [], arith, codes, name_of}
-use Rattle.ls_write.proofs.Saying.{says_as}
+use Rattle.ls_room.proofs.Saying.{says_as}
 use Rattle.ls_write.proofs.LineBytes.{line-spaced}
 use Rattle.ls_write.proofs.relations.put_cover.Goals as goal
 

@@ -1,4 +1,4 @@
-use Rattle.ls_write.proofs.Saying.{says_then}
+use Rattle.ls_room.proofs.Saying.{says_then}
 use Rattle.ls_write.proofs.relations.put_items.Goals as goal
 
 pub returns : goal.returns

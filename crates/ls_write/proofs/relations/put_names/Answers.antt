@@ -1,6 +1,6 @@
 use Rattle.ls_write.proofs.Vocabulary.{◌<◌, ◌∙◌, ◌∷◌, ◌≤◌, [], ap, append_assoc, arith, length}
 use Rattle.ls_write.proofs.Vocabulary.{name_of, spaced, spaced-next, sym, take, take_all}
-use Rattle.ls_write.proofs.Saying.{says_as, says_nothing, says_then}
+use Rattle.ls_room.proofs.Saying.{says_as, says_nothing, says_then}
 use Rattle.ls_write.proofs.relations.put_names.Goals as goal
 
 pub loop-item-init : goal.loop-item-init

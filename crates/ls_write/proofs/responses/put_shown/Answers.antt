@@ -10,7 +10,7 @@ use Rattle.ls_laws.specs.Spans.{AreOn}
 use Rattle.ls_standing.specs.Starts.{StartOn}
 use Rattle.ls_origins.specs.Meshes.{mesh_of, part_items}
 use Rattle.ls_meaning.specs.SkillRows.{delineated}
-use Rattle.ls_write.proofs.Saying.{says_as, says_then}
+use Rattle.ls_room.proofs.Saying.{says_as, says_then}
 use Rattle.ls_write.proofs.LineBytes.{lines-one, lines-last}
 use Rattle.ls_write.proofs.Atoms.{base-clauses, base-atoms}
 use Rattle.ls_write.proofs.Showing.{shown-same}

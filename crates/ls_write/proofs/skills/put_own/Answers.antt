@@ -2,7 +2,7 @@ use Rattle.ls_write.proofs.Vocabulary.{◌++◌, ◌+◌, ◌<◌, ◌∙◌, �
 use Rattle.ls_write.proofs.Vocabulary.{base_skills, comma_if, false, filter, get_or, has, length}
 use Rattle.ls_write.proofs.Vocabulary.{listed, own_skills, quoted, sym}
 use Rattle.ls_files.specs.SkillFiles.{Skill}
-use Rattle.ls_write.proofs.Saying.{says_as, says_nothing, says_then}
+use Rattle.ls_room.proofs.Saying.{says_as, says_nothing, says_then}
 use Rattle.ls_write.proofs.Listed.{listed-map, taken, passed, filter-end}
 use Rattle.ls_write.proofs.SkillTexts.{length-numbered, named, numbered-at}
 use Rattle.ls_write.proofs.skills.put_own.Goals as goal

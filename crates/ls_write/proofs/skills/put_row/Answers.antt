@@ -1,4 +1,4 @@
-use Rattle.ls_write.proofs.Saying.{says_then}
+use Rattle.ls_room.proofs.Saying.{says_then}
 use Rattle.ls_write.proofs.skills.put_row.Goals as goal
 
 pub returns : goal.returns

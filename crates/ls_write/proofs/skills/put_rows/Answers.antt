@@ -1,6 +1,6 @@
 use Rattle.ls_write.proofs.Vocabulary.{◌++◌, ◌<◌, ◌∙◌, ◌≤◌, [], arith, base_skills, comma_if, drop}
 use Rattle.ls_write.proofs.Vocabulary.{false, get_or, length, listed, refl, skills_row_text, sym}
-use Rattle.ls_write.proofs.Saying.{says_as, says_nothing, says_then, says_void}
+use Rattle.ls_room.proofs.Saying.{says_as, says_nothing, says_then, says_void}
 use Rattle.ls_write.proofs.Listed.{place-next, place-end}
 use Rattle.ls_write.proofs.skills.put_rows.Goals as goal
 

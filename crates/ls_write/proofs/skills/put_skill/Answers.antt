@@ -1,5 +1,5 @@
-use Rattle.ls_write.proofs.Saying.{says_as}
-use Rattle.ls_write.proofs.Quotes.{quotes-skill}
+use Rattle.ls_room.proofs.Saying.{says_as}
+use Rattle.ls_write.proofs.SkillQuotes.{quotes-skill}
 use Rattle.ls_write.proofs.skills.put_skill.Goals as goal
 
 pub returns : goal.returns

@@ -1,8 +1,8 @@
 use Rattle.ls_write.proofs.Vocabulary.{◌++◌, ◌<◌, ◌∙◌, All, ap, base_skills, codes, false, listed}
 use Rattle.ls_write.proofs.Vocabulary.{skills_row_text, subst, sym}
 use Rattle.ls_set.specs.declared.item_set.TheConstants.{PLACES}
-use Rattle.ls_write.proofs.Saying.{says_as, says_then}
-use Rattle.ls_write.proofs.NameOrder.{items-few}
+use Rattle.ls_room.proofs.Saying.{says_as, says_then}
+use Rattle.ls_room.proofs.NameOrder.{items-few}
 use Rattle.ls_write.proofs.SkillTexts.{line-skills}
 use Rattle.ls_write.proofs.skills.put_skills.Goals as goal
 

@@ -6,7 +6,7 @@ use Rattle.ls_origins.specs.Skills.{duals}
 use Rattle.ls_meaning.specs.SkillRows.{delineated}
 use Rattle.ls_meaning.specs.declared.request.SkillModel.{SkillModel}
 use Rattle.ls_skill.proofs.Skilled.{all-complements, any-compat}
-use Rattle.ls_write.proofs.Saying.{says_as}
+use Rattle.ls_room.proofs.Saying.{says_as}
 use Rattle.ls_write.proofs.structures.put_delineated.Goals as goal
 
 pub returns-in-Disjunctive-clause-says : goal.returns-in-Disjunctive-clause-says

@@ -9,7 +9,7 @@ use Rattle.ls_enum.proofs.Left.{left-first, left-none}
 use Rattle.ls_origins.specs.Skills.{duals}
 use Rattle.ls_skill.proofs.Dual.{first-dual}
 use Rattle.ls_skill.proofs.Skilled.{duals-in_order}
-use Rattle.ls_write.proofs.Saying.{says_as, says_nothing, says_then, says_void}
+use Rattle.ls_room.proofs.Saying.{says_as, says_nothing, says_then, says_void}
 use Rattle.ls_write.proofs.Pages.{found-left, page_bytes, page-next, page-ended, page-full}
 use Rattle.ls_write.proofs.structures.put_duals.Goals as goal
 use Rattle.ls_write.proofs.structures.put_duals.Goals.{in-Some, in-None}

@@ -5,7 +5,7 @@ use Rattle.ls_origins.specs.Meshes.{part_family}
 use Rattle.ls_mesh.specs.Families.{BothState}
 use Rattle.ls_mesh.specs.Sides.{both}
 use Rattle.ls_mesh.proofs.SetParts.{mesh-whole}
-use Rattle.ls_write.proofs.Saying.{says_as}
+use Rattle.ls_room.proofs.Saying.{says_as}
 use Rattle.ls_write.proofs.structures.put_mesh.Goals as goal
 
 abbrev members : BothState BaseState BaseState → List Items

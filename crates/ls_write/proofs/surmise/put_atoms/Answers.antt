@@ -1,5 +1,5 @@
 use Rattle.ls_write.proofs.Vocabulary.{◌++◌, ◌<◌, ◌∙◌, ◌≡◌, ◌≤◌, [], arith, atoms_at, clause_text, comma_if, drop, false, filter, is_atom_at, length, listed, refl, sym}
-use Rattle.ls_write.proofs.Saying.{says_as, says_nothing, says_then, says_void}
+use Rattle.ls_room.proofs.Saying.{says_as, says_nothing, says_then, says_void}
 use Rattle.ls_write.proofs.Listed.{taken, passed, filter-end}
 use Rattle.ls_write.proofs.Atoms.{atom-told}
 use Rattle.ls_write.proofs.surmise.put_atoms.Goals as goal

@@ -1,6 +1,6 @@
 use Rattle.ls_write.proofs.Vocabulary.{◌++◌, ◌∙◌, ◌∷◌, ◌≡◌, [], ap, comma_if, false, full, items, length, listed, meet, name_of, names_of_set, quoted, quoted_name, sym}
 use Rattle.ls_domain.proofs.NamedSets.{names_of_set-met}
-use Rattle.ls_write.proofs.Saying.{says_as, says_nothing, says_then}
+use Rattle.ls_room.proofs.Saying.{says_as, says_nothing, says_then}
 use Rattle.ls_write.proofs.Listed.{listed-map, listed-next, listed-end}
 use Rattle.ls_write.proofs.surmise.put_quoted_names.Goals as goal
 

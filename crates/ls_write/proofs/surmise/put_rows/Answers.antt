@@ -1,5 +1,5 @@
 use Rattle.ls_write.proofs.Vocabulary.{◌++◌, ◌<◌, ◌∙◌, ◌≤◌, [], arith, comma_if, drop, false, get_or, length, listed, refl, row_text, sym}
-use Rattle.ls_write.proofs.Saying.{says_as, says_nothing, says_then, says_void}
+use Rattle.ls_room.proofs.Saying.{says_as, says_nothing, says_then, says_void}
 use Rattle.ls_write.proofs.Listed.{place-next, place-end}
 use Rattle.ls_write.proofs.surmise.put_rows.Goals as goal
 

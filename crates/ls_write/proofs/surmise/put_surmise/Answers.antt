@@ -1,6 +1,6 @@
 use Rattle.ls_write.proofs.Vocabulary.{◌++◌, ◌<◌, ◌∙◌, All, ap, codes, false, listed, row_text, subst, sym}
-use Rattle.ls_write.proofs.Saying.{says_as, says_then}
-use Rattle.ls_write.proofs.NameOrder.{items-few}
+use Rattle.ls_room.proofs.Saying.{says_as, says_then}
+use Rattle.ls_room.proofs.NameOrder.{items-few}
 use Rattle.ls_write.proofs.ClauseTexts.{line-surmise}
 use Rattle.ls_set.specs.declared.item_set.TheConstants.{PLACES}
 use Rattle.ls_write.proofs.surmise.put_surmise.Goals as goal

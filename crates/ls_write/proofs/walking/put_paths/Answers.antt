@@ -1,5 +1,5 @@
 use Rattle.ls_write.proofs.Vocabulary.{◌++◌, ◌+◌, ◌-◌, ◌∙◌, ◌∷◌, ◌≡◌, IsTextOf, List, MatchOption, ℕ, [], ap, append_assoc, ap₂, arith, drop, filter, is_lex_before, line_bytes, path_line, paths, paths_after, paths_left, rules, subst, sym}
-use Rattle.ls_write.proofs.Saying.{says_as, says_nothing, says_then, says_void}
+use Rattle.ls_room.proofs.Saying.{says_as, says_nothing, says_then, says_void}
 use Rattle.ls_write.proofs.Pages.{page_bytes, page-next, page-ended, page-full, some-left}
 use Rattle.ls_write.proofs.walking.put_paths.Goals as goal
 
