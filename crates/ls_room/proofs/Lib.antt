@@ -1,6 +1,6 @@
 mod Vocabulary
 pub mod Saying
-mod SetLines
+pub mod LineBytes
 mod Parts
 mod Groups
 mod Digits

@@ -12,7 +12,7 @@ pub use Rattle.std.proofs.lemmas.Bool.{agree_below_at, and_parts, cases_Bool, ca
 pub use Rattle.std.proofs.lemmas.Bool.Decides.{nat_tests}
 pub use Rattle.std.proofs.lemmas.Grind.{common_steps, flat_map-append}
 pub use Rattle.std.proofs.lemmas.List.{drop_min, get_or_past, length-map, map-append, map-id}
-pub use Rattle.std.proofs.lemmas.List.{take_all}
+pub use Rattle.std.proofs.lemmas.List.{take_all, take_more}
 pub use Rattle.std.proofs.lemmas.List.Elements.{All-cons, All-head, All-nil, All-tail}
 pub use Rattle.std.proofs.lemmas.List.Elements.{filter-append}
 pub use Rattle.std.specs.Cmp.Lexicographic.{slice_cmp}
@@ -30,10 +30,10 @@ unfoldable pub use Rattle.ls_lines.specs.{is_of}
 pub use Rattle.ls_domain.specs.Domains.{IsDomain, is_name}
 pub use Rattle.ls_domain.specs.Texts.{joined_names, name_of}
 unfoldable pub use Rattle.ls_domain.specs.Texts.{names_of_set}
-pub use Rattle.ls_meaning.specs.{line_bytes, set_line}
-unfoldable pub use Rattle.ls_meaning.specs.{line_of}
+pub use Rattle.ls_meaning.specs.{Line, line, line_bytes, line_words, lines_bytes, set_line}
+unfoldable pub use Rattle.ls_meaning.specs.{bytes_of, line_of}
 pub use Rattle.ls_room.specs.Rooms.{Ends, HasSaid, RoomState, Says, Sends, Wrote, no_reply}
-pub use Rattle.ls_room.specs.SetTexts.{group_count, group_items, group_text, spaced_names}
-unfoldable pub use Rattle.ls_room.specs.SetTexts.{group_texts}
 pub use Rattle.ls_room.specs.Names.{insert_by_name, items_by_name, quoted_name}
 unfoldable pub use Rattle.ls_room.specs.Names.{by_name}
+pub use Rattle.ls_room.specs.SetTexts.{group_count, group_items, group_text, spaced_names}
+unfoldable pub use Rattle.ls_room.specs.SetTexts.{group_texts}

@@ -1,6 +1,6 @@
 -- Fronts of paths and their texts.
 use Rattle.ls_write.proofs.Vocabulary.{◌++◌, ◌+◌, ◌<◌, ◌∙◌, ◌∷◌, ◌≡◌, All, Bor, Decides-eqb, IfSome, IsTextOf, List, MatchOption, None, Option, PathFront, Some, Text, ℕ, [], ap, append_assoc, arith, codes, drop, eqb, false, flat_map-append, get_or, get_or-append-add, length, length-append, line_bytes, name_of, path_line, pointwise, spaced, strip_prefix_is, subst, sym, take, true}
-use Rattle.ls_write.proofs.LineBytes.{line-images}
+use Rattle.ls_room.proofs.LineBytes.{line-images}
 
 -- what stands behind a front
 pub behind : (s p q : List ℕ) (r : Option (Bor (List ℕ))) → q ≡ p

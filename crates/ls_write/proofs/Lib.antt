@@ -1,5 +1,4 @@
 mod Vocabulary
-pub mod LineBytes
 mod Pages
 mod SkillQuotes
 mod Listed

@@ -4,7 +4,7 @@ use Rattle.ls_write.proofs.Vocabulary.{MatchOption, None, Option, Some, ℕ, [],
 use Rattle.ls_write.proofs.Vocabulary.{comes_before, false, filter_true, is_some, left_after}
 use Rattle.ls_write.proofs.Vocabulary.{length, line_bytes, lines_bytes, lt-ltb, ltb, map, more_line}
 use Rattle.ls_write.proofs.Vocabulary.{nat_tests, paths, paths_after, suc, sym, take, zero}
-use Rattle.ls_write.proofs.LineBytes.{lines-one}
+use Rattle.ls_room.proofs.LineBytes.{lines-one}
 use Rattle.std.specs.Prelude.{find}
 use Rattle.ls_set.specs.{IsInOrder, Items}
 use Rattle.ls_theory.specs.{comes_after}

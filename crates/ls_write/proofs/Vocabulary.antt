@@ -10,18 +10,18 @@ pub use Rattle.std.proofs.lemmas.Bool.{and_from, and_parts, cases_Bool}
 pub use Rattle.std.proofs.lemmas.Bool.Decides.{Decides-eqb, nat_tests}
 pub use Rattle.std.proofs.lemmas.Grind.{flat_map-append}
 pub use Rattle.std.proofs.lemmas.List.{drop_all, drop_more, get_or-append-add, get_or-map}
-pub use Rattle.std.proofs.lemmas.List.{length-map, map-append, map-id, take_all, take_more}
+pub use Rattle.std.proofs.lemmas.List.{length-map, take_all}
 pub use Rattle.std.proofs.lemmas.List.Elements.{All-head, All-tail}
 pub use Rattle.std.proofs.lemmas.Simd.{map-map}
 pub use Rattle.std.proofs.lemmas.Slice.Eq.{bytes_eq-Decides, strip_prefix_is}
 pub use Rattle.std.specs.Cmp.Lexicographic.{pointwise, slice_cmp}
-pub use Rattle.std.specs.List.{All, IsDistinct, join_with_byte}
+pub use Rattle.std.specs.List.{All, IsDistinct}
 pub use Rattle.std.specs.Prelude.{slice_index}
 pub use Rattle.json.specs.Print.{escape, quoted}
 unfoldable pub use Rattle.json.specs.Print.{escape_byte}
 pub use Rattle.serde_json.specs.Written.{comma_if, compact_text, items_text, members_text}
 pub use Rattle.ls_lists.proofs.Filters.{filter_true}
-pub use Rattle.ls_lists.proofs.Joins.{join-spaced, join-spaced-one, spaced-next}
+pub use Rattle.ls_lists.proofs.Joins.{spaced-next}
 pub use Rattle.ls_lists.proofs.Places.{drop-next}
 pub use Rattle.ls_lists.specs.Lists.{spaced}
 pub use Rattle.ls_set.specs.{Items, comes_before, full, is_among, is_good, items, meet}
@@ -47,9 +47,9 @@ pub use Rattle.ls_files.specs.declared.class_results.ClassResult.{ClassResult}
 pub use Rattle.ls_meaning.specs.{◌otherwise◌, IsAfterOn, IsViewOn, Line, Session, asked_line}
 pub use Rattle.ls_meaning.specs.{base_lines, based_row, detail_of, detail_word, fringes_line}
 pub use Rattle.ls_meaning.specs.{known_line, learned, learning_line, learning_refusals, line}
-pub use Rattle.ls_meaning.specs.{line_bytes, line_words, lines_bytes, lines_of, more_line}
-pub use Rattle.ls_meaning.specs.{notice_words, outcome_line, page_lines, past_refusal, path_line}
-pub use Rattle.ls_meaning.specs.{path_lines, paths_shown, project_row, question_line, reason_word}
+pub use Rattle.ls_meaning.specs.{line_bytes, lines_bytes, lines_of, more_line, notice_words}
+pub use Rattle.ls_meaning.specs.{outcome_line, page_lines, past_refusal, path_line, path_lines}
+pub use Rattle.ls_meaning.specs.{paths_shown, project_row, question_line, reason_word}
 pub use Rattle.ls_meaning.specs.{accepted_words, applied, pending, safe_line, safe_lines}
 pub use Rattle.ls_meaning.specs.{refusal_words, refuse, refuse_fault, result_line, set_line}
 pub use Rattle.ls_meaning.specs.{shown_lines, started, state_line, state_shown, states_row}

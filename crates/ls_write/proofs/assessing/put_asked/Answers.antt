@@ -1,7 +1,7 @@
 use Rattle.ls_write.proofs.Vocabulary.{◌∙◌, ap, asked_line, codes, line_bytes, name_of, sym}
 use Rattle.ls_theory.specs.declared.asked.Asked.{Asked}
 use Rattle.ls_room.proofs.Saying.{says_as, says_then}
-use Rattle.ls_write.proofs.LineBytes.{line-one}
+use Rattle.ls_room.proofs.LineBytes.{line-one}
 use Rattle.ls_write.proofs.assessing.put_asked.Goals as goal
 
 pub returns-in-Item : goal.returns-in-Item

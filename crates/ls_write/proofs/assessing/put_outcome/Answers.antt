@@ -1,6 +1,6 @@
 use Rattle.ls_write.proofs.Vocabulary.{◌∷◌, [], set_text}
 use Rattle.ls_room.proofs.Saying.{says_as, says_nothing, says_then}
-use Rattle.ls_write.proofs.LineBytes.{line-outcome}
+use Rattle.ls_room.proofs.LineBytes.{line-outcome}
 use Rattle.ls_write.proofs.assessing.put_outcome.Goals as goal
 
 pub returns : goal.returns

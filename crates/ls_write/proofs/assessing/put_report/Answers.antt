@@ -1,6 +1,6 @@
 use Rattle.ls_write.proofs.Vocabulary.{◌++◌, ◌∙◌, ◌∷◌, [], ap, fringes_line, line_bytes, outcome_line}
 use Rattle.ls_room.proofs.Saying.{says_as, says_then}
-use Rattle.ls_write.proofs.LineBytes.{lines-one, lines-last}
+use Rattle.ls_room.proofs.LineBytes.{lines-one, lines-last}
 use Rattle.ls_write.proofs.assessing.put_report.Goals as goal
 
 pub returns : goal.returns

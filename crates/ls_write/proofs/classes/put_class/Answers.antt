@@ -1,7 +1,7 @@
 use Rattle.ls_write.proofs.Vocabulary.{◌++◌, ◌∙◌, ◌∷◌, ◌≡◌, ClassResult, Line, List, PupilResult, ℕ, [], ap, ap₂, decimal, length, length-map, line, line_bytes, lines_bytes, map, map-map, result_line, result_of, sym}
 use Rattle.ls_meaning.specs.Heads as head
 use Rattle.ls_room.proofs.Saying.{says_as, says_then}
-use Rattle.ls_write.proofs.LineBytes.{lines-last}
+use Rattle.ls_room.proofs.LineBytes.{lines-last}
 use Rattle.ls_write.proofs.classes.put_class.Goals as goal
 
 pub returns : goal.returns

@@ -1,6 +1,6 @@
 use Rattle.ls_write.proofs.Vocabulary.{◌++◌, ◌∙◌, ◌∷◌, ◌≡◌, Text, [], ap₂, codes, decimal, reason_word, set_text}
 use Rattle.ls_room.proofs.Saying.{says_as, says_then}
-use Rattle.ls_write.proofs.LineBytes.{line-result}
+use Rattle.ls_room.proofs.LineBytes.{line-result}
 use Rattle.ls_write.proofs.classes.put_result.Goals as goal
 
 pub returns : goal.returns

@@ -1,6 +1,6 @@
 use Rattle.ls_write.proofs.Vocabulary.{◌++◌, ◌<◌, ◌∙◌, ◌≤◌, ClassResult, Line, List, Text, ap, arith, length, line_bytes, lines_bytes, map, result_line, result_of, take, take_all}
 use Rattle.ls_room.proofs.Saying.{says_as, says_nothing, says_then}
-use Rattle.ls_write.proofs.LineBytes.{lines-next}
+use Rattle.ls_room.proofs.LineBytes.{lines-next}
 use Rattle.ls_write.proofs.classes.put_results.Goals as goal
 
 abbrev line_for : List Text → ClassResult → Line

@@ -1,6 +1,6 @@
 use Rattle.ls_write.proofs.Vocabulary.{name_of, set_text}
 use Rattle.ls_room.proofs.Saying.{says_as, says_then}
-use Rattle.ls_write.proofs.LineBytes.{end-double}
+use Rattle.ls_room.proofs.LineBytes.{end-double}
 use Rattle.ls_write.proofs.judging.put_double.Goals as goal
 
 pub returns : goal.returns

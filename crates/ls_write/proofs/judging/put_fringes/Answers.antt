@@ -1,6 +1,6 @@
 use Rattle.ls_write.proofs.Vocabulary.{codes, names_of_set}
 use Rattle.ls_room.proofs.Saying.{says_as, says_then}
-use Rattle.ls_write.proofs.LineBytes.{line-barred}
+use Rattle.ls_room.proofs.LineBytes.{line-barred}
 use Rattle.ls_write.proofs.judging.put_fringes.Goals as goal
 
 pub returns : goal.returns

@@ -1,7 +1,7 @@
 use Rattle.ls_write.proofs.Vocabulary.{◌∙◌, ◌∷◌, BaseVerdict, [], ap, arith, codes, learning_line, line_bytes, sym}
 use Rattle.ls_meaning.specs.Lines.{double_words}
 use Rattle.ls_room.proofs.Saying.{says_as, says_then}
-use Rattle.ls_write.proofs.LineBytes.{line-ended}
+use Rattle.ls_room.proofs.LineBytes.{line-ended}
 use Rattle.ls_write.proofs.judging.put_learning.Goals as goal
 
 pub returns-in-NotGraded : goal.returns-in-NotGraded

@@ -1,6 +1,6 @@
 use Rattle.ls_write.proofs.Vocabulary.{codes, set_text}
 use Rattle.ls_room.proofs.Saying.{says_as, says_then}
-use Rattle.ls_write.proofs.LineBytes.{line-one}
+use Rattle.ls_room.proofs.LineBytes.{line-one}
 use Rattle.ls_write.proofs.judging.put_state.Goals as goal
 
 pub returns : goal.returns

@@ -2,7 +2,7 @@ use Rattle.ls_write.proofs.Vocabulary.{◌∙◌, ◌∷◌, [], ap, arith, code
 use Rattle.ls_theory.specs.declared.verdict.Verdict.{Verdict}
 use Rattle.ls_meaning.specs.Lines.{double_words}
 use Rattle.ls_room.proofs.Saying.{says_as, says_then}
-use Rattle.ls_write.proofs.LineBytes.{line-ended, line-not_closed}
+use Rattle.ls_room.proofs.LineBytes.{line-ended, line-not_closed}
 use Rattle.ls_write.proofs.judging.put_verdict.Goals as goal
 
 pub returns-in-NotClosed : goal.returns-in-NotClosed

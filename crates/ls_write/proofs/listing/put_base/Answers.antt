@@ -1,7 +1,7 @@
 use Rattle.ls_write.proofs.Vocabulary.{◌∷◌, [], decimal, length, line, map, set_line}
 use Rattle.ls_meaning.specs.Heads as head
 use Rattle.ls_room.proofs.Saying.{says_as, says_then}
-use Rattle.ls_write.proofs.LineBytes.{lines-last}
+use Rattle.ls_room.proofs.LineBytes.{lines-last}
 use Rattle.ls_write.proofs.listing.put_base.Goals as goal
 
 pub returns : goal.returns

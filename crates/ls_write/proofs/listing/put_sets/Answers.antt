@@ -1,6 +1,6 @@
 use Rattle.ls_write.proofs.Vocabulary.{◌++◌, ◌<◌, ◌∙◌, ◌≤◌, ap, arith, length, line_bytes, lines_bytes, map, set_line, take, take_all}
 use Rattle.ls_room.proofs.Saying.{says_as, says_nothing, says_then}
-use Rattle.ls_write.proofs.LineBytes.{lines-next}
+use Rattle.ls_room.proofs.LineBytes.{lines-next}
 use Rattle.ls_write.proofs.listing.put_sets.Goals as goal
 
 pub loop-set-init : goal.loop-set-init

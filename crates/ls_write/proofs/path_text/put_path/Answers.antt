@@ -1,6 +1,6 @@
 use Rattle.ls_write.proofs.Vocabulary.{◌++◌, ◌<◌, ◌∙◌, ◌∷◌, ◌≤◌, [], ap, append-nil, arith, codes, length, name_of, spaced, sym, take, take_all}
 use Rattle.ls_room.proofs.Saying.{says_as, says_then}
-use Rattle.ls_write.proofs.LineBytes.{images-next}
+use Rattle.ls_room.proofs.LineBytes.{images-next}
 use Rattle.ls_write.proofs.Fronts.{All-behind, line-path}
 use Rattle.ls_write.proofs.path_text.put_path.Goals as goal
 

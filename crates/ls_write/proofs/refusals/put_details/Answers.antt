@@ -1,7 +1,7 @@
 use Rattle.ls_write.proofs.Vocabulary.{◌++◌, ◌<◌, ◌∙◌, ◌∷◌, ◌≤◌, Text, [], ap, arith, detail_of, detail_word, length, names_in, option_copied, spaced, take, take_all}
 use Rattle.ls_meaning.specs.declared.notices.Detail.{Detail}
 use Rattle.ls_room.proofs.Saying.{says_as, says_nothing, says_then}
-use Rattle.ls_write.proofs.LineBytes.{images-next}
+use Rattle.ls_room.proofs.LineBytes.{images-next}
 use Rattle.ls_write.proofs.refusals.put_details.Goals as goal
 
 pub loop-detail-init : goal.loop-detail-init

@@ -2,7 +2,7 @@ use Rattle.ls_write.proofs.Vocabulary.{◌++◌, ◌∙◌, ◌∷◌, ◌≡◌
 use Rattle.ls_meaning.specs.Told.{Notice}
 use Rattle.ls_meaning.specs.declared.notices.Detail.{Detail as Held}
 use Rattle.ls_room.proofs.Saying.{says_as, says_then}
-use Rattle.ls_write.proofs.LineBytes.{line-spaced}
+use Rattle.ls_room.proofs.LineBytes.{line-spaced}
 use Rattle.ls_write.proofs.refusals.put_refusal.Goals as goal
 
 pub returns : goal.returns

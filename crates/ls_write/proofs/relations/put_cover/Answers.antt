@@ -1,6 +1,6 @@
 use Rattle.ls_write.proofs.Vocabulary.{◌∷◌, [], arith, codes, name_of}
 use Rattle.ls_room.proofs.Saying.{says_as}
-use Rattle.ls_write.proofs.LineBytes.{line-spaced}
+use Rattle.ls_room.proofs.LineBytes.{line-spaced}
 use Rattle.ls_write.proofs.relations.put_cover.Goals as goal
 
 pub returns : goal.returns

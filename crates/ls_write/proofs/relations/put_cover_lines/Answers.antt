@@ -3,7 +3,7 @@ use Rattle.ls_write.proofs.Vocabulary.{lines_bytes, map, take_all}
 use Rattle.ls_origins.specs.declared.cover.Cover.{Cover}
 use Rattle.ls_origins.specs.Relations.{pair_of}
 use Rattle.ls_room.proofs.Saying.{says_as, says_nothing, says_then}
-use Rattle.ls_write.proofs.LineBytes.{lines-next}
+use Rattle.ls_room.proofs.LineBytes.{lines-next}
 use Rattle.ls_write.proofs.relations.put_cover_lines.Goals as goal
 
 abbrev line_for : List Text → Cover → Line

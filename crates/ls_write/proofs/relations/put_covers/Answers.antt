@@ -4,7 +4,7 @@ use Rattle.ls_write.proofs.Vocabulary.{sym}
 use Rattle.ls_origins.specs.Relations.{pair_of}
 use Rattle.ls_meaning.specs.Heads as head
 use Rattle.ls_room.proofs.Saying.{says_as, says_then}
-use Rattle.ls_write.proofs.LineBytes.{lines-last}
+use Rattle.ls_room.proofs.LineBytes.{lines-last}
 use Rattle.ls_write.proofs.relations.put_covers.Goals as goal
 
 pub returns : goal.returns

@@ -2,7 +2,7 @@ use Rattle.ls_write.proofs.Vocabulary.{◌∙◌, ◌∷◌, [], ap, arith, code
 use Rattle.ls_write.proofs.Vocabulary.{no_relation_line, sym}
 use Rattle.ls_origins.specs.declared.relation_fault.RelationFault.{RelationFault}
 use Rattle.ls_room.proofs.Saying.{says_as}
-use Rattle.ls_write.proofs.LineBytes.{line-spaced}
+use Rattle.ls_room.proofs.LineBytes.{line-spaced}
 use Rattle.ls_write.proofs.relations.put_no_relation.Goals as goal
 
 pub returns-in-TwoClauses : goal.returns-in-TwoClauses

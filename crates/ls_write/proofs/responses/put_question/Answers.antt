@@ -1,7 +1,7 @@
 use Rattle.ls_write.proofs.Vocabulary.{◌∙◌, Option, ap, joined_names, line_bytes, name_of, question_line, sym}
 use Rattle.ls_set.specs.declared.query.Query.{Query}
 use Rattle.ls_room.proofs.Saying.{says_as, says_then}
-use Rattle.ls_write.proofs.LineBytes.{line-question}
+use Rattle.ls_room.proofs.LineBytes.{line-question}
 use Rattle.ls_write.proofs.responses.put_question.Goals as goal
 
 pub returns-in-Some : goal.returns-in-Some

@@ -1,6 +1,6 @@
 use Rattle.ls_write.proofs.Vocabulary.{◌∙◌, session_with, shown_lines}
 use Rattle.ls_room.proofs.Saying.{says_as}
-use Rattle.ls_write.proofs.LineBytes.{lines-words}
+use Rattle.ls_room.proofs.LineBytes.{lines-words}
 use Rattle.ls_write.proofs.Showing.{said-same}
 use Rattle.ls_write.proofs.responses.put_response.Goals as goal
 

@@ -11,7 +11,7 @@ use Rattle.ls_standing.specs.Starts.{StartOn}
 use Rattle.ls_origins.specs.Meshes.{mesh_of, part_items}
 use Rattle.ls_meaning.specs.SkillRows.{delineated}
 use Rattle.ls_room.proofs.Saying.{says_as, says_then}
-use Rattle.ls_write.proofs.LineBytes.{lines-one, lines-last}
+use Rattle.ls_room.proofs.LineBytes.{lines-one, lines-last}
 use Rattle.ls_write.proofs.Atoms.{base-clauses, base-atoms}
 use Rattle.ls_write.proofs.Showing.{shown-same}
 use Rattle.ls_write.proofs.responses.put_shown.Goals as goal

@@ -1,6 +1,6 @@
 use Rattle.ls_write.proofs.Vocabulary.{◌∙◌, ◌∷◌, [], accepted_words, codes, decimal, names_in, option_copied, refusal_words, session_with, sym}
 use Rattle.ls_room.proofs.Saying.{says_as, says_nothing}
-use Rattle.ls_write.proofs.LineBytes.{bytes_of-none, bytes_of-one}
+use Rattle.ls_room.proofs.LineBytes.{bytes_of-none, bytes_of-one}
 use Rattle.ls_write.proofs.Showing.{said-same}
 use Rattle.ls_write.proofs.responses.put_unshown.Goals as goal
 

@@ -1,6 +1,6 @@
 use Rattle.ls_write.proofs.Vocabulary.{decimal}
 use Rattle.ls_room.proofs.Saying.{says_as, says_then}
-use Rattle.ls_write.proofs.LineBytes.{line-accepted}
+use Rattle.ls_room.proofs.LineBytes.{line-accepted}
 use Rattle.ls_write.proofs.safe.put_accepted.Goals as goal
 
 pub returns : goal.returns

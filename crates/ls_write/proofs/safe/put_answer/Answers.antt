@@ -1,6 +1,6 @@
 use Rattle.ls_write.proofs.Vocabulary.{◌++◌, ◌∙◌, ◌∷◌, [], ap, codes, decimal}
 use Rattle.ls_room.proofs.Saying.{says_as, says_then}
-use Rattle.ls_write.proofs.LineBytes.{line-answered}
+use Rattle.ls_room.proofs.LineBytes.{line-answered}
 use Rattle.ls_write.proofs.safe.put_answer.Goals as goal
 
 pub returns : goal.returns

@@ -2,7 +2,7 @@ use Rattle.ls_origins.specs.declared.safe_answer.SafeAnswer.{SafeAnswer}
 use Rattle.ls_write.proofs.Vocabulary.{◌++◌, ◌<◌, ◌∙◌, ◌≤◌, ap, arith, length, line_bytes, lines_bytes, map}
 use Rattle.ls_write.proofs.Vocabulary.{safe_line, take, take_all}
 use Rattle.ls_room.proofs.Saying.{says_as, says_nothing, says_then}
-use Rattle.ls_write.proofs.LineBytes.{lines-next}
+use Rattle.ls_room.proofs.LineBytes.{lines-next}
 use Rattle.ls_write.proofs.safe.put_answer_lines.Goals as goal
 
 pub loop-answer-init : goal.loop-answer-init

@@ -1,6 +1,6 @@
 use Rattle.ls_room.proofs.Vocabulary.{◌∙◌, ap, cursor, length, take}
 use Rattle.ls_room.proofs.Saying.{says_as, says_then}
-use Rattle.ls_room.proofs.SetLines.{line-set}
+use Rattle.ls_room.proofs.LineBytes.{line-set}
 use Rattle.ls_room.proofs.set_texts.SetTexts.put_set_line.Goals as goal
 
 pub returns : goal.returns

@@ -1,10 +1,11 @@
 -- Lines, from the pieces in which they are said.
-use Rattle.ls_write.proofs.Vocabulary.{◌++◌, ◌+◌, ◌<◌, ◌∙◌, ◌∷◌, ◌≡◌, Line, List, Text, ℕ, [], ap}
-use Rattle.ls_write.proofs.Vocabulary.{append-nil, append_assoc, arith, bytes_of, codes, decimal}
-use Rattle.ls_write.proofs.Vocabulary.{flat_map-append, get_or, join-spaced, join-spaced-one}
-use Rattle.ls_write.proofs.Vocabulary.{join_with_byte, length, length-append, line, line_bytes}
-use Rattle.ls_write.proofs.Vocabulary.{line_of, line_words, lines_bytes, map, map-append, map-id}
-use Rattle.ls_write.proofs.Vocabulary.{refl, spaced, spaced-next, sym, take, take_more}
+use Rattle.ls_room.proofs.Vocabulary.{◌++◌, ◌+◌, ◌<◌, ◌∙◌, ◌∷◌, ◌≡◌, Items, Line, List, Text, ℕ, []}
+use Rattle.ls_room.proofs.Vocabulary.{ap, append-nil, append_assoc, arith, bytes_of, codes, cursor}
+use Rattle.ls_room.proofs.Vocabulary.{decimal, flat_map-append, get_or, join-spaced}
+use Rattle.ls_room.proofs.Vocabulary.{join-spaced-one, join_with_byte, joined_names, length}
+use Rattle.ls_room.proofs.Vocabulary.{length-append, line, line_bytes, line_of, line_words}
+use Rattle.ls_room.proofs.Vocabulary.{lines_bytes, map, map-append, map-id, refl, set_line, spaced}
+use Rattle.ls_room.proofs.Vocabulary.{spaced-next, sym, take, take_more}
 use Rattle.ls_meaning.specs.Heads as head
 
 -- ---- several lines
@@ -81,6 +82,18 @@ line-barred w vs us =
     ∙ ap all (ap (λ l. behind ++ l) (map-id us) ∙ append_assoc front (codes "|" ∷ []) us))
 
 -- ---- the lines of their kinds
+
+pieces : (c j : List ℕ) → (((codes "set " ++ c) ++ codes " {") ++ j) ++ codes "}\n"
+    ≡ join_with_byte 32 (codes "set" ∷ c ∷ (123 ∷ j ++ 125 ∷ []) ∷ []) ++ 10 ∷ []
+pieces c j = simp append_assoc
+
+pub line-set : (names : List Text) (s : Items) (digits : List ℕ) → digits ≡ cursor (length names) s
+    → (((codes "set " ++ digits) ++ codes " {") ++ joined_names names s) ++ codes "}\n"
+    ≡ line_bytes (set_line names s)
+unfolding line_of
+line-set names s digits e =
+    ap (λ d. (((codes "set " ++ d) ++ codes " {") ++ joined_names names s) ++ codes "}\n") e
+    ∙ pieces (cursor (length names) s) (joined_names names s)
 
 pub line-question : (set name : Text)
     → (((codes "ask " ++ set) ++ codes " :") ++ (32 ∷ name)) ++ 10 ∷ [] ≡ line_bytes (line head.Ask (set ∷ codes ":" ∷ name ∷ []))
