@@ -1,7 +1,6 @@
 // Runs of the program over objects in memory, as a case gives them.
 use crate::case::{
-    File, files_of, is_formed, last_of, numbers_of, replies_of, script_of, tells, tells_before,
-    words_of,
+    File, files_of, is_formed, last_of, numbers_of, replies_of, script_of, tells, words_of,
 };
 use crate::extent::{Extent, extent_of};
 use crate::fault::{Side, failed_run};
@@ -13,6 +12,9 @@ use std::thread::Threads;
 
 // How many bytes one read and one write move at most, where a case doesn't say it.
 const PIECES: [u64; 5] = [1, 2, 7, 12, 4096];
+
+// The file that a case's own script is, where the command line names it.
+const SCRIPT: &str = "script";
 
 // What a run is to write, how far it comes, and the status with which it is to end.
 #[derive(Drop)]
@@ -41,17 +43,16 @@ fn meets<R: Threads + Sync + AllocGlobal>(
     Ok(extent == wanted.extent && u64::from(status) == wanted.status)
 }
 
-// The folder before a run, which has no more than so many bytes of each file. Where it lacks the
-// file of a script that is named, the script's own lines are that file.
+// The folder before a run, which has no more than so many bytes of each file. Where the command line
+// names the file `script`, the script's own lines are that file.
 fn shelf_of(alloc: Global, case: &str, most: usize) -> Result<MemShelf, Trouble> {
     let mut shelf = MemShelf::new(alloc, numbers_of(alloc, case, "! shelf")?);
     for file in &files_of(alloc, case, "@")? {
         shelf.put(file.name, file.front(most))?;
     }
-    let script = script_of(alloc, case)?;
     if let ["--script", name] = words_of(alloc, case)?.as_slice() {
-        if !tells_before(case, name) && !script.is_empty() {
-            shelf.put(name, &script)?;
+        if *name == SCRIPT {
+            shelf.put(name, &script_of(alloc, case)?)?;
         }
     }
     Ok(shelf)
