@@ -16,6 +16,6 @@ pub use Rattle.ls_set.specs.Cursor.{bit_of, cursor_length, digit_value, digits_h
 unfoldable pub use Rattle.ls_set.specs.Cursor.{cursor, cursor_set, read_cursor}
 pub use Rattle.ls_set.specs.ItemSet.{DiffersFirstAt, IsInOrder, IsWithin, Items, digit_count, has_some, is_among, numbers_from, set_of, subsets, subsets_from}
 unfoldable pub use Rattle.ls_set.specs.ItemSet.{bound, comes_before, differing, empty, full, has, is_same, is_within, items, keep_before, least, len, meet, minus, next_item, single, union, with, without}
-pub use Rattle.ls_set.specs.Words.{AreWords, IsLowest, as_set, set_of_words}
-unfoldable pub use Rattle.ls_set.specs.Words.{cat}
+pub use Rattle.ls_set.specs.Lanes.{AreLanes, AreShort, IsLowest, as_set, digits_at, digits_up_to, joined, lane_at, lane_numbers, lanes_up_to, set_of_lanes}
+unfoldable pub use Rattle.ls_set.specs.Lanes.{cat}
 pub use Rattle.ls_set.specs.declared.cursor.CursorFault.TheVariants.{Digit, Length, Spare}
