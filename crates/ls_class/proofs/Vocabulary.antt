@@ -16,7 +16,7 @@ pub use Rattle.ls_domain.specs.Domains.{IsDomain, is_name, table_records}
 pub use Rattle.ls_domain.specs.Meanings.{is_named, item_of, items_of, number_of}
 pub use Rattle.ls_files.specs.ClassTables.{is_mark, is_next_name, is_right, marked, most_class_pupils, right_of}
 unfoldable pub use Rattle.ls_files.specs.ClassTables.{class_in, class_of, columns_of, next_row, rows_from}
-pub use Rattle.ls_lines.specs.{Text}
+pub use Rattle.ls_cutting.specs.{Text}
 pub use Rattle.ls_lists.proofs.Places.{drop-next, mapped-next, position-lt, take-next}
 pub use Rattle.ls_set.proofs.Sets.{members, same_set, union-empty_left, union-empty_right}
 pub use Rattle.ls_set.specs.{Items, has}

@@ -35,8 +35,8 @@ pub use Rattle.ls_files.specs.declared.cause.Cause.{Cause}
 pub use Rattle.ls_files.specs.declared.version.Version.{Version}
 pub use Rattle.ls_laws.proofs.Breaks.{good-from}
 pub use Rattle.ls_laws.specs.Spans.{AreOn}
-pub use Rattle.ls_lines.specs.{Text}
-unfoldable pub use Rattle.ls_lines.specs.{is_of}
+pub use Rattle.ls_cutting.specs.{Text}
+unfoldable pub use Rattle.ls_cutting.specs.{is_of}
 pub use Rattle.ls_lists.proofs.Every.{All-given, All-list_all, each, list_all-All}
 pub use Rattle.ls_lists.proofs.Places.{drop-next}
 pub use Rattle.ls_set.proofs.Cursors.{nibble_of-lt, only, read_back}

@@ -7,8 +7,8 @@ ghost use Rattle.ls_codecs.specs.Faults.{IsRead};
 
 use crate::keys::text_value;
 use crate::part_fault::PartFault;
+use ls_cutting::{Word, WordList};
 use ls_domain::{Domain, DomainFault};
-use ls_lines::{Word, WordList};
 use serde_json::Value;
 use std::alloc::{AllocError, Global};
 

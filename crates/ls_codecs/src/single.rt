@@ -2,8 +2,8 @@
 use crate::formats::{FromValue, ToValue};
 use crate::keys::text_value;
 use crate::part_fault::PartFault;
+use ls_cutting::Word;
 use ls_files::Version;
-use ls_lines::Word;
 use ls_set::{ItemSet, cursor_length};
 use serde_json::Value;
 use std::alloc::{AllocError, Global};

@@ -1,7 +1,7 @@
 -- A start that is read is what the definitions read.
 use Rattle.std.specs.Prelude.{◌≡◌, List, length, Result, Ok, Err}
 use Rattle.ls_theory.specs.Starts as theory
-use Rattle.ls_lines.specs.{Text}
+use Rattle.ls_cutting.specs.{Text}
 use Rattle.ls_standing.specs.Starts.{start_of, IsStartOn}
 use Rattle.ls_standing.specs.declared.start.Start.{Start}
 use Rattle.ls_meaning.specs.declared.response.Refusal.{Refusal}

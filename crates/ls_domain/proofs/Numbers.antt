@@ -1,15 +1,13 @@
 -- Names and their numbers.
-use Rattle.ls_domain.proofs.Vocabulary.{◌++◌, ◌+◌, ◌<◌, ◌∙◌, ◌∷◌, ◌≡◌, ◌≢◌, AllZip, AreNames, IsAscii, IsDistinct, IsUtf8, IsWithin, Items, List, None, OnSome, Option, PLACES, Some, String, Text, ℕ, [], ap, and_parts, ap₂, arith, bytes_eq, cases_Bool, false, full, get_or, has, inl, inr, is_name, is_named, is_some, is_some-position, item_of, items_of, length, length-append, list_all-append, ltb, map, map-append, members, name_of, nat_list_eq_equiv, nat_tests, number_of, position_or_len, refl, same_Some, same_set, set_of, slice_get, string_bytes, suc, sym, take, take_more, true, with, zero, list_all}
-use Rattle.std.proofs.lemmas.List.Elements.{All-head}
+use Rattle.ls_domain.proofs.Vocabulary.{◌++◌, ◌+◌, ◌<◌, ◌∙◌, ◌∷◌, ◌≡◌, ◌≢◌, AllZip, AreNames, IsDistinct, IsUtf8, IsWithin, Items, List, None, OnSome, Option, PLACES, Some, String, Text, ℕ, [], ap, and_parts, ap₂, arith, bytes_eq, cases_Bool, false, full, get_or, has, inl, inr, is_name, is_named, is_some, is_some-position, item_of, items_of, length, length-append, list_all-append, ltb, map, map-append, members, name_of, nat_list_eq_equiv, nat_tests, number_of, position_or_len, refl, same_Some, same_set, set_of, slice_get, string_bytes, suc, sym, take, take_more, true, with, zero, list_all}
 use Rattle.std.proofs.lemmas.List.Quantifiers.{position-Some}
 use Rattle.std.proofs.lemmas.List.Sums.{position_or_len_is}
 use Rattle.std.proofs.lemmas.Map.Keys.{IsDistinct-push}
 use Rattle.std.proofs.lemmas.Map.Made.{AllPairs-from_IsDistinct}
 use Rattle.std.proofs.lemmas.Slice.Eq.{bytes_eq-Decides}
 use Rattle.std.proofs.lemmas.Str.{IsUtf8-from_ascii}
-use Rattle.ls_lines.specs.declared.part.Part.TheVariants.{One}
-use Rattle.ls_lines.specs.declared.kind.Kind.TheVariants.{Name}
-use Rattle.ls_lines.proofs.Ascii.{front-ascii}
+use Rattle.ls_cutting.specs.declared.kind.Kind.TheVariants.{Name}
+use Rattle.ls_cutting.proofs.Solid.{is_of-ascii}
 
 -- ---- one to one
 
@@ -82,7 +80,7 @@ numbered-place names w i are e =
 
 -- a name is text
 pub is_name-utf8 : (w : Text) → is_name w ≡ true → IsUtf8 w
-is_name-utf8 w e = IsUtf8-from_ascii w (All-head IsAscii w [] (front-ascii (One Name) (w ∷ []) 1 (rw e refl)))
+is_name-utf8 w e = IsUtf8-from_ascii w (is_of-ascii Name w e)
 
 -- and what is no text has no number
 pub number-none : (names : List Text) (w : Text) → AreNames names → (IsUtf8 w → ⊥)

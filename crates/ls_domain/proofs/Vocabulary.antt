@@ -10,13 +10,13 @@ pub use Rattle.std.proofs.lemmas.List.Folds.{list_all-append}
 pub use Rattle.std.proofs.lemmas.Option.{none-some, same_Some}
 pub use Rattle.std.specs.List.{AllByRecursion, AllZip, join_with_byte, list_all, list_any, position, position_or_len}
 unfoldable pub use Rattle.std.specs.List.{IsDistinct}
-pub use Rattle.std.specs.Str.{IsAscii, IsUtf8, bytes_eq}
+pub use Rattle.std.specs.Str.{IsUtf8, bytes_eq}
 pub use Rattle.std.specs.declared.option.Option.{Option}
 pub use Rattle.csv.specs.Reading.{AreRecords, Ready, default_config, records, records_next, source_of, strip_bom}
 unfoldable pub use Rattle.csv.specs.Reading.{Reached, records_from}
 pub use Rattle.csv.specs.Records.{fields_of}
 unfoldable pub use Rattle.csv.specs.Records.{field_at}
-pub use Rattle.ls_lines.specs.{Text}
+pub use Rattle.ls_cutting.specs.{Text}
 pub use Rattle.ls_lists.proofs.Every.{All-given, All-kept, list_any-map}
 pub use Rattle.ls_lists.proofs.Joins.{gap-snoc, join_more}
 pub use Rattle.ls_lists.proofs.Options.{nothing, ok-err, same_Ok}

@@ -6,8 +6,8 @@ use Rattle.std.specs.List.{IsDistinct, list_all}
 use Rattle.std.specs.Option.{option_map_or}
 use Rattle.csv.specs.Reading.{default_config, records, strip_bom}
 use Rattle.ls_set.specs.{most_items}
-use Rattle.ls_lines.specs.{Text, is_of}
-use Rattle.ls_lines.specs.declared.kind.Kind.TheVariants.{Name}
+use Rattle.ls_cutting.specs.{Text, is_of}
+use Rattle.ls_cutting.specs.declared.kind.Kind.TheVariants.{Name}
 use Rattle.ls_domain.specs.Meanings.{is_named, item_of}
 use Rattle.ls_domain.specs.declared.domain_fault.DomainFault.{DomainFault}
 use Rattle.ls_domain.specs.declared.domain_fault.DomainFault.TheVariants.{NoItems, BadCsv, BadName}

@@ -2,7 +2,7 @@
 use Rattle.std.specs.Prelude.{ℕ, Bool, not, List, map, Option, position, bytes_eq, unwrap_or}
 use Rattle.std.specs.List.{list_any}
 use Rattle.ls_set.specs.{Items, set_of}
-use Rattle.ls_lines.specs.{Text}
+use Rattle.ls_cutting.specs.{Text}
 
 -- whether the word is one of the names
 abbrev pub is_named : List Text → Text → Bool

@@ -2,7 +2,7 @@
 use Rattle.std.specs.Prelude.{ℕ, List, [], ◌∷◌, ◌++◌, map, filter, length, slice_index_or}
 use Rattle.std.specs.List.{join_with_byte}
 use Rattle.ls_set.specs.{Items, has, numbers_from}
-use Rattle.ls_lines.specs.{Text}
+use Rattle.ls_cutting.specs.{Text}
 
 -- the name of an item, which is empty where the item has none
 abbrev pub name_of : List Text → ℕ → Text

@@ -11,7 +11,7 @@ ghost use Rattle.ls_domain.specs.Domains.{names_of_table};
 use crate::names::Names;
 use crate::table::{first_field, first_records};
 use crate::{DomainFault, UnknownAt};
-use ls_lines::WordList;
+use ls_cutting::WordList;
 use ls_set::{ItemSet, PLACES};
 use std::alloc::{AllocError, Global};
 use std::marker::Model;

@@ -1,7 +1,7 @@
 // Laws of domains.
 ghost use Rattle.std.specs.Prelude.{◌≡◌, ◌<◌, ℕ, List, None, Some, Ok, length, map};
 ghost use Rattle.ls_set.specs.{IsWithin, Items, full};
-ghost use Rattle.ls_lines.specs.{Text};
+ghost use Rattle.ls_cutting.specs.{Text};
 ghost use Rattle.ls_domain.specs.Texts.{name_of, names_of_set};
 ghost use Rattle.ls_domain.specs.Meanings.{number_of, items_of, first_unnamed};
 ghost use Rattle.ls_domain.specs.Domains.{IsDomain, first_field, names_of_table};

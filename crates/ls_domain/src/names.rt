@@ -7,7 +7,7 @@ ghost use Rattle.ls_domain.specs.Domains.{AreNames, IsNameFault, is_name, name_f
 
 use crate::DomainFault;
 use indexmap::IndexSet;
-use ls_lines::Kind;
+use ls_cutting::Kind;
 use ls_set::PLACES;
 use std::alloc::{AllocError, Global};
 use std::marker::Model;

@@ -21,8 +21,8 @@ pub use Rattle.ls_files.specs.declared.family_fault.FamilyFault.{FamilyFault}
 pub use Rattle.ls_files.specs.declared.family_fault.FamilyFault.TheVariants.{BadLine, Memory, Repeat, TooMany, UnknownItem}
 pub use Rattle.ls_files.specs.declared.set_line.SetLine.{SetLine}
 pub use Rattle.ls_files.specs.declared.set_line.SetLine.TheVariants.{Bad, Passed, Set, Unknown}
-pub use Rattle.ls_lines.specs.{Text, is_blank, parts_words, without_return}
-unfoldable pub use Rattle.ls_lines.specs.{is_of, lines}
+pub use Rattle.ls_cutting.specs.{Text, is_blank, parts_words, without_return}
+unfoldable pub use Rattle.ls_cutting.specs.{is_of, lines}
 pub use Rattle.ls_lists.proofs.Places.{is_some-position}
 pub use Rattle.ls_set.proofs.Sets.{Decides-is_same, IsWithin-from, empty-within, is_within-from, members, same_set, union-empty_left, union-empty_right}
 pub use Rattle.ls_set.specs.{IsInOrder, IsWithin, Items, full, is_among, is_within, set_of}

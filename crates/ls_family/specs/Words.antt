@@ -4,7 +4,7 @@ use Rattle.std.specs.Prelude.{Option, Some, None, is_some, option_map}
 use Rattle.std.specs.List.{list_all}
 use Rattle.std.specs.Option.{option_and_then}
 use Rattle.ls_set.specs.{Items, with}
-use Rattle.ls_lines.specs.{Text}
+use Rattle.ls_cutting.specs.{Text}
 use Rattle.ls_domain.specs.Domains.{is_name}
 use Rattle.ls_domain.specs.Meanings.{first_unnamed, items_of, number_of}
 

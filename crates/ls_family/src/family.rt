@@ -1,7 +1,7 @@
 // Families.
 ghost use Rattle.std.specs.Prelude.{◌≡◌, ◌<◌, ◌≤◌, ◌∷◌, [], Ok, length, IfOk, IfErr, MatchOption};
 ghost use Rattle.ls_set.specs.{IsInOrder, is_among};
-ghost use Rattle.ls_lines.specs.{lines};
+ghost use Rattle.ls_cutting.specs.{lines};
 ghost use Rattle.ls_files.specs.SetFiles.{sets_of, found_from, IsFamilyFault};
 
 use crate::found::Found;

@@ -1,7 +1,7 @@
 // Laws of set files.
 ghost use Rattle.std.specs.Prelude.{◌≡◌, ℕ, List, true, Ok, length};
 ghost use Rattle.ls_set.specs.{IsWithin, Items, full, is_among};
-ghost use Rattle.ls_lines.specs.{Text};
+ghost use Rattle.ls_cutting.specs.{Text};
 ghost use Rattle.ls_files.specs.SetFiles.{sets_of};
 
 /// The sets of a file are sets of the items that have the names. Nothing is done.

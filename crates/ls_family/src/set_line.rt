@@ -1,16 +1,16 @@
 // Lines of a set file.
 ghost use Rattle.std.specs.Prelude.{◌≡◌, option_map};
 ghost use Rattle.std.specs.List.{list_all};
-ghost use Rattle.ls_lines.specs.{is_blank, parts_words, without_return};
+ghost use Rattle.ls_cutting.specs.{is_blank, parts_words, without_return};
 ghost use Rattle.ls_files.specs.SetFiles.{unindented, until_brace, words_within, set_named};
 ghost use Rattle.ls_files.specs.SetFiles.{body_read, line_read};
 ghost use Rattle.ls_domain.specs.Domains.{is_name};
 ghost use Rattle.ls_family.specs.Words.{items_known, with_word};
 
 use crate::place::first_place;
+use ls_cutting::Kind;
 use ls_domain::Domain;
 use ls_files::SetLine;
-use ls_lines::Kind;
 use ls_set::ItemSet;
 
 /// What a line is, given without its line feed.

@@ -1,7 +1,7 @@
 -- Examples of surmise files, after their bytes were read as a table.
 use Rattle.std.proofs.Common.{◌≡◌, refl, ℕ, List, [], ◌∷◌, Ok, Err, Result, codes}
 use Rattle.ls_set.specs.{Items, bound, comes_before, differing, empty, full, has, is_same, is_within, items, least, single, union, with}
-use Rattle.ls_lines.specs.{Text}
+use Rattle.ls_cutting.specs.{Text}
 use Rattle.ls_theory.specs.{flaw}
 use Rattle.ls_theory.specs.declared.surmise_fault.SurmiseFault.{SurmiseFault}
 use Rattle.ls_theory.specs.declared.surmise_fault.SurmiseFault.TheVariants.{UnknownItem, NoClause, Reflexive, NotClosed, Comparable}

@@ -2,7 +2,7 @@
 use Rattle.csv.proofs.OnLiterals.{csv_on_literals}
 use Rattle.std.proofs.Common.{◌≡◌, refl, ℕ, List, [], ◌∷◌, Ok, Err, codes}
 use Rattle.ls_set.specs.{empty, full, is_same, single, union, with}
-use Rattle.ls_lines.specs.{Text, is_of}
+use Rattle.ls_cutting.specs.{Text, is_of}
 use Rattle.ls_theory.specs.{Row}
 use Rattle.ls_files.specs.ClassTables.{class_in, class_of, columns_of, next_row, rows_from}
 

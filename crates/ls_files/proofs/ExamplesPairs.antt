@@ -1,8 +1,8 @@
 -- Examples of files of pairs on the items a b c.
 use Rattle.std.proofs.Common.{◌≡◌, refl, ℕ, List, [], ◌∷◌, Ok, Err, Result, codes}
 use Rattle.ls_set.specs.ItemSet.{Items, has, empty, with, union, single, is_same}
-use Rattle.ls_lines.specs.Lines.{Text, lines, words}
-use Rattle.ls_lines.specs.Kinds.{is_of}
+use Rattle.ls_cutting.specs.Lines.{Text, lines, words}
+use Rattle.ls_cutting.specs.Kinds.{is_of}
 use Rattle.ls_origins.specs.Relations.{relation, covers}
 use Rattle.ls_origins.specs.declared.pair_fault.PairFault.{PairFault}
 use Rattle.ls_origins.specs.declared.pair_fault.PairFault.TheVariants.{BadLine, UnknownItem, Cycle}

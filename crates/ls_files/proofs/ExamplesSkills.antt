@@ -2,7 +2,7 @@
 use Rattle.std.proofs.Common.{◌≡◌, refl, ℕ, List, [], ◌∷◌, Ok, Err, codes}
 use Rattle.json.specs.Print.{escape_byte}
 use Rattle.ls_set.specs.ItemSet.{has, empty, with, union, single}
-use Rattle.ls_lines.specs.Lines.{Text}
+use Rattle.ls_cutting.specs.Lines.{Text}
 use Rattle.ls_origins.specs.declared.skill_fault.SkillFault.TheVariants.{UnknownItem, NoSkill}
 use Rattle.ls_files.specs.SkillFiles.{Skill, has_named_keys, rows_in, skills_in, skills_from}
 use Rattle.ls_files.specs.SkillFiles.{skills_named, rows_of, skill_name, base_skills, members_from}

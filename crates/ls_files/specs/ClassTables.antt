@@ -6,7 +6,7 @@ use Rattle.std.specs.Prelude.{Option, Some, None, option_map, Result, Ok, Err}
 use Rattle.std.specs.List.{list_all}
 use Rattle.std.specs.Option.{option_map_or}
 use Rattle.ls_set.specs.{Items, empty, full, is_same, with}
-use Rattle.ls_lines.specs.{Text}
+use Rattle.ls_cutting.specs.{Text}
 use Rattle.ls_domain.specs.Meanings.{is_named, item_of, items_of}
 use Rattle.ls_domain.specs.Domains.{is_name, table_records}
 use Rattle.ls_theory.specs.{Row}

@@ -12,7 +12,7 @@ use Rattle.std.specs.Option.{is_some, option_zip}
 use Rattle.serde_json.specs.Data.{Data, unsigned, boolean, number, string, array, object}
 use Rattle.serde_json.specs.Data.{Items, no_items, item, Members, no_members, put}
 use Rattle.serde_json.specs.Find.{as_array, as_bool, as_number, as_object, as_str, as_u64, get}
-use Rattle.ls_lines.specs.{Text}
+use Rattle.ls_cutting.specs.{Text}
 use Rattle.ls_files.specs.SurmiseFiles.{list_value, read_list, value_of}
 
 pub record Codec (X : Type 0) : Type 0 where

@@ -7,7 +7,7 @@ use Rattle.std.specs.Prelude.{slice_index_or, is_some, Result, Ok, Err, ⊤, ◌
 use Rattle.std.specs.List.{list_all, flat_map}
 use Rattle.std.specs.Option.{option_map_or}
 use Rattle.ls_set.specs.ItemSet.{Items}
-use Rattle.ls_lines.specs.Lines.{Text, lines, words}
+use Rattle.ls_cutting.specs.Lines.{Text, lines, words}
 use Rattle.ls_domain.specs.Domains.{is_name}
 use Rattle.ls_domain.specs.Meanings.{item_of, first_unnamed}
 use Rattle.ls_domain.specs.Texts.{name_of}

@@ -13,7 +13,7 @@ use Rattle.ls_theory.specs.declared.reply.Reply.{Reply}
 use Rattle.ls_theory.specs.declared.ratio.Ratio.{Ratio}
 use Rattle.ls_theory.specs.declared.ratio.Ratios.{Ratios}
 use Rattle.ls_theory.specs.Settings.{Settings, odds, is_ratio, are_limits}
-use Rattle.ls_lines.specs.{Text}
+use Rattle.ls_cutting.specs.{Text}
 use Rattle.ls_domain.specs.Domains.{names_of_words}
 use Rattle.ls_files.specs.SurmiseFiles.{surmise_from}
 use Rattle.ls_files.specs.declared.version.Version.{Version}

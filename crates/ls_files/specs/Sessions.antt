@@ -5,7 +5,7 @@ use Rattle.ls_set.specs.declared.query.Query.{Query}
 use Rattle.ls_theory.specs.{Interview, Start, compat}
 use Rattle.ls_theory.specs.Settings.{Settings}
 use Rattle.ls_theory.specs.declared.reply.Reply.{Reply}
-use Rattle.ls_lines.specs.{Text}
+use Rattle.ls_cutting.specs.{Text}
 
 -- a pupil: the name; the start, the Yes queries and the settings as they were when it began; and
 -- the replies

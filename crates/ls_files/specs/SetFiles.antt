@@ -6,7 +6,7 @@ use Rattle.std.specs.List.{slice_split, prefix_len, list_all}
 use Rattle.std.specs.Option.{option_map_or, option_and_then}
 use Rattle.std.specs.Map.{lookup, keys_of}
 use Rattle.ls_set.specs.{Items, comes_before, is_same}
-use Rattle.ls_lines.specs.{Text, is_blank, is_note, lines, parts_words, without_return}
+use Rattle.ls_cutting.specs.{Text, is_blank, is_note, lines, parts_words, without_return}
 use Rattle.ls_domain.specs.Domains.{is_name}
 use Rattle.ls_domain.specs.Meanings.{items_of, first_unnamed}
 use Rattle.ls_files.specs.declared.set_line.SetLine.{SetLine}

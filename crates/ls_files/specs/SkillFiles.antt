@@ -15,7 +15,7 @@ use Rattle.serde_json.specs.Find.{as_str, as_object}
 use Rattle.serde_json.specs.Written.{compact_text}
 use Rattle.ls_set.specs.ItemSet.{Items, has, set_of, numbers_from}
 use Rattle.ls_theory.specs.Words.{is_lex_before}
-use Rattle.ls_lines.specs.Lines.{Text}
+use Rattle.ls_cutting.specs.Lines.{Text}
 use Rattle.ls_domain.specs.Meanings.{is_named}
 use Rattle.ls_files.specs.SurmiseFiles.{read_list, read_members, value_of, list_value}
 use Rattle.ls_origins.specs.Skills.{most_skills}

@@ -20,7 +20,7 @@ use Rattle.ls_theory.specs.declared.surmise_fault.SurmiseFault.TheVariants.{BadJ
 use Rattle.ls_theory.specs.declared.surmise_fault.SurmiseFault.TheVariants.{NoClause, Reflexive}
 use Rattle.ls_theory.specs.declared.surmise_fault.SurmiseFault.TheVariants.{NotClosed, Comparable}
 use Rattle.ls_theory.specs.declared.surmise_fault.SurmiseFault.TheVariants.{Wide, Memory}
-use Rattle.ls_lines.specs.{Text}
+use Rattle.ls_cutting.specs.{Text}
 use Rattle.ls_domain.specs.Meanings.{is_named, items_of}
 use Rattle.ls_domain.specs.Texts.{names_of_set}
 

@@ -2,7 +2,7 @@
 ghost use Rattle.std.specs.Prelude.{◌≡◌, ◌++◌, ◌∷◌, [], map, OnOk, OnErr};
 ghost use Rattle.ls_files.specs.ClassResults.{result_of};
 
-use ls_lines::Word;
+use ls_cutting::Word;
 use ls_set::ItemSet;
 use ls_theory::Reason;
 use std::alloc::{AllocError, Global};

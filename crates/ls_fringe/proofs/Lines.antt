@@ -2,7 +2,7 @@
 use Rattle.ls_fringe.proofs.Vocabulary.{◌++◌, ◌<◌, ◌∙◌, ◌∷◌, ◌≡◌, AllByRecursion, FringePair, IsWithin, Items, List, Text, ℕ, [], and_from, ap, append-nil, codes, command_of, full, is_of, is_plain, items, laid_out, length, list_all, map, name_of, names_of_set, parts, refl, spelled, spelling, sym, true, words, words_joined, spelled_as}
 use Rattle.std.proofs.lemmas.List.Elements.{All-get_or}
 use Rattle.std.proofs.lemmas.List.Sums.{AllPass-from_list_all}
-use Rattle.ls_lines.specs.declared.kind.Kind.TheVariants.{Item}
+use Rattle.ls_cutting.specs.declared.kind.Kind.TheVariants.{Item}
 use Rattle.ls_lines.specs.declared.command.Command.TheVariants.{View}
 use Rattle.ls_lines.specs.declared.view.ViewCommand.TheVariants.{StateOf}
 use Rattle.ls_lines.proofs.ReadBack.{read_back}

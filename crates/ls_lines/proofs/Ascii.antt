@@ -3,17 +3,11 @@ use Rattle.ls_lines.proofs.Vocabulary.{◌++◌, ◌+◌, ◌<◌, ◌∷◌, �
 use Rattle.std.specs.Prelude.{All}
 use Rattle.std.proofs.lemmas.List.Elements.{All-nil, All-cons, All-append}
 use Rattle.ls_lines.specs.declared.keyword.Keyword.TheVariants as word
-use Rattle.ls_lines.proofs.Numbers.{ascii_where}
-use Rattle.ls_lines.proofs.Solid.{kind-solid}
-
-is_cursor_byte-ascii : (b : ℕ) → is_cursor_byte b ≡ true → b < 128
-is_cursor_byte-ascii b h = grind (arith, nat_tests)
+use Rattle.ls_cutting.proofs.Numbers.{ascii_where}
+use Rattle.ls_cutting.proofs.Solid.{is_of-ascii}
 
 below_128 : (b : ℕ) → nat_lt b 128 ≡ true → b < 128
 below_128 b h = grind (arith, nat_tests)
-
-is_of-ascii : (k : Kind) (w : Text) → is_of k w ≡ true → IsAscii w
-is_of-ascii k w h = ascii_where is_cursor_byte is_cursor_byte-ascii w (kind-solid k w h).bytes
 
 spelling-ascii : (v : Keyword) → IsAscii (spelling v)
 unfolding spelling

@@ -8,7 +8,7 @@ use Rattle.ls_lines.specs.declared.view.ViewForm.TheVariants as view
 use Rattle.ls_lines.specs.declared.safe.SafeForm.TheVariants as safe
 use Rattle.ls_lines.specs.declared.setting.SettingForm.TheVariants as setting
 use Rattle.ls_lines.specs.declared.pupil.PupilForm.TheVariants as pupil
-use Rattle.ls_lines.proofs.Numbers.{number-within}
+use Rattle.ls_cutting.proofs.Numbers.{number-within}
 
 -- the command that is read is the command of some form
 made : (ws : List Text) (fs : List Form) (c : Command) → slice_get (filter_map (λ f. option_map (command f) (cut (parts f) ws)) fs) 0 ≡ Some c →

@@ -1,7 +1,7 @@
 -- `cut` tells exactly the lines of a form, and `is_begun` the words with which some line of it begins.
 use Rattle.ls_lines.proofs.Vocabulary.{◌++◌, ◌↔◌, ◌∙◌, ◌∷◌, ◌≡◌, Bool, Completes, Fixed, Form, IsLine, List, Many, None, One, Part, Some, Text, [], ap, append-nil, cut, done, drop, false, fixed, front, inl, inr, is_begun, is_some, nat_list_eq_equiv, never, no_more, one, option_and_then, option_map, option_map_or, parts, refl, spelling, subst, sym, take, true}
 use Rattle.ls_lists.proofs.Options.{is_some-mapped, passed, passes}
-use Rattle.ls_lines.proofs.Solid.{sample}
+use Rattle.ls_cutting.proofs.Solid.{sample}
 use Rattle.ls_lines.proofs.Places.{begun_by_none}
 use Rattle.ls_lines.proofs.Parted.{many_end, forms_end, many_end-rest, joined, parted}
 

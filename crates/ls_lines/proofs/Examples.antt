@@ -1,4 +1,4 @@
--- Examples: words, commands and the places of faults.
+-- Examples: commands and the places of faults.
 use Rattle.ls_lines.proofs.Vocabulary.{◌++◌, ◌∷◌, ◌≡◌, Command, List, None, Some, ℕ, [], codes, command, command_of, cut, digits, false, fault_place, forms, is_begun, is_of, is_plain, laid_out, parts, refl, replicate, spelled, spelled_as, spelling, true, words, words_joined}
 use Rattle.ls_lines.specs.declared.command.Command.TheVariants as commands
 use Rattle.ls_lines.specs.declared.opening.OpeningCommand.TheVariants as openings
@@ -8,14 +8,6 @@ use Rattle.ls_lines.specs.declared.view.ViewCommand.TheVariants as views
 use Rattle.ls_lines.specs.declared.safe.SafeCommand.TheVariants as safes
 use Rattle.ls_lines.specs.declared.setting.SettingCommand.TheVariants as settings
 use Rattle.ls_lines.specs.declared.pupil.PupilCommand.TheVariants as pupils
-
-commas_and_colons : words (codes "yes a,b:c\r") ≡ codes "yes" ∷ codes "a" ∷ codes "b" ∷ codes ":" ∷ codes "c" ∷ []
-unfolding words
-commas_and_colons = refl
-
-note : words (codes " \t# note") ≡ []
-unfolding words
-note = refl
 
 empty_line : command_of (words (codes " ,, ")) ≡ Some commands.Nothing
 unfolding words command_of forms parts command cut is_of spelling

@@ -1,7 +1,4 @@
 mod Vocabulary
-pub mod Runs
-pub mod Numbers
-pub mod Solid
 pub mod Ascii
 pub mod Cutting
 pub mod Places
@@ -12,9 +9,6 @@ pub mod Exact
 pub mod Apart
 pub mod Initials
 pub mod Printed
-pub mod Rewords
 pub mod Recut
 pub mod ReadBack
 pub mod Examples
-pub mod Cuts
-mod LineEnds

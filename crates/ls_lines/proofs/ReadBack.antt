@@ -1,12 +1,12 @@
 -- A printed command is read back.
 use Rattle.ls_lines.proofs.Vocabulary.{◌∙◌, ◌∷◌, ◌≡◌, Bool, Command, Filling, Fixed, Form, List, Many, None, Number, One, Part, Right, Some, Text, Word, Words, ℕ, [], all_stand, and_parts, ap, arith, bytes_eq, codes, command, command_of, decimal, false, forms, greatest_number, if◌then◌else◌, is_of, is_plain, is_some, laid_out, leb-true, list_all, map, most_counted, nat_le, nat_list_eq_equiv, never, number_up_to, parts, refl, spelled, spelled_as, spelling, stands_at, true, words, words_joined, words_of}
-use Rattle.ls_lines.specs.declared.kind.Kind.TheVariants as kind
+use Rattle.ls_cutting.specs.declared.kind.Kind.TheVariants as kind
 use Rattle.ls_lines.specs.declared.command.Command.TheVariants as commands
 use Rattle.ls_lines.specs.declared.file.FileCommand.TheVariants as files
 use Rattle.ls_lines.specs.declared.view.ViewCommand.TheVariants as views
 use Rattle.ls_lines.specs.declared.safe.SafeCommand.TheVariants as safes
-use Rattle.ls_lines.proofs.Numbers.{number_up_to-of_decimal}
-use Rattle.ls_lines.proofs.Rewords.{begins, words-line}
+use Rattle.ls_cutting.proofs.Numbers.{number_up_to-of_decimal}
+use Rattle.ls_cutting.proofs.Rewords.{begins, words-line}
 use Rattle.ls_lines.proofs.Recut.{fits_at, all_fit, flat, recut, words-fit}
 use Rattle.ls_lines.proofs.Parted.{forms_end}
 use Rattle.ls_lines.proofs.Exact.{line_exact}

@@ -1,8 +1,8 @@
 -- Words that fit the parts of a form are cut as they were given.
 use Rattle.ls_lines.proofs.Vocabulary.{◌&&◌, ◌++◌, ◌+◌, ◌∙◌, ◌∷◌, ◌≡◌, Bool, Fixed, Keyword, Kind, List, Many, One, Part, Some, Text, ℕ, [], and_parts, ap, arith, cut, drop-append_seam, false, fits, flat_map, inl, inr, is_of, length, list_all, never, not, not-true, prefix_len, refl, same_text, spelling, subst, suc, sym, take-append_seam, true}
 use Rattle.ls_lines.specs.declared.keyword.Keyword.TheVariants as word
-use Rattle.ls_lines.proofs.Solid.{kind-solid}
-use Rattle.ls_lines.proofs.Rewords.{IsWord, AreWords}
+use Rattle.ls_cutting.proofs.Solid.{kind-solid}
+use Rattle.ls_cutting.proofs.Rewords.{IsWord, AreWords}
 use Rattle.ls_lines.proofs.Parted.{ends, many_end}
 
 -- whether the words can stand at the part, and the words of each list at each part

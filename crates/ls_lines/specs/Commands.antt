@@ -4,8 +4,8 @@ use Rattle.std.specs.Prelude.{List, [], ◌∷◌, length, take, drop, filter_ma
 use Rattle.std.specs.Prelude.{Option, Some, None, option_map}
 use Rattle.std.specs.List.{list_any, prefix_len}
 use Rattle.std.specs.Option.{option_map_or, option_and_then}
-use Rattle.ls_lines.specs.Lines.{Text}
-use Rattle.ls_lines.specs.Kinds.{is_of}
+use Rattle.ls_cutting.specs.Lines.{Text}
+use Rattle.ls_cutting.specs.Kinds.{is_of}
 use Rattle.ls_lines.specs.Spelling.{spelling}
 use Rattle.ls_lines.specs.Forms.{parts, command, forms}
 use Rattle.ls_lines.specs.declared.part.Part.{Part}

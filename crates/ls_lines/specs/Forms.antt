@@ -2,11 +2,11 @@
 -- (`Printing`) and a fault has its place. A form is named behind its topic, as `edit.Yes`, and a
 -- command behind the plural, as `edits.Yes`.
 use Rattle.std.specs.Prelude.{List, [], ◌∷◌, ◌++◌, map, Some, None}
-use Rattle.ls_lines.specs.Lines.{Text}
-use Rattle.ls_lines.specs.Kinds.{most_counted}
+use Rattle.ls_cutting.specs.Lines.{Text}
+use Rattle.ls_cutting.specs.Kinds.{most_counted}
 use Rattle.ls_lines.specs.Given.{all, one, count, number, is_right}
 use Rattle.ls_lines.specs.Operands.{Filling, Word, Words, Number, Right}
-use Rattle.ls_lines.specs.declared.kind.Kind.TheVariants as kind
+use Rattle.ls_cutting.specs.declared.kind.Kind.TheVariants as kind
 use Rattle.ls_lines.specs.declared.keyword.Keyword.TheVariants as word
 use Rattle.ls_lines.specs.declared.part.Part.{Part}
 use Rattle.ls_lines.specs.declared.part.Part.TheVariants.{Fixed, One, Many}

@@ -1,8 +1,8 @@
 -- What stands at the parts of a form, which are counted from 0.
 use Rattle.std.specs.Prelude.{ℕ, Bool, List, [], slice_index_or, bytes_eq, codes, unwrap_or}
-use Rattle.ls_lines.specs.Lines.{Text}
-use Rattle.ls_lines.specs.Numbers.{number_up_to}
-use Rattle.ls_lines.specs.Kinds.{most_counted, greatest_number}
+use Rattle.ls_cutting.specs.Lines.{Text}
+use Rattle.ls_cutting.specs.Numbers.{number_up_to}
+use Rattle.ls_cutting.specs.Kinds.{most_counted, greatest_number}
 
 -- the words
 abbrev pub all : List (List Text) → ℕ → List Text

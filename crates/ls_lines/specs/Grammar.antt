@@ -1,9 +1,9 @@
 -- The lines of a form, by rules. (The law `forms_are_exact` says that `cut` and `is_begun` tell
 -- them.)
 use Rattle.std.specs.Prelude.{◌≡◌, true, List, [], ◌∷◌, ◌++◌}
-use Rattle.ls_lines.specs.Lines.{Text}
+use Rattle.ls_cutting.specs.Lines.{Text}
 use Rattle.ls_lines.specs.Commands.{fits}
-use Rattle.ls_lines.specs.declared.kind.Kind.{Kind}
+use Rattle.ls_cutting.specs.declared.kind.Kind.{Kind}
 use Rattle.ls_lines.specs.declared.keyword.Keyword.{Keyword}
 use Rattle.ls_lines.specs.declared.part.Part.{Part}
 use Rattle.ls_lines.specs.declared.part.Part.TheVariants.{Fixed, One, Many}

@@ -1,6 +1,6 @@
 -- What stands at a part of a form.
 use Rattle.std.specs.Prelude.{List, [], ◌∷◌, ℕ, Bool, flat_map, ◌++◌, codes, decimal, if◌then◌else◌}
-use Rattle.ls_lines.specs.Lines.{Text}
+use Rattle.ls_cutting.specs.Lines.{Text}
 use Rattle.ls_lines.specs.declared.operand.Operand.{Operand}
 use Rattle.ls_lines.specs.declared.operand.Operand.TheVariants as held
 

@@ -1,12 +1,12 @@
 -- Printing a command, by the table of forms.
 use Rattle.std.specs.Prelude.{ℕ, Bool, true, false, ◌&&◌, nat_le, List, [], ◌∷◌, map, flat_map}
-use Rattle.std.specs.List.{list_all, join_with_byte}
-use Rattle.ls_lines.specs.Lines.{Text}
-use Rattle.ls_lines.specs.Kinds.{is_of, most_counted, greatest_number}
+use Rattle.std.specs.List.{list_all}
+use Rattle.ls_cutting.specs.Lines.{Text}
+use Rattle.ls_cutting.specs.Kinds.{is_of, most_counted, greatest_number}
 use Rattle.ls_lines.specs.Spelling.{spelling}
 use Rattle.ls_lines.specs.Forms.{parts, spelled_as}
 use Rattle.ls_lines.specs.Operands.{Filling, Word, Words, Number, Right, words_of}
-use Rattle.ls_lines.specs.declared.kind.Kind.TheVariants as kind
+use Rattle.ls_cutting.specs.declared.kind.Kind.TheVariants as kind
 use Rattle.ls_lines.specs.declared.part.Part.{Part}
 use Rattle.ls_lines.specs.declared.part.Part.TheVariants.{Fixed, One, Many}
 use Rattle.ls_lines.specs.declared.command.Command.{Command}
@@ -22,10 +22,6 @@ laid_out (p ∷ ps) (ws ∷ given) = ws ∷ laid_out ps given
 -- the words of the command
 unfoldable pub spelled : Command → List Text
 spelled c = let s = spelled_as c in flat_map (λ ws. ws) (laid_out (parts s.0) (map words_of s.1))
-
--- words, joined by single spaces
-abbrev pub words_joined : List Text → List ℕ
-words_joined ws = join_with_byte 32 ws
 
 -- whether it can stand at the part
 abbrev pub stands_at : Part → Filling → Bool

@@ -2,7 +2,7 @@
 use Rattle.std.specs.Prelude.{ℕ, ◌+◌, Bool, true, false, ◌==◌}
 use Rattle.std.specs.Prelude.{List, [], ◌∷◌, drop, filter, slice_index, slice_index_or}
 use Rattle.std.specs.Option.{option_map_or}
-use Rattle.ls_lines.specs.Lines.{Text}
+use Rattle.ls_cutting.specs.Lines.{Text}
 use Rattle.ls_lines.specs.Spelling.{spelling}
 use Rattle.ls_lines.specs.Forms.{parts, forms}
 use Rattle.ls_lines.specs.Commands.{front}

@@ -1,6 +1,6 @@
 -- The words of the command language itself.
 use Rattle.std.specs.Prelude.{codes}
-use Rattle.ls_lines.specs.Lines.{Text}
+use Rattle.ls_cutting.specs.Lines.{Text}
 use Rattle.ls_lines.specs.declared.keyword.Keyword.{Keyword}
 use Rattle.ls_lines.specs.declared.keyword.Keyword.TheVariants as word
 

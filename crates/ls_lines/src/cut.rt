@@ -4,11 +4,10 @@ ghost use Rattle.std.specs.Str.{IsAscii};
 ghost use Rattle.ls_lines.specs.Commands.{cut};
 ghost use Rattle.ls_lines.specs.Given.{all, one, count, number, is_right};
 
-use crate::number::number_up_to;
 use crate::reading::front;
-use crate::token::Token;
 use crate::{GREATEST_NUMBER, MOST_COUNTED, Part, Word, WordList};
 use arrayvec::ArrayVec;
+use ls_cutting::{Token, number_up_to};
 use std::alloc::{AllocError, Global};
 use std::marker::Model;
 

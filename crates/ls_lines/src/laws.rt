@@ -1,10 +1,10 @@
 // Laws of the forms.
 ghost use Rattle.std.specs.Prelude.{◌≡◌, ◌≤◌, ◌↔◌, ℕ, List, is_some, true};
-ghost use Rattle.ls_lines.specs.Lines.{Text, words};
+ghost use Rattle.ls_cutting.specs.Lines.{Text, words, words_joined};
 ghost use Rattle.ls_lines.specs.Forms.{parts};
 ghost use Rattle.ls_lines.specs.Commands.{cut, is_begun, command_of, count_of};
-ghost use Rattle.ls_lines.specs.Kinds.{most_counted};
-ghost use Rattle.ls_lines.specs.Printing.{is_plain, spelled, words_joined};
+ghost use Rattle.ls_cutting.specs.Kinds.{most_counted};
+ghost use Rattle.ls_lines.specs.Printing.{is_plain, spelled};
 ghost use Rattle.ls_lines.specs.Grammar.{IsLine, Completes};
 ghost use Rattle.ls_lines.specs.declared.form.Form.{Form};
 ghost use Rattle.ls_lines.specs.declared.command.Command.{Command};

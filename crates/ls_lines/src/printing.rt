@@ -1,6 +1,7 @@
 // Printing commands by the table of forms.
 ghost use Rattle.std.specs.Prelude.{◌≡◌, IfOk, map, flat_map};
-ghost use Rattle.ls_lines.specs.Printing.{laid_out, spelled, words_joined};
+ghost use Rattle.ls_cutting.specs.Lines.{words_joined};
+ghost use Rattle.ls_lines.specs.Printing.{laid_out, spelled};
 ghost use Rattle.ls_lines.specs.Operands.{shown, with_spaces};
 
 use crate::operand::{Operand, push_word};

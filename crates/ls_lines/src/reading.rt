@@ -1,24 +1,16 @@
 // Reading a line by the table of forms.
-ghost use Rattle.std.specs.Prelude.{◌≡◌, ◌<◌, ◌≤◌, ◌+◌, ℕ, true, None, Some, IfOk, IfSome, IsErrOf};
-ghost use Rattle.std.specs.Prelude.{[], All, length, take};
+ghost use Rattle.std.specs.Prelude.{◌≡◌, ◌<◌, ◌≤◌, ◌+◌, ℕ, None, Some, IfOk, IfSome, IsErrOf};
+ghost use Rattle.std.specs.Prelude.{All, length, take};
 ghost use Rattle.std.specs.Str.{IsAscii};
-ghost use Rattle.ls_lines.specs.Lines.{words, runs, is_note, without_return, longest_line};
+ghost use Rattle.ls_cutting.specs.Lines.{words, runs, longest_line};
 ghost use Rattle.ls_lines.specs.Commands.{fits, front, command_of, fault_place};
 ghost use Rattle.ls_lines.specs.Reading.{initial, begun_length};
 
 use crate::cut::Cut;
-use crate::token::{Token, begins_note, push_runs, without_return};
-use crate::{Command, Form, LineFault, Part};
+use crate::{Command, Form, LineFault, Part, is_note};
+use ls_cutting::{Token, push_runs, without_return};
 use smallvec::SmallVec;
 use std::alloc::Global;
-
-/// Whether the line is a note: its first byte after spaces and tabs is `#`. It has no words then.
-pub fn is_note(line: &[u8]) -> bool
-    ensures note { result ≡ is_note (without_return line.now) }
-    ensures silent { result ≡ true → words line.now ≡ [] }
-{
-    begins_note(without_return(line))
-}
 
 /// The command that a line is. The line has no line feed, and at most as many bytes as are read.
 pub fn read_command(alloc: Global, line: &[u8]) -> Result<Command, LineFault>

@@ -7,10 +7,10 @@ use Rattle.std.specs.List.{list_all, list_any, flat_map, slice_split}
 use Rattle.std.proofs.lemmas.Bool.{cases_Bool}
 use Rattle.std.proofs.lemmas.Bool.Decides.{nat_tests}
 use Rattle.ls_lists.proofs.Places.{is_some-position}
-use Rattle.ls_lines.specs.Lines.{Text, parts_words, runs}
-use Rattle.ls_lines.specs.Lines.{spaced}
-unfoldable use Rattle.ls_lines.specs.Kinds.{is_of}
-use Rattle.ls_lines.proofs.Runs.{runs_from, runs-byte_by_byte, stands_alone, word_of}
+use Rattle.ls_cutting.specs.Lines.{Text, parts_words, runs}
+use Rattle.ls_cutting.specs.Lines.{spaced}
+unfoldable use Rattle.ls_cutting.specs.Kinds.{is_of}
+use Rattle.ls_cutting.proofs.Runs.{runs_from, runs-byte_by_byte, stands_alone, word_of}
 use Rattle.ls_domain.specs.Domains.{is_name}
 use Rattle.ls_domain.specs.Meanings.{is_named, item_of, number_of}
 use Rattle.ls_domain.proofs.Numbers.{is_named-none, is_named-some}

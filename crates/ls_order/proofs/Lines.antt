@@ -5,8 +5,8 @@ use Rattle.std.proofs.Common.{Result, Some, ap, arith, length, refl, subst, sym}
 use Rattle.std.specs.Option.{MatchOption}
 use Rattle.ls_set.specs.ItemSet.{Items, has}
 use Rattle.ls_origins.specs.Relations.{below_of}
-use Rattle.ls_lines.specs.{Text}
-unfoldable use Rattle.ls_lines.specs.{lines}
+use Rattle.ls_cutting.specs.{Text}
+unfoldable use Rattle.ls_cutting.specs.{lines}
 use Rattle.ls_origins.specs.declared.pair_fault.PairFault.{PairFault}
 use Rattle.ls_origins.specs.declared.pair_fault.PairFault.TheVariants.{BadLine, UnknownItem, Cycle}
 use Rattle.ls_origins.specs.declared.pair_fault.PairFault.TheVariants.{Memory}

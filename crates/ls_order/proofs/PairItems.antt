@@ -3,7 +3,7 @@ use Rattle.std.proofs.Common.{ℕ, ◌<◌, ◌∷◌, ◌≡◌, List, None, Op
 use Rattle.std.proofs.Common.{fold, inl, inr}
 use Rattle.std.proofs.Common.{length, refl, subst}
 use Rattle.std.proofs.lemmas.Bool.{cases_Bool}
-use Rattle.ls_lines.specs.{Text, words}
+use Rattle.ls_cutting.specs.{Text, words}
 use Rattle.ls_lists.proofs.Places.{position-lt}
 use Rattle.ls_domain.specs.Domains.{is_name}
 use Rattle.ls_domain.specs.Meanings.{number_of}

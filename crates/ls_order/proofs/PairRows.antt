@@ -10,7 +10,7 @@ use Rattle.std.proofs.lemmas.Bool.{and_parts, cases_eq, or_cases}
 use Rattle.std.proofs.lemmas.List.{get_or-set_same, get_or-set_other, length-set}
 use Rattle.ls_set.specs.ItemSet.{Items, has, empty, with}
 use Rattle.ls_set.proofs.Sets.{has-empty, has-with}
-unfoldable use Rattle.ls_lines.specs.{lines}
+unfoldable use Rattle.ls_cutting.specs.{lines}
 use Rattle.ls_origins.specs.Relations.{below_of}
 use Rattle.ls_order.specs.Closing.{AreRows}
 use Rattle.ls_order.specs.Orders.{ArePairs, has_pair}

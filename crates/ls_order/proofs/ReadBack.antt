@@ -9,13 +9,13 @@ use Rattle.std.proofs.lemmas.List.Elements.{All-append, All-cons, All-from_recur
 use Rattle.std.proofs.lemmas.List.Splits.{slice_split_at}
 use Rattle.ls_lists.proofs.Every.{each, list_all-All}
 use Rattle.ls_set.specs.ItemSet.{Items}
-use Rattle.ls_lines.specs.{Text}
-unfoldable use Rattle.ls_lines.specs.{is_of, lines, words}
-use Rattle.ls_lines.specs.Lines.{is_blank}
-use Rattle.ls_lines.specs.Kinds.{is_cursor_byte, is_from_to, is_name_byte, longest_name}
-use Rattle.ls_lines.specs.declared.kind.Kind.TheVariants.{Name}
-use Rattle.ls_lines.proofs.Rewords.{begins, words-line}
-use Rattle.ls_lines.proofs.Solid.{IsSolid, kind-solid}
+use Rattle.ls_cutting.specs.{Text}
+unfoldable use Rattle.ls_cutting.specs.{is_of, lines, words}
+use Rattle.ls_cutting.specs.Lines.{is_blank}
+use Rattle.ls_cutting.specs.Kinds.{is_cursor_byte, is_from_to, is_name_byte, longest_name}
+use Rattle.ls_cutting.specs.declared.kind.Kind.TheVariants.{Name}
+use Rattle.ls_cutting.proofs.Rewords.{begins, words-line}
+use Rattle.ls_cutting.proofs.Solid.{IsSolid, kind-solid}
 use Rattle.ls_domain.specs.Domains.{IsDomain, is_name}
 use Rattle.ls_domain.specs.Texts.{name_of}
 use Rattle.ls_domain.proofs.Numbers.{number_of-name_of}

@@ -4,7 +4,7 @@ use Rattle.std.proofs.Common.{ap, length, option_map}
 use Rattle.std.proofs.Common.{refl, subst, sym}
 use Rattle.std.specs.Option.{option_map_or}
 use Rattle.ls_set.specs.ItemSet.{Items}
-use Rattle.ls_lines.specs.{Text}
+use Rattle.ls_cutting.specs.{Text}
 use Rattle.ls_origins.specs.Relations.{first_cycle, relation}
 use Rattle.ls_origins.specs.declared.pair_fault.PairFault.{PairFault}
 use Rattle.ls_origins.specs.declared.pair_fault.PairFault.TheVariants.{Cycle}

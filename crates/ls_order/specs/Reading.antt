@@ -1,7 +1,7 @@
 -- What is read of a file of pairs, line by line.
 use Rattle.std.specs.Prelude.{ℕ, ◌≡◌, List, length, Ok}
 use Rattle.ls_set.specs.ItemSet.{Items}
-use Rattle.ls_lines.specs.{Text}
+use Rattle.ls_cutting.specs.{Text}
 use Rattle.ls_files.specs.PairFiles.{pairs_of_file, with_line}
 use Rattle.ls_order.specs.Closing.{AreRows}
 use Rattle.ls_order.specs.Orders.{ArePairs}

@@ -1,6 +1,6 @@
 -- A line of a file of pairs, word by word.
 use Rattle.std.specs.Prelude.{ℕ, ◌==◌, if◌then◌else◌, List, length, Option, Some}
-use Rattle.ls_lines.specs.{Text}
+use Rattle.ls_cutting.specs.{Text}
 use Rattle.ls_domain.specs.Domains.{is_name}
 use Rattle.ls_domain.specs.Meanings.{number_of}
 use Rattle.ls_files.specs.PairFiles.{pair_named}

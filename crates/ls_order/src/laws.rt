@@ -1,7 +1,7 @@
 // Laws of relations and their texts.
 ghost use Rattle.std.specs.Prelude.{◌≡◌, List, Ok, length};
 ghost use Rattle.ls_set.specs.ItemSet.{Items};
-ghost use Rattle.ls_lines.specs.{Text};
+ghost use Rattle.ls_cutting.specs.{Text};
 ghost use Rattle.ls_domain.specs.Domains.{IsDomain};
 ghost use Rattle.ls_origins.specs.Relations.{covers};
 ghost use Rattle.ls_files.specs.PairFiles.{covers_text, relation_of};

@@ -2,7 +2,7 @@
 ghost use Rattle.std.specs.Prelude.{◌≡◌, ◌<◌, ◌≤◌, ◌∷◌, ℕ, List, [], length, replicate};
 ghost use Rattle.std.specs.Prelude.{IfErr, IfOk, MatchOption, OnOk, slice_index_or, slice_set};
 ghost use Rattle.ls_set.specs.ItemSet.{empty, with};
-ghost use Rattle.ls_lines.specs.{lines};
+ghost use Rattle.ls_cutting.specs.{lines};
 ghost use Rattle.ls_order.specs.Closing.{AreRows};
 ghost use Rattle.ls_order.specs.Orders.{ArePairs};
 ghost use Rattle.ls_files.specs.PairFiles.{IsPairFaultOf, pair_items, pairs_of_file, with_line};

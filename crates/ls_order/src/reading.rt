@@ -1,14 +1,14 @@
 // Lines of a file of pairs.
 ghost use Rattle.std.specs.Prelude.{◌≡◌, ◌<◌, ◌||◌, ◌==◌, ℕ, length};
-ghost use Rattle.ls_lines.specs.Lines.{is_blank, parts_words, runs, without_return};
+ghost use Rattle.ls_cutting.specs.Lines.{is_blank, parts_words, runs, without_return};
 ghost use Rattle.ls_files.specs.PairFiles.{line_read};
 ghost use Rattle.ls_files.specs.declared.pair_line.PairLine.TheVariants.{Pair};
 ghost use Rattle.ls_order.specs.Words.{line_met, line_worded, with_word};
 
 use crate::met::Met;
+use ls_cutting::{Kind, is_note};
 use ls_domain::Domain;
 use ls_files::PairLine;
-use ls_lines::{Kind, is_note};
 
 /// What a line is, given without its line feed.
 pub(crate) fn read_line(d: &Domain, line: &[u8]) -> PairLine

@@ -6,7 +6,7 @@ use Rattle.ls_theory.specs.Settings.{Settings}
 use Rattle.ls_weight.specs.Weighings.{Weighing}
 use Rattle.ls_weight.specs.declared.fault.WeightFault.{WeightFault}
 use Rattle.ls_weight.specs.declared.fault.WeightFault.TheVariants.{Heavy, Memory}
-use Rattle.ls_lines.specs.{Text}
+use Rattle.ls_cutting.specs.{Text}
 use Rattle.ls_meaning.specs.{Change, new_pupil, weighing_refusals}
 use Rattle.ls_meaning.specs.Sessions.{Pupil}
 use Rattle.ls_meaning.specs.declared.response.Refusal.{Refusal}

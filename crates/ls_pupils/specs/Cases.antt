@@ -8,7 +8,7 @@ use Rattle.std.specs.List.{All, list_all}
 use Rattle.ls_set.specs.{is_good, most_items}
 use Rattle.ls_theory.specs.{compat, most_states}
 use Rattle.ls_meaning.specs.{Change, most_pupils}
-use Rattle.ls_lines.specs.{Text}
+use Rattle.ls_cutting.specs.{Text}
 use Rattle.ls_standing.specs.Starts.{start_of, IsStartOn}
 use Rattle.ls_meaning.specs.Sessions.{Pupil}
 use Rattle.ls_meaning.specs.declared.response.Response.{Response}

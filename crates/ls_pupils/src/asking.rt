@@ -9,9 +9,9 @@ ghost use Rattle.ls_pupils.specs.Cases.{case_name, pupil_of_case, pupils_of, cha
 ghost use Rattle.ls_pupils.specs.Cases.{IsCase, IsOwnCase, ArePupils};
 
 use crate::cases::{PupilCase, PupilCases};
+use ls_cutting::Word;
 use ls_fringe::fringes;
 use ls_interior::Listed;
-use ls_lines::Word;
 use ls_meaning::{Refusal, Response, Shown};
 use ls_set::PLACES;
 

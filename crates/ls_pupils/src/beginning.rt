@@ -10,10 +10,10 @@ ghost use Rattle.ls_pupils.specs.Beginning.{IsCaseOf, IsNewPupil, RefusesHeavy, 
 
 use crate::cases::{PupilCase, PupilCases};
 use ls_assess::{Pupil, Settings, WeightFault};
+use ls_cutting::Word;
 use ls_enum::{ListFault, list_all};
 use ls_expert::{Inquiry, Start};
 use ls_interior::{Counted, Steps};
-use ls_lines::Word;
 use ls_meaning::{Refusal, Response};
 use ls_set::{ItemSet, Query, QueryList};
 use std::alloc::{AllocError, Global};

@@ -4,8 +4,8 @@ use Rattle.ls_meaning.specs.{edit_of, file_effect, in_domain, opening_row, pupil
 use Rattle.ls_files.specs.Sessions.{Session as SavedSession}
 use Rattle.ls_lines.specs.{pupil_name}
 use Rattle.std.proofs.lemmas.Option.{none-some, same_Some}
-use Rattle.ls_lines.specs.declared.kind.Kind.{Kind}
-use Rattle.ls_lines.specs.declared.kind.Kind.TheVariants.{Name}
+use Rattle.ls_cutting.specs.declared.kind.Kind.{Kind}
+use Rattle.ls_cutting.specs.declared.kind.Kind.TheVariants.{Name}
 use Rattle.ls_lines.specs.declared.keyword.Keyword.TheVariants as Keyword
 use Rattle.ls_lines.specs.declared.part.Part.{Part}
 use Rattle.ls_lines.specs.declared.part.Part.TheVariants.{Fixed, One}

@@ -25,8 +25,8 @@ pub use Rattle.ls_lists.proofs.Places.{drop-parts, part-kept, part-last}
 pub use Rattle.ls_lists.specs.Lists.{spaced}
 pub use Rattle.ls_set.specs.{Items, hex, nibble_of, numbers_from}
 unfoldable pub use Rattle.ls_set.specs.{cursor, has, single}
-pub use Rattle.ls_lines.specs.{Text, is_name_byte}
-unfoldable pub use Rattle.ls_lines.specs.{is_of}
+pub use Rattle.ls_cutting.specs.{Text, is_name_byte}
+unfoldable pub use Rattle.ls_cutting.specs.{is_of}
 pub use Rattle.ls_domain.specs.Domains.{IsDomain, is_name}
 pub use Rattle.ls_domain.specs.Texts.{joined_names, name_of}
 unfoldable pub use Rattle.ls_domain.specs.Texts.{names_of_set}

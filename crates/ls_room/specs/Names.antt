@@ -4,7 +4,7 @@ use Rattle.std.specs.Ordering.{nat_cmp, is_lt}
 use Rattle.std.specs.Cmp.Lexicographic.{slice_cmp}
 use Rattle.json.specs.Print.{quoted}
 use Rattle.ls_set.specs.{numbers_from}
-use Rattle.ls_lines.specs.{Text}
+use Rattle.ls_cutting.specs.{Text}
 use Rattle.ls_domain.specs.Texts.{name_of}
 
 abbrev pub quoted_name : List Text → ℕ → Text

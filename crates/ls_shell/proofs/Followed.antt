@@ -2,7 +2,7 @@
 use Rattle.ls_shell.proofs.Vocabulary.{◌||◌, ◌∙◌, ◌≡◌, ◌⊎◌, AnswersLine, Appends, Appends-kept, Appends-nil, AppendsFront, Bool, Calls, Effect, Ended, Err, Fetched, Folder, Follows, Gives, IsErr, IsErrOf, IsUndone, Keeps, List, Marked, MovesSink, Ok, OnErr, OnOk, Result, Run, Said, Session, Some, Text, World, ℕ, [], ap, calls_of, cond, effect_at, ended_of, false, folder_with, inl, inr, is_long, kept, length, line_effect, refl, reply_of, subst, sym, true}
 use Rattle.std.proofs.Math.Path.{fun_ext}
 use Rattle.std.specs.declared.option.Option.{Option}
-use Rattle.ls_lines.specs.declared.ended.Ended.TheVariants.{Whole, Long}
+use Rattle.ls_cutting.specs.declared.ended.Ended.TheVariants.{Whole, Long}
 use Rattle.ls_state.specs.Decides.{Sees, IsDecided}
 
 -- where the files are told, what was seen is the folder, with the line's mark

@@ -11,10 +11,10 @@ pub use Rattle.ls_edge.proofs.Known.{appends_keep, appends_more, appends_none}
 pub use Rattle.ls_edge.specs.Causes.{AppendsFront, Rose}
 pub use Rattle.ls_edge.specs.Files.{FetchedFrom, Fetches, Folder, FolderStays, GivesBytes, given, longest_file}
 pub use Rattle.ls_edge.specs.declared.traits.FetchFault.{FetchFault}
-pub use Rattle.ls_lines.proofs.Cuts.{ahead-lines, goes_on}
+pub use Rattle.ls_cutting.proofs.Cuts.{ahead-lines, goes_on}
 pub use Rattle.ls_lines.specs.{Ends, Holds, IsTaken, Text, ahead, ended_of, is_file, is_from_to, is_long, kept}
 unfoldable pub use Rattle.ls_lines.specs.{command, command_of, cut, forms, is_begun, is_of, lines, parts, spelling, words}
-pub use Rattle.ls_lines.specs.declared.ended.Ended.{Ended}
+pub use Rattle.ls_cutting.specs.declared.ended.Ended.{Ended}
 pub use Rattle.ls_meaning.proofs.Marks.{bare_lines-append, count_marks-cons, count_marks-snoc, mark_count, marked, none-marked, refuses-snoc, replies-snoc, world_after-snoc}
 pub use Rattle.ls_meaning.specs.{Calls, Effect, Fetched, Marked, Session, World, answers, bare_lines, begun_over, calls_of, count_marks, effect_at, folder_with, is_refusal, reply_at, reply_of, started, unmarked, world_next}
 unfoldable pub use Rattle.ls_meaning.specs.{bytes_of, command_effect, line_effect, refuses, replies, world_after}

@@ -14,7 +14,7 @@ use Rattle.std.specs.Option.{option_map_or}
 use Rattle.std.proofs.lemmas.Str.{IsUtf8-string_bytes}
 use Rattle.std.proofs.lemmas.Map.Text.{is_eq-slice_cmp, text_cmp}
 use Rattle.ls_set.specs.ItemSet.{Items, empty}
-use Rattle.ls_lines.specs.Lines.{Text}
+use Rattle.ls_cutting.specs.Lines.{Text}
 use Rattle.ls_files.specs.SkillFiles.{item_sets}
 use Rattle.ls_skill.specs.Maps.{skill_names, skills_seen}
 use Rattle.ls_skill.specs.Gathering.{held_by, put_skill}

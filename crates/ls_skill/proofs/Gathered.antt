@@ -13,7 +13,7 @@ use Rattle.ls_lists.specs.Lists.{IsIn, IsSorted}
 use Rattle.ls_set.specs.ItemSet.{Items, empty, with, set_of, numbers_from}
 use Rattle.ls_set.proofs.Sets.{members, same_set}
 use Rattle.ls_theory.specs.Words.{is_lex_before}
-use Rattle.ls_lines.specs.Lines.{Text}
+use Rattle.ls_cutting.specs.Lines.{Text}
 use Rattle.ls_files.specs.SkillFiles.{Skill, with_text, in_text_order, items_with, skills_in}
 use Rattle.ls_skill.specs.Gathering.{held_by, put_skill, with_skill, with_skills, gathered}
 use Rattle.ls_skill.proofs.TextOrder.{before, same, after, stands, lex-other, lex-trans}

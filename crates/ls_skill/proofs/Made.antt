@@ -17,7 +17,7 @@ use Rattle.ls_theory.specs.Families.{unions}
 use Rattle.ls_laws.proofs.Lists.{some-among}
 use Rattle.ls_laws.proofs.Interiors.{has-unions}
 use Rattle.ls_theory.specs.Words.{is_lex_before}
-use Rattle.ls_lines.specs.Lines.{Text}
+use Rattle.ls_cutting.specs.Lines.{Text}
 use Rattle.ls_origins.specs.Skills.{most_skills}
 use Rattle.ls_files.specs.SkillFiles.{item_sets, first_bare, in_text_order, items_with, skills_in}
 use Rattle.ls_skill.specs.Maps.{IsMap, skill_names}

@@ -16,7 +16,7 @@ use Rattle.ls_laws.proofs.Atoms.{base-atom, base-member}
 use Rattle.ls_laws.proofs.Families.{spanned-IsFamily}
 use Rattle.ls_clauses.specs.Starts.{IsCover}
 use Rattle.ls_base.specs.Bases.{BaseState, family}
-use Rattle.ls_lines.specs.Lines.{Text}
+use Rattle.ls_cutting.specs.Lines.{Text}
 use Rattle.ls_origins.specs.Skills.{any, most_skills}
 use Rattle.ls_files.specs.SkillFiles.{Skill, item_sets, digit_of, skill_name, numbered_skills}
 use Rattle.ls_files.specs.SkillFiles.{base_skills}

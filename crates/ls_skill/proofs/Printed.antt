@@ -13,7 +13,7 @@ use Rattle.serde_json.specs.View.{view, items_of as values_of}
 use Rattle.serde_json.specs.Written.{has_float, items_have_float, members_have_float}
 use Rattle.ls_lists.proofs.Every.{All-given}
 use Rattle.ls_set.specs.ItemSet.{Items, has, numbers_from}
-use Rattle.ls_lines.specs.Lines.{Text}
+use Rattle.ls_cutting.specs.Lines.{Text}
 use Rattle.ls_domain.specs.Texts.{name_of}
 use Rattle.ls_files.specs.SurmiseFiles.{list_value}
 use Rattle.ls_files.specs.SkillFiles.{Skill, own_skills, rows_of, members_from, skills_value}

@@ -28,7 +28,7 @@ use Rattle.ls_set.proofs.Listed.{least-none_left, least-is}
 use Rattle.ls_theory.specs.Words.{is_lex_before}
 use Rattle.ls_laws.proofs.Lists.{some-from}
 use Rattle.ls_laws.proofs.Interiors.{has-unions}
-use Rattle.ls_lines.specs.Lines.{Text}
+use Rattle.ls_cutting.specs.Lines.{Text}
 use Rattle.ls_domain.specs.Domains.{IsDomain, is_name}
 use Rattle.ls_domain.specs.Meanings.{is_named}
 use Rattle.ls_domain.proofs.Numbers.{is_name-utf8}

@@ -17,7 +17,7 @@ use Rattle.std.proofs.lemmas.Slice.Eq.{bytes_eq-Decides}
 use Rattle.serde_json.specs.Data.{Data, string, Members, no_members, member, put}
 use Rattle.serde_json.specs.Find.{as_str}
 use Rattle.serde_json.specs.View.{items_of as values_of}
-use Rattle.ls_lines.specs.Lines.{Text}
+use Rattle.ls_cutting.specs.Lines.{Text}
 use Rattle.ls_files.specs.SurmiseFiles.{read_each, read_list, read_members, list_value}
 use Rattle.ls_files.specs.SkillFiles.{Table, members_from}
 

@@ -15,7 +15,7 @@ use Rattle.serde_json.specs.Data.{Items as Values, no_items, item, Members, no_m
 use Rattle.serde_json.specs.Find.{as_str, as_array, get_member}
 use Rattle.ls_lists.proofs.Places.{is_some-position}
 use Rattle.ls_set.specs.ItemSet.{numbers_from}
-use Rattle.ls_lines.specs.Lines.{Text}
+use Rattle.ls_cutting.specs.Lines.{Text}
 use Rattle.ls_origins.specs.Skills.{most_skills}
 use Rattle.ls_origins.specs.declared.skill_fault.SkillFault.TheVariants.{BadJson, UnknownItem}
 use Rattle.ls_origins.specs.declared.skill_fault.SkillFault.TheVariants.{NoSkill, Wide}

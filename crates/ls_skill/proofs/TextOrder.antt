@@ -14,7 +14,7 @@ use Rattle.std.proofs.lemmas.Slice.Eq.{bytes_eq-Decides}
 use Rattle.ls_lists.proofs.Bools.{same_truth}
 use Rattle.ls_lists.specs.Lists.{IsIn, IsSorted}
 use Rattle.ls_theory.specs.Words.{is_lex_before}
-use Rattle.ls_lines.specs.Lines.{Text}
+use Rattle.ls_cutting.specs.Lines.{Text}
 use Rattle.ls_files.specs.SkillFiles.{with_text, in_text_order}
 
 pub is_lt-slice_cmp : (v w : Text) → is_lt (slice_cmp nat_cmp v w) ≡ is_lex_before v w

@@ -12,7 +12,7 @@ use Rattle.serde_json.specs.Data.{Data, Items as Values, no_items, item, Members
 use Rattle.serde_json.specs.Data.{member}
 use Rattle.serde_json.specs.Find.{as_str, as_array, as_object, get}
 use Rattle.ls_set.specs.ItemSet.{Items, empty, with, numbers_from}
-use Rattle.ls_lines.specs.Lines.{Text}
+use Rattle.ls_cutting.specs.Lines.{Text}
 use Rattle.ls_domain.specs.Meanings.{is_named}
 use Rattle.ls_domain.specs.Texts.{name_of}
 use Rattle.ls_files.specs.SkillFiles.{Skill}

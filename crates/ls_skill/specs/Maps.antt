@@ -8,7 +8,7 @@ use Rattle.ls_lists.specs.Lists.{IsSorted}
 use Rattle.ls_set.specs.ItemSet.{Items, empty, is_among, most_items}
 use Rattle.ls_theory.specs.Words.{is_lex_before}
 use Rattle.ls_clauses.specs.Starts.{IsCover}
-use Rattle.ls_lines.specs.Lines.{Text}
+use Rattle.ls_cutting.specs.Lines.{Text}
 use Rattle.ls_origins.specs.Skills.{most_skills}
 use Rattle.ls_files.specs.SkillFiles.{Skill, item_sets}
 

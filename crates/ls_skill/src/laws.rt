@@ -1,6 +1,6 @@
 // Laws of skill maps and their texts.
 ghost use Rattle.std.specs.Prelude.{◌≡◌, List, Ok, length};
-ghost use Rattle.ls_lines.specs.{Text};
+ghost use Rattle.ls_cutting.specs.{Text};
 ghost use Rattle.ls_domain.specs.Domains.{IsDomain};
 ghost use Rattle.ls_files.specs.SkillFiles.{Skill, skills_of, skills_text};
 ghost use Rattle.ls_skill.specs.Maps.{IsMap};

@@ -22,7 +22,7 @@ unfoldable pub use Rattle.ls_files.specs.Standing.{is_pupil, stands}
 pub use Rattle.ls_files.specs.SurmiseFiles.{list_value, read_each, read_list}
 pub use Rattle.ls_files.specs.declared.cause.Cause.{Cause}
 pub use Rattle.ls_files.specs.declared.version.Version.{Version}
-pub use Rattle.ls_lines.specs.{Text}
+pub use Rattle.ls_cutting.specs.{Text}
 pub use Rattle.ls_lists.proofs.Places.{drop-next, is_some-position}
 pub use Rattle.ls_pupils.specs.Cases.{ArePupils, IsCase, case_name, pupil_of_case, pupils_of}
 pub use Rattle.ls_pupils.specs.Own.{have_own_names, is_called}

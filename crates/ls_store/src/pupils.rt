@@ -16,9 +16,9 @@ ghost use Rattle.ls_codecs.specs.declared.part_fault.PartFault.TheVariants.{Bad}
 use crate::replaying::pupil_after;
 use ls_assess::Reply;
 use ls_codecs::{PartFault, are_apart, read_at, read_limits, read_list_at, read_odds, read_start};
+use ls_cutting::{Kind, Word};
 use ls_files::Version;
 use ls_interior::Steps;
-use ls_lines::{Kind, Word};
 use ls_pupils::{MOST_PUPILS, PupilCase, PupilCases};
 use ls_set::{PLACES, Query, QueryList};
 use ls_settings::Settings;

@@ -31,7 +31,7 @@ unfoldable pub use Rattle.ls_files.specs.SurmiseFiles.{clauses_in, is_table_name
 pub use Rattle.ls_laws.proofs.Lists.{IsInOrder-filter, same_members, some-among}
 pub use Rattle.ls_laws.specs.Spans.{AreOn}
 unfoldable pub use Rattle.ls_laws.specs.Spans.{spanned}
-pub use Rattle.ls_lines.specs.{Text}
+pub use Rattle.ls_cutting.specs.{Text}
 pub use Rattle.ls_lists.proofs.Bools.{back_in, same_truth}
 pub use Rattle.ls_lists.proofs.Every.{All-given, All-list_all, each, list_all-All}
 pub use Rattle.ls_lists.proofs.Options.{nothing}

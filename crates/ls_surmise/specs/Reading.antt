@@ -10,7 +10,7 @@ use Rattle.serde_json.specs.Find.{as_str, as_object, get}
 use Rattle.ls_set.specs.{Items, numbers_from}
 use Rattle.ls_theory.specs.declared.surmise_fault.SurmiseFault.{SurmiseFault}
 use Rattle.ls_theory.specs.declared.surmise_fault.SurmiseFault.TheVariants.{BadJson, UnknownItem}
-use Rattle.ls_lines.specs.{Text}
+use Rattle.ls_cutting.specs.{Text}
 use Rattle.ls_domain.specs.Meanings.{is_named, items_of}
 use Rattle.ls_domain.specs.Texts.{name_of}
 use Rattle.ls_files.specs.SurmiseFiles.{Table, read_list, is_table_named, clauses_in, table_of}

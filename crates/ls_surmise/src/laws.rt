@@ -4,7 +4,7 @@ ghost use Rattle.ls_set.specs.{Items};
 ghost use Rattle.ls_theory.specs.Starts.{Clauses};
 ghost use Rattle.ls_theory.specs.{base, compat, most_base_sets};
 ghost use Rattle.ls_clauses.specs.Surmise.{IsSurmise};
-ghost use Rattle.ls_lines.specs.{Text};
+ghost use Rattle.ls_cutting.specs.{Text};
 ghost use Rattle.ls_domain.specs.Domains.{IsDomain};
 ghost use Rattle.ls_files.specs.SurmiseFiles.{surmise_of, surmise_text};
 

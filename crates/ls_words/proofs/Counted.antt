@@ -1,7 +1,7 @@
 -- The words by how many there are.
 use Rattle.std.proofs.Common.{ℕ, ◌≡◌, ◌<◌, ◌≤◌, refl, arith, List, [], ◌∷◌, length, map, slice_index_or, Some, None}
 use Rattle.std.specs.Borrow.{Bor}
-use Rattle.ls_lines.specs.{Text}
+use Rattle.ls_cutting.specs.{Text}
 use Rattle.ls_words.specs.Modes.{mode_of, mode_of_option, mode_of_options}
 use Rattle.ls_words.specs.declared.mode.Mode.TheVariants.{Input}
 

@@ -4,8 +4,8 @@ use Rattle.std.specs.Result.{result_ok}
 use Rattle.std.specs.Str.Parse.{digits_value, ParsesUnsigned}
 use Rattle.std.proofs.lemmas.Str.Parse.{parse_gives}
 use Rattle.std.proofs.lemmas.Bool.{leb-true, and_parts}
-use Rattle.ls_lines.specs.{Text, is_decimal, number_up_to}
-use Rattle.ls_lines.proofs.Numbers.{digits, some_digits}
+use Rattle.ls_cutting.specs.{Text, is_decimal, number_up_to}
+use Rattle.ls_cutting.proofs.Numbers.{digits, some_digits}
 
 -- a number is decimal and at most the most
 parts_of_number : (most : ℕ) (w : Text) → is_some (number_up_to most w) ≡ true → (is_decimal w ≡ true) × (nat_le (digits_value 10 w) most ≡ true)

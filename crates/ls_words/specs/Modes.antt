@@ -2,7 +2,7 @@
 -- the value directly after the option; the word after an option is its value whatever it is.
 use Rattle.std.specs.Prelude.{ℕ, ◌<◌, ◌≤◌, ◌&&◌, if◌then◌else◌, List, [], ◌∷◌, bytes_eq, codes}
 use Rattle.std.specs.Prelude.{Option, Some, None, ⊤}
-use Rattle.ls_lines.specs.{Text, greatest_number, is_file, is_from_to, number_up_to}
+use Rattle.ls_cutting.specs.{Text, greatest_number, is_file, is_from_to, number_up_to}
 use Rattle.ls_words.specs.declared.mode.Mode.{Mode}
 use Rattle.ls_words.specs.declared.mode.Mode.TheVariants.{Input, File, Drill}
 

@@ -1,6 +1,6 @@
 // What the program is asked to do.
 
-use ls_lines::Word;
+use ls_cutting::Word;
 
 /// What the program is asked to do.
 #[derive(Drop)]

@@ -1,13 +1,13 @@
 // Reading the words of the command line.
 ghost use Rattle.std.specs.Prelude.{◌≡◌, ◌↔◌, ◌≤◌, [], Ok, IfOk, IfSome, IsErrOf, None, Some, map};
 ghost use Rattle.std.specs.Option.{ForSome};
-ghost use Rattle.ls_lines.specs.{greatest_number};
+ghost use Rattle.ls_cutting.specs.{greatest_number};
 ghost use Rattle.ls_words.specs.Modes.{mode_of, mode_of_option, mode_of_options, IsInRange};
 ghost use Rattle.ls_words.specs.declared.mode.Mode.TheVariants.{Input};
 ghost use Rattle.ls_words.specs.Modes.{file, drill, read_number};
 
 use crate::{Mode, WordsFault};
-use ls_lines::{Kind, Word};
+use ls_cutting::{Kind, Word};
 use std::alloc::Global;
 
 /// The most items that a drill has.
@@ -59,7 +59,7 @@ fn read_options(first: &str, value: &str, second: &str, other: &str) -> Result<M
 }
 
 // The script that the named file has, where the word is the name of a file.
-#[tactic(auto, unfolding(ls_lines::specs::Kinds::is_of))]
+#[tactic(auto, unfolding(ls_cutting::specs::Kinds::is_of))]
 fn file(alloc: Global, name: &str) -> Result<Mode, WordsFault>
     ensures read { IfOk result (λ m. file name.now ≡ Some m) }
     ensures range { IfOk result IsInRange }
@@ -89,7 +89,7 @@ fn drill(n: Option<u32>, number: Option<u32>) -> Result<Mode, WordsFault>
 }
 
 // The number that a word is, in decimal without a leading zero, where it is at most the greatest.
-#[tactic(auto, unfolding(ls_lines::specs::Kinds::is_of))]
+#[tactic(auto, unfolding(ls_cutting::specs::Kinds::is_of))]
 fn read_number(word: &str) -> Option<u32>
     ensures value { result ≡ read_number word.now }
     ensures few { IfSome result (λ k. k ≤ greatest_number) }

@@ -37,7 +37,7 @@ pub use Rattle.ls_laws.specs.Forced.{IsSound}
 pub use Rattle.ls_enum.proofs.Left.{more_steps}
 pub use Rattle.ls_enum.specs.Listings.{left_after}
 pub use Rattle.ls_paths.specs.Left.{paths_left}
-pub use Rattle.ls_lines.specs.{Text}
+pub use Rattle.ls_cutting.specs.{Text}
 pub use Rattle.ls_domain.specs.Domains.{IsDomain}
 pub use Rattle.ls_domain.specs.Texts.{joined_names, name_of, set_text}
 unfoldable pub use Rattle.ls_domain.specs.Texts.{names_of_set}

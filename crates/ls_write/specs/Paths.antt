@@ -3,7 +3,7 @@ use Rattle.std.specs.Prelude.{◌≡◌, ℕ, List, [], filter, Option}
 use Rattle.ls_lists.specs.Lists.{spaced}
 use Rattle.ls_set.specs.{Items}
 use Rattle.ls_theory.specs.{comes_after, is_lex_before, paths}
-use Rattle.ls_lines.specs.{Text}
+use Rattle.ls_cutting.specs.{Text}
 use Rattle.ls_domain.specs.Texts.{name_of}
 
 -- the learning paths that come after the order, or all of them

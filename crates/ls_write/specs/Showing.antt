@@ -6,7 +6,7 @@ use Rattle.ls_theory.specs.{Interview, atom_sets, base, compatible_sets}
 use Rattle.ls_theory.specs.{is_learning_space, is_order}
 use Rattle.ls_laws.specs.Spans.{AreOn}
 use Rattle.ls_origins.specs.Meshes.{part_items}
-use Rattle.ls_lines.specs.{Text}
+use Rattle.ls_cutting.specs.{Text}
 use Rattle.ls_meaning.specs.{Session}
 use Rattle.ls_meaning.specs.declared.request.SkillModel.{SkillModel}
 use Rattle.ls_meaning.specs.declared.request.SkillModel.TheVariants.{Disjunctive, Conjunctive}

@@ -1,7 +1,7 @@
 -- The text of a skill map, piece by piece.
 use Rattle.std.specs.Prelude.{ℕ, false, List, ◌∷◌, [], ◌++◌}
 use Rattle.json.specs.Print.{quoted}
-use Rattle.ls_lines.specs.{Text}
+use Rattle.ls_cutting.specs.{Text}
 use Rattle.ls_files.specs.SkillFiles.{Skill, own_skills}
 use Rattle.ls_room.specs.Names.{quoted_name}
 use Rattle.ls_write.specs.SurmiseTexts.{listed}

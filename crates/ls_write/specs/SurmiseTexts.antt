@@ -5,7 +5,7 @@ use Rattle.json.specs.Print.{quoted}
 use Rattle.serde_json.specs.Written.{comma_if}
 use Rattle.ls_set.specs.{Items}
 use Rattle.ls_theory.specs.{atoms_at}
-use Rattle.ls_lines.specs.{Text}
+use Rattle.ls_cutting.specs.{Text}
 use Rattle.ls_domain.specs.Texts.{names_of_set}
 use Rattle.ls_room.specs.Names.{items_by_name, quoted_name}
 

@@ -1,5 +1,5 @@
 use Rattle.ls_family.proofs.Vocabulary.{◌+◌, ◌<◌, ◌==◌, arith, length, length-drop, lines, take_rest}
-use Rattle.ls_lines.proofs.Cuts.{split_uncut, split_first}
+use Rattle.ls_cutting.proofs.Cuts.{split_uncut, split_first}
 use Rattle.ls_family.proofs.family.first_line.Goals as goal
 
 pub returns-in-None : goal.returns-in-None

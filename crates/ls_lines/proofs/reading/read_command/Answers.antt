@@ -1,6 +1,6 @@
 use Rattle.ls_lines.proofs.Vocabulary.{◌∙◌, [], ap, refl, runs, sym}
 use Rattle.ls_lines.proofs.Choosing.{no_words}
-use Rattle.ls_lines.proofs.Runs.{words-runs}
+use Rattle.ls_cutting.proofs.Runs.{words-runs}
 use Rattle.ls_lines.proofs.reading.read_command.Goals as goal
 
 pub returns-then-is_note-clause-read : goal.returns-then-is_note-clause-read

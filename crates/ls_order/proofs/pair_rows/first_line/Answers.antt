@@ -3,8 +3,8 @@ use Rattle.std.proofs.Common.{tests}
 use Rattle.std.proofs.lemmas.Iterator.{YieldsList-from_slice}
 use Rattle.std.proofs.lemmas.Iterator.Search.{position_from_yields_List}
 use Rattle.std.proofs.lemmas.List.{length-drop, take_rest}
-unfoldable use Rattle.ls_lines.specs.{lines}
-use Rattle.ls_lines.proofs.Cuts.{split_uncut, split_first}
+unfoldable use Rattle.ls_cutting.specs.{lines}
+use Rattle.ls_cutting.proofs.Cuts.{split_uncut, split_first}
 use Rattle.ls_order.proofs.pair_rows.first_line.Goals as goal
 
 pub returns-in-None : goal.returns-in-None

@@ -4,8 +4,8 @@ use Rattle.std.proofs.lemmas.Iterator.Consumers.{YieldsList-at, YieldsList-from_
 use Rattle.std.proofs.lemmas.Iterator.Consumers.{fold_from_yields_List}
 use Rattle.std.proofs.lemmas.Iterator.Search.{any_from_yields_List}
 use Rattle.std.proofs.lemmas.Iterator.Splits.{YieldsList-from_slice_split}
-use Rattle.ls_lines.specs.Lines.{parts_words, runs}
-use Rattle.ls_lines.proofs.Runs.{stands_alone}
+use Rattle.ls_cutting.specs.Lines.{parts_words, runs}
+use Rattle.ls_cutting.proofs.Runs.{stands_alone}
 use Rattle.ls_order.specs.declared.met.Met.TheVariants.{Nothing}
 use Rattle.ls_order.specs.Words.{line_met, with_word}
 use Rattle.ls_order.proofs.LineWords.{marked-bad, runs-unmarked, words-worded}

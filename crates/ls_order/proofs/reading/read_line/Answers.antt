@@ -1,6 +1,6 @@
 use Rattle.std.proofs.Common.{◌∙◌, ap, length, subst, sym}
-use Rattle.ls_lines.specs.Lines.{runs}
-use Rattle.ls_lines.proofs.Runs.{words-note, words-runs}
+use Rattle.ls_cutting.specs.Lines.{runs}
+use Rattle.ls_cutting.proofs.Runs.{words-note, words-runs}
 use Rattle.ls_order.specs.Words.{line_worded}
 use Rattle.ls_order.proofs.PairItems.{IsSmall, line-worded, worded-small}
 use Rattle.ls_order.proofs.reading.read_line.Goals as goal

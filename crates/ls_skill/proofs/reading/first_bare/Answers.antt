@@ -1,6 +1,6 @@
 use Rattle.std.proofs.Common.{◌<◌, ◌==◌, ◌∙◌, List, [], arith, ap, length, sym}
 use Rattle.serde_json.specs.View.{view}
-use Rattle.ls_lines.specs.Lines.{Text}
+use Rattle.ls_cutting.specs.Lines.{Text}
 use Rattle.ls_lists.proofs.Places.{moved-zero, moved-here, moved-next, moved-none}
 use Rattle.ls_files.specs.SkillFiles.{first_bare}
 use Rattle.ls_skill.specs.Gathering.{rows_read}

@@ -1,6 +1,6 @@
 use Rattle.std.proofs.Common.{◌≡◌, ◌∙◌, true, arith, rules}
-use Rattle.ls_lines.specs.{greatest_number, is_of}
-use Rattle.ls_lines.specs.declared.kind.Kind.TheVariants as kind
+use Rattle.ls_cutting.specs.{greatest_number, is_of}
+use Rattle.ls_cutting.specs.declared.kind.Kind.TheVariants as kind
 use Rattle.ls_words.proofs.Parsed.{number_parsed}
 use Rattle.ls_words.proofs.reading.read_number.Goals as goal
 

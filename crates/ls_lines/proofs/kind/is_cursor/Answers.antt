@@ -1,7 +1,0 @@
-use Rattle.ls_lines.proofs.Vocabulary.{YieldsList-from_slice, all_from_yields_List, arith, is_cursor_byte, nat_tests, rules, tests}
-use Rattle.ls_lines.proofs.kind.is_cursor.Goals as goal
-
-pub returns-then-not-is_empty : goal.returns-then-not-is_empty
-returns-then-not-is_empty c =
-    let bytes = all_from_yields_List is_cursor_byte _ _ c.all.result c.all.ensures.ran (YieldsList-from_slice c.args.word.now cc) (λ x b q k. search (rules, tests)) in
-    grind (arith, nat_tests)

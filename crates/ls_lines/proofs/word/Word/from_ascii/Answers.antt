@@ -1,5 +1,0 @@
-use Rattle.ls_lines.proofs.Vocabulary.{IsUtf8-from_ascii, arith}
-use Rattle.ls_lines.proofs.word.Word.from_ascii.Goals as goal
-
-pub unwrap-requires : goal.unwrap-requires
-unwrap-requires c = grind (arith, IsUtf8-from_ascii c.args.bytes.now c.requires)
