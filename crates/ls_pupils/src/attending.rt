@@ -7,7 +7,7 @@ use crate::asking::{close, question, reply, report};
 use crate::beginning::begin;
 use crate::cases::PupilCases;
 use ls_assess::Settings;
-use ls_expert::Inquiry;
+use ls_inquiry::Inquiry;
 use ls_interior::Steps;
 use ls_lines::Word;
 use ls_meaning::{PupilRequest, Response};

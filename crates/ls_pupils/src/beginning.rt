@@ -11,7 +11,7 @@ ghost use Rattle.ls_pupils.specs.Beginning.{IsCaseOf, IsNewPupil, RefusesHeavy, 
 use crate::cases::{PupilCase, PupilCases};
 use ls_assess::{Pupil, Settings, WeightFault};
 use ls_enum::{ListFault, list_all};
-use ls_expert::{Inquiry, Start};
+use ls_inquiry::{Inquiry, Start};
 use ls_interior::{Counted, Steps};
 use ls_lines::Word;
 use ls_meaning::{Refusal, Response};

@@ -9,7 +9,7 @@ ghost use Rattle.ls_pupils.specs.Cases.{IsOwnCase, case_name};
 ghost use Rattle.ls_pupils.specs.declared.cases.PupilCase.{PupilCase as Case};
 
 use ls_assess::{Pupil, ReplyFault, Settings};
-use ls_expert::Start;
+use ls_inquiry::Start;
 use ls_lines::Word;
 use ls_set::QueryList;
 use std::alloc::{AllocError, Global};
