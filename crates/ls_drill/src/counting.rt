@@ -9,7 +9,7 @@ ghost use Rattle.ls_query.specs.Blocks.{block_queries};
 ghost use Rattle.ls_drill.specs.HiddenOrders.{most_drilled};
 ghost use Rattle.ls_drill.specs.Summaries.{is_yes, is_no, is_filled, is_filled_yes, is_filled_no};
 
-use ls_expert::{Inquiry, Known};
+use ls_inquiry::{Inquiry, Known};
 use ls_interior::Steps;
 use ls_query::Blocks;
 use ls_set::Query;

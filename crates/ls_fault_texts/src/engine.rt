@@ -2,7 +2,7 @@
 use crate::print_each;
 use ls_base::PastFault;
 use ls_enum::ListFault;
-use ls_expert::{RetractFault, StandingFault, StartFault};
+use ls_inquiry::{RetractFault, StandingFault, StartFault};
 use ls_settings::BadSetting;
 use ls_theory::{AnswerFault, BaseFault, BlockFault};
 use ls_weight::WeightFault;

@@ -12,7 +12,7 @@ use crate::cases::{PupilCase, PupilCases};
 use ls_assess::{Pupil, Settings, WeightFault};
 use ls_cutting::Word;
 use ls_enum::{ListFault, list_all};
-use ls_expert::{Inquiry, Start};
+use ls_inquiry::{Inquiry, Start};
 use ls_interior::{Counted, Steps};
 use ls_meaning::{Refusal, Response};
 use ls_set::{ItemSet, Query, QueryList};

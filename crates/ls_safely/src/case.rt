@@ -1,5 +1,5 @@
 // Safe interviews, with what stood at their opening.
-use ls_expert::Start;
+use ls_inquiry::Start;
 use ls_safe::Safe;
 use ls_set::QueryList;
 

@@ -10,7 +10,7 @@ ghost use Rattle.ls_safely.specs.Cases.{IsSafeCase, safe_interview};
 
 use crate::case::SafeCase;
 use ls_base::{Base, Followed};
-use ls_expert::Inquiry;
+use ls_inquiry::Inquiry;
 use ls_meaning::{Refusal, Response};
 use ls_safe::{OpenFault, Safe};
 use ls_set::QueryList;

@@ -6,7 +6,7 @@ ghost use Rattle.ls_state.specs.Decides.{MakesChange};
 ghost use Rattle.ls_state.specs.States.{IsTrailOf};
 
 use ls_base::Trail;
-use ls_expert::Inquiry;
+use ls_inquiry::Inquiry;
 use ls_interior::Steps;
 use ls_meaning::{Edit, Refusal, Response};
 use ls_set::Query;

@@ -7,7 +7,7 @@ ghost use Rattle.ls_state.specs.States.{IsTrailOf};
 
 use crate::viewing::follow;
 use ls_base::Trail;
-use ls_expert::Inquiry;
+use ls_inquiry::Inquiry;
 use ls_meaning::{Refusal, Response, SafeRequest};
 use ls_safely::{SafeCase, attend_safe, is_opening, open_safe};
 use std::alloc::{AllocError, Global};

@@ -8,7 +8,7 @@ ghost use Rattle.ls_state.specs.States.{IsTrailOf};
 use ls_base::Trail;
 use ls_contents::read_start;
 use ls_domain::Domain;
-use ls_expert::{Inquiry, Start, StartFault};
+use ls_inquiry::{Inquiry, Start, StartFault};
 use ls_interior::Steps;
 use ls_meaning::{Refusal, Response, StartFile};
 use std::alloc::{AllocError, Global};

@@ -21,7 +21,7 @@ use ls_assess::Settings;
 use ls_base::Trail;
 use ls_domain::Domain;
 use ls_edge::Sink;
-use ls_expert::{Inquiry, Start};
+use ls_inquiry::{Inquiry, Start};
 use ls_interior::Steps;
 use ls_lines::{EditCommand, PupilCommand, SafeCommand, SettingCommand, ViewCommand};
 use ls_meaning::{Refusal, Response};

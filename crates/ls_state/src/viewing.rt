@@ -8,7 +8,7 @@ ghost use Rattle.ls_views.specs.Views.{is_based};
 ghost use Rattle.ls_state.specs.States.{IsTrailOf};
 
 use ls_base::Trail;
-use ls_expert::Inquiry;
+use ls_inquiry::Inquiry;
 use ls_interior::Steps;
 use ls_meaning::{Response, View};
 use ls_views::{decide, decide_based, is_based};

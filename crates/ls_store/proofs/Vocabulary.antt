@@ -10,7 +10,7 @@ pub use Rattle.std.specs.Result.{is_ok}
 pub use Rattle.std.specs.Str.{bytes_eq}
 pub use Rattle.ls_domain.specs.Domains.{is_name}
 pub use Rattle.ls_standing.specs.Standing.{interview_on}
-pub use Rattle.ls_expert.specs.Saved.{IsStandingFault}
+pub use Rattle.ls_inquiry.specs.Saved.{IsStandingFault}
 pub use Rattle.ls_standing.specs.Starts.{IsStartOn, StartOn, start_of}
 pub use Rattle.ls_files.specs.Codecs.{both, kept_if, lists, numbers, read_object}
 pub use Rattle.ls_files.specs.SessionCodecs.{PupilParts, answer_codec, answers_field, block_field, limits_field, name_field, names_field, next_field, odds_field, pupil_codec, pupil_from, pupils_field, query_codec, replies_field, reply_codec, settings_fields, settings_parts, start_codec, start_field, version_field, yes_field}

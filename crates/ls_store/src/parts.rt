@@ -1,6 +1,6 @@
 // The parts of a session.
 use ls_domain::Domain;
-use ls_expert::Inquiry;
+use ls_inquiry::Inquiry;
 use ls_pupils::PupilCases;
 use ls_settings::Settings;
 

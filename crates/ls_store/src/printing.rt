@@ -9,7 +9,7 @@ ghost use Rattle.ls_pupils.specs.Cases.{pupils_of, ArePupils};
 use crate::written_pupils::cases_value;
 use ls_codecs::{names_value, put_at, put_settings, start_value, write_list};
 use ls_domain::Domain;
-use ls_expert::Inquiry;
+use ls_inquiry::Inquiry;
 use ls_pupils::PupilCases;
 use ls_settings::Settings;
 use serde_json::{Map, Value};

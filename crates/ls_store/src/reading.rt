@@ -17,7 +17,7 @@ use ls_codecs::{
     read_version,
 };
 use ls_domain::Domain;
-use ls_expert::Inquiry;
+use ls_inquiry::Inquiry;
 use ls_files::{Cause, Version};
 use ls_interior::Steps;
 use ls_pupils::PupilCases;

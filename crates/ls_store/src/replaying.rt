@@ -11,7 +11,7 @@ ghost use Rattle.ls_files.specs.Codecs.{kept_if};
 
 use ls_assess::{Pupil, Reply, Settings, WeightFault};
 use ls_enum::{ListFault, list_all};
-use ls_expert::{OnItems, Start};
+use ls_inquiry::{OnItems, Start};
 use ls_interior::{Counted, Steps};
 use ls_pupils::MOST_STATES;
 use ls_rules::Ruled;

@@ -1,4 +1,7 @@
-use Rattle.ls_expert.proofs.Vocabulary.{◌∙◌, ◌≡◌, Interview, IsFollowed, List, Query, Some, answer_with, ap, subst, sym, yes_queries}
+use Rattle.std.proofs.Common.{◌∙◌, ◌≡◌, List, Some, ap, subst, sym}
+use Rattle.ls_set.specs.declared.query.Query.{Query}
+use Rattle.ls_theory.specs.{Interview, answer_with, yes_queries}
+use Rattle.ls_base.specs.Followed.{IsFollowed}
 use Rattle.ls_standing.proofs.AnswerLists.{yes_queries-without_no}
 use Rattle.ls_expert.proofs.interview.Interview.retract.Goals as goal
 

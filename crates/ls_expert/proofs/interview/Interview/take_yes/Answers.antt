@@ -1,4 +1,7 @@
-use Rattle.ls_expert.proofs.Vocabulary.{◌+◌, Interview, IsFollowed, List, Query, ap, length, subst, sym, yes_queries}
+use Rattle.std.proofs.Common.{◌+◌, List, ap, length, subst, sym}
+use Rattle.ls_set.specs.declared.query.Query.{Query}
+use Rattle.ls_theory.specs.{Interview, yes_queries}
+use Rattle.ls_base.specs.Followed.{IsFollowed}
 use Rattle.ls_standing.proofs.AnswerLists.{yes_queries-yes}
 use Rattle.ls_expert.proofs.interview.Interview.take_yes.Goals as goal
 
