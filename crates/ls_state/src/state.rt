@@ -14,11 +14,9 @@ mod files;
 mod parts;
 mod skills;
 
-use crate::changing::change;
-use crate::safe;
-use crate::viewing::show;
 use ls_assess::Settings;
 use ls_base::Trail;
+use ls_conduct::{ask_safe, change, show};
 use ls_domain::Domain;
 use ls_edge::Sink;
 use ls_expert::{Inquiry, Start};
@@ -172,7 +170,7 @@ impl State {
             self.old self.new result }
     {
         match resolve_safe(self.texts.domain(), command) {
-            Ok(asked) => safe::attend(
+            Ok(asked) => ask_safe(
                 self.alloc,
                 &self.inquiry,
                 &mut self.trail,
