@@ -2,8 +2,7 @@
 ghost use Rattle.std.specs.Prelude.{◌≡◌, Ok, List};
 ghost use Rattle.ls_base.specs.declared.trail.Entry.{Entry};
 ghost use Rattle.ls_meaning.specs.{answer_row, blocks_row, edit_row, retract_row};
-ghost use Rattle.ls_conduct.specs.Changes.{MakesChange};
-ghost use Rattle.ls_conduct.specs.Changes.{IsTrailOf};
+ghost use Rattle.ls_conduct.specs.Changes.{IsTrailOf, MakesChange};
 
 use ls_base::Trail;
 use ls_expert::Inquiry;

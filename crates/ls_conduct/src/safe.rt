@@ -2,8 +2,7 @@
 ghost use Rattle.std.specs.Option.{ForSome};
 ghost use Rattle.ls_meaning.specs.{IsSafeOn, safe_open_row, safe_row};
 ghost use Rattle.ls_safely.specs.Cases.{IsSafeCase, safe_interview};
-ghost use Rattle.ls_conduct.specs.Changes.{MakesChange};
-ghost use Rattle.ls_conduct.specs.Changes.{IsTrailOf};
+ghost use Rattle.ls_conduct.specs.Changes.{IsTrailOf, MakesChange};
 
 use crate::viewing::follow;
 use ls_base::Trail;

@@ -2,8 +2,7 @@
 ghost use Rattle.std.specs.Prelude.{◌≡◌, [], Ok, length};
 ghost use Rattle.ls_standing.specs.Starts.{start_of, IsStartOn};
 ghost use Rattle.ls_meaning.specs.{start_read, starts_by};
-ghost use Rattle.ls_conduct.specs.Changes.{MakesChange};
-ghost use Rattle.ls_conduct.specs.Changes.{IsTrailOf};
+ghost use Rattle.ls_conduct.specs.Changes.{IsTrailOf, MakesChange};
 
 use ls_base::Trail;
 use ls_contents::read_start;

@@ -1,5 +1,5 @@
 // Reading the pupils of a session.
-ghost use Rattle.std.specs.Prelude.{◌≡◌, ◌<◌, ◌≤◌, ◌&&◌, false, true, Err, Some, IfOk};
+ghost use Rattle.std.specs.Prelude.{◌≡◌, ◌<◌, ◌≤◌, ◌&&◌, [], false, true, Err, Some, IfOk, OnOk};
 ghost use Rattle.std.specs.List.{list_all, list_any};
 ghost use Rattle.serde_json.specs.View.{view};
 ghost use Rattle.ls_set.specs.{is_good};
@@ -125,7 +125,37 @@ fn next_case<L: Ledger>(
     read_case(alloc, version, n, name, object, steps)
 }
 
-// The pupils of a list: there are not too many, and their names differ.
+// Puts the pupils of a list into cases of which there are none: there are not too many, and their
+// names differ.
+fn fill<L: Ledger>(
+    alloc: Global,
+    version: Version,
+    n: u32,
+    value: &Value,
+    cases: &mut PupilCases,
+    steps: &mut Steps<L>,
+) -> Result<(), PartFault>
+    requires some { 0 < n }
+    requires few { n ≤ PLACES }
+    requires empty { cases.old ≡ [] }
+    ensures value { IsReadAs (λ _. pupils_of cases.new)
+        ((pupils_codec version n).read (view value.now)) result }
+    ensures cases { OnOk result (ArePupils n cases.new) }
+{
+    let Some(entries) = value.as_array() else {
+        return Err(PartFault::Bad);
+    };
+    if entries.len() > MOST_PUPILS {
+        return Err(PartFault::Bad);
+    }
+    for entry in entries {
+        let case = next_case(alloc, version, n, cases, entry, steps)?;
+        cases.push(case)?;
+    }
+    Ok(())
+}
+
+// The pupils of a list.
 fn read_cases<L: Ledger>(
     alloc: Global,
     version: Version,
@@ -138,18 +168,14 @@ fn read_cases<L: Ledger>(
     ensures value { IsReadAs pupils_of ((pupils_codec version n).read (view value.now)) result }
     ensures cases { IfOk result (ArePupils n) }
 {
-    let Some(entries) = value.as_array() else {
-        return Err(PartFault::Bad);
-    };
-    if entries.len() > MOST_PUPILS {
-        return Err(PartFault::Bad);
-    }
     let mut cases = PupilCases::new(alloc);
-    for entry in entries {
-        let case = next_case(alloc, version, n, &cases, entry, steps)?;
-        cases.push(case)?;
+    match fill(alloc, version, n, value, &mut cases, steps) {
+        Ok(()) => Ok(cases),
+        Err(fault) => {
+            drop(cases);
+            Err(fault)
+        }
     }
-    Ok(cases)
 }
 
 /// The pupils of an object.

@@ -93,8 +93,13 @@ fn held_on<L: Ledger>(
     ensures fault { IfErr result (IsSessionFault (held_in version n (view object.now))) }
 {
     let inquiry = session_inquiry(alloc, version, n, object, steps)?;
-    let pupils = told(Cause::Pupils, read_pupils(alloc, version, n, object, steps))?;
-    Ok((inquiry, pupils))
+    match told(Cause::Pupils, read_pupils(alloc, version, n, object, steps)) {
+        Ok(pupils) => Ok((inquiry, pupils)),
+        Err(fault) => {
+            drop(inquiry);
+            Err(fault)
+        }
+    }
 }
 
 // The parts of the session that an object is, whose version, domain and settings are given; or the
@@ -125,7 +130,11 @@ fn parts_after<L: Ledger>(
             settings,
             pupils,
         }),
-        Err(fault) => Err(fault),
+        Err(fault) => {
+            drop(domain);
+            drop(settings);
+            Err(fault)
+        }
     }
 }
 
@@ -144,8 +153,13 @@ fn parts_of<L: Ledger>(
 {
     let version = told(Cause::Version, read_version(object))?;
     let domain = told(Cause::Items, read_domain(alloc, object))?;
-    let settings = session_settings(alloc, version, domain.count(), object)?;
-    parts_after(alloc, version, domain, settings, object, steps)
+    match session_settings(alloc, version, domain.count(), object) {
+        Ok(settings) => parts_after(alloc, version, domain, settings, object, steps),
+        Err(fault) => {
+            drop(domain);
+            Err(fault)
+        }
+    }
 }
 
 /// The parts of the session that bytes are, or the first cause why they are none.
@@ -161,7 +175,11 @@ pub fn read_parts<L: Ledger>(
     ensures fault { IfErr result (IsSessionFault (session_of bytes.now)) }
 {
     match read_object(alloc, bytes)? {
-        Some(object) => parts_of(alloc, &object, steps),
+        Some(object) => {
+            let parts = parts_of(alloc, &object, steps);
+            drop(object);
+            parts
+        }
         None => Err(SessionFault::BadSession { cause: Cause::Json }),
     }
 }

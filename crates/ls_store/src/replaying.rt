@@ -97,18 +97,33 @@ fn begun(
     }
 }
 
+// Gives the replies to a pupil that has given none, up to the first that is not to the item that is
+// asked after those before it. Whether there is none such is told.
+fn give(pupil: &mut Pupil, replies: &[Reply]) -> bool
+    requires { pupil.old.replies ≡ [] }
+    ensures pupil { result ≡ true → pupil.new ≡ record pupil.old { replies = replies.now } }
+    ensures followed { result ≡ follow pupil.old.settings pupil.old.states [] replies.now }
+{
+    for reply in replies {
+        if pupil.reply(reply.q, reply.right).is_err() {
+            return false;
+        }
+    }
+    true
+}
+
 // The pupil after the replies, where each is to the item that is asked after those before it.
 fn replayed(mut pupil: Pupil, replies: &[Reply]) -> Option<Pupil>
     requires { pupil.replies ≡ [] }
     ensures pupil { IfSome result (λ p. p ≡ record pupil { replies = replies.now }) }
     ensures followed { is_some result ≡ follow pupil.settings pupil.states [] replies.now }
 {
-    for reply in replies {
-        if pupil.reply(reply.q, reply.right).is_err() {
-            return None;
-        }
+    if give(&mut pupil, replies) {
+        Some(pupil)
+    } else {
+        drop(pupil);
+        None
     }
-    Some(pupil)
 }
 
 /// The pupil whose states are the sets of `n` items that meet the start and break no query, after

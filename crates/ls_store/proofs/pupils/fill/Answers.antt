@@ -1,7 +1,7 @@
 use Rattle.ls_store.proofs.Vocabulary.{◌+◌, ◌<◌, ◌∙◌, ◌≤◌, ArePupils, Err, ap, arith, length, length_push, most_pupils, pupil_codec, pupils_of, read_list, rules, subst, sym, view}
 use Rattle.ls_pupils.proofs.Keeping.{are-more}
 use Rattle.ls_store.proofs.PupilLists.{too-many, none-next, missed, next-read, all-read}
-use Rattle.ls_store.proofs.pupils.read_cases.Goals as goal
+use Rattle.ls_store.proofs.pupils.fill.Goals as goal
 
 pub returns-then-len-gt-MOST_PUPILS-clause-value : goal.returns-then-len-gt-MOST_PUPILS-clause-value
 returns-then-len-gt-MOST_PUPILS-clause-value g c =

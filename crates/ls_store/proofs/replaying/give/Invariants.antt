@@ -1,5 +1,5 @@
 use Rattle.ls_store.proofs.Vocabulary.{◌≡◌, Weighing, [], drop, follow, take}
-use Rattle.ls_store.proofs.replaying.replayed.Given as goal
+use Rattle.ls_store.proofs.replaying.give.Given as goal
 
 -- the pupil has given the replies so far, and whether the others follow is whether all do
 abbrev pub invariant-loop-reply : goal.invariant-loop-reply

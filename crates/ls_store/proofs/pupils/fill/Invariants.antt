@@ -1,6 +1,6 @@
 use Rattle.ls_store.proofs.Vocabulary.{◌≡◌, ArePupils, drop, length, pupil_codec, pupils_of, read_list, view}
 use Rattle.ls_codecs.proofs.Walks.{IsReadTo}
-use Rattle.ls_store.proofs.pupils.read_cases.Given as goal
+use Rattle.ls_store.proofs.pupils.fill.Given as goal
 
 abbrev pub invariant-loop-entry : goal.invariant-loop-entry
 invariant-loop-entry g l = record {
