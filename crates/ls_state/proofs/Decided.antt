@@ -1,43 +1,16 @@
 -- What is decided, by what is made.
-use Rattle.ls_state.proofs.Vocabulary.{[], ◌<◌, ◌∙◌, ◌∷◌, ◌≡◌, AllocError, Bool, Bytes, Calls, Change, Command, Decides, EditCommand, Effect, Err, Failed, Fetched, Folder, FolderStays, IfOk, Interview, IsAfterLine, IsDecided, IsErrAnd, List, Makes, MakesChange, Missing, None, Ok, OnOk, Option, PupilCommand, Refused, Response, Result, Rose, Sees, Session, SettingCommand, ShelfState, Some, TooLarge, Unnamed, ViewCommand, ℕ, answers, ap, arith, calls_of, changes_interview, changes_pupils, changes_settings, command_effect, cond, edit_effect, edit_item_words, edit_of, edit_row, false, fetched_from, has_domain, in_domain, length, line_effect, longest_file, ltb, pupil_effect, pupil_item_words, pupil_name, pupil_of, pupil_row, refl, setting_effect, setting_item_words, setting_of, setting_row, standing_session, started, subst, sym, true, unless_unnamed, unnamed, view_effect, view_item_words, view_of, view_row, SafeCommand, SafeInterview, changes_safe, safe_effect, safe_item_words, safe_of, safe_row}
-use Rattle.std.specs.FinMap as map
+use Rattle.ls_state.proofs.Vocabulary.{[], ◌<◌, ◌∙◌, ◌∷◌, ◌≡◌, AllocError, Bool, Calls, Change, Command, Decides, EditCommand, Effect, Err, Folder, FolderStays, IfOk, Interview, IsAfterLine, IsDecided, IsErrAnd, List, Makes, MakesChange, Missing, None, Ok, OnOk, Option, PupilCommand, Refused, Response, Result, Sees, Session, SettingCommand, ShelfState, Some, Unnamed, ViewCommand, ℕ, answers, ap, arith, changes_interview, changes_pupils, changes_settings, command_effect, cond, edit_effect, edit_item_words, edit_of, edit_row, false, has_domain, in_domain, length, line_effect, pupil_effect, pupil_item_words, pupil_name, pupil_of, pupil_row, refl, setting_effect, setting_item_words, setting_of, setting_row, standing_session, started, subst, sym, true, unless_unnamed, unnamed, view_effect, view_item_words, view_of, view_row, SafeCommand, SafeInterview, changes_safe, safe_effect, safe_item_words, safe_of, safe_row}
+pub use Rattle.ls_conduct.proofs.Seen.{files_stay}
+use Rattle.ls_conduct.proofs.Seen.{calls_told, sees_told}
 use Rattle.std.proofs.lemmas.Result.{on_ok_weaker, on_err_weaker}
 
--- ---- what is seen of the folder
-
-pub failed_from : (b : Bool) (o : Option (List ℕ)) → fetched_from b o ≡ Failed → b ≡ true
-failed_from true o e = refl
-failed_from false None e = absurd (cc e)
-failed_from false (Some bytes) e =
-    absurd (elim (ltb longest_file (length bytes)) as (λ t. cond t (TooLarge (length bytes)) (cond false Failed (Bytes bytes)) ≡ Failed → ⊥) [ true ↦ λ e. cc e | false ↦ λ e. cc e ] e)
-
--- what told files give, where a call failed or none did; or the one file that was given
-abbrev pub calls_told : Option Folder → Fetched → Bool → Calls
-calls_told None given failed = record { file = λ name. given; failed = failed }
-calls_told (Some m) given failed = calls_of m failed
-
-pub calls_told-failed : (folder : Option Folder) (given : Fetched) (failed : Bool) → (calls_told folder given failed).failed ≡ failed
-calls_told-failed None given failed = refl
-calls_told-failed (Some m) given failed = refl
-
-pub sees_told : (folder : Option Folder) (given : Fetched) (failed : Bool) (before now : ℕ) → (given ≡ Failed → failed ≡ true) → (failed ≡ true → Rose before now) → Sees (calls_told folder given failed) folder before now
-sees_told None given failed before now is cause = record { told = λ m e. absurd (cc e); failed = λ name e. is e; cause = cause }
-sees_told (Some m) given failed before now is cause = record {
-  told = λ k e name. ap (λ (x : Folder). (calls_of x failed).file name) (let same : m ≡ k = cc e in same);
-  failed = λ name e. failed_from failed (map.get m name) e;
-  cause = cause;
-}
+-- ---- where no call is made
 
 -- told files stay as they were
 same_folder : (folder : Option Folder) → FolderStays folder folder
 same_folder None = tt
 same_folder (Some m) = refl
 
-pub files_stay : (folder left : Option Folder) → FolderStays folder left → (m : Folder) → folder ≡ Some m → left ≡ Some m
-files_stay None left h m e = absurd (cc e)
-files_stay (Some k) left h m e = h ∙ e
-
--- where no call is made
 abbrev calls_none : Option Folder → Calls
 calls_none folder = calls_told folder Missing false
 

@@ -8,4 +8,3 @@ mod Meant
 mod FilesShown
 mod SafeShown
 pub mod Sayable
-mod Trailed

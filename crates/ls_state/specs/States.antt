@@ -2,10 +2,10 @@
 use Rattle.std.specs.Prelude.{◌≡◌, ◌<◌, List, length}
 use Rattle.std.specs.declared.option.Option.{Option}
 use Rattle.std.specs.Option.{ForSome}
-use Rattle.ls_theory.specs.{Interview, yes_queries}
+use Rattle.ls_theory.specs.{Interview}
 use Rattle.ls_theory.specs.Settings.{Settings}
-use Rattle.ls_base.specs.Trail.{IsTrail}
 use Rattle.ls_base.specs.declared.trail.Entry.{Entry}
+use Rattle.ls_conduct.specs.Changes.{IsTrailOf}
 use Rattle.ls_lines.specs.{Text}
 use Rattle.ls_meaning.specs.{Session}
 use Rattle.ls_pupils.specs.Cases.{pupils_of, ArePupils}
@@ -24,10 +24,6 @@ state_session names i settings cases safe =
       pupils = pupils_of cases;
       safe = safe_interview safe;
     }
-
--- what is followed over the first Yes answers of the interview
-abbrev pub IsTrailOf : Interview → List Entry → Type 0
-IsTrailOf i trail = IsTrail i.count i.start (yes_queries i.answers) trail
 
 -- The parts belong together: there is a name for each item, and an item; a trail of the bases under
 -- the Yes answers; and settings, pupils and a safe interview of the items.

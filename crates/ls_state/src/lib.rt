@@ -2,12 +2,7 @@
 //! and store files.
 #![tactic(auto)]
 
-mod changing;
-mod fetching;
-mod safe;
-mod starting;
 mod state;
-mod viewing;
 
-pub use fetching::fetch;
+pub use ls_conduct::fetch;
 pub use state::State;

@@ -1,5 +1,8 @@
 // What stands where a domain does.
-ghost use Rattle.std.specs.Prelude.{◌≡◌, Ok, None, IfOk, IfErr, length};
+ghost use Rattle.std.specs.Prelude.{◌≡◌, ◌<◌, ◌≤◌, Ok, None, IfOk, IfErr, length};
+ghost use Rattle.ls_theory.specs.{begun};
+ghost use Rattle.ls_theory.specs.Settings.{standard};
+ghost use Rattle.ls_theory.specs.Starts.{Free};
 ghost use Rattle.ls_files.specs.{session_of};
 ghost use Rattle.ls_store.specs.Faults.{IsSessionFault};
 ghost use Rattle.ls_meaning.specs.{bytes_of, edit_effect, in_domain, lines_of, pupil_effect};
@@ -14,11 +17,9 @@ mod files;
 mod parts;
 mod skills;
 
-use crate::changing::change;
-use crate::safe;
-use crate::viewing::show;
 use ls_assess::Settings;
 use ls_base::Trail;
+use ls_conduct::{ask_safe, change, show};
 use ls_domain::Domain;
 use ls_edge::Sink;
 use ls_inquiry::{Inquiry, Start};
@@ -30,6 +31,7 @@ use ls_resolve::{
     ResolveFault, Unnamed, resolve_edit, resolve_pupil, resolve_safe, resolve_setting, resolve_view,
 };
 use ls_safely::SafeCase;
+use ls_set::PLACES;
 use ls_store::{Parts, SessionFault, read_parts};
 use ls_write::{Room, SetTexts, put_response};
 use std::alloc::{AllocError, Global};
@@ -71,16 +73,21 @@ impl State {
     ) -> Result<State, AllocError>
         ensures { IfOk result (λ s. s ≡ started domain) }
     {
-        let count = domain.count();
-        let settings = Settings::standard(alloc, count)?;
-        let inquiry = Inquiry::new(alloc, count, Start::Free, steps)?;
-        let parts = Parts {
-            domain,
-            inquiry,
-            settings,
-            pupils: PupilCases::new(alloc),
-        };
-        State::of(alloc, parts)
+        match begin_parts(alloc, domain.count(), steps) {
+            Ok((inquiry, settings)) => {
+                let parts = Parts {
+                    domain,
+                    inquiry,
+                    settings,
+                    pupils: PupilCases::new(alloc),
+                };
+                State::of(alloc, parts)
+            }
+            Err(e) => {
+                drop(domain);
+                Err(e)
+            }
+        }
     }
 
     /// The session that the bytes of a saved one give; its base is not followed yet, and no safe
@@ -114,16 +121,23 @@ impl State {
         } = parts;
         // at least one
         let _ = inquiry.items();
-        let texts = SetTexts::new(alloc, domain)?;
-        Ok(State {
-            alloc,
-            texts,
-            inquiry,
-            trail: Trail::new(alloc),
-            settings,
-            pupils,
-            safe: None,
-        })
+        match SetTexts::new(alloc, domain) {
+            Ok(texts) => Ok(State {
+                alloc,
+                texts,
+                inquiry,
+                trail: Trail::new(alloc),
+                settings,
+                pupils,
+                safe: None,
+            }),
+            Err(e) => {
+                drop(inquiry);
+                drop(settings);
+                drop(pupils);
+                Err(e)
+            }
+        }
     }
 
     /// The names of the items.
@@ -172,7 +186,7 @@ impl State {
             self.old self.new result }
     {
         match resolve_safe(self.texts.domain(), command) {
-            Ok(asked) => safe::attend(
+            Ok(asked) => ask_safe(
                 self.alloc,
                 &self.inquiry,
                 &mut self.trail,
@@ -234,5 +248,26 @@ impl State {
         // it is sound
         let _ = self.inquiry.standing();
         put_response(&self.texts, &self.inquiry, response, room, out, steps);
+    }
+}
+
+// The interview and the settings with which a session on `n` items begins.
+fn begin_parts<L: Ledger>(
+    alloc: Global,
+    n: u32,
+    steps: &mut Steps<L>,
+) -> Result<(Inquiry, Settings), AllocError>
+    requires some { 0 < n }
+    requires few { n ≤ PLACES }
+    ensures interview { IfOk result (λ p. p.0 ≡ begun n Free) }
+    ensures settings { IfOk result (λ p. p.1 ≡ standard n) }
+{
+    let settings = Settings::standard(alloc, n)?;
+    match Inquiry::new(alloc, n, Start::Free, steps) {
+        Ok(inquiry) => Ok((inquiry, settings)),
+        Err(e) => {
+            drop(settings);
+            Err(e)
+        }
     }
 }

@@ -7,11 +7,8 @@ mod inquiries;
 mod laws;
 mod parts;
 mod printing;
-mod pupils;
 mod reading;
-mod replaying;
 mod saved;
-mod written_pupils;
 
 pub use fault::SessionFault;
 pub use laws::{sessions_are_read_back, tests_tell_what_stands};

@@ -11,7 +11,6 @@ ghost use Rattle.ls_store.specs.Stored.{held_in, session_of_parts};
 use crate::fault::SessionFault;
 use crate::inquiries::read_inquiry;
 use crate::parts::Parts;
-use crate::pupils::read_pupils;
 use ls_codecs::{
     PartFault, read_block, read_domain, read_limits, read_object, read_odds, read_start,
     read_version,
@@ -21,6 +20,7 @@ use ls_inquiry::Inquiry;
 use ls_files::{Cause, Version};
 use ls_interior::Steps;
 use ls_pupils::PupilCases;
+use ls_saved_pupils::read_pupils;
 use ls_set::PLACES;
 use ls_settings::Settings;
 use serde_json::Value;
@@ -93,8 +93,13 @@ fn held_on<L: Ledger>(
     ensures fault { IfErr result (IsSessionFault (held_in version n (view object.now))) }
 {
     let inquiry = session_inquiry(alloc, version, n, object, steps)?;
-    let pupils = told(Cause::Pupils, read_pupils(alloc, version, n, object, steps))?;
-    Ok((inquiry, pupils))
+    match told(Cause::Pupils, read_pupils(alloc, version, n, object, steps)) {
+        Ok(pupils) => Ok((inquiry, pupils)),
+        Err(fault) => {
+            drop(inquiry);
+            Err(fault)
+        }
+    }
 }
 
 // The parts of the session that an object is, whose version, domain and settings are given; or the
@@ -125,7 +130,11 @@ fn parts_after<L: Ledger>(
             settings,
             pupils,
         }),
-        Err(fault) => Err(fault),
+        Err(fault) => {
+            drop(domain);
+            drop(settings);
+            Err(fault)
+        }
     }
 }
 
@@ -144,8 +153,13 @@ fn parts_of<L: Ledger>(
 {
     let version = told(Cause::Version, read_version(object))?;
     let domain = told(Cause::Items, read_domain(alloc, object))?;
-    let settings = session_settings(alloc, version, domain.count(), object)?;
-    parts_after(alloc, version, domain, settings, object, steps)
+    match session_settings(alloc, version, domain.count(), object) {
+        Ok(settings) => parts_after(alloc, version, domain, settings, object, steps),
+        Err(fault) => {
+            drop(domain);
+            Err(fault)
+        }
+    }
 }
 
 /// The parts of the session that bytes are, or the first cause why they are none.
@@ -161,7 +175,11 @@ pub fn read_parts<L: Ledger>(
     ensures fault { IfErr result (IsSessionFault (session_of bytes.now)) }
 {
     match read_object(alloc, bytes)? {
-        Some(object) => parts_of(alloc, &object, steps),
+        Some(object) => {
+            let parts = parts_of(alloc, &object, steps);
+            drop(object);
+            parts
+        }
         None => Err(SessionFault::BadSession { cause: Cause::Json }),
     }
 }

@@ -6,6 +6,7 @@ ghost use Rattle.ls_store.specs.Faults.{IsSessionFault};
 ghost use Rattle.ls_store.specs.Stored.{session_of_saved};
 
 use crate::fault::SessionFault;
+use crate::parts::Parts;
 use crate::printing::print_parts;
 use crate::reading::read_parts;
 use ls_domain::Domain;
@@ -53,11 +54,24 @@ pub fn read_session<L: Ledger>(
     ensures pupils { IfOk result (λ s. ArePupils s.interview.count s.pupils) }
     ensures fault { IfErr result (IsSessionFault (session_of bytes.now)) }
 {
-    let parts = read_parts(alloc, bytes, steps)?;
-    Ok(Saved {
-        domain: parts.domain,
-        interview: Interview::of(parts.inquiry)?,
-        settings: parts.settings,
-        pupils: parts.pupils,
-    })
+    let Parts {
+        domain,
+        inquiry,
+        settings,
+        pupils,
+    } = read_parts(alloc, bytes, steps)?;
+    match Interview::of(inquiry) {
+        Ok(interview) => Ok(Saved {
+            domain,
+            interview,
+            settings,
+            pupils,
+        }),
+        Err(e) => {
+            drop(domain);
+            drop(settings);
+            drop(pupils);
+            Err(SessionFault::Memory(e))
+        }
+    }
 }

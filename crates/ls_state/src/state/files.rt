@@ -3,9 +3,8 @@ ghost use Rattle.ls_meaning.specs.{Session, answers, changes_interview, class_ro
 ghost use Rattle.ls_meaning.specs.{in_domain, refuse, save_row, start_row, stores, test_row};
 ghost use Rattle.ls_state.specs.Decides.{Decides, shelf_state};
 
-use crate::fetching::fetch;
-use crate::starting::start_from;
 use crate::state::State;
+use ls_conduct::{fetch, start_from};
 use ls_contents::test_sets;
 use ls_edge::{LONGEST_FILE, Shelf, StoreFault};
 use ls_interior::Steps;

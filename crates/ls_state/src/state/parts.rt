@@ -4,8 +4,8 @@ ghost use Rattle.ls_meaning.specs.{after_of, answers, in_domain};
 ghost use Rattle.ls_meaning.specs.MeshRows.{mesh_agree_row, mesh_row};
 ghost use Rattle.ls_state.specs.Decides.{Decides, shelf_state};
 
-use crate::fetching::fetch_both;
 use crate::state::State;
+use ls_conduct::fetch_both;
 use ls_contents::{agreement, page_of_mesh};
 use ls_edge::Shelf;
 use ls_lines::Word;

@@ -4,8 +4,8 @@ ghost use Rattle.ls_meaning.specs.{after_of, answers, in_domain};
 ghost use Rattle.ls_meaning.specs.SkillRows.{skills_row};
 ghost use Rattle.ls_state.specs.Decides.{Decides, shelf_state};
 
-use crate::fetching::fetch;
 use crate::state::State;
+use ls_conduct::fetch;
 use ls_contents::delineate;
 use ls_edge::Shelf;
 use ls_lines::Word;

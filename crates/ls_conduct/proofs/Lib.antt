@@ -1,0 +1,5 @@
+mod Vocabulary
+pub mod Seen
+mod Fetched
+mod TwoFetched
+mod Trailed

@@ -1,0 +1,9 @@
+mod Vocabulary
+pub mod CaseParts
+pub mod OwnSettings
+pub mod PupilLists
+pub mod PupilNames
+pub mod PupilParts
+pub mod PupilStates
+pub mod Replays
+pub mod Putting
