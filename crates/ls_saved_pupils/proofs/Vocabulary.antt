@@ -16,7 +16,7 @@ pub use Rattle.ls_files.specs.Standing.{are_apart, are_pupils, follow, is_asked}
 unfoldable pub use Rattle.ls_files.specs.Standing.{is_pupil}
 pub use Rattle.ls_files.specs.SurmiseFiles.{read_each, read_list}
 pub use Rattle.ls_files.specs.declared.version.Version.{Version}
-pub use Rattle.ls_lines.specs.{Text}
+pub use Rattle.ls_cutting.specs.{Text}
 pub use Rattle.ls_lists.proofs.Places.{drop-next, is_some-position}
 pub use Rattle.ls_pupils.specs.Cases.{ArePupils, IsCase, case_name, pupil_of_case, pupils_of}
 pub use Rattle.ls_pupils.specs.Own.{have_own_names, is_called}

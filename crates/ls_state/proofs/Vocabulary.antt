@@ -9,8 +9,10 @@ pub use Rattle.ls_edge.specs.Causes.{Rose}
 pub use Rattle.ls_edge.specs.Files.{Folder, StoreCause, FolderStays, Stores, longest_file}
 unfoldable pub use Rattle.ls_files.specs.{session_text}
 pub use Rattle.ls_laws.specs.Forced.{IsSound}
-pub use Rattle.ls_lines.specs.{Text, is_long, pupil_name}
-unfoldable pub use Rattle.ls_lines.specs.{command_of, words}
+pub use Rattle.ls_cutting.specs.{Text, is_long}
+pub use Rattle.ls_lines.specs.{pupil_name}
+unfoldable pub use Rattle.ls_cutting.specs.{words}
+unfoldable pub use Rattle.ls_lines.specs.{command_of}
 pub use Rattle.ls_lines.specs.declared.command.Command.{Command}
 pub use Rattle.ls_lines.specs.declared.edit.EditCommand.{EditCommand}
 pub use Rattle.ls_lines.specs.declared.file.FileCommand.{FileCommand}
@@ -42,8 +44,8 @@ pub use Rattle.ls_theory.specs.declared.answer.Answer.{Answer}
 pub use Rattle.ls_room.proofs.Saying.{says_as}
 pub use Rattle.ls_write.proofs.Showing.{can-view}
 pub use Rattle.ls_write.specs.Showing.{CanSay, is_shown}
-pub use Rattle.ls_conduct.specs.Changes.{MakesChange}
-pub use Rattle.ls_conduct.specs.Fetches.{AreFetched, Fetching, IsFetched, Sees, SeesFile, SeesFiles, ShelfState, shelf_state}
+pub use Rattle.ls_requests.specs.Changes.{MakesChange}
+pub use Rattle.ls_requests.specs.Fetches.{AreFetched, Fetching, IsFetched, Sees, SeesFile, SeesFiles, ShelfState, shelf_state}
 pub use Rattle.ls_state.specs.Decides.{Decides, IsDecided, Makes}
 pub use Rattle.ls_state.specs.Standing.{IsAfterLine, standing_session}
 pub use Rattle.ls_state.specs.States.{state_session}

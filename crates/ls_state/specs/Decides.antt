@@ -5,7 +5,7 @@ use Rattle.std.specs.declared.alloc.AllocError.{AllocError}
 use Rattle.ls_edge.specs.Files.{Folder, FolderStays}
 use Rattle.ls_meaning.specs.{Calls, Effect, Session, folder_with}
 use Rattle.ls_meaning.specs.declared.response.Response.{Response}
-pub use Rattle.ls_conduct.specs.Fetches.{Sees, ShelfState, shelf_state}
+pub use Rattle.ls_requests.specs.Fetches.{Sees, ShelfState, shelf_state}
 
 -- ---- without the folder
 

@@ -1,6 +1,6 @@
 -- Names that are read are what the definitions read, unless memory ran out.
 use Rattle.std.specs.Prelude.{◌≡◌, List, Result, Ok, IfOk, IfErr}
-use Rattle.ls_lines.specs.{Text}
+use Rattle.ls_cutting.specs.{Text}
 use Rattle.ls_domain.specs.Domains.{IsDomainFault}
 use Rattle.ls_domain.specs.declared.domain_fault.DomainFault.{DomainFault}
 

@@ -5,8 +5,8 @@ use Rattle.std.specs.Option.{ForSome}
 use Rattle.ls_theory.specs.{Interview}
 use Rattle.ls_theory.specs.Settings.{Settings}
 use Rattle.ls_base.specs.declared.trail.Entry.{Entry}
-use Rattle.ls_conduct.specs.Changes.{IsTrailOf}
-use Rattle.ls_lines.specs.{Text}
+use Rattle.ls_requests.specs.Changes.{IsTrailOf}
+use Rattle.ls_cutting.specs.{Text}
 use Rattle.ls_meaning.specs.{Session}
 use Rattle.ls_pupils.specs.Cases.{pupils_of, ArePupils}
 use Rattle.ls_pupils.specs.declared.cases.PupilCase.{PupilCase}

@@ -4,5 +4,5 @@
 
 mod state;
 
-pub use ls_conduct::fetch;
+pub use ls_requests::fetch;
 pub use state::State;

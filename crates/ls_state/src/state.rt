@@ -19,7 +19,7 @@ mod skills;
 
 use ls_assess::Settings;
 use ls_base::Trail;
-use ls_conduct::{ask_safe, change, show};
+use ls_requests::{ask_safe, change, show};
 use ls_domain::Domain;
 use ls_edge::Sink;
 use ls_inquiry::{Inquiry, Start};
