@@ -2,8 +2,8 @@
 ghost use Rattle.ls_requests.specs.Fetches.{SeesFile, SeesFiles, shelf_state};
 
 use ls_contents::TwoFiles;
-use ls_edge::{FetchFault, Shelf};
 use ls_cutting::Word;
+use ls_edge::{FetchFault, Shelf};
 use ls_meaning::Refusal;
 use std::alloc::AllocError;
 
