@@ -1,0 +1,79 @@
+"""What a script's session is: its items, its states, its base, as the program tells them.
+
+A companion that shows a space runs the whole script first, in the folder of the script, and then
+asks the program for what it shows:
+
+  with Course(program, script) as course:
+      course.items              the names of the items, in their order
+      course.states(128)        the states as (cursor, names), or None where they are more than 128
+      course.base()             the base in the same form
+      course.ask("relation")    the lines of any reply
+"""
+import sys
+from pathlib import Path
+
+from companion import Session, Trouble, demand, names_in, read_text, refusal_of
+
+PAGE = 4096
+
+
+class Course(Session):
+    """The program after it has answered a script, ready for more lines."""
+
+    def __init__(self, program, script):
+        text = read_text(script)
+        super().__init__(program, Path(script).resolve().parent)
+        try:
+            self.answer(script, text)
+            self.items = names_in(self.ask("states 1", f"{script} has no session")[0])
+        except BaseException:
+            self.close()
+            raise
+
+    def answer(self, script, text):
+        """Says each line of the script. One that is refused is told, and changes nothing."""
+        for number, line in enumerate(text.split("\n"), 1):
+            refusal = refusal_of(self.say(line))
+            if refusal:
+                print(f"{Path(sys.argv[0]).name}: note: line {number} of {script}: {refusal}",
+                      file=sys.stderr)
+
+    def ask(self, line, doing=None):
+        return demand(self.say(line), doing or line)
+
+    def pages(self, most):
+        """The states by pages, each as its cursor and its names, up to one more than `most`."""
+        after, left = "", most + 1
+        while left > 0:
+            *lines, more = self.ask(f"states {min(left, PAGE)}{after}")
+            yield from map(state_of, lines)
+            if more == "more no":
+                return
+            after, left = " after " + lines[-1].split()[1], left - len(lines)
+
+    def states(self, most):
+        """All states, in the order of the program; None where there are more than `most`."""
+        found = list(self.pages(most))
+        return found if len(found) <= most else None
+
+    def base(self):
+        """The sets of the base, in the order of the program."""
+        return [state_of(line) for line in self.ask("base")[:-1]]
+
+    def fringes(self, names):
+        """The inner and the outer fringe of a state."""
+        reply = self.ask(" ".join(["fringes", *names]), "{" + " ".join(names) + "}")[0]
+        inner, outer = reply[len("fringes"):].split("|")
+        return inner.split(), outer.split()
+
+    def state_of_pupil(self, name):
+        """The heaviest state of a pupil, which the report tells."""
+        return names_in(self.ask(f"report {name}", f"pupil {name}")[0])
+
+
+def state_of(line):
+    """The cursor and the names of a set line."""
+    words = line.split(" ", 2)
+    if len(words) != 3 or words[0] != "set":
+        raise Trouble(f"the program's line is no set line: {line}", 3)
+    return words[1], names_in(words[2])
