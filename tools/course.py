@@ -41,19 +41,13 @@ class Course(Session):
     def ask(self, line, doing=None):
         return demand(self.say(line), doing or line)
 
-    def pages(self, most):
-        """The states by pages, each as its cursor and its names, up to one more than `most`."""
-        after, left = "", most + 1
-        while left > 0:
-            *lines, more = self.ask(f"states {min(left, PAGE)}{after}")
-            yield from map(state_of, lines)
-            if more == "more no":
-                return
-            after, left = " after " + lines[-1].split()[1], left - len(lines)
-
     def states(self, most):
         """All states, in the order of the program; None where there are more than `most`."""
-        found = list(self.pages(most))
+        found, after, more = [], "", "more yes"
+        while more == "more yes" and len(found) <= most:
+            *lines, more = self.ask(f"states {min(PAGE, most + 1)}{after}")
+            found += map(state_of, lines)
+            after = " after " + found[-1][0]
         return found if len(found) <= most else None
 
     def base(self):

@@ -80,7 +80,7 @@ def whole(title, lines, spread=0.3, straight=True):
     text = "\\l".join(quoted(wrapped(it, WIDEST_LINE))[1:-1].replace("\\n", "\\l") for it in title)
     return "\n".join([
         "digraph space {",
-        f'  graph [label="{text}\\l", labelloc=t, labeljust=l, fontsize=10, fontname=Helvetica,',
+        f'  graph [label="{text}\\l", labelloc=t, labeljust=l, fontsize=9, fontname=Helvetica,',
         f"         rankdir=BT, outputorder=edgesfirst, ranksep={spread:.2f}, nodesep=0.12,",
         f"         splines={'line' if straight else 'true'}];",
         '  node [shape=box, style="rounded,filled", fillcolor=white, fontsize=10,',
