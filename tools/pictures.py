@@ -81,7 +81,7 @@ def whole(title, lines, spread=0.3, straight=True):
     return "\n".join([
         "digraph space {",
         f'  graph [label="{text}\\l", labelloc=t, labeljust=l, fontsize=9, fontname=Helvetica,',
-        f"         rankdir=BT, outputorder=edgesfirst, ranksep={spread:.2f}, nodesep=0.12,",
+        f"         rankdir=BT, outputorder=edgesfirst, mclimit=4, ranksep={spread:.2f}, nodesep=0.12,",
         f"         splines={'line' if straight else 'true'}];",
         '  node [shape=box, style="rounded,filled", fillcolor=white, fontsize=10,',
         '        fontname=Helvetica, margin="0.09,0.04", height=0.22, width=0.22];',
@@ -143,7 +143,7 @@ def space_picture(items, states, marks=None):
     lines += [f"  {{rank=same; {'; '.join(level)}}}" for level in levels.values()]
     title = [f"{counted(len(states), 'state')} of {counted(len(items), 'item')}.{said}"]
     steps = all(len(sets[high]) == len(sets[low]) + 1 for low, high in pairs)
-    return whole(title + legend(marks), lines, 0.15 + max(map(len, levels.values())) / 70, steps)
+    return whole(title + legend(marks), lines, 0.15 + max(map(len, levels.values())) / 38, steps)
 
 
 def part_legend(marks):
