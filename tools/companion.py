@@ -71,6 +71,8 @@ def status_of(main):
     except Trouble as trouble:
         print(f"{Path(sys.argv[0]).name}: {trouble}", file=sys.stderr)
         return trouble.status
+    except KeyboardInterrupt:
+        return 130
     except BrokenPipeError:
         os.dup2(os.open(os.devnull, os.O_WRONLY), sys.stdout.fileno())
         return 1
@@ -135,12 +137,21 @@ class Session:
 
     def say(self, line):
         """The lines of the reply to a line; none where it is empty or a note."""
+        self.write(line + "\n")
+        return take_reply(line, self.next_line)
+
+    def say_all(self, lines):
+        """The one line of the reply to each of many lines. They are written at once, so that there
+        may be at most some hundreds, whose replies are short."""
+        self.write("\n".join(lines) + "\n" if lines else "")
+        return [self.next_line() for _ in lines]
+
+    def write(self, text):
         try:
-            self.running.stdin.write(line.encode("utf-8", "surrogateescape") + b"\n")
+            self.running.stdin.write(text.encode("utf-8", "surrogateescape"))
             self.running.stdin.flush()
         except BrokenPipeError:
             self.tell_end()
-        return take_reply(line, self.next_line)
 
     def next_line(self):
         line = self.running.stdout.readline()
