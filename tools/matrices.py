@@ -15,6 +15,7 @@ from companion import Trouble
 
 MARKS = {"0": False, "FALSE": False, "F": False, "1": True, "TRUE": True, "T": True}
 MISSING = ("NA", "")
+WORDS = re.compile(r'"((?:[^"\\]|\\.)*)"|(\S+)')  # write.table puts \ before a quote in a text
 NAME = re.compile(r"[A-Za-z0-9_.-]{1,40}")
 
 Table = namedtuple("Table", "items row_names rows")
@@ -32,7 +33,7 @@ def records_of(text):
     separator = separator_of(text)
     if separator is None:
         for number, line in enumerate(text.splitlines(), 1):
-            fields = [quoted or plain for quoted, plain in re.findall(r'"([^"]*)"|(\S+)', line)]
+            fields = [quoted.replace('\\"', '"') or plain for quoted, plain in WORDS.findall(line)]
             if fields:
                 yield number, fields
         return

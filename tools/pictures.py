@@ -81,8 +81,8 @@ def whole(title, lines, spread=0.3, straight=True):
     return "\n".join([
         "digraph space {",
         f'  graph [label="{text}\\l", labelloc=t, labeljust=l, fontsize=9, fontname=Helvetica,',
-        f"         rankdir=BT, outputorder=edgesfirst, mclimit=4, ranksep={spread:.2f}, nodesep=0.12,",
-        f"         splines={'line' if straight else 'true'}];",
+        "         rankdir=BT, outputorder=edgesfirst, mclimit=4, nodesep=0.12,",
+        f"         ranksep={spread:.2f}, splines={'line' if straight else 'true'}];",
         '  node [shape=box, style="rounded,filled", fillcolor=white, fontsize=10,',
         '        fontname=Helvetica, margin="0.09,0.04", height=0.22, width=0.22];',
         "  edge [arrowhead=none, color=gray35];",

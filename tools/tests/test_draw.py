@@ -1,4 +1,4 @@
-"""Whether a picture has the states, covers, names and marks of the space, and tells what it isn't."""
+"""Whether a picture has the states, covers, names and marks of the space."""
 import re
 import shutil
 import subprocess
@@ -184,8 +184,8 @@ class Parts(Draw):
 
     def test_spaces_without_a_relation(self):
         _, told = self.draw(FRACTIONS, "--dot", "--relation", status=1)
-        self.assertEqual(told, "draw: no relation tells these states: there is more than one way to "
-                               "compare; --base draws the ways\n")
+        self.assertEqual(told, "draw: no relation tells these states: there is more than one way "
+                               "to compare; --base draws the ways\n")
         told = self.refused("items a b c\nyes a : b\nyes b : a", "--relation")
         self.assertIn("a and b are always learned together", told)
 

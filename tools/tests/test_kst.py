@@ -164,6 +164,7 @@ class FormsOfR(unittest.TestCase):
     def test_write_table(self):
         self.reads('"a" "b"\n"1" TRUE FALSE\n"2" FALSE FALSE\n', row_names=["1", "2"])
         self.reads('"" "a" "b"\n"1" 1 0\n"2" 0 0\n', row_names=["1", "2"])  # col.names = NA
+        self.reads('"a \\"one\\"" "b"\n"1" 1 0\n"2" 0 0\n', ['a "one"', "b"], ["1", "2"])
         self.reads("a\tb\n1\t0\n0\t0\n")
         self.reads("1 0\n0 0", items=["V1", "V2"])  # no names at all
         self.reads(" a  b\n 1  0\n\n 0  0\n")  # as print shows it, without row names
