@@ -9,12 +9,21 @@ asks the program for what it shows:
       course.base()             the base in the same form
       course.ask("relation")    the lines of any reply
 """
+import argparse
+import re
 import sys
 from pathlib import Path
 
 from companion import Session, Trouble, demand, names_in, read_text, refusal_of
 
 PAGE = 4096
+
+
+def count_of(word):
+    """The number from 1 on that a word of the command line is."""
+    if not re.fullmatch("[1-9][0-9]{0,8}", word):
+        raise argparse.ArgumentTypeError(f"{word} is no number from 1 on")
+    return int(word)
 
 
 class Course(Session):

@@ -139,6 +139,12 @@ class InPlace(Draw):
         self.assertIn("The relation of more than 128 states: 8 items.", title(text))
         self.assertEqual(re.findall(r'"(\w)" -> "(\w)"', text), [("a", "b")])
 
+    def test_items_that_are_free_have_a_relation_without_lines(self):
+        (self.folder / "eight").write_text("items a b c d e f g h")
+        text, told = self.draw("eight", "--dot")
+        self.assertIn("so the relation is drawn", told)
+        self.assertEqual((list(boxes(text)), "->" in text), (list("abcdefgh"), False))
+
     def test_the_base_where_no_relation_tells_the_states(self):
         """With one state less than the guide's space has: its base has the ways to compare."""
         text, told = self.draw(FRACTIONS, "--dot", "--most", "8")
@@ -201,6 +207,11 @@ class Refused(Draw):
         self.assertIn("an item doesn't (no 15 2)", self.refused("items a b", "--state", "z"))
         self.assertIn("pupil Eve: no pupil has this name (no 38)",
                       self.refused("items a b", "--pupil", "Eve"))
+
+    def test_a_number_that_is_none(self):
+        for word in ("0", "-1", "x"):
+            self.assertIn(f"{word} is no number from 1 on",
+                          self.refused("items a", f"--most={word}", status=2))
 
     def test_scripts_without_a_session(self):
         self.assertIn("script has no session", self.refused("# nothing"))
