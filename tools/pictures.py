@@ -26,6 +26,7 @@ LINES = {
     "inner": 'color="#a04a00", penwidth=1.8, style=dashed',
     "plain": "",
 }
+STEPS = {("state", "outer"): "outer", ("inner", "state"): "inner"}  # which lines are marked
 
 
 def covers(sets):
@@ -125,20 +126,19 @@ def space_picture(items, states, marks=None):
     sets = [frozenset(names) for _, names in states]
     kinds, pairs = kinds_of(sets, marks), covers(sets)
     name, said = namer(states)
-    lines = [box(cursor, name(cursor, names), kind) for (cursor, names), kind in zip(states, kinds)]
+    lines = [box(cursor, name(cursor, names), kind)
+             for (cursor, names), kind in zip(states, kinds)]
     lines.append('  node [style=filled, color=white, margin="0.02,0.0", height=0.1, width=0.1, '
                  "fontsize=9];")
     for low, high in pairs:
         added = [item for item in items if item in sets[high] - sets[low]]
         middle = "+".join([states[low][0], *added])
-        kind = {("state", "outer"): "outer", ("inner", "state"): "inner"}.get(
-            (kinds[low], kinds[high]), "plain")
-        shown = " ".join(added)
-        lines.append(f"  {quoted(middle)} [label={quoted(shown)}"
-                     + (", fontname=\"Helvetica-Bold\"];" if kind != "plain" else "];"))
+        kind = STEPS.get((kinds[low], kinds[high]), "plain")
+        bold = "" if kind == "plain" else ', fontname="Helvetica-Bold"'
+        lines.append(f"  {quoted(middle)} [label={quoted(' '.join(added))}{bold}];")
         lines.append(line([states[low][0], middle, states[high][0]], kind))
     levels = {}
-    for (cursor, names) in states:
+    for cursor, names in states:
         levels.setdefault(len(names), []).append(quoted(cursor))
     lines += [f"  {{rank=same; {'; '.join(level)}}}" for level in levels.values()]
     title = [f"{counted(len(states), 'state')} of {counted(len(items), 'item')}.{said}"]
