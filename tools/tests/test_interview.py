@@ -58,8 +58,8 @@ class Interviews(unittest.TestCase):
         # after `yes expand : add` the two No before tell `add : decimal` and `add : compare`
         self.assertIn("[3 asked, 2 settled without asking, 7 open] "
                       "Would a pupil who fails decimal also fail expand?", printed)
-        self.assertIn("All 12 questions of blocks 1 are settled: 9 asked, 3 settled without asking."
-                      "\nThe answers leave 10 states.\nThey are a learning space", printed)
+        self.assertIn("All 12 questions of blocks 1 are settled: 9 asked, 3 settled without "
+                      "asking.\nThe answers leave 10 states.\nThey are a learning space", printed)
 
     def test_larger_blocks_go_on(self):
         self.interview(KEYS)
@@ -207,8 +207,9 @@ class Interviews(unittest.TestCase):
         main, terminal = pty.openpty()
         running = subprocess.Popen([*INTERVIEW, "first.txt", "--items", *ITEMS.split()],
                                    cwd=self.folder, stdin=terminal, stdout=subprocess.PIPE)
-        for key, shown in [(b"n", b"fail decimal?"), (b"y", b"fail compare?"), (b"u", b"fail add?"),
-                           (b"w", b"fail compare?"), (b"decimal : add\n", b"Of which question?"),
+        for key, shown in [(b"n", b"fail decimal?"), (b"y", b"fail compare?"),
+                           (b"u", b"fail add?"), (b"w", b"fail compare?"),
+                           (b"decimal : add\n", b"Of which question?"),
                            (b"q", b"fail compare?")]:
             while shown not in running.stdout.readline():
                 pass
