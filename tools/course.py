@@ -1,7 +1,7 @@
 """What a script's session is: its items, its states, its base, as the program tells them.
 
-A companion that shows a space runs the whole script first, in the folder of the script, and then
-asks the program for what it shows:
+A companion that shows a space runs the whole script first, and then asks the program for what it
+shows. The script finds the files of its folder, but by links: what it saves is not kept.
 
   with Course(program, script) as course:
       course.items              the names of the items, in their order
@@ -12,6 +12,7 @@ asks the program for what it shows:
 import argparse
 import re
 import sys
+import tempfile
 from pathlib import Path
 
 from companion import Session, Trouble, demand, names_in, read_text, refusal_of
@@ -31,13 +32,22 @@ class Course(Session):
 
     def __init__(self, program, script):
         text = read_text(script)
-        super().__init__(program, Path(script).resolve().parent)
+        self.folder = tempfile.TemporaryDirectory()
+        for file in Path(script).absolute().parent.iterdir():
+            if file.is_file():  # a `save` of the script replaces such a link, and not the file
+                (Path(self.folder.name) / file.name).symlink_to(file)
+        super().__init__(program, self.folder.name)
         try:
             self.answer(script, text)
             self.items = names_in(self.ask("states 1", f"{script} has no session")[0])
         except BaseException:
             self.close()
             raise
+
+    def close(self):
+        """Ends the program, and takes the folder of its links away."""
+        super().close()
+        self.folder.cleanup()
 
     def answer(self, script, text):
         """Says each line of the script. One that is refused is told, and changes nothing."""

@@ -76,6 +76,14 @@ class FromTheProgram(Kst):
         self.assertEqual(told, "kst: note: line 2 of twice: the items were given before (no 11)\n"
                                "kst: note: line 3 of twice: the line is no command (no 10 1)\n")
 
+    def test_what_a_script_saves_is_not_kept(self):
+        """The second line opens what the first has saved, and the file beside is as it was."""
+        (self.folder / "kept").write_text("as it was")
+        (self.folder / "script").write_text("items a b\nsave kept\nopen kept\nyes a : b\nsave new")
+        self.assertEqual(self.kst("states", "script"), ("a,b\n1,1\n1,0\n0,0\n", ""))
+        self.assertEqual((self.folder / "kept").read_text(), "as it was")
+        self.assertEqual(sorted(it.name for it in self.folder.iterdir()), ["kept", "script"])
+
     def test_scripts_that_have_no_session(self):
         (self.folder / "none").write_text("# nothing\n")
         self.assertIn("kst: none has no session", self.kst("states", "none", status=1)[1])
