@@ -66,6 +66,8 @@ class Trouble(Exception):
 
 def status_of(main):
     """The status that `main` returns, or that of its Trouble, which is told in one line."""
+    for stream in (sys.stdin, sys.stdout, sys.stderr):
+        stream.reconfigure(errors="backslashreplace")
     try:
         return main() or 0
     except Trouble as trouble:
