@@ -1,0 +1,226 @@
+"""What an interview by keys asks, keeps and tells."""
+import os
+import pty
+import random
+import signal
+import subprocess
+import sys
+import tempfile
+import time
+import unittest
+from pathlib import Path
+
+TOP = Path(__file__).resolve().parents[2]
+sys.path.insert(0, str(TOP / "tools"))
+import companion
+
+PROGRAM = companion.find_program()
+INTERVIEW = [sys.executable, str(TOP / "tools/interview")]
+ITEMS = "expand decimal compare add"
+# The answers of the guide on fractions, in the order in which they are asked with blocks of 1.
+GUIDE = ["no expand : decimal", "no expand : compare", "yes expand : add", "no decimal : expand",
+         "no decimal : compare", "no decimal : add", "no compare : expand", "no compare : decimal",
+         "yes compare : add"]
+KEYS = [line[0] for line in GUIDE]
+
+
+class Interviews(unittest.TestCase):
+    def setUp(self):
+        kept = tempfile.TemporaryDirectory()
+        self.addCleanup(kept.cleanup)
+        self.folder = Path(kept.name)
+        self.script = self.folder / "first.txt"
+
+    def interview(self, keys, *words, items=ITEMS, status=0):
+        """What an interview prints that gets these lines."""
+        given = ["--items", *items.split()] if items and not self.script.exists() else []
+        done = subprocess.run([*INTERVIEW, "first.txt", *given, *words], cwd=self.folder,
+                              input="".join(key + "\n" for key in keys), stdout=subprocess.PIPE,
+                              stderr=subprocess.STDOUT, universal_newlines=True)
+        self.assertEqual(done.returncode, status, done.stdout)
+        return done.stdout
+
+    def lines(self):
+        return self.script.read_text().splitlines()
+
+    def replies(self):
+        """What the program replies to the script as it stands."""
+        with open(self.script) as script:
+            done = subprocess.run([PROGRAM], stdin=script, cwd=self.folder, stdout=subprocess.PIPE)
+        return done.stdout.decode().splitlines()
+
+    def test_the_interview_of_the_guide(self):
+        printed = self.interview(KEYS)
+        self.assertEqual(self.lines(), ["items " + ITEMS, *GUIDE])
+        self.assertEqual(self.replies(), ["ok 4"] + [f"ok {n}" for n in range(1, 10)])
+        self.assertIn("[0 asked, 0 settled without asking, 12 open] "
+                      "Would a pupil who fails expand also fail decimal?", printed)
+        # after `yes expand : add` the two No before tell `add : decimal` and `add : compare`
+        self.assertIn("[3 asked, 2 settled without asking, 7 open] "
+                      "Would a pupil who fails decimal also fail expand?", printed)
+        self.assertIn("All 12 questions of blocks 1 are settled: 9 asked, 3 settled without "
+                      "asking.\nThe answers leave 10 states.\nThey are a learning space", printed)
+
+    def test_larger_blocks_go_on(self):
+        self.interview(KEYS)
+        printed = self.interview(["y", "n", "n", "n"], "--blocks", "2")
+        self.assertIn("Would a pupil who fails all of expand, decimal also fail compare?", printed)
+        self.assertIn("13 asked, 11 settled without asking.\nThe answers leave 9 states", printed)
+        self.assertEqual(self.lines()[10:], [
+            "blocks 2", "yes expand decimal : compare", "no expand compare : decimal",
+            "no decimal compare : expand", "no decimal add : compare"])
+        before = self.lines()
+        self.interview([], "--blocks", "2", "--items", *ITEMS.split())
+        self.assertEqual(self.lines(), before)  # the same command again adds nothing
+
+    def test_skipped_questions_come_again(self):
+        printed = self.interview(["s", "s", "n", "y"], items="a b")
+        asked = [line.split("] ")[1] for line in printed.splitlines() if "] Would" in line]
+        first, second = ("Would a pupil who fails a also fail b?",
+                         "Would a pupil who fails b also fail a?")
+        self.assertEqual(asked, [first, second, first, second])
+        self.assertEqual(printed.count("Only skipped questions are left"), 1)
+        self.assertEqual(self.lines(), ["items a b", "no a : b", "yes b : a"])
+
+    def test_a_skipped_question_that_answers_settle_is_never_asked_again(self):
+        # a : c skipped; a : b and b : c are Yes, so a : c is Yes
+        printed = self.interview(["y", "s", "n", "y"], items="a b c")
+        self.assertEqual(self.lines()[1:], ["yes a : b", "no b : a", "yes b : c"])
+        self.assertEqual(printed.count("who fails a also fail c?"), 1)
+
+    def test_undo(self):
+        printed = self.interview(["y", "u", "n", "y", "u", "u"], items="a b")
+        self.assertEqual(self.lines(), ["items a b", "yes a : b", "retract 1", "no a : b",
+                                        "yes b : a", "retract 3", "retract 2"])
+        self.assertIn("  Taken back: answer 1, 'yes a : b'.\n[0 asked, 0 settled without asking, "
+                      "2 open] Would a pupil who fails a also fail b?", printed)
+        self.assertEqual(self.replies()[-1], "ok 2")
+        self.assertIn("No such answer stands.", self.interview(["u"]))
+
+    def test_undo_of_an_earlier_session_and_of_a_named_answer(self):
+        self.interview(KEYS)
+        self.interview(["u yes : no", "u expand : add", "u"])
+        self.assertEqual(self.lines()[10:], ["retract 3", "retract 9"])
+
+    def test_why(self):
+        self.interview(KEYS)
+        printed = self.interview(["w add : expand", "w expand : add", "w expand compare : add"])
+        self.assertIn("It is No, by answer 7, 'no compare : expand': some pupil fails compare and"
+                      " masters expand.\n  Were it Yes, there could be no such pupil.", printed)
+        self.assertIn("It was answered: answer 3, 'yes expand : add'.", printed)
+        self.assertIn("It is Yes: by the start and the answers Yes, nobody masters add without one"
+                      " of expand, compare.", printed)
+        self.assertEqual(len(self.lines()), 10)
+        self.script.unlink()
+        self.assertIn("It is open: the answers so far tell neither", self.interview(["w"]))
+
+    def test_refused_answers_are_told_and_not_kept(self):
+        self.interview(KEYS)
+        printed = self.interview(["y add : expand", "n expand compare : add", "y expand : add",
+                                  "y add : add", "y add : zero", "loud"])
+        for told in ["No (no 21 7), by answer 7, 'no compare : expand'.",
+                     "tell Yes (no 20).", "(no 19 3), by answer 3, 'yes expand : add'.",
+                     "the same item on both sides (no 18)", "That is no question of the items",
+                     "Keys: y yes"]:
+            self.assertIn(told, printed)
+        self.assertEqual(len(self.lines()), 10)
+
+    def test_items_are_asked_for(self):
+        printed = self.interview(["a a", "a b", "q"], items=None)
+        self.assertIn("These can't be taken", printed)
+        self.assertEqual(self.lines(), ["items a b"])
+        self.script.unlink()
+        (self.folder / "topics.csv").write_text("add,addition\nsub,subtraction\n")
+        self.interview(["y"], "--load-items", "topics.csv", items=None)
+        self.assertEqual(self.lines(), ["load-items topics.csv", "yes add : sub"])
+        self.assertIn("has its items already", self.interview([], "--items", "a", status=2))
+
+    def test_a_script_as_an_author_left_it(self):
+        """Notes, listings, a start, a refused line and no line end at the end all stay."""
+        (self.folder / "ways.json").write_text(
+            '{"a": [["a"]], "b": [["a", "b"], ["c", "b"]], "c": [["c"]]}')
+        text = "# mine\nitems a b c\nstart surmise ways.json\nblocks 2\nstates\nfoo\nno a : b"
+        self.script.write_text(text)
+        printed = self.interview(["q"])
+        self.assertIn("Line 6, 'foo', is refused: the line is no command (no 10 1).", printed)
+        self.assertEqual(self.script.read_text(), text)
+        self.interview(["n"])
+        # of the start's states only {b c} has b without a; so it stays, and a : c is No as well
+        self.assertEqual(self.script.read_text(), text + "\nno b : a\n")
+
+    def test_a_saved_session_goes_on(self):
+        self.interview(KEYS[:3])
+        subprocess.run([PROGRAM], input=self.script.read_bytes() + b"blocks 2\nsave kept\n",
+                       cwd=self.folder, stdout=subprocess.DEVNULL)
+        self.script.write_text("open kept\n")
+        printed = self.interview(["u"])
+        self.assertIn("[3 asked, ", printed)
+        self.assertIn("Taken back: answer 3, 'yes expand : add'.", printed)
+        self.assertEqual(self.lines(), ["open kept", "retract 3"])
+
+    def test_killed_at_any_moment(self):
+        """What was told as kept is in the script, which goes on to the same end."""
+        names = " ".join(f"i{n}" for n in range(9))
+        whole = ["items " + names]
+        for kill in range(8):
+            drawn = random.Random(kill)
+            self.script.unlink() if self.script.exists() else None
+            running = subprocess.Popen([*INTERVIEW, "first.txt", "--items", *names.split()],
+                                       cwd=self.folder, stdin=subprocess.PIPE,
+                                       stdout=subprocess.PIPE)
+            running.stdin.write(b"n\n" * 200)
+            running.stdin.flush()
+            printed = [running.stdout.readline() for _ in range(drawn.randrange(1, 90))]
+            time.sleep(drawn.uniform(0, 0.004))
+            os.kill(running.pid, signal.SIGKILL)
+            printed = b"".join(printed) + running.communicate()[0]
+            kept = printed.count(b", kept as answer ")
+            self.assertLessEqual(kept, len(self.lines()) - 1)
+            self.assertGreaterEqual(kept, len(self.lines()) - 2)
+            self.assertEqual(self.replies(), ["ok 9"] + [f"ok {n}" for n in
+                                                         range(1, len(self.lines()))])
+            self.interview(["n"] * 80)
+            whole = self.lines() if len(whole) == 1 else whole
+            self.assertEqual(self.lines(), whole)
+        self.assertEqual(len(whole), 73)
+
+    def test_one_interview_at_a_time(self):
+        running = subprocess.Popen([*INTERVIEW, "first.txt", "--items", "a", "b"], cwd=self.folder,
+                                   stdin=subprocess.PIPE, stdout=subprocess.PIPE)
+        running.stdout.readline()
+        self.assertIn("is used by another interview", self.interview(["y"], status=2))
+        running.communicate()
+
+    def test_a_full_disk_keeps_no_part_of_an_answer(self):
+        self.interview(["n"])
+        before = self.script.read_text()
+        limited = ["bash", "-c", "trap '' XFSZ; ulimit -f 1; exec \"$@\"", "bash", *INTERVIEW]
+        self.script.write_text("#" * (1024 - len(before) - 6) + "\n" + before)
+        before = self.script.read_text()
+        done = subprocess.run([*limited, "first.txt"], cwd=self.folder, input=b"y\ny\n",
+                              stdout=subprocess.PIPE, stderr=subprocess.PIPE)
+        self.assertEqual(done.returncode, 2)
+        self.assertIn(b"can't keep 'yes expand : compare'", done.stderr)
+        self.assertEqual(self.script.read_text(), before)
+
+    def test_single_keys_at_a_terminal(self):
+        main, terminal = pty.openpty()
+        running = subprocess.Popen([*INTERVIEW, "first.txt", "--items", *ITEMS.split()],
+                                   cwd=self.folder, stdin=terminal, stdout=subprocess.PIPE)
+        for key, shown in [(b"n", b"fail decimal?"), (b"y", b"fail compare?"),
+                           (b"u", b"fail add?"), (b"w", b"fail compare?"),
+                           (b"decimal : add\n", b"Of which question?"),
+                           (b"q", b"fail compare?")]:
+            while shown not in running.stdout.readline():
+                pass
+            os.write(main, key)
+        printed = running.communicate()[0]
+        os.close(main)
+        os.close(terminal)
+        self.assertIn(b"1 answer in first.txt", printed)
+        self.assertEqual(self.lines()[1:], ["no expand : decimal", "yes expand : compare",
+                                            "retract 2"])
+
+
+if __name__ == "__main__":
+    unittest.main()
