@@ -64,5 +64,16 @@ class Troubles(unittest.TestCase):
                          "the earlier answers already tell No (no 21 7)")
 
 
+class Helps(unittest.TestCase):
+    def test_each_companion_tells_its_use_and_that_it_proves_nothing(self):
+        for name in ["interview", "report"]:
+            done = subprocess.run([sys.executable, str(TOP / "tools" / name), "--help"],
+                                  stdout=subprocess.PIPE)
+            told = " ".join(done.stdout.decode().split())
+            self.assertEqual(done.returncode, 0)
+            self.assertIn(f"usage: {name} ", told)
+            self.assertIn("proves nothing", told)
+
+
 if __name__ == "__main__":
     unittest.main()
