@@ -83,11 +83,15 @@ class ListClauses(unittest.TestCase):
 
     def test_the_theorem_is_weakened_in_the_sources(self):
         self.change(TOP_CALL, "ensures headline { words.now ≡ [] →", "ensures headline { words.now ≢ [] →")
-        self.assert_fails(f"`{TOP_CALL}` doesn't have the lines that are quoted")
+        self.assert_fails(f"`{TOP_CALL}` has no such whole clause")
 
     def test_the_quoted_theorem_is_shortened(self):
         self.change("docs/PROVED.md", "        → TakesFew script (S.left src.new)\n", "")
-        self.assert_fails("doesn't have the lines that are quoted")
+        self.assert_fails("has no such whole clause")
+
+    def test_the_end_of_the_quoted_theorem_is_left_out(self):
+        self.change("docs/PROVED.md", "        (K.written out.old) (K.written out.new) result }\n", "")
+        self.assert_fails("has no such whole clause")
 
     def test_a_definition_is_renamed(self):
         self.change("crates/ls_theory/specs/Forced.antt", "pub next_question :", "pub question_next :")
