@@ -6,10 +6,11 @@ use Rattle.ls_laws.proofs.Families.{compat-IsFamily}
 use Rattle.ls_weight.proofs.Weighable.{family-weighable}
 use Rattle.ls_standing.proofs.Ruling.{ruled-compat}
 
-pub are-states : (inner : StartOn) (rules : List Query) (n : ℕ) (start : Start) (own : List Query) (sets : List Items) → inner ≡ (let s : StartOn = record { item_count = n; start = start } in s) → rules ≡ own
+pub are-states : (inner : StartOn) (rules : List Query) (n : ℕ) (start : Start) (own : List Query) (sets : List Items) → inner.item_count ≡ n → inner.start ≡ start → rules ≡ own
     → sets ≡ filter (breaks_none rules) (compat inner.item_count inner.start []) → sets ≡ compat n start own
-are-states inner rules n start own sets e f is =
-    is ∙ ap (λ (s : StartOn). filter (breaks_none rules) (compat s.item_count s.start [])) e ∙ ap (λ qs. filter (breaks_none qs) (compat n start [])) f ∙ ruled-compat n start own
+are-states inner rules n start own sets d e f is =
+    is ∙ ap (λ m. filter (breaks_none rules) (compat m inner.start [])) d ∙ ap (λ (s : Start). filter (breaks_none rules) (compat n s [])) e ∙ ap (λ qs. filter (breaks_none qs) (compat n start [])) f
+    ∙ ruled-compat n start own
 
 pub states-kept : (sets f : List Items) → sets ≡ f → length sets ≤ most_states → Some sets ≡ kept_if (λ g. leb (length g) most_states) (Some f)
 states-kept sets f e few = ap Some e ∙ sym (ap (λ b. cond b (Some f) None) (le-leb (length f) most_states (subst (λ (g : List Items). length g ≤ most_states) e few)))

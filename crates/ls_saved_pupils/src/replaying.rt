@@ -16,30 +16,9 @@ use ls_interior::{Counted, Steps};
 use ls_pupils::MOST_STATES;
 use ls_rules::Ruled;
 use ls_set::{PLACES, Query, SetList};
+use ls_standing::with_rules;
 use std::alloc::{AllocError, Global};
 use std::sync::ledger::Ledger;
-
-// The sets that meet the start, with the queries as rules.
-fn family_of(
-    alloc: Global,
-    n: u32,
-    start: &Start,
-    yes: &[Query],
-) -> Result<Ruled<OnItems>, AllocError>
-    requires few { n ≤ PLACES }
-    requires on { IsStartOn n start.now }
-    requires good { list_all (is_good n) yes.now ≡ true }
-    ensures inner { IfOk result (λ f.
-        f.inner ≡ record { item_count = n; start = start_of start.now }) }
-    ensures rules { IfOk result (λ f. f.rules ≡ yes.now) }
-{
-    let mut family = Ruled::new(alloc, OnItems::new(n, start.copy()?));
-    for query in yes {
-        family.reserve()?;
-        family.push_reserved(*query);
-    }
-    Ok(family)
-}
 
 // The sets of the family, where there are not too many to be a pupil's states.
 fn listed<L: Ledger>(
@@ -73,8 +52,10 @@ fn states_of<L: Ledger>(
     ensures { IfOk result (λ found. found ≡ kept_if (λ f. nat_le (length f) most_states)
         (Some (compat n (start_of start.now) yes.now))) }
 {
-    let family = family_of(alloc, n, start, yes)?;
-    listed(alloc, &family, steps)
+    let family = with_rules(alloc, OnItems::new(n, start.copy()?), yes)?;
+    let states = listed(alloc, &family, steps);
+    drop(family);
+    states
 }
 
 // The pupil over the states before any reply, where they can be weighed under the settings.

@@ -7,4 +7,4 @@ unfolding session_text
 returns c =
     let s : Session = record { names = c.args.domain.now; interview = c.args.inquiry.now; settings = c.args.settings.now; pupils = pupils_of c.args.pupils.now } in
     let value = c.in_ok-value.ensures in
-    IfOk-weaker c.to_vec.result _ _ (λ v h. let k = rw value at h in k (session-exact s c.requires.pupils.few_items)) c.to_vec.ensures.text
+    IfOk-weaker c.to_vec-text.result _ _ (λ v h. let k = rw value at h in k (session-exact s c.requires.pupils.few_items)) c.to_vec-text.ensures.text
