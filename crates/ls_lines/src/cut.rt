@@ -66,6 +66,29 @@ impl<'a> Cut<'a> {
         Word::from_ascii(self.alloc, self.word(place))
     }
 
+    // The one words at two parts. Of a function with an arm for each form less is to be proved with
+    // this than with two calls of `one`: it has nothing to let go of where memory runs out.
+    pub(crate) fn two(&self, first: usize, second: usize) -> Result<(Word, Word), AllocError>
+        requires { All (λ ws. All IsAscii ws) self.now }
+        ensures { IfOk result (λ p. (p.0 ≡ one self.now first) × (p.1 ≡ one self.now second)) }
+    {
+        let left = self.one(first)?;
+        Ok((left, self.one(second)?))
+    }
+
+    // The words at a part, and the one word at another.
+    pub(crate) fn all_and_one(
+        &self,
+        first: usize,
+        second: usize,
+    ) -> Result<(WordList, Word), AllocError>
+        requires { All (λ ws. All IsAscii ws) self.now }
+        ensures { IfOk result (λ p. (p.0 ≡ all self.now first) × (p.1 ≡ one self.now second)) }
+    {
+        let words = self.all(first)?;
+        Ok((words, self.one(second)?))
+    }
+
     // The number of the one word at a part, which is a count.
     pub(crate) fn count(&self, place: usize) -> u32
         ensures { result ≡ count self.now place }

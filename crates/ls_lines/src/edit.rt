@@ -21,7 +21,7 @@ pub enum EditCommand {
 }
 
 /// A form of a command that changes the interview.
-#[derive(Clone, Copy, PartialEq, Eq)]
+#[derive(Clone, Copy)]
 pub enum EditForm {
     Blocks,
     Yes,
@@ -51,14 +51,14 @@ impl EditForm {
             Self::Blocks => EditCommand::Blocks {
                 size: cut.number(1),
             },
-            Self::Yes => EditCommand::Yes {
-                names: cut.all(1)?,
-                item: cut.one(3)?,
-            },
-            Self::No => EditCommand::No {
-                names: cut.all(1)?,
-                item: cut.one(3)?,
-            },
+            Self::Yes => {
+                let (names, item) = cut.all_and_one(1, 3)?;
+                EditCommand::Yes { names, item }
+            }
+            Self::No => {
+                let (names, item) = cut.all_and_one(1, 3)?;
+                EditCommand::No { names, item }
+            }
             Self::Retract => EditCommand::Retract {
                 number: u64::from(cut.number(1)),
             },

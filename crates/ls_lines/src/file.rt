@@ -60,7 +60,7 @@ pub enum FileCommand {
 }
 
 /// A form of a command that reads or stores files.
-#[derive(Clone, Copy, PartialEq, Eq)]
+#[derive(Clone, Copy)]
 pub enum FileForm {
     StartSurmise,
     StartBase,
@@ -112,15 +112,24 @@ impl FileForm {
             Self::Class => FileCommand::Class { file: cut.one(1)? },
             Self::Save => FileCommand::Save { file: cut.one(1)? },
             Self::SkillsAny => skills_any(cut.one(2)?, cut.count(3), None),
-            Self::SkillsAnyAfter => skills_any(cut.one(2)?, cut.count(3), Some(cut.one(5)?)),
+            Self::SkillsAnyAfter => {
+                let (file, cursor) = cut.two(2, 5)?;
+                skills_any(file, cut.count(3), Some(cursor))
+            }
             Self::SkillsAll => skills_all(cut.one(2)?, cut.count(3), None),
-            Self::SkillsAllAfter => skills_all(cut.one(2)?, cut.count(3), Some(cut.one(5)?)),
-            Self::Mesh => mesh(cut.one(1)?, cut.one(2)?, cut.count(3), None),
-            Self::MeshAfter => mesh(cut.one(1)?, cut.one(2)?, cut.count(3), Some(cut.one(5)?)),
-            Self::MeshAgree => FileCommand::MeshAgree {
-                left: cut.one(1)?,
-                right: cut.one(2)?,
-            },
+            Self::SkillsAllAfter => {
+                let (file, cursor) = cut.two(2, 5)?;
+                skills_all(file, cut.count(3), Some(cursor))
+            }
+            Self::Mesh => {
+                let (left, right) = cut.two(1, 2)?;
+                mesh(left, right, cut.count(3), None)
+            }
+            Self::MeshAfter => mesh_after(cut)?,
+            Self::MeshAgree => {
+                let (left, right) = cut.two(1, 2)?;
+                FileCommand::MeshAgree { left, right }
+            }
         })
     }
 }
@@ -203,4 +212,14 @@ fn mesh(left: Word, right: Word, count: u32, after: Option<Word>) -> FileCommand
         count,
         after,
     }
+}
+
+// A page of the states of a mesh, after a cursor.
+fn mesh_after(cut: &Cut) -> Result<FileCommand, AllocError>
+    requires { All (λ ws. All IsAscii ws) cut.now }
+    ensures { IfOk result (λ c. c ≡ file_command FileForm.MeshAfter cut.now) }
+{
+    let cursor = cut.one(5)?;
+    let (left, right) = cut.two(1, 2)?;
+    Ok(mesh(left, right, cut.count(3), Some(cursor)))
 }

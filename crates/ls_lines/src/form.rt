@@ -10,7 +10,7 @@ use crate::{
 use std::alloc::AllocError;
 
 /// The forms of commands, by their topics.
-#[derive(Clone, Copy, PartialEq, Eq)]
+#[derive(Clone, Copy)]
 pub enum Form {
     Nothing,
     Opening(OpeningForm),

@@ -1,7 +1,7 @@
 // The words of the command language itself.
 
 /// A word that stands in a form as it is.
-#[derive(Clone, Copy, PartialEq, Eq)]
+#[derive(Clone, Copy)]
 pub enum Keyword {
     Items,
     LoadItems,

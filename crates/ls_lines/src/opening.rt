@@ -21,7 +21,7 @@ pub enum OpeningCommand {
 }
 
 /// A form of a command that opens a session.
-#[derive(Clone, Copy, PartialEq, Eq)]
+#[derive(Clone, Copy)]
 pub enum OpeningForm {
     Items,
     LoadItems,

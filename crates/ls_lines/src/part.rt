@@ -3,7 +3,7 @@
 use crate::{Keyword, Kind};
 
 /// A part of a form: the word itself, one word of a kind, or any number of words of a kind.
-#[derive(Clone, Copy, PartialEq, Eq)]
+#[derive(Clone, Copy)]
 pub enum Part {
     Fixed(Keyword),
     One(Kind),

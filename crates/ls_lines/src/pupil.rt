@@ -22,7 +22,7 @@ pub enum PupilCommand {
 }
 
 /// A form of a command that assesses a pupil.
-#[derive(Clone, Copy, PartialEq, Eq)]
+#[derive(Clone, Copy)]
 pub enum PupilForm {
     Pupil,
     Question,
@@ -53,11 +53,11 @@ impl PupilForm {
         Ok(match self {
             Self::Pupil => PupilCommand::Pupil { name: cut.one(1)? },
             Self::Question => PupilCommand::Question { name: cut.one(1)? },
-            Self::Reply => PupilCommand::Reply {
-                name: cut.one(1)?,
-                item: cut.one(2)?,
-                right: cut.is_right(3),
-            },
+            Self::Reply => {
+                let (name, item) = cut.two(1, 2)?;
+                let right = cut.is_right(3);
+                PupilCommand::Reply { name, item, right }
+            }
             Self::Report => PupilCommand::Report { name: cut.one(1)? },
             Self::Close => PupilCommand::Close { name: cut.one(1)? },
         })

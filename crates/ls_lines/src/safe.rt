@@ -26,7 +26,7 @@ pub enum SafeCommand {
 }
 
 /// A form of a command of the safe interview.
-#[derive(Clone, Copy, PartialEq, Eq)]
+#[derive(Clone, Copy)]
 pub enum SafeForm {
     Open,
     Answer,
@@ -58,10 +58,10 @@ impl SafeForm {
     {
         Ok(match self {
             Self::Open => SafeCommand::Open,
-            Self::Answer => SafeCommand::Answer {
-                names: cut.all(1)?,
-                item: cut.one(3)?,
-            },
+            Self::Answer => {
+                let (names, item) = cut.all_and_one(1, 3)?;
+                SafeCommand::Answer { names, item }
+            }
             Self::List => SafeCommand::List,
             Self::States => states(cut.count(1), None),
             Self::StatesAfter => states(cut.count(1), Some(cut.one(3)?)),

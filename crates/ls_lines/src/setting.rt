@@ -49,7 +49,7 @@ pub enum SettingCommand {
 }
 
 /// A form of a command that sets the odds, the ratios or the limits of an assessment.
-#[derive(Clone, Copy, PartialEq, Eq)]
+#[derive(Clone, Copy)]
 pub enum SettingForm {
     OddsAll,
     OddsItem,

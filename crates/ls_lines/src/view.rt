@@ -53,7 +53,7 @@ pub enum ViewCommand {
 }
 
 /// A form of a command that shows something of the interview.
-#[derive(Clone, Copy, PartialEq, Eq)]
+#[derive(Clone, Copy)]
 pub enum ViewForm {
     Known,
     Ask,
@@ -113,10 +113,10 @@ impl ViewForm {
         ensures { IfOk result (λ c. c ≡ view_command self cut.now) }
     {
         Ok(match self {
-            Self::Known => ViewCommand::Known {
-                names: cut.all(1)?,
-                item: cut.one(3)?,
-            },
+            Self::Known => {
+                let (names, item) = cut.all_and_one(1, 3)?;
+                ViewCommand::Known { names, item }
+            }
             Self::Ask => ViewCommand::Ask,
             Self::States => states(MOST_COUNTED, None),
             Self::StatesUpTo => states(cut.count(1), None),
@@ -124,14 +124,17 @@ impl ViewForm {
             Self::Base => ViewCommand::Base,
             Self::Surmise => ViewCommand::Surmise,
             Self::Learning => ViewCommand::Learning,
-            Self::Project => project(cut.count(1), None, cut.all(3)?),
-            Self::ProjectAfter => project(cut.count(1), Some(cut.one(3)?), cut.all(5)?),
+            Self::Project => {
+                let names = cut.all(3)?;
+                project(cut.count(1), None, names)
+            }
+            Self::ProjectAfter => {
+                let (names, cursor) = cut.all_and_one(5, 3)?;
+                project(cut.count(1), Some(cursor), names)
+            }
             Self::ProjectBase => ViewCommand::ProjectBase { names: cut.all(1)? },
             Self::Fringes => ViewCommand::Fringes { names: cut.all(1)? },
-            Self::StateOf => ViewCommand::StateOf {
-                inner: cut.all(1)?,
-                outer: cut.all(3)?,
-            },
+            Self::StateOf => state_of(cut)?,
             Self::Paths => paths(cut.count(1), None),
             Self::PathsAfter => paths(cut.count(1), Some(cut.all(3)?)),
             Self::SkillMap => ViewCommand::SkillMap,
@@ -208,4 +211,14 @@ fn paths(count: u32, after: Option<WordList>) -> ViewCommand
     ensures { result ≡ ViewCommand.Paths count after }
 {
     ViewCommand::Paths { count, after }
+}
+
+// The state of two fringes.
+fn state_of(cut: &Cut) -> Result<ViewCommand, AllocError>
+    requires { All (λ ws. All IsAscii ws) cut.now }
+    ensures { IfOk result (λ c. c ≡ view_command ViewForm.StateOf cut.now) }
+{
+    let inner = cut.all(1)?;
+    let outer = cut.all(3)?;
+    Ok(ViewCommand::StateOf { inner, outer })
 }
