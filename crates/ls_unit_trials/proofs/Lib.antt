@@ -1,4 +1,3 @@
 mod ExamplesBases
 mod ExamplesSets
 mod ExamplesTables
-pub mod Weighable

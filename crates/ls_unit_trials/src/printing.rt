@@ -1,31 +1,51 @@
 // What is printed by calls that the program doesn't make: sets, fringes and a surmise function.
-ghost use Rattle.std.specs.Prelude.{◌≡◌, length};
+ghost use Rattle.std.specs.Prelude.{◌≡◌, length, IfSome};
+ghost use Rattle.ls_set.specs.{IsWithin, full};
 
 use crate::tally::Tally;
 use ls_base::Base;
 use ls_domain::Domain;
 use ls_fringe::print_fringes;
 use ls_lines::{Word, WordList};
+use ls_set::ItemSet;
 use ls_surmise::Surmise;
 use ls_theory::FringePair;
 use std::alloc::{AllocError, Global};
-use std::test::Fail;
 
-fn words(alloc: Global, texts: &[&str]) -> Result<WordList, AllocError> {
-    let mut list = WordList::new(alloc);
+fn push_words(list: &mut WordList, alloc: Global, texts: &[&str]) -> Result<(), AllocError> {
     for text in texts {
         list.push(Word::new(alloc, text)?)?;
     }
-    list.copy(alloc)
+    Ok(())
 }
 
-// The set of the words is printed within braces, and then its names without.
-fn print_set(domain: &Domain, words: &WordList, out: &mut Vec<u8>) -> Result<(), AllocError> {
-    if let Ok(set) = domain.read_set(words) {
-        domain.print_set(set, out)?;
-        domain.push_names(set, out)?;
+// The set that a copy of the words names.
+fn read_copy(alloc: Global, domain: &Domain, list: &WordList) -> Option<ItemSet>
+    ensures { IfSome result (λ s. IsWithin s (full (length domain.now))) }
+{
+    match list.copy(alloc) {
+        Ok(words) => domain.read_set(&words).ok(),
+        Err(_) => None,
     }
-    Ok(())
+}
+
+// The set that the words name.
+fn set_of(alloc: Global, domain: &Domain, texts: &[&str]) -> Option<ItemSet>
+    ensures { IfSome result (λ s. IsWithin s (full (length domain.now))) }
+{
+    let mut list = WordList::new(alloc);
+    match push_words(&mut list, alloc, texts) {
+        Ok(()) => read_copy(alloc, domain, &list),
+        Err(_) => None,
+    }
+}
+
+// Whether the set is printed so: within braces, and then its names without.
+fn is_set_printed(alloc: Global, domain: &Domain, set: ItemSet, want: &str) -> bool {
+    let mut out = Vec::new(alloc);
+    domain.print_set(set, &mut out).is_ok()
+        && domain.push_names(set, &mut out).is_ok()
+        && out.as_slice() == want.as_bytes()
 }
 
 // The words of some sets of b, a and c, each with what is printed of it.
@@ -35,27 +55,23 @@ const SETS: [(&[&str], &str); 3] = [
     (&[], "{}"),
 ];
 
-fn sets(tally: &mut Tally, alloc: Global, domain: &Domain) -> Result<(), AllocError> {
+fn sets(tally: &mut Tally, alloc: Global, domain: &Domain) {
     for (texts, want) in &SETS {
-        let words = words(alloc, texts)?;
-        let mut out = Vec::new(alloc);
-        print_set(domain, &words, &mut out)?;
-        tally.want(out.as_slice() == want.as_bytes(), want);
+        let holds = match set_of(alloc, domain, texts) {
+            Some(set) => is_set_printed(alloc, domain, set, want),
+            None => false,
+        };
+        tally.want(holds, want);
     }
-    Ok(())
 }
 
-// The fringes of these names are printed.
-fn print_pair(
-    domain: &Domain,
-    inner: &WordList,
-    outer: &WordList,
-    out: &mut Vec<u8>,
-) -> Result<(), AllocError> {
-    if let (Ok(inner), Ok(outer)) = (domain.read_set(inner), domain.read_set(outer)) {
-        print_fringes(domain, &FringePair { inner, outer }, out)?;
-    }
-    Ok(())
+// Whether the fringes are printed so.
+fn is_pair_printed(alloc: Global, domain: &Domain, pair: &FringePair, want: &str) -> bool
+    requires inner { IsWithin pair.now.inner (full (length domain.now)) }
+    requires outer { IsWithin pair.now.outer (full (length domain.now)) }
+{
+    let mut out = Vec::new(alloc);
+    print_fringes(domain, pair, &mut out).is_ok() && out.as_slice() == want.as_bytes()
 }
 
 // The words of some fringes, and what is printed of them.
@@ -65,15 +81,16 @@ const FRINGES: [(&[&str], &[&str], &str); 3] = [
     (&["a", "c"], &[], "a c |"),
 ];
 
-fn fringes(tally: &mut Tally, alloc: Global, domain: &Domain) -> Result<(), AllocError> {
+fn fringes(tally: &mut Tally, alloc: Global, domain: &Domain) {
     for (inner, outer, want) in &FRINGES {
-        let inner = words(alloc, inner)?;
-        let outer = words(alloc, outer)?;
-        let mut out = Vec::new(alloc);
-        print_pair(domain, &inner, &outer, &mut out)?;
-        tally.want(out.as_slice() == want.as_bytes(), want);
+        let holds = match (set_of(alloc, domain, inner), set_of(alloc, domain, outer)) {
+            (Some(inner), Some(outer)) => {
+                is_pair_printed(alloc, domain, &FringePair { inner, outer }, want)
+            }
+            _ => false,
+        };
+        tally.want(holds, want);
     }
-    Ok(())
 }
 
 // A surmise function in which b has two clauses.
@@ -104,12 +121,15 @@ fn is_read(alloc: Global, domain: &Domain) -> bool {
 }
 
 #[test]
-fn values_are_printed(rt: HostRuntime) -> Result<(), Fail> {
+fn values_are_printed(rt: HostRuntime) {
     let mut tally = Tally::new();
-    let domain = Domain::from_csv(rt.alloc(), b"b\na\nc\n")?;
-    sets(&mut tally, rt.alloc(), &domain)?;
-    fringes(&mut tally, rt.alloc(), &domain)?;
-    tally.want(is_read(rt.alloc(), &domain), CLAUSES);
+    match Domain::from_csv(rt.alloc(), b"b\na\nc\n") {
+        Ok(domain) => {
+            sets(&mut tally, rt.alloc(), &domain);
+            fringes(&mut tally, rt.alloc(), &domain);
+            tally.want(is_read(rt.alloc(), &domain), CLAUSES);
+        }
+        Err(_) => tally.want(false, "a domain"),
+    }
     assert_eq!(rt; tally.wrong, None);
-    Ok(())
 }

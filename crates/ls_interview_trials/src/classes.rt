@@ -10,12 +10,11 @@ use ls_domain::Domain;
 use ls_enum::{ListFault, list_all};
 use ls_interior::{Counted, Free, Steps};
 use ls_set::{PLACES, SetList};
-use ls_settings::Settings;
+use ls_settings::{BadSetting, Settings};
 use ls_weight::WeightFault;
 use std::alloc::{AllocError, Global};
 use std::marker::Brand;
 use std::sync::ledger::{Blank, Ledger};
-use std::test::Fail;
 use std::thread::Threads;
 use std::time::CpuClock;
 
@@ -144,55 +143,79 @@ fn never<R: Threads + AllocGlobal + Sync>(
 
 const NAMES: &[u8] = b"a\nb\nc\nd\ne\nf\ng\nh\ni\nj\nk\nl\n";
 
-// The standard settings of so many items.
-fn standard(alloc: Global, n: u32) -> Result<Settings, AllocError>
-    requires { n ≤ PLACES }
-    ensures { IfOk result (λ s. length s.ratios ≡ n) }
+// Makes settings too heavy, by the odds 64 of each item.
+fn make_heavy(s: &mut Settings) -> Result<(), BadSetting>
+    requires { 0 < length s.old.ratios }
+    ensures { length s.new.ratios ≡ length s.old.ratios }
 {
-    Settings::standard(alloc, n)
-}
-
-// Settings that are too heavy: the odds 64 of each item.
-fn too_heavy(alloc: Global, n: u32) -> Result<Settings, Fail>
-    requires some { 0 < n }
-    requires few { n ≤ PLACES }
-    ensures { IfOk result (λ s. length s.ratios ≡ n) }
-{
-    let mut s = standard(alloc, n)?;
     s.set_item(0, 64, 64)?;
-    s.set_all(64, 64)?;
-    Ok(s)
+    s.set_all(64, 64)
 }
 
-// All that is tried, over states that can be weighed by the settings of as many items.
+// All that is tried, over states that can be weighed by settings of as many items.
 fn entering<R: Threads + AllocGlobal + CpuClock + Sync>(
     tally: &mut Tally,
     rt: &R,
     domain: &Domain,
     states: &SetList,
-    s: &Settings,
-    heavy: &Settings,
+    s: &mut Settings,
 ) -> Result<(), AllocError>
     requires weighable { (s : Settled) → length s.ratios ≡ length domain.now →
         IsWeighable (length domain.now) states.now s }
-    requires standard { length s.now.ratios ≡ length domain.now }
-    requires heavy { length heavy.now.ratios ≡ length domain.now }
+    requires some { 0 < length domain.now }
+    requires settings { length s.old.ratios ≡ length domain.now }
 {
     at_once(tally, rt, domain, states, s);
     once(tally, rt, domain, states, s)?;
     first(tally, rt, domain, states, s);
-    never(tally, rt, domain, states, heavy)
+    tally.want(make_heavy(s).is_ok(), "heavy odds");
+    never(tally, rt, domain, states, s)
+}
+
+// The same, beginning with the standard settings.
+fn by_settings<R: Threads + AllocGlobal + CpuClock + Sync>(
+    tally: &mut Tally,
+    rt: &R,
+    domain: &Domain,
+    states: &SetList,
+)
+    requires { (s : Settled) → length s.ratios ≡ length domain.now →
+        IsWeighable (length domain.now) states.now s }
+{
+    match Settings::standard(rt.alloc(), domain.count()) {
+        Ok(mut s) => {
+            let done = entering(tally, rt, domain, states, &mut s);
+            tally.want(done.is_ok(), "memory for pupils");
+        }
+        Err(_) => tally.want(false, "settings"),
+    }
+}
+
+// The same over all sets of the domain's items.
+fn by_sets<R: Threads + AllocGlobal + CpuClock + Sync>(
+    tally: &mut Tally,
+    rt: &R,
+    domain: &Domain,
+    states: Result<SetList, ListFault>,
+)
+    requires { IfOk states (λ sets. (s : Settled) → length s.ratios ≡ length domain.now →
+        IsWeighable (length domain.now) sets s) }
+{
+    match states {
+        Ok(states) => by_settings(tally, rt, domain, &states),
+        Err(_) => tally.want(false, "all sets"),
+    }
 }
 
 #[test]
-fn pupils_enter_the_gate(rt: HostRuntime) -> Result<(), Fail> {
+fn pupils_enter_the_gate(rt: HostRuntime) {
     let mut tally = Tally::new();
-    let domain = Domain::from_csv(rt.alloc(), NAMES)?;
-    let n = domain.count();
-    let states = all_sets::<Brand>(rt.alloc(), n, Blank::new(1))?;
-    let s = standard(rt.alloc(), n)?;
-    let heavy = too_heavy(rt.alloc(), n)?;
-    entering(&mut tally, &rt, &domain, &states, &s, &heavy)?;
+    match Domain::from_csv(rt.alloc(), NAMES) {
+        Ok(domain) => {
+            let states = all_sets::<Brand>(rt.alloc(), domain.count(), Blank::new(1));
+            by_sets(&mut tally, &rt, &domain, states);
+        }
+        Err(_) => tally.want(false, "a domain"),
+    }
     assert_eq!(rt; tally.wrong, None);
-    Ok(())
 }

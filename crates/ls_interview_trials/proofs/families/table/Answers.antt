@@ -2,7 +2,7 @@ use Rattle.std.proofs.Common.{ap, sym, ◌∙◌}
 use Rattle.ls_theory.specs.{BlockRange}
 use Rattle.ls_query.proofs.Made.{made_of}
 use Rattle.ls_infer.specs.Tables.{TableState}
-use Rattle.ls_unit_trials.proofs.families.table.Goals as goal
+use Rattle.ls_interview_trials.proofs.families.table.Goals as goal
 
 pub build-requires-clause-items : goal.build-requires-clause-items
 build-requires-clause-items g c =

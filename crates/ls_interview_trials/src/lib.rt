@@ -1,0 +1,14 @@
+//! Trials of tables, of interviews whose base is followed, of limits that no script reaches, and of
+//! the threads of a class. It has tests alone.
+#![tactic(auto)]
+
+#[cfg(test)]
+mod classes;
+#[cfg(test)]
+mod families;
+#[cfg(test)]
+mod gates;
+#[cfg(test)]
+mod interviews;
+#[cfg(test)]
+mod tally;
