@@ -16,8 +16,8 @@ use ls_codecs::{
     read_version,
 };
 use ls_domain::Domain;
-use ls_inquiry::Inquiry;
 use ls_files::{Cause, Version};
+use ls_inquiry::Inquiry;
 use ls_interior::Steps;
 use ls_pupils::PupilCases;
 use ls_saved_pupils::read_pupils;
