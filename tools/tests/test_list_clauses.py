@@ -52,17 +52,17 @@ class ListClauses(unittest.TestCase):
         self.assertRegex(lines[-1], r"^[1-9]\d* passed, 0 failed$")
 
     def test_what_is_written_passes(self):
-        self.kept("docs/CLAUSES.md").unlink()
-        self.assert_fails("docs/CLAUSES.md")
+        self.kept("docs/clauses.txt").unlink()
+        self.assert_fails("docs/clauses.txt")
         self.assertEqual(self.run_script(), (0, []))
         self.assertEqual(self.run_script("--check")[0], 0)
 
     def test_a_clause_is_renamed_in_the_sources(self):
         self.change(TOP_CALL, "ensures write_stops {", "ensures write_ends {")
-        self.assert_fails("docs/CLAUSES.md", "its file has no lspace as in `lspace`: `write_fault`, `write_stops`")
+        self.assert_fails("docs/clauses.txt", "its file has no lspace as in `lspace`: `write_fault`, `write_stops`")
 
     def test_a_clause_is_renamed_in_the_sources_and_the_index(self):
-        self.kept("docs/CLAUSES.md")
+        self.kept("docs/clauses.txt")
         self.change(TOP_CALL, "ensures write_stops {", "ensures write_ends {")
         self.run_script()
         self.assert_fails("docs/PROVED.md")
@@ -93,6 +93,15 @@ class ListClauses(unittest.TestCase):
         self.change("docs/PROVED.md", "        (K.written out.old) (K.written out.new) result }\n", "")
         self.assert_fails("has no such whole clause")
 
+    def test_the_document_quotes_nothing(self):
+        text = (self.top / "docs/PROVED.md").read_text()
+        self.change("docs/PROVED.md", re.search(r"^```quote .*?^```\n", text, flags=re.M | re.S)[0], "")
+        self.assert_fails("docs/PROVED.md:1: it quotes no clause")
+
+    def test_a_quote_has_no_end(self):
+        self.change("docs/PROVED.md", "result }\n```\n", "result }\n")
+        self.assert_fails("docs/PROVED.md:1: it quotes no clause, or a quote has no end")
+
     def test_a_definition_is_renamed(self):
         self.change("crates/ls_theory/specs/Forced.antt", "pub next_question :", "pub question_next :")
         self.assert_fails("docs/PROVED.md", "docs/DEFINITIONS.md", "its file doesn't define `next_question`")
@@ -108,7 +117,7 @@ class ListClauses(unittest.TestCase):
     def test_a_new_clause_is_missing_in_the_index(self):
         self.change("crates/ls_interior/src/family.rt", "ensures { result ≡ is_among (F.members f.now) s }",
                     "ensures value { result ≡ is_among (F.members f.now) s }")
-        self.assert_fails("docs/CLAUSES.md")
+        self.assert_fails("docs/clauses.txt")
 
     def test_other_words_are_refused(self):
         self.assertEqual(self.run_script("--chek")[0], 1)
