@@ -1,5 +1,5 @@
-use Rattle.std.proofs.Common.{◌≡◌, ◌+◌, ◌-◌, ◌∙◌, sym, ap, subst, arith, true, Some}
-use Rattle.std.proofs.lemmas.Bool.{and_from}
+use Rattle.std.proofs.Common.{◌≡◌, ◌+◌, ◌-◌, ◌∙◌, sym, ap, subst, arith, true, false, true≢false, inl, inr, Some}
+use Rattle.std.proofs.lemmas.Bool.{and_from, and_parts, cases_eq}
 use Rattle.ls_set.specs.ItemSet.{has, full, minus, with, keep_before, is_within, is_among, IsWithin}
 use Rattle.ls_set.proofs.Sets.{minus-within}
 use Rattle.ls_theory.specs.Families.{interior}
@@ -73,3 +73,27 @@ returns-clause-next g c =
     none-found (g.I.Interior.item_count c.args.f.now) (g.I.Interior.members c.args.f.now)
     c.args.word (g.met.I.Interior.is_family c.args.f.now) c.requires
     (λ j l. c.loop-i.invariant.none j (omega arith) l)
+
+pub loop-i-preserved-else-is_within : goal.loop-i-preserved-else-is_within
+loop-i-preserved-else-is_within g c =
+    let n = g.I.Interior.item_count c.args.f.now in
+    let f = g.I.Interior.members c.args.f.now in
+    let i = c.loop-i.i - 1 in
+    let count = c.items-n.ensures.count in
+    let inside =
+    c.interior-inside.ensures.value ∙ ap (interior f)
+    (c.dual_reach.ensures ∙ ap (λ m. dual_reach m c.args.word i) count) in
+    let agreed =
+    c.agreed.ensures ∙ ap (λ m. with (keep_before (minus (full m) c.args.word) i) i) count in
+    let not_here : is_within (with (keep_before (minus (full n) c.args.word) i) i)
+        (interior f (dual_reach n c.args.word i)) ≡ false =
+    ap (λ s. is_within s (interior f (dual_reach n c.args.word i))) (sym agreed) ∙ ap
+    (is_within c.agreed.result) (sym inside) ∙ sym c.is_within.ensures ∙ c.if-is_within.false in
+    record {
+      none = λ j a l p. elim (cases_eq j i) [
+        | inl e ↦ true≢false
+        (sym (and_parts (has c.args.word i) _ (subst (λ k. parts_at n f c.args.word k ≡ true) e p)).1 ∙ not_here)
+        | inr e ↦ c.loop-i.invariant.none j (omega arith) l p
+      ];
+      cost = omega arith;
+    }
