@@ -9,11 +9,12 @@ ghost use Rattle.ls_pupils.specs.Cases.{case_name, pupils_of, IsOwnCase, ArePupi
 ghost use Rattle.ls_pupils.specs.Beginning.{IsCaseOf, IsNewPupil, RefusesHeavy, begun_row};
 
 use crate::cases::{PupilCase, PupilCases};
+use crate::states::list_states;
 use ls_assess::{Pupil, Settings, WeightFault};
 use ls_cutting::Word;
-use ls_enum::{ListFault, list_all};
+use ls_enum::ListFault;
 use ls_inquiry::{Inquiry, Start};
-use ls_interior::{Counted, Steps};
+use ls_interior::Steps;
 use ls_meaning::{Refusal, Response};
 use ls_set::{ItemSet, Query, QueryList};
 use std::alloc::{AllocError, Global};
@@ -21,9 +22,6 @@ use std::sync::ledger::Ledger;
 
 /// So many pupils stand at most.
 pub const MOST_PUPILS: usize = 16;
-
-/// A pupil has at most so many states.
-pub const MOST_STATES: u32 = 65_536;
 
 /// `pupil NAME`: a pupil begins with the compatible sets of the interview and with the settings, as
 /// they are. Where memory runs out nothing changes.
@@ -156,8 +154,7 @@ fn listed<L: Ledger>(
     requires { length settings.now.ratios ≡ inquiry.now.count }
     ensures { IfOk result (IsNewPupil inquiry.now settings.now) }
 {
-    let states = Counted::new(inquiry.family());
-    match list_all(alloc, &states, MOST_STATES, steps) {
+    match list_states(alloc, inquiry, steps) {
         Ok(sets) => unless_heavy(Pupil::begin(alloc, inquiry.items(), sets, settings)),
         Err(ListFault::More) => Ok(Err(Refusal::ManyStates)),
         Err(ListFault::Memory(e)) => Err(e),

@@ -5,13 +5,13 @@ ghost use Rattle.ls_weight.specs.Weighings.{IsWeighable};
 ghost use Rattle.ls_files.specs.ClassTables.{class_of};
 ghost use Rattle.ls_meaning.specs.{classed_by};
 
-use crate::beginning::MOST_STATES;
+use crate::states::list_states;
 use ls_assess::{Settings, WeightFault};
 use ls_class::{ClassFault, ClassTable, OpenGate, run_class};
 use ls_domain::Domain;
-use ls_enum::{ListFault, list_all};
+use ls_enum::ListFault;
 use ls_inquiry::Inquiry;
-use ls_interior::{Counted, Steps};
+use ls_interior::Steps;
 use ls_meaning::{Refusal, Response, Shown};
 use ls_set::SetList;
 use std::alloc::{AllocError, Global};
@@ -55,8 +55,7 @@ fn replay<R: Threads + Sync, L: Ledger>(
     ensures { IfOk result (λ r.
         r ≡ classed_by settings.now (compatible_sets inquiry.now) [] (Ok table.now)) }
 {
-    let states = Counted::new(inquiry.family());
-    match list_all(alloc, &states, MOST_STATES, steps) {
+    match list_states(alloc, inquiry, steps) {
         Ok(sets) => replay_over(rt, alloc, inquiry.items(), &sets, settings, table),
         Err(ListFault::More) => Ok(Response::Refused(Refusal::ManyStates)),
         Err(ListFault::Memory(e)) => Err(e),

@@ -8,9 +8,11 @@ mod beginning;
 mod cases;
 mod class;
 mod setting;
+mod states;
 
 pub use attending::attend;
-pub use beginning::{MOST_PUPILS, MOST_STATES};
+pub use beginning::MOST_PUPILS;
 pub use cases::{PupilCase, PupilCases};
 pub use class::assess_class;
 pub use setting::set;
+pub use states::MOST_STATES;

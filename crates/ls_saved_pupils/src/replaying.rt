@@ -16,14 +16,14 @@ use ls_interior::{Counted, Steps};
 use ls_pupils::MOST_STATES;
 use ls_rules::Ruled;
 use ls_set::{PLACES, Query, SetList};
-use ls_standing::with_rules;
+use ls_standing::{Lent, leading};
 use std::alloc::{AllocError, Global};
 use std::sync::ledger::Ledger;
 
 // The sets of the family, where there are not too many to be a pupil's states.
 fn listed<L: Ledger>(
     alloc: Global,
-    family: &Ruled<OnItems>,
+    family: &Ruled<Lent<'_>>,
     steps: &mut Steps<L>,
 ) -> Result<Option<SetList>, AllocError>
     ensures { IfOk result (λ found. found ≡ kept_if (λ f. nat_le (length f) most_states)
@@ -52,7 +52,8 @@ fn states_of<L: Ledger>(
     ensures { IfOk result (λ found. found ≡ kept_if (λ f. nat_le (length f) most_states)
         (Some (compat n (start_of start.now) yes.now))) }
 {
-    let family = with_rules(alloc, OnItems::new(n, start.copy()?), yes)?;
+    let first = OnItems::new(n, start.copy()?);
+    let family = leading(alloc, &first, yes, steps)?;
     let states = listed(alloc, &family, steps);
     drop(family);
     states
