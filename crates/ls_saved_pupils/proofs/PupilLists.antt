@@ -123,3 +123,12 @@ pub missed : {X Y : Type 0} (of : Y → X) (answer : Option X) (f : PartFault) (
 missed of answer f (Ok y) same h = absurd same
 missed of answer f (Err part.Bad) same h = h (sym same)
 missed of answer f (Err (part.Memory e)) same h = tt
+
+-- a fault tells the same of whatever would have been read
+pub fault-as : {X Y Z : Type 0} (of : Y → X) (on : Z → X) (answer : Option X) (f : PartFault) → IsReadAs of answer (Err f) → IsReadAs on answer (Err f)
+fault-as of on answer part.Bad h = h
+fault-as of on answer (part.Memory e) h = tt
+
+pub none-as : {X Y : Type 0} (of : Y → X) (answer : Option X) (f : PartFault) → f ≡ part.Bad → IsReadAs of answer (Err f) → answer ≡ None
+none-as of answer part.Bad e h = h
+none-as of answer (part.Memory m) e h = absurd (cc e)

@@ -10,7 +10,7 @@ returns-then-len-gt-MOST_PUPILS-clause-value g c =
 pub returns-in_err-case-clause-value : goal.returns-in_err-case-clause-value
 returns-in_err-case-clause-value g c =
     let f = (pupil_codec c.args.version c.args.n).read in
-    missed pupils_of _ c.in_err-case.field-0.0 c.from_residual.result c.from_residual.ensures.1
+    missed _ _ c.in_err-case.field-0.0 c.from_residual.result c.from_residual.ensures.1
     (λ e. sym (none-next f c.loop-entry.cases c.deref-entry-items.result.now c.loop-entry.entry-index c.entry-item.result (read_list f (view c.args.value.now)) c.loop-entry-test.true c.entry-item.is
     (λ p is. c.in_err-case.ensures.none p (ap Err e) is) c.loop-entry.invariant.read))
 

@@ -1,4 +1,4 @@
-use Rattle.ls_store.proofs.Vocabulary.{◌∙◌, ◌≡◌, Answer, List, PupilCase, Start, answer_codec, ap, codes, list_value, lists, no_members, numbers, object, pupil_codec, pupil_of_case, pupils_of, rules, start_codec, view}
+use Rattle.ls_store.proofs.Vocabulary.{◌∙◌, ◌≡◌, Answer, List, PupilCase, Start, answer_codec, ap, codes, list_value, lists, no_members, numbers, object, pupil_codec, pupil_of_case, pupils_of, start_codec, view}
 use Rattle.ls_files.specs.declared.version.Version.TheVariants as version
 use Rattle.std.proofs.lemmas.Result.{on_ok_weaker}
 use Rattle.ls_saved_pupils.proofs.Putting.{then_put, then_settings}
@@ -18,9 +18,9 @@ returns c =
     c.in_ok-answers.ensures ∙ ap (λ (xs : List Answer). (lists (answer_codec n)).write xs) c.standing.ensures.value ∙ ap (λ m. (lists (answer_codec m)).write i.answers) same in
     let start : view c.in_ok-start.start ≡ (start_codec i.count).write i.start =
     c.in_ok-start.ensures ∙ ap (λ (s : Start). (start_codec n).write s) c.start.ensures.value ∙ ap (λ m. (start_codec m).write i.start) same in
-    let next : view c.from.result ≡ numbers.write i.next = search rules in
-    let block : view c.from-2.result ≡ numbers.write i.block = search rules in
-    let two : view c.from-3.result ≡ numbers.write 2 = search rules in
+    let next : view c.from.result ≡ numbers.write i.next = c.from.ensures ∙ ap numbers.write c.next_number.ensures in
+    let block : view c.from-2.result ≡ numbers.write i.block = c.from-2.ensures ∙ ap numbers.write c.block.ensures in
+    let two : view c.from-3.result ≡ numbers.write 2 = c.from-3.ensures in
     on_ok_weaker c.put_at-7.result (λ h. ap object
     (then_put (codes "version") _ _ _ _ _ h two
     (then_put (codes "items") _ _ _ _ _ c.in_ok-put_at-6.ensures c.in_ok-items.ensures

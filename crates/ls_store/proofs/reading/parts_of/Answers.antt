@@ -20,17 +20,16 @@ returns-in_err-domain-clause-fault g c =
     (subst (λ r. IsSessionFault r f) (sym (begun d ∙ some cause.Version _ v (after_version d) e))
     (told-err (λ x. x) cause.Items (names_field.find_in d) c.read_domain.result _ f c.read_domain.ensures c.in_err-domain.ensures))
 
-pub returns-in_err-settings-clause-fault : goal.returns-in_err-settings-clause-fault
-returns-in_err-settings-clause-fault g c =
+pub returns-in-Err-clause-fault : goal.returns-in-Err-clause-fault
+returns-in-Err-clause-fault g c =
     let d = view c.args.object.now in
     let v = c.in_ok-version.version in
     let names = c.in_ok-domain.domain in
     let n = c.count.result in
-    let f = c.in_err-settings.field-0.0 in
+    let f = c.in-Err.fault in
     let e = told-ok (λ v. v) cause.Version (version_field.find_in d) c.read_version.result v c.read_version.ensures c.in_ok-version.ensures in
     let h = told-ok (λ x. x) cause.Items (names_field.find_in d) c.read_domain.result names c.read_domain.ensures c.in_ok-domain.ensures in
-    passed_on (session_from d) f c.from_residual-in_err-settings.result c.from_residual-in_err-settings.ensures.1
-    (subst (λ r. IsSessionFault r f) (sym (named d v names n c.count.ensures.value e h)) (fault-on (settings_in v n d) (after_settings v n d names) f c.in_err-settings.ensures.fault))
+    subst (λ r. IsSessionFault r f) (sym (named d v names n c.count.ensures.value e h)) (fault-on (settings_in v n d) (after_settings v n d names) f c.in-Err.ensures.fault)
 
 pub parts_after-requires-clause-version : goal.parts_after-requires-clause-version
 parts_after-requires-clause-version g c =
@@ -42,4 +41,4 @@ parts_after-requires-clause-names g c =
 
 pub parts_after-requires-clause-settings : goal.parts_after-requires-clause-settings
 parts_after-requires-clause-settings g c =
-    subst (λ m. settings_in c.in_ok-version.version m (view c.args.object.now) ≡ Ok c.in_ok-settings.settings) c.count.ensures.value c.in_ok-settings.ensures.settings
+    subst (λ m. settings_in c.in_ok-version.version m (view c.args.object.now) ≡ Ok c.in-Ok.settings) c.count.ensures.value c.in-Ok.ensures.settings
