@@ -25,7 +25,12 @@ pub(crate) fn list_states<L: Ledger>(
     ensures more { result ≡ Err ListFault.More →
         most_states < length (compatible_sets inquiry.now) }
 {
-    let family = leading(alloc, inquiry.family().inner(), inquiry.yes_queries(), steps)?;
+    let family = leading(
+        alloc,
+        inquiry.family().inner(),
+        inquiry.yes_queries(),
+        steps,
+    )?;
     let listed = list_all(alloc, &Counted::new(&family), MOST_STATES, steps);
     drop(family);
     listed

@@ -86,13 +86,13 @@ loop-i-preserved-else-is_within g c =
     let agreed =
     c.agreed.ensures ∙ ap (λ m. with (keep_before (minus (full m) c.args.word) i) i) count in
     let not_here : is_within (with (keep_before (minus (full n) c.args.word) i) i)
-        (interior f (dual_reach n c.args.word i)) ≡ false =
+    (interior f (dual_reach n c.args.word i)) ≡ false =
     ap (λ s. is_within s (interior f (dual_reach n c.args.word i))) (sym agreed) ∙ ap
     (is_within c.agreed.result) (sym inside) ∙ sym c.is_within.ensures ∙ c.if-is_within.false in
     record {
       none = λ j a l p. elim (cases_eq j i) [
         | inl e ↦ true≢false
-        (sym (and_parts (has c.args.word i) _ (subst (λ k. parts_at n f c.args.word k ≡ true) e p)).1 ∙ not_here)
+            (sym (and_parts (has c.args.word i) _ (subst (λ k. parts_at n f c.args.word k ≡ true) e p)).1 ∙ not_here)
         | inr e ↦ c.loop-i.invariant.none j (omega arith) l p
       ];
       cost = omega arith;
