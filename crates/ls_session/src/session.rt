@@ -120,8 +120,18 @@ impl Session {
         let mut room = self.take_room()?;
         let response = self.decider.decide_line(rt, line, shelf, &mut steps)?;
         self.decider.put(&response, &mut room, out, &mut steps);
+        let is_refused = response.is_refused();
+
+        // Let go before the last call, so that no way out has to.
+        drop(response);
         self.finish(room, out)?;
-        Ok(response.is_refused())
+        Ok(is_refused)
+    }
+
+    /// Lets the session go. Above this crate it is let go by this call alone: where a crate lets go
+    /// of a value, it proves that for each of its parts.
+    pub fn let_go(self) {
+        drop(self);
     }
 
     // The room, which is as before a reply. The session has none then.

@@ -96,8 +96,7 @@ fn answer_whole<R: Threads + Sync, K: Sink, H: Shelf>(
     let mut run = Run::new(alloc)?;
     let ended = answer_by(rt, &mut run, script, out, shelf);
 
-    // Let go by a call, as in `answer_source`.
-    drop(run);
+    run.let_go();
     ended
 }
 

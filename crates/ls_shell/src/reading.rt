@@ -31,8 +31,7 @@ pub fn answer_source<R: Threads + Sync, S: Source, K: Sink, H: Shelf>(
     let mut run = Run::new(alloc)?;
     let ended = answer_pieces(rt, &mut run, src, out, shelf);
 
-    // Let go by a call: a return that lets go of a run proves the drop of each part of a session.
-    drop(run);
+    run.let_go();
     ended
 }
 

@@ -14,8 +14,7 @@ use std::alloc::{AllocError, Global};
 use std::thread::Threads;
 
 /// A run over a script as it comes: the session, the line that has not ended yet, and whether some
-/// reply so far begins with `no `.
-#[derive(Drop)]
+/// reply so far begins with `no `. It is let go by `let_go` alone.
 pub struct Run {
     session: Session,
     cutter: Cutter,
@@ -36,6 +35,17 @@ impl Run {
             cutter,
             is_refused: false,
         })
+    }
+
+    /// Lets the run go.
+    pub fn let_go(self) {
+        let Run {
+            session,
+            cutter,
+            is_refused: _,
+        } = self;
+        session.let_go();
+        drop(cutter);
     }
 
     /// Answers the lines that end within the bytes that follow. After an `Err` the run stopped

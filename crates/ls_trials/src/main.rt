@@ -2,14 +2,10 @@
 //! names the command line has; `data/README.txt` says how one is written.
 #![tactic(auto)]
 
-mod case;
-mod extent;
-mod fault;
-mod text;
 mod trial;
 
-use crate::text::Trouble;
 use crate::trial::differing;
+use ls_cases::text::Trouble;
 use std::rt::Files;
 use std::thread::Threads;
 use std::{env, fs, io};
@@ -40,7 +36,21 @@ fn try_case<R: Threads + Sync + AllocGlobal + Print>(
     }
 }
 
-// Tries the cases of a group, each of which begins with the group's own lines.
+// Tries the case that a part of a group is, which begins with the group's own lines.
+fn try_part<R: Threads + Sync + AllocGlobal + Print>(
+    rt: &R,
+    title: &str,
+    front: &str,
+    part: &str,
+    tally: &mut Tally,
+) -> io::Result<()> {
+    let (name, lines) = part.split_once('\n').unwrap_or((part, ""));
+    let name = format!(in rt.alloc(); "{title}: {name}")?;
+    let case = format!(in rt.alloc(); "{front}\n{lines}")?;
+    try_case(rt, &name, &case, tally)
+}
+
+// Tries the cases of a group.
 fn try_group<R: Threads + Sync + AllocGlobal + Print>(
     rt: &R,
     group: &str,
@@ -50,10 +60,19 @@ fn try_group<R: Threads + Sync + AllocGlobal + Print>(
     let front = parts.next().unwrap_or("");
     let (title, front) = front.split_once('\n').unwrap_or((front, ""));
     for part in parts {
-        let (name, lines) = part.split_once('\n').unwrap_or((part, ""));
-        let name = format!(in rt.alloc(); "{title}: {name}")?;
-        let case = format!(in rt.alloc(); "{front}\n{lines}")?;
-        try_case(rt, &name, &case, tally)?;
+        try_part(rt, title, front, part, tally)?;
+    }
+    Ok(())
+}
+
+// Tries the cases of the groups of a text.
+fn try_text<R: Threads + Sync + AllocGlobal + Print>(
+    rt: &R,
+    text: &str,
+    tally: &mut Tally,
+) -> io::Result<()> {
+    for group in text.split("\n== ").skip(1) {
+        try_group(rt, group, tally)?;
     }
     Ok(())
 }
@@ -66,9 +85,7 @@ fn try_file<R: Threads + Sync + AllocGlobal + Print + Files>(
 ) -> io::Result<()> {
     let text = fs::read_to_string(rt, name)?;
     let mut own = Tally { tried: 0, held: 0 };
-    for group in text.split("\n== ").skip(1) {
-        try_group(rt, group, &mut own)?;
-    }
+    try_text(rt, &text, &mut own)?;
     let Tally { tried, held } = own;
     tally.tried = tally.tried.saturating_add(tried);
     tally.held = tally.held.saturating_add(held);

@@ -1,10 +1,10 @@
 // Runs of the program over objects in memory, as a case gives them.
-use crate::case::{
+use ls_cases::case::{
     File, files_of, is_formed, last_of, numbers_of, replies_of, script_of, tells, words_of,
 };
-use crate::extent::{Extent, extent_of};
-use crate::fault::{Side, failed_run};
-use crate::text::{Trouble, number};
+use ls_cases::extent::{Extent, extent_of};
+use ls_cases::fault::{Side, failed_run};
+use ls_cases::text::{Trouble, number};
 use ls_edge::{FetchFault, MemShelf, MemSink, MemSource, Shelf};
 use ls_shell::lspace;
 use std::alloc::Global;
@@ -24,6 +24,31 @@ struct Wanted {
     status: u64,
 }
 
+// What a case's script is read from.
+fn source_of(alloc: Global, case: &str, piece: usize) -> Result<MemSource, Trouble> {
+    let reads = numbers_of(alloc, case, "! source")?;
+    let script = script_of(alloc, case)?;
+    Ok(MemSource::new(script, piece.max(1), reads))
+}
+
+// Runs a case as `meets` says, from the words of its command line and its source.
+fn meets_from<R: Threads + Sync + AllocGlobal>(
+    rt: &R,
+    case: &str,
+    piece: usize,
+    words: &[&str],
+    src: &mut MemSource,
+    shelf: &mut MemShelf,
+    wanted: &Wanted,
+) -> Result<bool, Trouble> {
+    let alloc = rt.alloc();
+    let writes = numbers_of(alloc, case, "! sink")?;
+    let mut out = MemSink::new(alloc, piece.max(1), writes);
+    let status = lspace(rt, alloc, words, src, &mut out, shelf).code();
+    let extent = extent_of(&wanted.replies, out.written());
+    Ok(extent == wanted.extent && u64::from(status) == wanted.status)
+}
+
 // Runs a case over the files of a folder, which are then as the run left them, and says whether it
 // wrote and ended as is wanted.
 fn meets<R: Threads + Sync + AllocGlobal>(
@@ -33,28 +58,44 @@ fn meets<R: Threads + Sync + AllocGlobal>(
     shelf: &mut MemShelf,
     wanted: &Wanted,
 ) -> Result<bool, Trouble> {
-    let alloc = rt.alloc();
+    let words = words_of(rt.alloc(), case)?;
+    let mut src = source_of(rt.alloc(), case, piece)?;
+    meets_from(rt, case, piece, &words, &mut src, shelf, wanted)
+}
+
+// Puts the case's files into the folder, no more than so many bytes of each.
+fn put_files(alloc: Global, case: &str, most: usize, shelf: &mut MemShelf) -> Result<(), Trouble> {
+    for file in &files_of(alloc, case, "@")? {
+        shelf.put(file.name, file.front(most))?;
+    }
+    Ok(())
+}
+
+// Whether the command line names the file that the script's own lines are.
+fn names_script(alloc: Global, case: &str) -> Result<bool, Trouble> {
     let words = words_of(alloc, case)?;
-    let reads = numbers_of(alloc, case, "! source")?;
-    let mut src = MemSource::new(script_of(alloc, case)?, piece.max(1), reads);
-    let mut out = MemSink::new(alloc, piece.max(1), numbers_of(alloc, case, "! sink")?);
-    let status = lspace(rt, alloc, &words, &mut src, &mut out, shelf).code();
-    let extent = extent_of(&wanted.replies, out.written());
-    Ok(extent == wanted.extent && u64::from(status) == wanted.status)
+    Ok(matches!(words.as_slice(), ["--script", name] if *name == SCRIPT))
+}
+
+// Puts the script's own lines into the folder, where the command line names the file `script`.
+fn put_script(alloc: Global, case: &str, shelf: &mut MemShelf) -> Result<(), Trouble> {
+    if !names_script(alloc, case)? {
+        return Ok(());
+    }
+    Ok(shelf.put(SCRIPT, &script_of(alloc, case)?)?)
+}
+
+// Puts both.
+fn put_all(alloc: Global, case: &str, most: usize, shelf: &mut MemShelf) -> Result<(), Trouble> {
+    put_files(alloc, case, most, shelf)?;
+    put_script(alloc, case, shelf)
 }
 
 // The folder before a run, which has no more than so many bytes of each file. Where the command line
 // names the file `script`, the script's own lines are that file.
 fn shelf_of(alloc: Global, case: &str, most: usize) -> Result<MemShelf, Trouble> {
     let mut shelf = MemShelf::new(alloc, numbers_of(alloc, case, "! shelf")?);
-    for file in &files_of(alloc, case, "@")? {
-        shelf.put(file.name, file.front(most))?;
-    }
-    if let ["--script", name] = words_of(alloc, case)?.as_slice() {
-        if *name == SCRIPT {
-            shelf.put(name, &script_of(alloc, case)?)?;
-        }
-    }
+    put_all(alloc, case, most, &mut shelf)?;
     Ok(shelf)
 }
 
@@ -95,13 +136,24 @@ fn lacks_all(shelf: &mut MemShelf, case: &str) -> bool {
     is_so
 }
 
-// Whether the folder is as the case says after a run: a file that it doesn't name is as before.
-fn is_left(alloc: Global, case: &str, shelf: &mut MemShelf, most: usize) -> Result<bool, Trouble> {
+// Whether the folder has the files that it had before, but those that the case tells of.
+fn has_kept(alloc: Global, case: &str, shelf: &mut MemShelf, most: usize) -> Result<bool, Trouble> {
     let mut before = files_of(alloc, case, "@")?;
     before.retain(|file| !tells(case, file.name));
+    Ok(has_all(shelf, &before, most))
+}
+
+// Whether the folder has the files that the case says it has after a run.
+fn has_stored(alloc: Global, case: &str, shelf: &mut MemShelf) -> Result<bool, Trouble> {
     let after = files_of(alloc, case, "=")?;
-    let is_kept = has_all(shelf, &before, most);
-    Ok(is_kept && has_all(shelf, &after, usize::MAX) && lacks_all(shelf, case))
+    Ok(has_all(shelf, &after, usize::MAX))
+}
+
+// Whether the folder is as the case says after a run: a file that it doesn't name is as before.
+fn is_left(alloc: Global, case: &str, shelf: &mut MemShelf, most: usize) -> Result<bool, Trouble> {
+    let is_kept = has_kept(alloc, case, shelf, most)?;
+    let is_stored = has_stored(alloc, case, shelf)?;
+    Ok(is_kept && is_stored && lacks_all(shelf, case))
 }
 
 // What a run to the end is to write. Its status is told by the replies, where the case doesn't.
@@ -118,8 +170,21 @@ fn whole_of(alloc: Global, case: &str) -> Result<Wanted, Trouble> {
     })
 }
 
-// Whether a run writes, ends and leaves what is wanted, over no more than so many bytes of each
-// file.
+// Whether a run writes, ends and leaves what is wanted, over the folder of no more than so many
+// bytes of each file.
+fn holds_over<R: Threads + Sync + AllocGlobal>(
+    rt: &R,
+    case: &str,
+    piece: usize,
+    most: usize,
+    wanted: &Wanted,
+    shelf: &mut MemShelf,
+) -> Result<bool, Trouble> {
+    let is_met = meets(rt, case, piece, shelf, wanted)?;
+    Ok(is_met && is_left(rt.alloc(), case, shelf, most)?)
+}
+
+// The same, over such a folder.
 fn run_holds<R: Threads + Sync + AllocGlobal>(
     rt: &R,
     case: &str,
@@ -128,8 +193,7 @@ fn run_holds<R: Threads + Sync + AllocGlobal>(
     wanted: &Wanted,
 ) -> Result<bool, Trouble> {
     let mut shelf = shelf_of(rt.alloc(), case, most)?;
-    let is_met = meets(rt, case, piece, &mut shelf, wanted)?;
-    Ok(is_met && is_left(rt.alloc(), case, &mut shelf, most)?)
+    holds_over(rt, case, piece, most, wanted, &mut shelf)
 }
 
 // Whether a run to the end holds, over no more than so many bytes of each file.
@@ -142,15 +206,19 @@ fn whole_holds<R: Threads + Sync + AllocGlobal>(
     run_holds(rt, case, piece, most, &whole_of(rt.alloc(), case)?)
 }
 
+// How many bytes the first file has, if there is one.
+fn first_length(alloc: Global, case: &str) -> Result<usize, Trouble> {
+    let files = files_of(alloc, case, "@")?;
+    Ok(files.first().map_or(0, |file| file.bytes.len()))
+}
+
 // Whether runs hold over each front of the files but the whole of the first.
 fn fronts_hold<R: Threads + Sync + AllocGlobal>(
     rt: &R,
     case: &str,
     piece: usize,
 ) -> Result<bool, Trouble> {
-    let files = files_of(rt.alloc(), case, "@")?;
-    let length = files.first().map_or(0, |file| file.bytes.len());
-    for most in 0..length {
+    for most in 0..first_length(rt.alloc(), case)? {
         if !whole_holds(rt, case, piece, most)? {
             return Ok(false);
         }
@@ -198,10 +266,13 @@ fn each_holds<R: Threads + Sync + AllocGlobal>(
 
 // The calls that fail in turn, where a case says so, and how many a run makes.
 fn each_of(case: &str) -> Option<(Side, &str)> {
-    let of = |words, side| last_of(case, words).map(|calls| (side, calls));
-    of("! source-each", Side::Source)
-        .or_else(|| of("! sink-each", Side::Sink))
-        .or_else(|| of("! shelf-each", Side::Shelf))
+    if let Some(calls) = last_of(case, "! source-each") {
+        return Some((Side::Source, calls));
+    }
+    if let Some(calls) = last_of(case, "! sink-each") {
+        return Some((Side::Sink, calls));
+    }
+    last_of(case, "! shelf-each").map(|calls| (Side::Shelf, calls))
 }
 
 // Whether a case holds where one read and one write move at most so many bytes.

@@ -28,5 +28,5 @@ returns-in_err-finish g c = record {
 pub returns : goal.returns
 returns g c = record {
   follows = follows_of c.args.line.now (c.self.view_is ∙ c.take_room.ensures.kept) c.finish.ensures.kept
-      (follows_whole c.in_ok-response.was c.decide_line.ensures c.in_ok-finish.was (wrote c.in_ok-room.ensures.room c.put.ensures c.finish.ensures.ends) c.is_refused.ensures);
+      (follows_whole c.in_ok-response.was c.decide_line.ensures c.in_ok-finish.was (wrote c.in_ok-room.ensures.room c.put.ensures c.finish.ensures.ends) c.is_refused-is_refused.ensures);
 }

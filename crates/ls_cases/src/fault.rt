@@ -48,12 +48,29 @@ struct Place {
     written: usize,
 }
 
-// How many calls on the folder a line of the script makes. A mesh is of two files here.
+// The commands that make one call on the folder.
+const CALLING_ONCE: [&str; 7] = [
+    "load-items",
+    "start",
+    "test",
+    "skills",
+    "class",
+    "save",
+    "open",
+];
+
+// Those that make two: a mesh is of two files here.
+const CALLING_TWICE: [&str; 2] = ["mesh", "mesh-agree"];
+
+// How many calls on the folder a line of the script makes.
 fn calls_of(line: &str) -> usize {
-    match line.split(' ').next() {
-        Some("load-items" | "start" | "test" | "skills" | "class" | "save" | "open") => 1,
-        Some("mesh" | "mesh-agree") => 2,
-        _ => 0,
+    let (command, _) = parts(line);
+    if CALLING_ONCE.contains(&command) {
+        1
+    } else if CALLING_TWICE.contains(&command) {
+        2
+    } else {
+        0
     }
 }
 

@@ -118,16 +118,26 @@ pub fn tells_before(case: &str, name: &str) -> bool {
     case.lines().any(|line| parts(line) == ("@", name))
 }
 
+// The marks of lines that stand anywhere and with any text.
+const MARKS: [&str; 11] = ["", "<", ">", "~", "@", "=", "-", "?", "$", "%", ":"];
+
+// What stands behind `!` in front of the rest.
+const FAULTS: [&str; 7] = [
+    "source",
+    "sink",
+    "shelf",
+    "source-each",
+    "sink-each",
+    "shelf-each",
+    "cut",
+];
+
 // Whether a line has one of the forms. A line of a file has one of its own before.
 fn is_line(line: &str, has_file: bool) -> bool {
     match parts(line) {
-        ("" | "<" | ">" | "~" | "@" | "=" | "-" | "?" | "$" | "%" | ":", _) => true,
         ("|", _) => has_file,
-        ("!", fault) => matches!(
-            fault.split(' ').next(),
-            Some("source" | "sink" | "shelf" | "source-each" | "sink-each" | "shelf-each" | "cut")
-        ),
-        _ => false,
+        ("!", fault) => FAULTS.contains(&parts(fault).0),
+        (mark, _) => MARKS.contains(&mark),
     }
 }
 
