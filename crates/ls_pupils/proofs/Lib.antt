@@ -3,4 +3,4 @@ pub mod Own
 pub mod Named
 pub mod Rows
 pub mod Keeping
-pub mod States
+pub mod FewQueries
