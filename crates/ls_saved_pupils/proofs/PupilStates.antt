@@ -5,12 +5,15 @@ use Rattle.ls_laws.specs.Families.{IsFamily}
 use Rattle.ls_laws.proofs.Families.{compat-IsFamily}
 use Rattle.ls_weight.proofs.Weighable.{family-weighable}
 use Rattle.ls_standing.proofs.Ruling.{ruled-compat}
+use Rattle.ls_pupils.proofs.FewQueries.{few-left}
 
-pub are-states : (inner : StartOn) (rules : List Query) (n : ℕ) (start : Start) (own : List Query) (sets : List Items) → inner.item_count ≡ n → inner.start ≡ start → rules ≡ own
-    → sets ≡ filter (breaks_none rules) (compat inner.item_count inner.start []) → sets ≡ compat n start own
-are-states inner rules n start own sets d e f is =
-    is ∙ ap (λ m. filter (breaks_none rules) (compat m inner.start [])) d ∙ ap (λ (s : Start). filter (breaks_none rules) (compat n s [])) e ∙ ap (λ qs. filter (breaks_none qs) (compat n start [])) f
-    ∙ ruled-compat n start own
+-- the sets that few queries leave of a start on n items are those that all leave
+pub few-states : (inner first : StartOn) (few all : List Query) (n : ℕ) (start : Start) → inner ≡ first → first.item_count ≡ n → first.start ≡ start
+    → compat first.item_count first.start few ≡ compat first.item_count first.start all
+    → filter (breaks_none few) (compat inner.item_count inner.start []) ≡ compat n start all
+few-states inner first few all n start same items starts left =
+    few-left inner first few all (compat n start all) same left
+    (ruled-compat first.item_count first.start all ∙ ap (λ m. compat m first.start all) items ∙ ap (λ s. compat n s all) starts)
 
 pub states-kept : (sets f : List Items) → sets ≡ f → length sets ≤ most_states → Some sets ≡ kept_if (λ g. leb (length g) most_states) (Some f)
 states-kept sets f e few = ap Some e ∙ sym (ap (λ b. cond b (Some f) None) (le-leb (length f) most_states (subst (λ (g : List Items). length g ≤ most_states) e few)))
