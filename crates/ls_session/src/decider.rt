@@ -49,7 +49,13 @@ impl Decider {
             return Ok(Response::Refused(Refusal::LongLine { bytes }));
         }
         match read_command(self.alloc, line) {
-            Ok(command) => self.decide(rt, &command, shelf, steps),
+            Ok(command) => {
+                let decided = self.decide(rt, &command, shelf, steps);
+
+                // Let go by a call: otherwise each kind of command is let go here.
+                drop(command);
+                decided
+            }
             Err(LineFault::Shape { place }) => Ok(Response::Refused(Refusal::NoCommand { place })),
             Err(LineFault::Memory(e)) => Err(e),
         }

@@ -10,7 +10,7 @@ returns-then-line-gt-LONGEST_LINE g c =
 pub returns-in-Ok : goal.returns-in-Ok
 returns-in-Ok g c =
     decides_as (λ calls. line_effect-command (standing_session c.args.self.now.state) calls c.args.line.now c.in-Ok.command c.if-line-gt-LONGEST_LINE.false c.in-Ok.ensures.read)
-    c.decide.ensures
+    c.decide-decided.ensures
 
 pub returns-in-Err-Shape : goal.returns-in-Err-Shape
 returns-in-Err-Shape g c =
