@@ -20,22 +20,37 @@ fn command_words<R: Env + AllocGlobal>(rt: &R) -> Result<Option<Vec<String>>, Al
     Ok(Some(args.skip(1).collect(rt.alloc())?))
 }
 
+// Each way out of a function is proved to let go of each value that it owns there, so the folder,
+// the words and their texts have a function each.
+fn run_in_folder<R>(rt: &R, words: &[&str]) -> Result<Status, AllocError>
+where
+    R: Files + Input + Print + AllocGlobal + Threads + Sync,
+{
+    let mut shelf = FolderShelf::new(rt, ".")?;
+    let mut src = StdSource::new(rt);
+    let mut out = StdSink::new(rt);
+    Ok(lspace(rt, rt.alloc(), words, &mut src, &mut out, &mut shelf))
+}
+
+fn run_words<R>(rt: &R, owned: &[String]) -> Result<Status, AllocError>
+where
+    R: Files + Input + Print + AllocGlobal + Threads + Sync,
+{
+    let mut words = Vec::new(rt.alloc());
+    for word in owned {
+        words.push(word.as_str())?;
+    }
+    run_in_folder(rt, &words)
+}
+
 fn run<R>(rt: &R) -> Result<Status, AllocError>
 where
     R: Files + Input + Print + Env + AllocGlobal + Threads + Sync,
 {
-    let alloc = rt.alloc();
-    let Some(owned) = command_words(rt)? else {
-        return Ok(Status::Usage);
-    };
-    let mut words = Vec::new(alloc);
-    for word in &owned {
-        words.push(word.as_str())?;
+    match command_words(rt)? {
+        Some(words) => run_words(rt, &words),
+        None => Ok(Status::Usage),
     }
-    let mut src = StdSource::new(rt);
-    let mut out = StdSink::new(rt);
-    let mut shelf = FolderShelf::new(rt, ".")?;
-    Ok(lspace(rt, alloc, &words, &mut src, &mut out, &mut shelf))
 }
 
 fn main(rt: HostRuntime) -> ExitCode {
