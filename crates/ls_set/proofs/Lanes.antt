@@ -1,8 +1,8 @@
 -- Sets of lanes of 64 digits: what is done lane by lane is done to the set.
-use Rattle.ls_set.proofs.Vocabulary.{ltb, ◌≤◌, Bool, cond, true, div-add-mod', bit_at_cat_low, lt-ltb, le-ltb, ne_eqb, false, digits_up_to, lane_at, lanes_up_to, AreShort, List, length, joined, get_or, zero, suc, map, numbers_from, digits_at, ◌∷◌, [], ◌%◌, ◌&&◌, ◌*◌, ◌+◌, ◌-◌, ◌/◌, ◌<◌, ◌^◌, ◌∙◌, ◌≡◌, AreLanes, IsLowest, Items, Some, ℕ, ap, arith, as_set, bit_and, bit_at, bit_at-zero, bit_at_cat_high, bit_at_cat_low, bit_or, bit_xor, cases_lt, cat, differing, div-add-mod', empty, eq-eqb, eqb, full, has, inl, inr, is_same, is_within, keep_before, least, lt_of_le_of_lt, meet, minus, nat_tests, ones, ones_cat, refl, sym, zero-add}
+use Rattle.ls_set.proofs.Vocabulary.{None, not, set_of_lanes, bit_at_above, lt-ltb, ltb, ◌≤◌, Bool, cond, true, div-add-mod', bit_at_cat_low, lt-ltb, le-ltb, ne_eqb, false, digits_up_to, lane_at, lanes_up_to, AreShort, List, length, joined, get_or, zero, suc, map, numbers_from, digits_at, ◌∷◌, [], ◌%◌, ◌&&◌, ◌*◌, ◌+◌, ◌-◌, ◌/◌, ◌<◌, ◌^◌, ◌∙◌, ◌≡◌, AreLanes, IsLowest, Items, Some, ℕ, ap, arith, as_set, bit_and, bit_at, bit_at-zero, bit_at_cat_high, bit_at_cat_low, bit_or, bit_xor, cases_lt, cat, differing, div-add-mod', empty, eq-eqb, eqb, full, has, inl, inr, is_same, is_within, keep_before, least, lt_of_le_of_lt, meet, minus, nat_tests, ones, ones_cat, refl, sym}
 use Rattle.std.proofs.lemmas.Nat.{and_mask, xor_lt, and_le_l, le_or_l, le_or_r, or_lt, pow-add, pow_pos}
-use Rattle.ls_set.proofs.Sets.{has-empty, has-differing, has-minus, same_set, both_ways, Decides-is_same, IsWithin-from, is_within-from}
-use Rattle.ls_set.proofs.Ascending.{least-at}
+use Rattle.ls_set.proofs.Sets.{and-false, has-empty, has-differing, has-full, has-minus, same_set, both_ways, Decides-is_same, IsWithin-from, is_within-from}
+use Rattle.ls_set.proofs.Ascending.{least-at, least-none}
 use Rattle.std.proofs.Common.{drop}
 use lib.Lanes.{fold_l, zip2}
 use Rattle.std.proofs.lemmas.Simd.{length-zip2}
@@ -156,35 +156,58 @@ module _ (p d : ℕ) (h : d < 2 ^ 64) where
   short_up_to [] = tt
   short_up_to (k ∷ ks) = (short_digits (ltb k p) (2 ^ 64 - 1) (digits_at p d k) (omega arith) (short_digits (eqb k p) d 0 h (omega arith)), short_up_to ks)
 
--- ---- the lowest digit
+-- ---- the least item
 
-pub lowest_in : (w n i : ℕ) → i < 64 → IsLowest w i → IsLowest (cat w n) i
-lowest_in w n i l h = record { here = digit_in w n i l ∙ h.here; none_below = λ j k. digit_in w n j (omega arith) ∙ h.none_below j k }
+pub short_lane : (ws : List ℕ) → AreShort ws → (k : ℕ) → get_or ws k 0 < 2 ^ 64
+short_lane [] h k = omega arith
+short_lane (w ∷ ws) h zero = h.0
+short_lane (w ∷ ws) h (suc k) = short_lane ws h.1 k
 
-pub lowest_past : (n i j : ℕ) → i ≡ 64 + j → IsLowest n j → IsLowest (cat 0 n) i
-lowest_past n i j e h = record {
-  here = digit_past 0 n i j (omega arith) e ∙ h.here;
-  none_below = λ k l. elim (cases_lt k 64) [
-    | inl m ↦ digit_in 0 n k m ∙ bit_at-zero k
-    | inr m ↦ digit_past 0 n k (k - 64) (omega arith) (omega arith) ∙ h.none_below (k - 64) (omega arith)
-  ];
-}
+pub past_lane : (ws : List ℕ) → AreShort ws → (k j : ℕ) → 64 ≤ j → bit_at (get_or ws k 0) j ≡ 0
+past_lane ws h k j l = bit_at_above (get_or ws k 0) 64 j (short_lane ws h k) l
 
-pub lowest_of_lanes : (ws : List ℕ) → AreShort ws → (p i : ℕ) → p < length ws → ((k : ℕ) → k < p → get_or ws k 0 ≡ 0) → i < 64 → IsLowest (get_or ws p 0) i → IsLowest (joined ws) (64 * p + i)
-lowest_of_lanes [] h p i l z s low = omega arith
-lowest_of_lanes (w ∷ ws) h zero i l z s low = rw (zero-add i) (lowest_in w (joined ws) i s low)
-lowest_of_lanes (w ∷ ws) h (suc p) i l z s low =
-    let e : w ≡ 0 = z 0 (omega arith) in
-    rw e (lowest_past (joined ws) (64 * suc p + i) (64 * p + i) (omega arith) (lowest_of_lanes ws h.1 p i (omega arith) (λ k m. z (suc k) (omega arith)) s low))
+past_last : (ws : List ℕ) (k : ℕ) → length ws ≤ k → get_or ws k 0 ≡ 0
+past_last [] k l = refl
+past_last (w ∷ ws) zero l = omega arith
+past_last (w ∷ ws) (suc k) l = past_last ws k (omega arith)
 
-pub no_digits : (ws : List ℕ) → ((k : ℕ) → k < length ws → get_or ws k 0 ≡ 0) → joined ws ≡ 0
-unfolding cat
-no_digits [] z = refl
-no_digits (w ∷ ws) z = rw (no_digits ws (λ k l. z (suc k) (omega arith)), z 0 (omega arith)) refl
+module _ (ws : List ℕ) (h : AreShort ws) (f : ℕ) where
+  has_in_lane : (k j i : ℕ) → j < 64 → i ≡ 64 * k + j → has (set_of_lanes ws) i ≡ eqb (bit_at (get_or ws k 0) j) 1
+  unfolding has
+  has_in_lane k j i l e = ap (λ x. eqb x 1) (digit_of_lane ws h k j i l e)
 
-pub least-lowest : (n i : ℕ) → IsLowest n i → least (as_set n) ≡ Some i
-unfolding has
-least-lowest n i h = least-at _ i (eq-eqb _ _ h.here) (λ j l. ap (λ x. eqb x 1) (h.none_below j l))
+  none_in_lane : (i : ℕ) → get_or ws (i / 64) 0 ≡ 0 → has (set_of_lanes ws) i ≡ false
+  none_in_lane i z = has_in_lane (i / 64) (i % 64) i (omega arith) (omega arith) ∙ rw z (ap (λ x. eqb x 1) (bit_at-zero (i % 64)))
+
+  -- the items in the lanes from f on
+  has_from : (i : ℕ) → has (minus (set_of_lanes ws) (full (64 * f))) i ≡ (has (set_of_lanes ws) i && not (ltb i (64 * f)))
+  has_from i = has-minus (set_of_lanes ws) (full (64 * f)) i ∙ ap (λ b. has (set_of_lanes ws) i && not b) (has-full (64 * f) i)
+
+  pub least_of_lanes : (p i : ℕ) → f ≤ p → ((k : ℕ) → f ≤ k → k < p → get_or ws k 0 ≡ 0) → i < 64 → IsLowest (get_or ws p 0) i → least (minus (set_of_lanes ws) (full (64 * f))) ≡ Some (64 * p + i)
+  least_of_lanes p i m z l low =
+      let s = set_of_lanes ws in
+      let here : has s (64 * p + i) ≡ true = has_in_lane p i (64 * p + i) l refl ∙ eq-eqb _ _ low.here in
+      let none = λ (j : ℕ) (b : j < 64 * p + i) (q : 64 * f ≤ j). elim (cases_lt (j / 64) p) as (λ _. has s j ≡ false) [
+        | inl k ↦ none_in_lane j (z (j / 64) (omega arith) k)
+        | inr k ↦ has_in_lane p (j % 64) j (omega arith) (omega arith) ∙ ap (λ x. eqb x 1) (low.none_below (j % 64) (omega arith))
+      ] in
+      least-at _ (64 * p + i) (has_from (64 * p + i) ∙ rw (here, le-ltb (64 * p + i) (64 * f) (omega arith)) refl)
+      (λ j b. has_from j ∙ elim (cases_lt j (64 * f)) [
+        | inl q ↦ rw (lt-ltb j (64 * f) q) (and-false (has s j))
+        | inr q ↦ rw (none j b q) refl
+      ])
+
+  pub least_of_none : ((k : ℕ) → f ≤ k → k < length ws → get_or ws k 0 ≡ 0) → least (minus (set_of_lanes ws) (full (64 * f))) ≡ None
+  least_of_none z =
+      let s = set_of_lanes ws in
+      let lane = λ (k : ℕ) (q : f ≤ k). elim (cases_lt k (length ws)) as (λ _. get_or ws k 0 ≡ 0) [ inl l ↦ z k q l | inr l ↦ past_last ws k l ] in
+      least-none _ (λ j. has_from j ∙ elim (cases_lt j (64 * f)) [
+        | inl q ↦ rw (lt-ltb j (64 * f) q) (and-false (has s j))
+        | inr q ↦ rw (none_in_lane j (lane (j / 64) (omega arith))) refl
+      ])
+
+pub from_first : (s : Items) → minus s (full (64 * 0)) ≡ s
+from_first s = same_set (minus s (full (64 * 0))) s (λ i. grind (arith, nat_tests, has-minus s (full (64 * 0)) i, has-full (64 * 0) i))
 
 -- ---- whether there is a digit
 
