@@ -1,5 +1,6 @@
 -- Complements, sets with one more item, and what is outside a closure.
 use Rattle.ls_infer.proofs.Vocabulary.{◌&&◌, ◌||◌, ◌∙◌, ◌≡◌, ◌⊎◌, IsUnionFamily, IsWithin, Items, List, None, Option, Some, ℕ, and_from, and_parts, ap, ap₂, arith, both_out, closure, cond, empty, empty-within, eq-eqb, eqb, eqb-true, false, false_from_ne_true, full, has, has-minus, has-with, has-without, inl, inr, interior, interior-greatest, interior-is, interior-within, interior_again, interior_grows, interior_keeping, is_among, is_within-from, members, minus, minus-within, minus_shrinks, nat_tests, not, not-true, not_from_false, or_cases, or_left, or_right, outside_of, refl, same_set, same_within, single, subst, sym, true, true≢false, with, without}
+use Rattle.ls_set.specs.{union}
 
 -- ---- complements
 
@@ -75,6 +76,28 @@ outside-left n f a outside keep left i found family same none keeping taken =
     let member = subst (λ s. is_among f s ≡ true) (sym same) (outside-among n f a family) in
     taken (interior f (without outside i)) (keeping member ∙ ap (interior_keeping f (without outside i)) none ∙ kept_all f (without outside i))
     ∙ ap (λ s. interior f (without s i)) same ∙ outside-further n f a i family
+
+pub outside-of_within : (n : ℕ) (f : List Items) (a items : Items) → items ≡ outside_of n f a → IsWithin items (full n)
+outside-of_within n f a items e = subst (λ s. IsWithin s (full n)) (sym e) (outside-within n f a)
+
+-- the items of a set that went, and one more
+went-further : (a more left : Items) (i : ℕ) → IsWithin left more → has left i ≡ true → with (union a (minus more left)) i ≡ union a (minus more (without left i))
+went-further a more left i w h = same_set _ _ (λ j. grind (arith, members, nat_tests, w i h, w j))
+
+pub outside-further_of : (n : ℕ) (f : List Items) (a more left outside : Items) (i : ℕ) → IsWithin left more → has left i ≡ true
+    → outside ≡ outside_of n f (with (union a (minus more left)) i) → outside ≡ outside_of n f (union a (minus more (without left i)))
+outside-further_of n f a more left outside i w h e = e ∙ ap (outside_of n f) (went-further a more left i w h)
+
+-- none went, and all went
+pub none_went : (a more : Items) → union a (minus more more) ≡ a
+none_went a more = same_set _ _ (λ j. grind (arith, members, nat_tests))
+
+pub all_went : (a more left : Items) → ((i : ℕ) → has left i ≡ false) → union a (minus more left) ≡ union a more
+all_went a more left none = same_set _ _ (λ j. grind (arith, members, nat_tests, none j))
+
+-- the others of a set, with a part of it
+pub with_part : (part whole : Items) → IsWithin part whole → union part (minus whole part) ≡ whole
+with_part part whole w = same_set _ _ (λ j. grind (arith, members, nat_tests, w j))
 
 -- outside a set that is the closure
 pub outside-closed : (n : ℕ) (f : List Items) (closed a : Items) → closed ≡ closure (full n) f a → minus (full n) closed ≡ outside_of n f a

@@ -7,6 +7,7 @@ use Rattle.std.specs.List.{list_any}
 use Rattle.ls_set.specs.{Items, full, has, minus, most_items}
 use Rattle.ls_set.specs.declared.query.Query.{Query}
 use Rattle.ls_theory.specs.{closure, interior}
+use Rattle.ls_infer.specs.declared.search.Outside.{Outside}
 use Rattle.ls_infer.specs.declared.search.Search.{Search}
 use Rattle.ls_infer.specs.declared.standing_no.StandingNo.{StandingNo}
 use Rattle.ls_infer.specs.Tables.{forces}
@@ -17,8 +18,13 @@ outside_of n f a = interior f (minus (full n) a)
 abbrev pub is_open_by : ℕ → List Items → List StandingNo → Query → Bool
 is_open_by n f ss r = not (has (closure (full n) f r.a) r.q) && not (list_any (forces r) ss)
 
--- what a search keeps: all items, of which there are n, and those outside the closure of the others
-pub record IsSearch (n : ℕ) (f : List Items) (s : Search) : Type 0 where
+-- o has the set a, with the items outside its closure, of n items
+pub record IsOutside (n : ℕ) (f : List Items) (a : Items) (o : Outside) : Type 0 where
   pub few : n ≤ most_items
-  pub all : s.all ≡ full n
-  pub outside : s.outside ≡ outside_of n f s.others
+  pub set : o.set ≡ a
+  pub items : o.items ≡ outside_of n f a
+
+-- what a search keeps of n items: two sets with what is outside their closures
+pub record IsSearch (n : ℕ) (f : List Items) (s : Search) : Type 0 where
+  pub first : IsOutside n f s.first.set s.first
+  pub others : IsOutside n f s.others.set s.others

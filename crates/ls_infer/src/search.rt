@@ -1,6 +1,6 @@
 // A search for open queries where no closures are kept.
-ghost use Rattle.std.specs.Prelude.{◌≡◌, ◌&&◌, ℕ, not, find};
-ghost use Rattle.ls_set.specs.{full, has, is_good};
+ghost use Rattle.std.specs.Prelude.{◌≡◌, ◌<◌, ◌&&◌, ℕ, not, find};
+ghost use Rattle.ls_set.specs.{IsWithin, Items, full, has, is_good, most_items, union, with};
 ghost use Rattle.ls_set.specs.declared.query.Query.{Query};
 ghost use Rattle.ls_lists.specs.Lists.{IsIn};
 ghost use Rattle.ls_theory.specs.{Interview, block_before, compatible_sets, is_open, nos, queries};
@@ -8,7 +8,7 @@ ghost use Rattle.ls_theory.specs.{query_before, spaces_of};
 ghost use Rattle.ls_laws.specs.Forced.{IsSound};
 ghost use Rattle.ls_query.specs.Blocks.{block_sets, block_queries};
 ghost use Rattle.ls_infer.specs.Tables.{table_of};
-ghost use Rattle.ls_infer.specs.Search.{IsSearch, outside_of, is_open_by};
+ghost use Rattle.ls_infer.specs.Search.{IsOutside, IsSearch, outside_of, is_open_by};
 
 use crate::forcing::unforced;
 use crate::standing_no::StandingNo;
@@ -17,13 +17,84 @@ use ls_interior::Inside;
 use ls_query::{BlockWalk, Blocks};
 use ls_set::{ItemSet, Query};
 
-// What a search keeps from set to set: all items; the others of the set that it came to, with the
-// items outside their closure; and the place of the standing No at which nothing was left open.
+// A set, with the items outside its closure.
+#[derive(Clone, Copy)]
+struct Outside {
+    set: ItemSet,
+    items: ItemSet,
+}
+
+impl Outside {
+    // What is outside the closure of the set, formed from nothing.
+    fn new<F: Inside>(f: &F, set: ItemSet) -> Outside
+        ensures { IsOutside (F.item_count f.now) (F.members f.now) set result }
+    {
+        Outside {
+            set,
+            items: f.inside(ItemSet::full(f.items()).minus(set)),
+        }
+    }
+
+    // What is outside the closure of another set, formed where it is not the same.
+    fn moved<F: Inside>(self, f: &F, set: ItemSet) -> Outside
+        requires { IsOutside (F.item_count f.now) (F.members f.now) self.set self }
+        ensures { IsOutside (F.item_count f.now) (F.members f.now) set result }
+    {
+        if self.set == set {
+            self
+        } else {
+            Outside::new(f, set)
+        }
+    }
+}
+
+// What is outside the closure of a set with one more item, of what is outside without it.
+fn outside_with<F: Inside>(f: &F, outside: ItemSet, item: u32) -> ItemSet
+    requires within { IsWithin outside (full (F.item_count f.now)) }
+    requires item { item < most_items }
+    ensures within { IsWithin result (full (F.item_count f.now)) }
+    ensures value { (a : Items) → outside ≡ outside_of (F.item_count f.now) (F.members f.now) a →
+        result ≡ outside_of (F.item_count f.now) (F.members f.now) (with a item) }
+{
+    if !outside.has(item) {
+        return outside;
+    }
+    let left = f.inside_without(outside, item, ItemSet::empty());
+    left.unwrap_or(ItemSet::empty())
+}
+
+// What is outside the closure of a set with more items, which go one after another.
+fn outside_with_all<F: Inside>(f: &F, outside: ItemSet, more: ItemSet) -> ItemSet
+    requires within { IsWithin outside (full (F.item_count f.now)) }
+    ensures { (a : Items) → outside ≡ outside_of (F.item_count f.now) (F.members f.now) a →
+        result ≡ outside_of (F.item_count f.now) (F.members f.now) (union a more) }
+{
+    let mut outside = outside;
+    let mut left = more;
+    while let Some(item) = left.least() {
+        left = left.without(item);
+        outside = outside_with(f, outside, item);
+    }
+    outside
+}
+
+// The least item of a set alone, or the empty set.
+fn least_alone(set: ItemSet) -> ItemSet
+    ensures { IsWithin result set }
+{
+    match set.least() {
+        Some(item) => ItemSet::empty().with(item),
+        None => ItemSet::empty(),
+    }
+}
+
+// What a search keeps from set to set: the others of the set that it came to, and the least of
+// these alone, each with the items outside its closure; and the place of the standing No at which
+// nothing was left open.
 #[derive(Clone, Copy)]
 struct Search {
-    all: ItemSet,
-    others: ItemSet,
-    outside: ItemSet,
+    first: Outside,
+    others: Outside,
     hint: usize,
 }
 
@@ -32,26 +103,31 @@ impl Search {
     fn new<F: Inside>(f: &F, others: ItemSet) -> Search
         ensures { IsSearch (F.item_count f.now) (F.members f.now) result }
     {
-        let all = ItemSet::full(f.items());
+        let others = Outside::new(f, others);
+        let first = others;
         Search {
-            all,
+            first,
             others,
-            outside: f.inside(all.minus(others)),
             hint: 0,
         }
     }
 
     // Comes to sets with these others. What is outside their closure is formed where they are not
-    // those of the set before.
+    // those of the set before, and goes on from what is outside the closure of the least of them.
     fn come_to<F: Inside>(&mut self, f: &F, others: ItemSet)
         requires { IsSearch (F.item_count f.now) (F.members f.now) self.old }
-        ensures others { self.new.others ≡ others }
+        ensures others { self.new.others.set ≡ others }
         ensures search { IsSearch (F.item_count f.now) (F.members f.now) self.new }
     {
-        if self.others != others {
-            self.others = others;
-            self.outside = f.inside(self.all.minus(others));
+        if self.others.set == others {
+            return;
         }
+        let first = least_alone(others);
+        self.first = self.first.moved(f, first);
+        self.others = Outside {
+            set: others,
+            items: outside_with_all(f, self.first.items, others.minus(first)),
+        };
     }
 
     // The items outside the closure of the set that the walk has come to: of those that are outside
@@ -63,14 +139,10 @@ impl Search {
         ensures search { IsSearch (F.item_count f.now) (F.members f.now) self.new }
     {
         self.come_to(f, walk.others());
-        let Some(item) = walk.greatest() else {
-            return f.inside(self.all.minus(walk.set()));
-        };
-        if !self.outside.has(item) {
-            return self.outside;
+        match walk.greatest() {
+            Some(item) => outside_with(f, self.others.items, item),
+            None => Outside::new(f, walk.set()).items,
         }
-        let left = f.inside_without(self.outside, item, ItemSet::empty());
-        left.unwrap_or(ItemSet::empty())
     }
 
     // The items q for which the query (A, q) is open, where the walk has come to the block set A.

@@ -1,4 +1,4 @@
-use Rattle.ls_infer.proofs.Vocabulary.{◌∙◌, ◌≡◌, BlockRange, TableState, ap, arith, blocks, closure, drop, full, length, map, refl, block_sets, standing, sym, take_at, ℕ}
+use Rattle.ls_infer.proofs.Vocabulary.{◌∙◌, ◌≡◌, BlockRange, TableState, ap, arith, blocks, closure, drop, full, length, map, refl, block_sets, sym, take_at, ℕ}
 use Rattle.ls_infer.proofs.table.Table.change.Goals as goal
 
 pub returns-clause-kept : goal.returns-clause-kept

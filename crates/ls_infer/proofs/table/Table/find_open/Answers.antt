@@ -18,7 +18,7 @@ open_items-opens-requires-clause-set g c =
 pub full-requires : goal.full-requires
 full-requires g c =
     let item = (queries-in c.args.blocks.item_count c.args.blocks.largest c.args.first.now c.requires.query).0.item in
-    omega (arith, c.requires.items, c.new-search.ensures.few)
+    omega (arith, c.requires.items, c.new-search.ensures.first.few)
 
 pub returns-in-Some : goal.returns-in-Some
 returns-in-Some g c = record {
