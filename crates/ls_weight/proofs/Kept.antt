@@ -1,5 +1,5 @@
 -- What is known of weights and sums that are kept.
-use Rattle.ls_weight.proofs.Vocabulary.{◌*◌, ◌<◌, ◌^◌, ◌∙◌, ◌∷◌, ◌≡◌, ◌≤◌, All, IsFirstMaxByKey, AreKeptSums, Items, KeptSums, List, Ratio, Ratios, Reply, Weighing, ℕ, [], ap, arith, count_by, empty, get_or, get_or-le-sum_by, get_or-map, get_or-map-range_with_len, get_or-replicate, has, is_ratio, length, length-map, length-replicate, light-total, map, mass, mass-sum, nat_tests, range_with_len, refl, replicate, sum, sum-map, sum_by-cons, sym, total, true, weight}
+use Rattle.ls_weight.proofs.Vocabulary.{◌*◌, ◌<◌, ◌^◌, ◌∙◌, ◌∷◌, ◌≡◌, ◌≤◌, IsFirstMaxByKey, AreKeptSums, Items, KeptSums, List, Ratio, Ratios, Reply, Weighing, ℕ, [], ap, arith, count_by, empty, get_or, get_or-le-sum_by, get_or-map, get_or-map-range_with_len, get_or-replicate, has, is_ratio, length, length-map, length-replicate, light-total, map, mass, mass-sum, nat_tests, range_with_len, refl, replicate, sum_by-cons, sym, total, true, weight}
 use Rattle.std.proofs.lemmas.Nat.{mul-le}
 use Rattle.ls_lists.proofs.Filters.{sum_by-filter-le}
 
@@ -29,11 +29,6 @@ first-one m l =
 pub kept-bound : (n : ℕ) (w : Weighing) (kept : KeptSums) → AreKeptSums n w kept → total w.settings.ratios w.replies w.states ≤ 2 ^ 120
 kept-bound n w kept h = light-total w.settings w.replies w.states h.allowed.ratios h.light h.budget
 
-pub kept-fits : (n : ℕ) (w : Weighing) (kept : KeptSums) → AreKeptSums n w kept → sum kept.weights < 2 ^ 128
-kept-fits n w kept h =
-    let all : sum kept.weights ≡ total w.settings.ratios w.replies w.states = ap sum h.weights ∙ sum-map (weight w.settings.ratios w.replies) w.states in
-    omega (arith, kept-bound n w kept h)
-
 pub mass-le : (ratios : List Ratios) (replies : List Reply) (f : List Items) (q : ℕ) → mass ratios replies f q ≤ total ratios replies f
 mass-le ratios replies f q = sum_by-filter-le (weight ratios replies) (λ k. has k q) f
 
@@ -50,8 +45,8 @@ kept-part n w kept i d h l = omega (arith, kept-at n w kept i d empty h l, get_o
 ratio-small : (r : Ratio) → is_ratio r ≡ true → r.a ≤ 64
 ratio-small r e = grind (arith, nat_tests)
 
-pub kept-grows : (n : ℕ) (w : Weighing) (kept : KeptSums) (r : Ratio) → AreKeptSums n w kept → is_ratio r ≡ true → All (λ v. v * r.a < 2 ^ 128) kept.weights
-kept-grows n w kept r h e = λ i d l.
-    let part = kept-part n w kept i d h (omega (arith, kept-long n w kept h)) in
-    let le : get_or kept.weights i d * r.a ≤ 2 ^ 120 * 64 = mul-le (get_or kept.weights i d) r.a (2 ^ 120) 64 (omega (arith, part, kept-bound n w kept h)) (ratio-small r e) in
+-- the total may be multiplied once more
+pub kept-grows : (n : ℕ) (w : Weighing) (kept : KeptSums) (r : Ratio) → AreKeptSums n w kept → is_ratio r ≡ true → kept.total * r.a < 2 ^ 128
+kept-grows n w kept r h e =
+    let le : kept.total * r.a ≤ 2 ^ 120 * 64 = mul-le kept.total r.a (2 ^ 120) 64 (omega (arith, h.total, kept-bound n w kept h)) (ratio-small r e) in
     omega arith

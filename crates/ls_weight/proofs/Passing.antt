@@ -1,5 +1,5 @@
 -- What a pass over the states adds up.
-use Rattle.ls_weight.proofs.Vocabulary.{◌&&◌, ◌*◌, ◌+◌, ◌-◌, ◌<◌, ◌∙◌, ◌≡◌, ◌≤◌, Bool, IsColumn, List, Reply, ℕ, agrees_at, agrees_in, ap, arith, cases_lt, cell_of, cond, drop, eqb, false, get_or, get_or_past, get_or-drop, get_or-set_other, get_or-set_same, get_or-take, inl, inr, length, length-drop, length-take, mul-add, mul-le-mul_left, mul-one, not, refl, row_at, set, sum, sum_below, sym, take, true}
+use Rattle.ls_weight.proofs.Vocabulary.{◌&&◌, ◌*◌, ◌+◌, ◌-◌, ◌<◌, ◌∙◌, ◌≡◌, ◌≤◌, All, Bool, IsColumn, List, Reply, ℕ, agrees_at, agrees_in, ap, arith, cases_Bool, cases_lt, cell_of, cond, drop, eqb, eqb-true, false, get_or, get_or_past, get_or-drop, get_or-le-sum_by, get_or-map, get_or-set_other, get_or-set_same, get_or-take, inl, inr, length, length-drop, length-take, map, mul-add, mul-le-mul_left, mul-le-mul_right, mul-one, nat_tests, not, refl, row_at, set, sum, sum_below, sym, take, true}
 use Rattle.ls_weight.proofs.SumsBelow.{sum_below-next, sum_below-over, sum_below-le, sum_below-fewer, sum_by-below}
 
 -- the part of the bytes for a state is its row
@@ -22,6 +22,12 @@ some-fit p ws i l =
     let all = sum_below-fewer (i + 1) (length ws) w (omega arith) in
     let whole = sum_by-below (λ (n : ℕ). n) ws 0 in
     omega arith
+
+-- what is below a bound for the sum of the weights is so for each weight
+pub products-fit : (ws : List ℕ) (a b : ℕ) → 1 ≤ a → sum ws * a < b → All (λ w. w * a < b) ws × (sum ws < b)
+products-fit ws a b l fits =
+    let own : sum ws * 1 ≤ sum ws * a = mul-le-mul_left (sum ws) l in
+    (λ i d k. let most : get_or ws i d * a ≤ sum ws * a = mul-le-mul_right a (get_or-le-sum_by (λ (n : ℕ). n) ws i d k) in omega arith, omega arith)
 
 -- a cell and one more weight come to no more than all weights
 pub cell-fits : (bytes : List ℕ) (width : ℕ) (r : Reply) (ws : List ℕ) (i g v : ℕ) → i < length ws → cell_of bytes width r ws i g v + get_or ws i 0 ≤ sum ws
@@ -69,6 +75,17 @@ cell-over bytes width r ws m n g v l h =
 -- places in the column agree as rows do
 pub column-agrees : (column bytes : List ℕ) (width m k : ℕ) (r : Reply) → IsColumn column bytes width r.q m → k < m → agrees_at column r.right k ≡ agrees_in (row_at bytes width k) r
 column-agrees column bytes width m k r h l = ap (λ b. cond r.right b (not b)) (h.marks k l)
+
+-- what is read at a place, as a number
+pub number-at : {X : Type 0} (number : X → ℕ) (xs : List X) (i : ℕ) (x : X) → i < length xs → x ≡ get_or xs i x → number x ≡ get_or (map number xs) i 0
+number-at number xs i x l e = ap number e ∙ sym (get_or-map number xs i x 0 l)
+
+-- a weight that is added to the cell of a byte
+pub cell-added : (cells : List ℕ) (start b v w : ℕ) → start + b < length cells → get_or (set cells (start + b) (get_or cells (start + b) 0 + w)) (start + v) 0 ≡ get_or cells (start + v) 0 + cond (eqb b v) w 0
+cell-added cells start b v w l = elim (cases_Bool (eqb b v)) [
+  | inl e ↦ let same : b ≡ v = eqb-true b v e in rw (e, ← same) (get_or-set_same cells (start + b) (get_or cells (start + b) 0 + w) 0 l)
+  | inr e ↦ rw e (get_or-set_other cells (start + b) (start + v) (get_or cells (start + b) 0 + w) 0 (grind (arith, nat_tests)) ∙ (let z : _ ≡ _ = omega arith in z))
+]
 
 -- ---- a step to the next state that agrees
 

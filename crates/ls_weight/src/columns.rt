@@ -104,6 +104,8 @@ fn rest_at(column: &[u64], right: bool, place: usize) -> u64
 }
 
 // The first place from `from` on that agrees, and the digits of its word from there on.
+#[cold]
+#[inline(never)]
 pub(crate) fn first_from(column: &[u64], right: bool, from: usize) -> (usize, u64)
     requires few { length column.now ≤ most_states }
     requires within { from ≤ 64 * length column.now }

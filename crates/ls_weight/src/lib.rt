@@ -1,12 +1,14 @@
 //! Weights of knowledge states after a pupil's replies.
 #![tactic(auto)]
 
+mod amount;
 mod columns;
 mod fault;
 mod heaviest;
 mod masses;
 mod passes;
 mod rows;
+mod tables;
 mod weights;
 
 pub use fault::WeightFault;

@@ -1,9 +1,10 @@
 // One pass over the states for a reply.
 ghost use Rattle.std.specs.Prelude.{◌≡◌, ◌+◌, ◌*◌, ◌/◌, ◌<◌, ◌≤◌, ◌^◌, ◌==◌, ℕ};
-ghost use Rattle.std.specs.Prelude.{if◌then◌else◌, length, slice_index, sum, All};
+ghost use Rattle.std.specs.Prelude.{if◌then◌else◌, length, map, slice_index, sum, All};
 ghost use Rattle.ls_weight.specs.Sums.{table_cells};
 ghost use Rattle.ls_weight.specs.Rows.{agrees_in, row_at, cell_of, IsColumn};
 
+use crate::amount::Amount;
 use crate::columns::{first_from, step};
 use ls_theory::{Ratio, Reply};
 
@@ -20,44 +21,61 @@ pub(crate) fn agrees(row: &[u8], reply: Reply) -> bool
     (byte >> (reply.q % 8) & 1 == 1) == reply.right
 }
 
+// Makes each cell 0.
+#[inline(always)]
+fn clear<T: Amount>(tables: &mut [T])
+    ensures { (k : ℕ) → slice_index (map T.number tables.new) k ≡ 0 }
+{
+    for i in 0..tables.len() {
+        tables[i] = T::zero();
+    }
+}
+
 // Adds the weight to the cell of each byte of the row, in the table of its group.
-fn add_weight(tables: &mut [u128], row: &[u8], weight: u128)
+#[inline(always)]
+fn add_weight<T: Amount>(tables: &mut [T], row: &[u8], weight: T)
     requires each { length tables.old ≡ table_cells * length row.now }
     requires fits { (g : ℕ) → g < length row.now →
-        slice_index tables.old (table_cells * g + slice_index row.now g) + weight < 2 ^ 128 }
+        slice_index (map T.number tables.old) (table_cells * g + slice_index row.now g)
+        + T.number weight < T.bound }
     ensures { (g v : ℕ) → g < length row.now → v < table_cells →
-        slice_index tables.new (table_cells * g + v)
-        ≡ slice_index tables.old (table_cells * g + v)
-        + (if slice_index row.now g == v then weight else 0) }
+        slice_index (map T.number tables.new) (table_cells * g + v)
+        ≡ slice_index (map T.number tables.old) (table_cells * g + v)
+        + (if slice_index row.now g == v then T.number weight else 0) }
 {
     for g in 0..row.len() {
-        tables[TABLE_CELLS * g + row[g] as usize] += weight;
+        let cell = TABLE_CELLS * g + row[g] as usize;
+        tables[cell] = tables[cell].plus(weight);
     }
 }
 
 // Multiplies the weight of a state by `a`. In the tables it adds the weight before to the cell of
 // each of the state's bytes.
-fn weigh_state(weight: &mut u128, tables: &mut [u128], row: &[u8], ratio: Ratio)
+#[inline(always)]
+fn weigh_state<T: Amount>(weight: &mut u128, tables: &mut [T], row: &[u8], ratio: Ratio)
     requires each { length tables.old ≡ table_cells * length row.now }
-    requires grows { weight.old * ratio.a < 2 ^ 128 }
+    requires own { weight.old < T.bound }
+    requires grows { weight.old * ratio.a < T.bound }
     requires fits { (g : ℕ) → g < length row.now →
-        slice_index tables.old (table_cells * g + slice_index row.now g) + weight.old < 2 ^ 128 }
+        slice_index (map T.number tables.old) (table_cells * g + slice_index row.now g)
+        + weight.old < T.bound }
     ensures weight { weight.new ≡ weight.old * ratio.a }
     ensures cells { (g v : ℕ) → g < length row.now → v < table_cells →
-        slice_index tables.new (table_cells * g + v)
-        ≡ slice_index tables.old (table_cells * g + v)
+        slice_index (map T.number tables.new) (table_cells * g + v)
+        ≡ slice_index (map T.number tables.old) (table_cells * g + v)
         + (if slice_index row.now g == v then weight.old else 0) }
 {
-    add_weight(tables, row, *weight);
-    *weight *= u128::from(ratio.a);
+    let amount = T::of(*weight);
+    add_weight(tables, row, amount);
+    *weight = amount.times(ratio.a).weight();
 }
 
 // Multiplies the weight of each state that agrees by `a`. The cells of the tables become, for each
 // byte in each group, the weights before of the states that agree and have it.
 #[inline(always)]
-fn weigh_agreeing(
+fn weigh_agreeing<T: Amount>(
     weights: &mut [u128],
-    tables: &mut [u128],
+    tables: &mut [T],
     bytes: &[u8],
     width: usize,
     column: &[u64],
@@ -67,17 +85,17 @@ fn weigh_agreeing(
     requires rows { length bytes.now ≡ width * length weights.old }
     requires tables { length tables.old ≡ table_cells * width }
     requires column { IsColumn column.now bytes.now width reply.q (length weights.old) }
-    requires grows { All (λ w. w * ratio.a < 2 ^ 128) weights.old }
-    requires fits { sum weights.old < 2 ^ 128 }
+    requires grows { All (λ w. w * ratio.a < T.bound) weights.old }
+    requires fits { sum weights.old < T.bound }
     ensures weights { (i : ℕ) → i < length weights.old → slice_index weights.new i
         ≡ slice_index weights.old i
         * (if agrees_in (row_at bytes.now width i) reply then ratio.a else 1) }
     ensures tables { (g v : ℕ) → g < width → v < table_cells →
-        slice_index tables.new (table_cells * g + v)
+        slice_index (map T.number tables.new) (table_cells * g + v)
         ≡ cell_of bytes.now width reply weights.old (length weights.old) g v }
     ensures bytes { (k : ℕ) → slice_index bytes.now k < table_cells }
 {
-    tables.fill(0);
+    clear(tables);
     let (mut i, mut rest) = first_from(column, reply.right, 0);
     while i < weights.len() {
         let row = &bytes[width * i..width * (i + 1)];
@@ -89,9 +107,9 @@ fn weigh_agreeing(
 }
 
 // The same, by code of its own for rows of up to four bytes.
-fn weigh_by_width(
+fn weigh_by_width<T: Amount>(
     weights: &mut [u128],
-    tables: &mut [u128],
+    tables: &mut [T],
     bytes: &[u8],
     width: usize,
     column: &[u64],
@@ -101,13 +119,13 @@ fn weigh_by_width(
     requires rows { length bytes.now ≡ width * length weights.old }
     requires tables { length tables.old ≡ table_cells * width }
     requires column { IsColumn column.now bytes.now width reply.q (length weights.old) }
-    requires grows { All (λ w. w * ratio.a < 2 ^ 128) weights.old }
-    requires fits { sum weights.old < 2 ^ 128 }
+    requires grows { All (λ w. w * ratio.a < T.bound) weights.old }
+    requires fits { sum weights.old < T.bound }
     ensures weights { (i : ℕ) → i < length weights.old → slice_index weights.new i
         ≡ slice_index weights.old i
         * (if agrees_in (row_at bytes.now width i) reply then ratio.a else 1) }
     ensures tables { (g v : ℕ) → g < width → v < table_cells →
-        slice_index tables.new (table_cells * g + v)
+        slice_index (map T.number tables.new) (table_cells * g + v)
         ≡ cell_of bytes.now width reply weights.old (length weights.old) g v }
     ensures bytes { (k : ℕ) → slice_index bytes.now k < table_cells }
 {
@@ -150,9 +168,9 @@ fn weigh_others(weights: &mut [u128], bytes: &[u8], width: usize, reply: Reply, 
 // Multiplies the weight of each state by `a` where it agrees with the reply, and else by `b`. The
 // cells of the tables become, for each byte in each group, the weights before of the states that
 // agree and have it.
-pub(crate) fn weigh(
+pub(crate) fn weigh<T: Amount>(
     weights: &mut [u128],
-    tables: &mut [u128],
+    tables: &mut [T],
     bytes: &[u8],
     width: usize,
     column: &[u64],
@@ -165,13 +183,13 @@ pub(crate) fn weigh(
     requires column { IsColumn column.now bytes.now width reply.q (length weights.old) }
     requires some { 1 ≤ ratio.b }
     requires order { ratio.b ≤ ratio.a }
-    requires grows { All (λ w. w * ratio.a < 2 ^ 128) weights.old }
-    requires fits { sum weights.old < 2 ^ 128 }
+    requires grows { All (λ w. w * ratio.a < T.bound) weights.old }
+    requires fits { sum weights.old < T.bound }
     ensures weights { (i : ℕ) → i < length weights.old → slice_index weights.new i
         ≡ slice_index weights.old i
         * (if agrees_in (row_at bytes.now width i) reply then ratio.a else ratio.b) }
     ensures tables { (g v : ℕ) → g < width → v < table_cells →
-        slice_index tables.new (table_cells * g + v)
+        slice_index (map T.number tables.new) (table_cells * g + v)
         ≡ cell_of bytes.now width reply weights.old (length weights.old) g v }
     ensures bytes { (k : ℕ) → slice_index bytes.now k < table_cells }
 {

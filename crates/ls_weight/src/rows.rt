@@ -8,6 +8,7 @@ ghost use Rattle.ls_theory.specs.{agrees, most_states};
 ghost use Rattle.ls_weight.specs.Sums.{table_cells, cells_with};
 ghost use Rattle.ls_weight.specs.Rows.{width_of, row_at, has_in, state_at, agreeing_with, AreRows};
 
+use crate::amount::Amount;
 use crate::columns::columns_of;
 use crate::passes;
 use ls_set::{ItemSet, PLACES, SetList};
@@ -156,10 +157,10 @@ impl StateRows {
     /// Multiplies the weight of each state by `a` where it agrees with the reply, and else by `b`.
     /// For each item, the cells of its group's table for the bytes with it become the weights
     /// before of the states that agree and have it.
-    pub(crate) fn weigh(
+    pub(crate) fn weigh<T: Amount>(
         &self,
         weights: &mut [u128],
-        tables: &mut [u128],
+        tables: &mut [T],
         reply: Reply,
         ratio: Ratio,
     )
@@ -168,16 +169,16 @@ impl StateRows {
         requires tables { length tables.old ≡ table_cells * width_of self.now.item_count }
         requires some { 1 ≤ ratio.b }
         requires order { ratio.b ≤ ratio.a }
-        requires grows { All (λ w. w * ratio.a < 2 ^ 128) weights.old }
-        requires fits { sum weights.old < 2 ^ 128 }
+        requires grows { All (λ w. w * ratio.a < T.bound) weights.old }
+        requires fits { sum weights.old < T.bound }
         ensures weights { (i : ℕ) → i < length self.now.states → slice_index weights.new i
             ≡ slice_index weights.old i
             * (if agrees (state_at self.now.states i) reply then ratio.a else ratio.b) }
         ensures cells { (q : ℕ) → q < self.now.item_count →
-            cells_with (row_at tables.new table_cells (q / 8)) (q % 8)
+            cells_with (row_at (map T.number tables.new) table_cells (q / 8)) (q % 8)
             ≡ agreeing_with self.now.states reply weights.old q }
         ensures sums { (g : ℕ) → g < width_of self.now.item_count →
-            sum (row_at tables.new table_cells g) ≤ sum weights.old }
+            sum (row_at (map T.number tables.new) table_cells g) ≤ sum weights.old }
     {
         let words = self.columns.len() / self.n as usize;
         let column = &self.columns[words * reply.q as usize..words * (reply.q as usize + 1)];

@@ -8,9 +8,10 @@ ghost use Rattle.ls_weight.specs.Weighings.{IsWeighable};
 
 use crate::fault::WeightFault;
 use crate::heaviest::heaviest_after;
-use crate::masses::{agreeing_of, sum_after, weigh_masses};
+use crate::masses::{agreeing_of, sum_after};
 use crate::passes::TABLE_CELLS;
 use crate::rows::StateRows;
+use crate::tables::Tables;
 use ls_set::{ItemSet, SetList};
 use ls_settings::Settings;
 use ls_theory::Reply;
@@ -33,8 +34,7 @@ pub struct Weights {
     masses: Vec<u128>,
     total: u128,
     heaviest: usize,
-    // a table of cells for each group of eight items, written by each reply
-    tables: Vec<u128>,
+    tables: Tables,
 }
 
 impl Model for Weights {
@@ -60,7 +60,7 @@ impl Model for Weights {
           masses = w.masses.items;
           total = w.total;
           heaviest = w.heaviest;
-          cells = length w.tables.items;
+          cells = w.tables;
           room = vec_capacity w.replies;
         }) };
 }
@@ -81,7 +81,7 @@ impl Weights {
         let count = rows.states().len();
         let weights = Vec::from_elem(alloc, 1, count)?;
         let masses = Vec::from_slice(alloc, rows.counts())?;
-        let tables = Vec::from_elem(alloc, 0, TABLE_CELLS * rows.width())?;
+        let tables = Tables::new(alloc, TABLE_CELLS * rows.width())?;
         Ok(Weights {
             alloc,
             settings,
@@ -169,7 +169,7 @@ impl Weights {
             masses: Vec::from_slice(self.alloc, &self.masses)?,
             total: self.total,
             heaviest: self.heaviest,
-            tables: Vec::from_slice(self.alloc, &self.tables)?,
+            tables: Tables::new(self.alloc, self.tables.cells())?,
         })
     }
 
@@ -184,11 +184,16 @@ impl Weights {
         let reply = Reply { q, right };
         let ratio = self.settings.ratio_for(reply);
         let stays = self.rows.agrees(self.heaviest, reply);
-        self.rows
-            .weigh(&mut self.weights, &mut self.tables, reply, ratio);
         let agreeing = agreeing_of(self.masses[q as usize], self.total, right);
+        self.tables.weigh(
+            &self.rows,
+            &mut self.weights,
+            &mut self.masses,
+            self.total,
+            reply,
+            ratio,
+        );
         self.total = sum_after(self.total, agreeing, ratio);
-        weigh_masses(&mut self.masses, &mut self.tables, ratio);
         self.heaviest = heaviest_after(&self.weights, self.heaviest, stays);
         self.replies.push_reserved(reply);
     }

@@ -1,4 +1,4 @@
-use Rattle.ls_weight.proofs.Vocabulary.{◌*◌, ◌∙◌, ◌≡◌, Items, StateList, ℕ, [], ap, arith, count_by, has, length, length-map-range_with_len, length-replicate, map, range_with_len, refl, replicate, table_cells, width_of}
+use Rattle.ls_weight.proofs.Vocabulary.{◌*◌, ◌∙◌, ◌≡◌, Items, StateList, ℕ, [], ap, arith, count_by, has, length, length-map-range_with_len, map, range_with_len, refl, replicate, table_cells, width_of}
 use Rattle.ls_weight.proofs.Kept.{ones-are, count-is, counts-are, first-one}
 use Rattle.ls_weight.proofs.weights.Weights.begin.Goals as goal
 
@@ -15,8 +15,6 @@ invariant_of-result c =
     c.in_ok-weights.ensures.items_if_clones_equal (λ y e. e) ∙ ap (λ m. replicate m 1) count in
     let masses : c.in_ok-masses.masses.items ≡ counts c.args.rows.value =
     c.in_ok-masses.ensures.items ∙ c.counts.ensures ∙ ap counts c.deref-2.ensures in
-    let tables : c.in_ok-tables.tables.items ≡ replicate (table_cells * c.width.result) 0 =
-    c.in_ok-tables.ensures.items_if_clones_equal (λ y e. e) in
     let width : c.width.result ≡ width_of n = c.width.ensures ∙ ap (λ (s : StateList). width_of s.item_count) c.deref-3.ensures in
     record {
       items = items;
@@ -31,5 +29,5 @@ invariant_of-result c =
       masses = λ q l. rw (none, masses) (counts-are c.in_ok-settings.settings.ratios f n q (omega (arith, items)));
       total = rw none (count ∙ count-is c.in_ok-settings.settings.ratios f);
       heaviest = rw weights (first-one (length f) c.requires.weighable.some_states);
-      cells = rw tables (length-replicate (table_cells * c.width.result) 0 ∙ ap (λ m. table_cells * m) (width ∙ ap width_of items));
+      cells = c.in_ok-tables.ensures ∙ ap (λ m. table_cells * m) (width ∙ ap width_of items);
     }
