@@ -5,9 +5,9 @@ pub use Rattle.std.proofs.lemmas.Bool.{and_parts, cases_Bool, cases_lt}
 pub use Rattle.std.proofs.lemmas.Bool.Decides.{nat_tests}
 pub use Rattle.std.proofs.lemmas.List.{get_or-drop, get_or-map, get_or-replicate, get_or-set_other, get_or-set_same, get_or-take, get_or_default, get_or_past, length-append, length-drop, length-map, length-replicate, length-take, map-set, with_items_is}
 pub use Rattle.std.proofs.lemmas.List.FromFn.{get_or-map-range_with_len, length-map-range_with_len}
-pub use Rattle.std.proofs.lemmas.List.Sums.{get_or-le-sum_by, sum-map, sum_by-cons}
+pub use Rattle.std.proofs.lemmas.List.Sums.{get_or-le-sum_by, sum_by-cons}
 pub use Rattle.std.specs.Int.{bit_at}
-pub use Rattle.std.specs.List.{All, IsFirstMaxByKey, length_refill, list_all, range_with_len}
+pub use Rattle.std.specs.List.{All, IsFirstMaxByKey, list_all, range_with_len}
 pub use Rattle.ls_laws.proofs.Weights.{mass-sum, weight-more}
 pub use Rattle.ls_set.specs.{Items, empty, full, has, is_among, is_within, most_items}
 pub use Rattle.ls_settings.proofs.Light.{light-total}

@@ -1,9 +1,9 @@
-// Numbers of 64 or 128 digits that weights are added up in.
+// Numbers of 64 or 128 digits, in which weights are added up.
 ghost use Rattle.std.specs.Prelude.{◌≡◌, ◌+◌, ◌*◌, ◌<◌, ◌≤◌, ◌^◌, ℕ};
 
-/// A number of as many digits as suffice for what is added up.
+/// A weight or a sum of weights, in as many digits as the type has.
 pub(crate) trait Amount: Copy + Drop {
-    // which number it is, and what it stays below
+    // which number it is, and what all of the type are below
     ghost number: { Self → ℕ };
 
     ghost bound: { ℕ };

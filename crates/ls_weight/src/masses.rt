@@ -57,11 +57,12 @@ pub(crate) fn weigh_masses<T: Amount>(masses: &mut [u128], tables: &mut [T], rat
     requires sums { (g : ℕ) → g < width_of (length masses.old) →
         sum (row_at (map T.number tables.old) table_cells g) < T.bound }
     requires fits { (q : ℕ) → q < length masses.old → ratio.b * slice_index masses.old q
-        + (ratio.a - ratio.b) * cells_with (row_at (map T.number tables.old) table_cells (q / 8)) (q % 8)
-        < 2 ^ 128 }
+        + (ratio.a - ratio.b)
+        * cells_with (row_at (map T.number tables.old) table_cells (q / 8)) (q % 8) < 2 ^ 128 }
     ensures { (q : ℕ) → q < length masses.old → slice_index masses.new q
         ≡ ratio.b * slice_index masses.old q
-        + (ratio.a - ratio.b) * cells_with (row_at (map T.number tables.old) table_cells (q / 8)) (q % 8) }
+        + (ratio.a - ratio.b)
+        * cells_with (row_at (map T.number tables.old) table_cells (q / 8)) (q % 8) }
 {
     for q in 0..masses.len() {
         let with = fold(tables, TABLE_CELLS * (q / 8), TABLE_CELLS >> (q % 8 + 1));
