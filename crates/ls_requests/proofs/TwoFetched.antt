@@ -1,7 +1,6 @@
 -- What the fetches of two files let a command see.
 use Rattle.ls_requests.proofs.Vocabulary.{◌++◌, ◌∙◌, ◌∷◌, ◌≡◌, Bool, Err, List, None, Ok, Option, Result, Some, Vec, ℕ, [], ap, arith, bytes_eq, cond, false, length, ltb, refl, subst, sym, true, AllocError, Rose, Folder, FolderStays, longest_file, Text, Bytes, Calls, Failed, Fetched, Missing, TooLarge, calls_of, fetched_from, file_refusals, Refusal, FileFailed, AreFetched, IsFetched, SeesFile, SeesFiles, ShelfState}
 use Rattle.ls_requests.proofs.Seen.{failed_from, files_stay}
-use Rattle.ls_contents.specs.TwoFiles.{right_bytes}
 use Rattle.ls_contents.specs.declared.meshes.TwoFiles.{TwoFiles}
 use Rattle.std.specs.declared.alloc.Global.{Global}
 use Rattle.std.specs.FinMap as map

@@ -1,5 +1,5 @@
-//! The pupils of saved sessions: they are written, and read again, with their states listed and their
-//! replies given once more.
+//! The pupils of saved sessions: they are written, and read again, with their states listed and
+//! their replies given once more.
 #![tactic(auto)]
 
 mod pupils;

@@ -5,7 +5,6 @@ use Rattle.ls_state.proofs.Fetched.{calls_failed, calls_missing, decides_seen, d
 use Rattle.ls_contents.specs.TwoFiles.{right_bytes}
 use Rattle.ls_contents.specs.declared.meshes.TwoFiles.{TwoFiles}
 use Rattle.ls_meaning.specs.MeshRows.{two_files}
-use Rattle.std.specs.declared.alloc.Global.{Global}
 
 module _ {s : Session} (whole : Fetched → Fetched → Effect) (effect : List Refusal → List ℕ → List ℕ → Effect)
     (same : (left right : Fetched) → whole left right ≡ effect (two_files left right) (bytes_fetched left) (bytes_fetched right))

@@ -103,8 +103,8 @@ fn rest_at(column: &[u64], right: bool, place: usize) -> u64
     agreeing(column[place / WORD_STATES], right) >> (place % WORD_STATES)
 }
 
-// The first place from `from` on that agrees, and the digits of its word from there on. A pass calls
-// it once a word, and keeps its registers for the states.
+// The first place from `from` on that agrees, and the digits of its word from there on. A pass
+// calls it once a word, and keeps its registers for the states.
 #[cold]
 #[inline(never)]
 pub(crate) fn first_from(column: &[u64], right: bool, from: usize) -> (usize, u64)

@@ -1,4 +1,4 @@
-use Rattle.ls_pupils.proofs.Vocabulary.{[], ◌∙◌, ◌≡◌, ◌≤◌, IfOk-weaker, IsFamily, Items, List, None, OnOk, Some, Weighing, ap, compat-IsFamily, compatible_sets, family-weighable, heavy_after, length, most_states, subst, sym, yes_queries}
+use Rattle.ls_pupils.proofs.Vocabulary.{[], ◌∙◌, ◌≡◌, ◌≤◌, IfOk-weaker, IsFamily, Items, List, None, OnOk, Some, Weighing, ap, compat-IsFamily, family-weighable, heavy_after, length, most_states, subst, sym, yes_queries}
 use Rattle.ls_pupils.proofs.Rows.{refuses_heavy-new}
 use Rattle.ls_pupils.proofs.beginning.listed.Given as given
 use Rattle.ls_pupils.proofs.beginning.listed.Goals as goal

@@ -1,4 +1,4 @@
-use Rattle.ls_saved_pupils.proofs.Vocabulary.{◌+◌, ◌<◌, ◌∙◌, ◌≤◌, ArePupils, Err, ap, arith, length, length_push, most_pupils, pupil_codec, pupils_of, read_list, rules, subst, sym, view}
+use Rattle.ls_saved_pupils.proofs.Vocabulary.{◌+◌, ◌<◌, ◌∙◌, ◌≤◌, ArePupils, Err, ap, arith, length, length_push, most_pupils, pupil_codec, read_list, rules, subst, sym, view}
 use Rattle.ls_pupils.proofs.Keeping.{are-more}
 use Rattle.ls_saved_pupils.proofs.PupilLists.{too-many, none-next, missed, next-read, all-read}
 use Rattle.ls_saved_pupils.proofs.pupils.fill.Goals as goal
