@@ -1,3 +1,4 @@
+mod Askings
 mod Vocabulary
 pub mod DrawnPairs
 pub mod Chains

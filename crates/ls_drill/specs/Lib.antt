@@ -1,3 +1,4 @@
+pub mod Askings
 pub mod HiddenOrders
 pub mod Draws
 pub mod Drills

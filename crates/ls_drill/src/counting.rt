@@ -9,10 +9,11 @@ ghost use Rattle.ls_query.specs.Blocks.{block_queries};
 ghost use Rattle.ls_drill.specs.HiddenOrders.{most_drilled};
 ghost use Rattle.ls_drill.specs.Summaries.{is_yes, is_no, is_filled, is_filled_yes, is_filled_no};
 
+use crate::asked::Asked;
 use ls_inquiry::{Inquiry, Known};
 use ls_interior::Steps;
 use ls_query::Blocks;
-use ls_set::Query;
+use ls_set::{ItemSet, Query};
 use ls_theory::Answer;
 use std::sync::ledger::Ledger;
 
@@ -59,16 +60,6 @@ impl Filled {
     }
 }
 
-// Whether the query was asked.
-#[tactic(auto, unfolding(ls_set::specs::ItemSet::is_same))]
-fn was_asked(answers: &[Answer], query: &Query) -> bool
-    ensures { result ≡ list_any (λ a. is_same_query a.query query.now) answers.now }
-{
-    answers
-        .iter()
-        .any(|a| a.query.q == query.q && a.query.a == query.a)
-}
-
 // The first good query of the blocks that comes after the given one, or the first of all.
 fn query_after(blocks: &Blocks, last: Option<Query>) -> Option<Query>
     requires { ForSome last (λ r. is_good blocks.now.item_count r ≡ true) }
@@ -98,12 +89,14 @@ pub fn count_filled<L: Ledger>(inquiry: &Inquiry, steps: &mut Steps<L>) -> Fille
         yes: 0,
         no: 0,
     };
+    let answers = inquiry.standing();
+    let mut asked = Asked::new(answers, ItemSet::empty());
     let mut last = None;
     for _ in 0..n * n {
         let Some(query) = query_after(&blocks, last) else {
             return filled;
         };
-        if !was_asked(inquiry.standing(), &query) {
+        if !asked.has(answers, &query) {
             filled.add(inquiry.known(&query, steps).unwrap());
         }
         last = Some(query);

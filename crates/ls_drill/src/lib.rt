@@ -2,6 +2,7 @@
 //! interviewed until no question is open; and what came out is summed up in six lines.
 #![tactic(auto)]
 
+mod asked;
 mod closing;
 mod counting;
 mod drawing;
