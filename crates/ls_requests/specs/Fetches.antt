@@ -18,6 +18,7 @@ pub record ShelfState : Type 0 where
   pub files : Option Folder
   pub faults : ℕ
 
+-- how a shelf is seen, by what is told of it
 abbrev pub shelf_state : {H : Type 0} → shelf.Ghosts H → H → ShelfState
 shelf_state told h = record { files = told.files h; faults = told.faults h }
 

@@ -11,6 +11,7 @@ use Rattle.ls_session.specs.declared.step_fault.StepFault.TheVariants as step
 use Rattle.ls_shell.specs.declared.run_fault.RunFault.{RunFault}
 use Rattle.ls_shell.specs.declared.run_fault.RunFault.TheVariants as run
 
+-- the number of a status
 abbrev pub code_of : Status → ℕ
 code_of Done = 0
 code_of Refused = 1

@@ -13,6 +13,7 @@ use Rattle.ls_pupils.specs.Cases.{pupils_of}
 use Rattle.ls_store.specs.declared.parts.Parts.{Parts}
 use Rattle.ls_store.specs.declared.saved.Saved.{Saved}
 
+-- the session whose domain, interview, settings and pupils are kept in parts
 abbrev pub session_of_parts : Parts → Session
 session_of_parts p =
     record {
@@ -23,6 +24,7 @@ session_of_parts p =
           pupils_of p.pupils;
     }
 
+-- the session that was read from a text
 abbrev pub session_of_saved : Saved → Session
 session_of_saved s =
     record {
