@@ -2,9 +2,7 @@
 //! names the command line has; `data/README.txt` says how one is written.
 #![tactic(auto)]
 
-mod trial;
-
-use crate::trial::differing;
+use ls_case_runs::differing;
 use ls_cases::text::Trouble;
 use std::rt::Files;
 use std::thread::Threads;

@@ -1,4 +1,4 @@
-// Runs of the program over objects in memory, as a case gives them.
+// A case, run in pieces of several sizes.
 use ls_cases::case::{
     File, files_of, is_formed, last_of, numbers_of, replies_of, script_of, tells, words_of,
 };
