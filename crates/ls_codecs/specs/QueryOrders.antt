@@ -15,20 +15,24 @@ use Rattle.ls_family.specs.Orders.{order_of-total, same-order}
 abbrev pub query_order : Query → Query → Ordering
 query_order r s = ordering_then (order_of r.a s.a) (nat_cmp r.q s.q)
 
+-- the comparison is a total order
 pub query_order-total : IsTotalOrder query_order
 query_order-total =
     then_total (on_total (λ (r : Query). r.a) order_of-total)
     (on_total (λ (r : Query). r.q) nat_cmp_total)
 
+-- two queries are the same just where they compare as equal
 pub same-by_query_order : (r s : Query) → is_same_query r s ≡ is_eq (query_order r s)
 same-by_query_order r s =
     both_tied _ _ (order_of r.a s.a) (nat_cmp r.q s.q) (same-order r.a s.a) (unsigned_ties r.q s.q)
 
+-- as a partial comparison, it is in accord with sameness of queries
 pub query_order-partial : IsPartialOrder is_same_query (as_partial_cmp query_order)
 query_order-partial =
     partial_order_from_agreeing_total query_order query_order-total
     (λ r s. refl) same-by_query_order
 
+-- sameness of queries is an equivalence
 pub same_queries : IsEquivalence is_same_query
 same_queries = record {
   refl = λ r. same-by_query_order r r ∙ ties.refl r;

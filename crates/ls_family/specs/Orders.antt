@@ -11,15 +11,19 @@ use Rattle.ls_set.proofs.Order.{comes_before-irreflexive, comes_before-asymmetri
 use Rattle.ls_set.proofs.Order.{comes_before-transitive, order_cases}
 use Rattle.ls_clauses.specs.Orderings.{order_of}
 
+-- a set that comes before the other compares as less
 pub order-less : (s t : Items) → comes_before s t ≡ true → order_of s t ≡ Less
 order-less s t h = rw h refl
 
+-- a set that comes after the other compares as greater
 pub order-greater : (s t : Items) → comes_before t s ≡ true → order_of s t ≡ Greater
 order-greater s t h = rw (comes_before-asymmetric t s h, h) refl
 
+-- a set compares as equal with itself
 pub order-self : (s : Items) → order_of s s ≡ Equal
 order-self s = rw (comes_before-irreflexive s) refl
 
+-- sets that compare as equal are one set
 pub order-equal : (s t : Items) → order_of s t ≡ Equal → s ≡ t
 order-equal s t e = elim (order_cases s t) [
   | inl h ↦ h
@@ -29,6 +33,7 @@ order-equal s t e = elim (order_cases s t) [
   ]
 ]
 
+-- a set that compares as less comes before the other
 pub order-before : (s t : Items) → order_of s t ≡ Less → comes_before s t ≡ true
 order-before s t e = elim (order_cases s t) [
   | inl h ↦ absurd (
@@ -40,6 +45,7 @@ order-before s t e = elim (order_cases s t) [
   ]
 ]
 
+-- the comparison the other way round gives the reverse
 turned : (s t : Items) → order_of s t ≡ ordering_reverse (order_of t s)
 turned s t = elim (order_cases s t) [
   | inl h ↦ subst (λ u. order_of s u ≡ ordering_reverse (order_of u s)) h (rw (order-self s) refl)
@@ -49,6 +55,7 @@ turned s t = elim (order_cases s t) [
   ]
 ]
 
+-- the comparison of sets is a total order
 pub order_of-total : IsTotalOrder order_of
 order_of-total = record {
   antisymm = turned;
@@ -57,20 +64,24 @@ order_of-total = record {
   congr = λ s t u e. ap (λ v. order_of v u) (order-equal s t e);
 }
 
+-- an ordering that counts as equal is `Equal`
 is_eq-equal : (o : Ordering) → is_eq o ≡ true → o ≡ Equal
 is_eq-equal Less e = cc
 is_eq-equal Equal e = refl
 is_eq-equal Greater e = cc
 
+-- two sets are the same just where they compare as equal
 pub same-order : (s t : Items) → is_same s t ≡ is_eq (order_of s t)
 same-order s t = same_truth _ _
     (λ h. ap is_eq (ap (λ u. order_of s u) (sym ((Decides-is_same s t).0 h)) ∙ order-self s))
     (λ e. (Decides-is_same s t).1 (order-equal s t (is_eq-equal (order_of s t) e)))
 
+-- two sets have the same digits just where they compare as equal
 pub same-by_order : (s t : Items) → (s.digits == t.digits) ≡ is_eq (order_of s t)
 unfolding is_same
 same-by_order = same-order
 
+-- as a partial comparison, it is in accord with sameness of digits
 pub order_of-partial :
     IsPartialOrder (λ (s t : Items). s.digits == t.digits) (as_partial_cmp order_of)
 order_of-partial =

@@ -33,12 +33,15 @@ columns_of names (corner ∷ ws) =
 
 -- ---- the record of a pupil
 
+-- `1` marks an item that the pupil gets right
 abbrev pub is_right : Text → Bool
 is_right mark = bytes_eq mark (codes "1")
 
+-- `0` marks an item that it gets wrong
 abbrev pub is_wrong : Text → Bool
 is_wrong mark = bytes_eq mark (codes "0")
 
+-- no other text is a mark
 abbrev pub is_mark : Text → Bool
 is_mark mark = is_right mark || is_wrong mark
 
@@ -83,6 +86,7 @@ rows_from columns earlier (fields ∷ records) =
     (next_row columns earlier fields)
     (Err (length earlier + 2))
 
+-- the class of records, of which the first names the items; or which one is the first bad one
 unfoldable pub class_in : List Text → List (List Text) → Result (List Row) ℕ
 class_in names [] = Err 1
 class_in names (header ∷ records) =

@@ -15,6 +15,7 @@ use Rattle.serde_json.specs.Find.{as_array, as_bool, as_number, as_object, as_st
 use Rattle.ls_cutting.specs.{Text}
 use Rattle.ls_files.specs.SurmiseFiles.{list_value, read_list, value_of}
 
+-- what a value is written as, and which value JSON is read as, if it is that of one
 pub record Codec (X : Type 0) : Type 0 where
   pub write : X → Data
   pub read : Data → Option X
@@ -37,6 +38,7 @@ texts = record { write = string; read = as_str }
 
 -- ---- lists
 
+-- a list of two
 abbrev pub pair_value : Data → Data → Data
 pair_value d e = array (item d (item e no_items))
 
@@ -47,6 +49,7 @@ two_values (item d no_items) = None
 two_values (item d (item e no_items)) = Some (d, e)
 two_values (item d (item e (item f ds))) = None
 
+-- both values of a list of two, where each can be read
 abbrev pub read_pair : {X Y : Type 0} → (Data → Option X) → (Data → Option Y) → Data
     → Option (X × Y)
 read_pair f g d =
@@ -56,6 +59,7 @@ abbrev pub pairs : {X Y : Type 0} → Codec X → Codec Y → Codec (X × Y)
 pairs c e =
     record { write = λ p. pair_value (c.write p.0) (e.write p.1); read = read_pair c.read e.read }
 
+-- a list of four
 abbrev pub four_value : Data → Data → Data → Data → Data
 four_value d e f g = array (item d (item e (item f (item g no_items))))
 
@@ -68,6 +72,7 @@ four_values (item d (item e (item f no_items))) = None
 four_values (item d (item e (item f (item g no_items)))) = Some ((d, e), (f, g))
 four_values (item d (item e (item f (item g (item h ds))))) = None
 
+-- all values of a list of four, where each can be read
 abbrev pub read_four : {X Y Z W : Type 0} → (Data → Option X) → (Data → Option Y)
     → (Data → Option Z) → (Data → Option W) → Data → Option ((X × Y) × (Z × W))
 read_four f g h k d =

@@ -21,6 +21,7 @@ use Rattle.ls_files.specs.declared.pair_line.PairLine.TheVariants.{Passed, Bad, 
 
 -- ---- one line
 
+-- the word at a place, counted from 0; the empty text where there is none
 abbrev pub word_at : List Text → ℕ → Text
 word_at ws place = slice_index_or ws place []
 

@@ -21,6 +21,7 @@ use Rattle.ls_files.specs.SessionCodecs.{settings_from}
 
 -- ---- the text of a session
 
+-- the object of a session; what is written is version 2
 abbrev pub session_value : Session → Data
 session_value s =
     let i = s.interview in
@@ -34,6 +35,7 @@ session_value s =
     (next_field.put_in i.next
     ((pupils_field version.Ratios i.count).put_in s.pupils no_members))))))))
 
+-- the bytes that are saved: that object as compact JSON
 unfoldable pub session_text : Session → List ℕ
 session_text s = compact_text (session_value s)
 
@@ -49,12 +51,14 @@ abbrev pub and_then : {X Y : Type 0} → Result X Cause → (X → Result Y Caus
 and_then (Ok x) next = next x
 and_then (Err c) next = Err c
 
+-- the settings of an object: its limits are tried first, and then its odds
 abbrev pub settings_in : Version → ℕ → Data → Result Settings Cause
 settings_in v n d =
     or_cause cause.Limits (limits_field.find_in d) (λ limits.
     or_cause cause.Odds ((odds_field v n).find_in d) (λ ratios.
     Ok (settings_from ratios limits)))
 
+-- the interview of a start, a block size, answers, and the number of the next answer
 abbrev pub interview_from : ℕ → Start → ℕ → List Answer × ℕ → Interview
 interview_from n start block p =
     record { count = n; start = start; block = block; answers = p.0; next = p.1 }
@@ -65,6 +69,7 @@ read_interview n start block d =
     kept_if stands
     (option_map (interview_from n start block) ((both (answers_field n) next_field).find_in d))
 
+-- the interview of an object: its start is tried first, then its block, then its answers
 abbrev pub interview_in : ℕ → Data → Result Interview Cause
 interview_in n d =
     or_cause cause.Start ((start_field n).find_in d) (λ start.

@@ -42,6 +42,7 @@ Table = List (Text × List Text)
 abbrev pub read_table : Data → Option Table
 read_table d = option_and_then (read_members (read_list as_str)) (as_object d)
 
+-- the table of the bytes of a file, if they are such an object
 unfoldable pub table_of : List ℕ → Option Table
 table_of bytes = option_and_then read_table (value_of bytes)
 
@@ -96,6 +97,7 @@ unfoldable pub skills_from : List (List Text) → Result (List Skill) SkillFault
 skills_from rows =
     option_map_or (λ q. Err (NoSkill q)) (first_bare rows) (few_skills (skills_in rows))
 
+-- the skills of a table: that each key names an item is tried first
 abbrev pub skills_named : List Text → Table → Result (List Skill) SkillFault
 skills_named names table =
     if has_named_keys names table then skills_from (rows_in names table) else Err UnknownItem
@@ -129,6 +131,7 @@ unfoldable pub members_from : List Text → List (List Text) → Members
 members_from (w ∷ ws) (row ∷ rows) = put w (list_value string row) (members_from ws rows)
 members_from ws rows = no_members
 
+-- an object: under each item's name, the names of its skills
 abbrev pub skills_value : List Text → List Skill → Data
 skills_value names skills = object (members_from names (rows_of (length names) skills))
 

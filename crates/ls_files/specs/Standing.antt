@@ -37,6 +37,7 @@ is_base n sets =
 
 -- ---- interviews
 
+-- blocks of up to k of the n items can be made
 abbrev pub are_made : ℕ → ℕ → Bool
 are_made n k = is_ok (made n k)
 
@@ -53,6 +54,7 @@ stands i =
 
 -- ---- pupils
 
+-- the item is the one that is asked; none is, once an assessment is over
 abbrev pub is_asked : Asked → ℕ → Bool
 is_asked (Item i) q = i == q
 is_asked (Over reason) q = false

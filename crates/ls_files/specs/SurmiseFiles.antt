@@ -35,6 +35,7 @@ abbrev pub read_each : {X : Type 0} → (Data → Option X) → Values → Optio
 read_each f no_items = Some []
 read_each f (item d ds) = option_and_then (λ x. option_map (λ xs. x ∷ xs) (read_each f ds)) (f d)
 
+-- the values of an array, where each can be read
 abbrev pub read_list : {X : Type 0} → (Data → Option X) → Data → Option (List X)
 read_list f d = option_and_then (read_each f) (as_array d)
 
@@ -56,11 +57,13 @@ read_table d = option_and_then (read_members read_clauses) (as_object d)
 abbrev pub value_of : List ℕ → Option Data
 value_of bytes = if is_utf8 bytes then read bytes else None
 
+-- the table of the bytes of a file, if they are such an object
 unfoldable pub table_of : List ℕ → Option Table
 table_of bytes = option_and_then read_table (value_of bytes)
 
 -- ---- the surmise function of a table
 
+-- each name in the clauses is an item's
 abbrev pub are_named : List Text → List (List Text) → Bool
 are_named names clauses = list_all (list_all (is_named names)) clauses
 
@@ -91,6 +94,7 @@ unfoldable pub surmise_from : ℕ → List (List Items) → Result (List (List I
 surmise_from n clauses =
     option_map_or Err (option_or (flaw n clauses) (wide n clauses)) (Ok (map (in_order n) clauses))
 
+-- the clauses of a table, in order: that all its names are items' is tried first
 abbrev pub surmise_in : List Text → Table → Result (List (List Items)) SurmiseFault
 surmise_in names table =
     if is_table_named names table then surmise_from (length names) (clauses_in names table)
@@ -115,6 +119,7 @@ surmise_items fault = []
 
 -- ---- the text of a surmise function
 
+-- an array of what each element is written as
 abbrev pub list_value : {X : Type 0} → (X → Data) → List X → Data
 list_value value xs = array (values_of (map value xs))
 
@@ -128,8 +133,10 @@ members_from names (w ∷ ws) (own ∷ clauses) =
     put w (list_value (clause_value names) own) (members_from names ws clauses)
 members_from names ws clauses = no_members
 
+-- an object: under each item's name, its clauses
 abbrev pub surmise_value : List Text → List (List Items) → Data
 surmise_value names clauses = object (members_from names names clauses)
 
+-- the bytes of a surmise file: that object as compact JSON
 unfoldable pub surmise_text : List Text → List (List Items) → List ℕ
 surmise_text names clauses = compact_text (surmise_value names clauses)

@@ -1,5 +1,5 @@
 -- The words of a command are ASCII.
-use Rattle.ls_lines.proofs.Vocabulary.{◌++◌, ◌+◌, ◌<◌, ◌∷◌, ◌≡◌, ◌≤◌, ◌⊎◌, Fixed, IsAscii, Keyword, Kind, List, Many, One, Part, Some, Text, ℕ, [], arith, cond, cond_some, false, fits, front, inl, inr, is_cursor_byte, is_of, length, nat_lt, nat_tests, none-some, prefix_len, prefix_len-le-length, refl, same_Some, same_text, slice_get, spelling, subst, suc, sym, take, true}
+use Rattle.ls_lines.proofs.Vocabulary.{◌++◌, ◌+◌, ◌<◌, ◌∷◌, ◌≡◌, ◌≤◌, ◌⊎◌, Fixed, IsAscii, Keyword, Kind, List, Many, One, Part, Some, Text, ℕ, [], arith, cond, cond_some, false, fits, front, inl, inr, is_of, length, nat_lt, nat_tests, none-some, prefix_len, prefix_len-le-length, refl, same_Some, same_text, slice_get, spelling, subst, suc, sym, take, true}
 use Rattle.std.specs.Prelude.{All}
 use Rattle.std.proofs.lemmas.List.Elements.{All-nil, All-cons, All-append}
 use Rattle.ls_lines.specs.declared.keyword.Keyword.TheVariants as word

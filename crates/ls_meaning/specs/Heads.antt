@@ -2,6 +2,7 @@
 use Rattle.std.specs.Prelude.{codes}
 use Rattle.ls_lines.specs.{Text}
 
+-- which word it is
 pub data Head : Type 0 where
   Agree : Head
   Answer : Head
@@ -27,6 +28,7 @@ pub data Head : Type 0 where
   Surmise : Head
   Test : Head
 
+-- the word as it is written
 abbrev pub head_word : Head → Text
 head_word Agree = codes "agree"
 head_word Answer = codes "answer"

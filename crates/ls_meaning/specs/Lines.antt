@@ -47,6 +47,7 @@ pub record Line : Type 0 where
 abbrev pub line : Head → List Text → Line
 line head rest = record { head = head; rest = rest }
 
+-- all words of a line, the head first
 abbrev pub line_words : Line → List Text
 line_words l = head_word l.head ∷ l.rest
 
@@ -119,6 +120,7 @@ verdict_words names (NotGraded k first second) =
     codes "not-graded" ∷ double_words names k first second
 verdict_words names (Learning base) = codes "learning" ∷ decimal (length base) ∷ []
 
+-- the line of `test`, with the verdict
 abbrev pub verdict_line : List Text → Verdict → Line
 verdict_line names verdict = line head.Test (verdict_words names verdict)
 
@@ -228,6 +230,7 @@ accepted_words number applied pending =
     codes "ok" ∷ decimal number ∷ codes "applied" ∷ decimal applied
     ∷ codes "pending" ∷ decimal pending ∷ []
 
+-- the lines of a response, each as its words; silence has none
 abbrev pub lines_of : Session → Response → List (List Text)
 lines_of s Silence = []
 lines_of s (Refused refusal) = (codes "no" ∷ refusal_words s.names refusal) ∷ []

@@ -92,6 +92,7 @@ view_item_words (views.StateOf inner outer) = sets_words inner outer
 view_item_words (views.Paths count after) = order_words after
 view_item_words c = []
 
+-- the set of a cursor that is given, or the fault of its text
 abbrev pub some_read : Result Items CursorFault → Result (Option Items) CursorFault
 some_read (Ok k) = Ok (Some k)
 some_read (Err fault) = Err fault

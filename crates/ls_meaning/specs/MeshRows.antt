@@ -18,6 +18,7 @@ use Rattle.ls_meaning.specs.declared.response.Shown.TheVariants as shown
 
 -- ---- the parts of two files
 
+-- why the file of part 1, or of part 2, is no list of sets, if it is none
 abbrev pub part_refusals : ℕ → Result (List Items) FamilyFault → List Refusal
 part_refusals number (Ok sets) = []
 part_refusals number (Err fault) = refusal_of.PartSets number fault ∷ []

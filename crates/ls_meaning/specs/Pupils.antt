@@ -42,6 +42,7 @@ setting_row s (setting.Limits budget share) =
 
 -- ---- pupils
 
+-- the pupil is called so
 abbrev pub has_name : Text → Pupil → Bool
 has_name name p = bytes_eq p.name name
 
@@ -143,6 +144,7 @@ abbrev pub rows_read : Result (List Row) ℕ → List Row
 rows_read (Ok rows) = rows
 rows_read (Err row) = []
 
+-- why a file is no class table: its first bad record
 abbrev pub class_refusals : Result (List Row) ℕ → List Refusal
 class_refusals (Ok rows) = []
 class_refusals (Err row) = refusal_of.BadClass row ∷ []
@@ -153,6 +155,7 @@ classed_by settings f refusals reading =
     (refusals ++ class_refusals reading ++ weighing_refusals settings (length f))
     otherwise Shown (shown.Class (class_results settings f (rows_read reading)))
 
+-- the same over the states of the interview, for the table that was fetched
 abbrev pub class_row : Interview → Settings → List Text → Fetched → Response
 class_row i settings names fetched =
     classed_by settings (compatible_sets i) (file_refusals fetched)

@@ -50,6 +50,7 @@ detail_word names (Number n) = decimal n
 detail_word names (Item q) = name_of names q
 detail_word names (Set k) = set_text names k
 
+-- the code as a word, and then those of the details
 abbrev pub notice_words : List Text → Notice → List Text
 notice_words names notice = decimal notice.code ∷ map (detail_word names) notice.details
 
@@ -143,6 +144,7 @@ cause_word cause.Block = codes "block"
 cause_word cause.Answers = codes "answers"
 cause_word cause.Pupils = codes "pupils"
 
+-- the code of each refusal, and what it tells of its fault
 abbrev pub refusal_notice : Refusal → Notice
 refusal_notice (NoCommand place) = told 10 (Number place ∷ [])
 refusal_notice (LongLine bytes) = told 10 (Word (codes "long") ∷ Number bytes ∷ [])
@@ -183,5 +185,6 @@ refusal_notice (PartSets side fault) = part_notice side fault
 refusal_notice (Mesh fault) = mesh_notice fault
 refusal_notice (StartRelation fault) = pair_notice fault
 
+-- the words behind `no`
 abbrev pub refusal_words : List Text → Refusal → List Text
 refusal_words names refusal = notice_words names (refusal_notice refusal)

@@ -107,6 +107,7 @@ pupil_effect s c = unless_unnamed s (unnamed s.names (pupil_item_words c))
 abbrev pub in_domain : Session → Effect → Effect
 in_domain s effect = if has_domain s then effect else answers s (Refused (Unnamed 0))
 
+-- what a command does: all but openings and the empty command need a domain
 unfoldable pub command_effect : Session → Calls → Command → Effect
 command_effect s calls command.Nothing = answers s Silence
 command_effect s calls (command.Opening c) = changes (opening_row s calls c)
@@ -122,6 +123,7 @@ abbrev pub words_effect : Session → Calls → List Text → Option Command →
 words_effect s calls ws None = answers s (Refused (NoCommand (fault_place ws)))
 words_effect s calls ws (Some c) = command_effect s calls c
 
+-- what a line does; one that is too long is refused unread
 unfoldable pub line_effect : Session → Calls → List ℕ → Effect
 line_effect s calls line =
     if is_long line then answers s (Refused (LongLine (length line)))

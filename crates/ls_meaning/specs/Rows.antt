@@ -49,6 +49,7 @@ abbrev pub names_read : Result (List Text) DomainFault → List Text
 names_read (Ok names) = names
 names_read (Err fault) = []
 
+-- why the names are no domain, if they are none
 abbrev pub domain_refusals : Result (List Text) DomainFault → List Refusal
 domain_refusals (Ok names) = []
 domain_refusals (Err fault) = refusal_of.Domain fault ∷ []
@@ -71,6 +72,7 @@ file_refusals Missing = refusal_of.NoFile ∷ []
 file_refusals (TooLarge length) = refusal_of.LargeFile length ∷ []
 file_refusals Failed = refusal_of.FileFailed ∷ []
 
+-- the bytes of a file; none, where it could not be had
 abbrev pub bytes_fetched : Fetched → List ℕ
 bytes_fetched (Bytes bytes) = bytes
 bytes_fetched fetched = []
@@ -109,6 +111,7 @@ start_read start_file.Surmise names bytes = start_of_clauses (surmise_of names b
 start_read start_file.Base names bytes = start_of_sets (length names) (sets_of names bytes)
 start_read start_file.Relation names bytes = start_of_relation (relation_of names bytes)
 
+-- why no start was read, if none was
 abbrev pub start_refusals : Result Start Refusal → List Refusal
 start_refusals (Ok start) = []
 start_refusals (Err refusal) = refusal ∷ []
@@ -150,6 +153,7 @@ abbrev pub after_or : Result (Option Items) CursorFault → Option Items
 after_or (Ok after) = after
 after_or (Err fault) = None
 
+-- why a text is no cursor, if it is none
 abbrev pub cursor_refusals : Result (Option Items) CursorFault → List Refusal
 cursor_refusals (Ok after) = []
 cursor_refusals (Err fault) = refusal_of.Cursor fault ∷ []
@@ -212,6 +216,7 @@ abbrev pub state_shown : Option Items → Response
 state_shown None = Refused refusal_of.NoState
 state_shown (Some k) = Shown (shown.State k)
 
+-- the state with the two fringes, on a learning space whose base is within its bound
 abbrev pub state_row : Interview → Items → Items → Response
 state_row i inner outer =
     let f = compatible_sets i in
@@ -223,6 +228,7 @@ paths_shown n count after =
     refuse refusal_of.NotOrder (not (option_map_or (is_order n) after true))
     otherwise Shown (shown.Paths count after)
 
+-- the paths of a learning space whose base is within its bound
 abbrev pub paths_row : Interview → ℕ → Option (List ℕ) → Response
 paths_row i count after =
     based_row i (learned (compatible_sets i) (paths_shown i.count count after))
@@ -235,6 +241,7 @@ skill_map_row i = based_row i (Shown (shown.SkillMap (base (compatible_sets i)))
 abbrev pub relation_row : Interview → Response
 relation_row i = based_row i (relation_shown i.count (clauses_at i.count (compatible_sets i)))
 
+-- each look at the interview
 abbrev pub view_row : Interview → View → Response
 view_row i (view.Known r) = known_row i r
 view_row i view.Ask = ask_row i
@@ -257,6 +264,7 @@ abbrev pub sets_read : Result (List Items) FamilyFault → List Items
 sets_read (Ok sets) = sets
 sets_read (Err fault) = []
 
+-- why a file to test is no list of sets, if it is none
 abbrev pub sets_refusals : Result (List Items) FamilyFault → List Refusal
 sets_refusals (Ok sets) = []
 sets_refusals (Err fault) = refusal_of.TestedSets fault ∷ []
@@ -267,12 +275,14 @@ tested_by n refusals reading =
     (refusals ++ sets_refusals reading)
     otherwise Shown (shown.Tested (verdict (full n) (sets_read reading)))
 
+-- the same for the sets of the file that was fetched
 abbrev pub test_row : List Text → Fetched → Response
 test_row names fetched =
     tested_by (length names) (file_refusals fetched) (sets_of names (bytes_fetched fetched))
 
 -- ---- how an interview changes
 
+-- why blocks can't be made, if they can't
 abbrev pub block_refusals : Result BlockRange BlockFault → List Refusal
 block_refusals (Ok b) = []
 block_refusals (Err fault) = refusal_of.Block fault ∷ []
@@ -295,6 +305,7 @@ retract_row i number =
     changed i (refuse refusal_of.NotStanding (is_none (answer_with i number))) (Done number)
     (retracted i number)
 
+-- each change of the interview
 abbrev pub edit_row : Interview → Edit → Change Interview
 edit_row i (edit.Blocks size) = blocks_row i size
 edit_row i (edit.Answer r is_yes) = answer_row i r is_yes

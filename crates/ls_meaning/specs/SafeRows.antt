@@ -41,6 +41,7 @@ safe_open_row i safe =
 abbrev pub accepted_shown : ℕ → List SafeAnswer → Response
 accepted_shown number answers = Accepted number (applied answers) (pending answers)
 
+-- one more answer of the safe interview, unless it doesn't take it
 abbrev pub safe_answer_row : ℕ → SafeInterview → Query → Change (Option SafeInterview)
 safe_answer_row n s r =
     changed (Some s)

@@ -30,6 +30,7 @@ abbrev pub session_or : Session → Result SavedSession Cause → Session
 session_or s (Ok read) = taken_up read
 session_or s (Err cause) = s
 
+-- why a file is no saved session, if it is none
 abbrev pub session_refusals : Result SavedSession Cause → List Refusal
 session_refusals (Ok read) = []
 session_refusals (Err cause) = refusal_of.BadSession cause ∷ []

@@ -49,5 +49,6 @@ started names =
       safe = None;
     }
 
+-- a domain stands: there are items
 abbrev pub has_domain : Session → Bool
 has_domain s = not (length s.names == 0)

@@ -28,6 +28,7 @@ abbrev pub skills_read : Result (List Skill) SkillFault → List Items
 skills_read (Ok skills) = item_sets skills
 skills_read (Err fault) = []
 
+-- why a file is no skill file, if it is none
 abbrev pub skill_refusals : Result (List Skill) SkillFault → List Refusal
 skill_refusals (Ok skills) = []
 skill_refusals (Err fault) = refusal_of.Skills fault ∷ []

@@ -15,5 +15,6 @@ pub record Notice : Type 0 where
   pub code : ℕ
   pub details : List Detail
 
+-- the notice with this code and these details
 abbrev pub told : ℕ → List Detail → Notice
 told code details = record { code = code; details = details }

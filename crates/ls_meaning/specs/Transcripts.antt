@@ -23,6 +23,7 @@ pub record Marked : Type 0 where
   pub line : List ℕ
   pub failed : Bool
 
+-- the lines without their marks
 abbrev pub bare_lines : List Marked → List (List ℕ)
 bare_lines ls = map (λ (l : Marked). l.line) ls
 
@@ -34,9 +35,11 @@ count_marks ls = count_by (λ (l : Marked). l.failed) ls
 abbrev pub unmarked : List (List ℕ) → List Marked
 unmarked ls = map (λ line. record { line = line; failed = false }) ls
 
+-- what a line does where this world stands before it
 abbrev pub effect_at : World → Marked → Effect
 effect_at w l = line_effect w.session (calls_of w.folder l.failed) l.line
 
+-- the bytes of the reply to that line
 abbrev pub reply_at : World → Marked → List ℕ
 reply_at w l = reply_of (effect_at w l)
 
@@ -45,6 +48,7 @@ abbrev pub folder_with : Folder → Option (Text × List ℕ) → Folder
 folder_with folder None = folder
 folder_with folder (Some file) = map.insert folder file.0 file.1
 
+-- what stands after that line
 abbrev pub world_next : World → Marked → World
 world_next w l =
     record {
@@ -72,8 +76,10 @@ refuses w (l ∷ ls) = is_refusal (reply_at w l) || refuses (world_next w l) ls
 abbrev pub transcript : Folder → List ℕ → List ℕ
 transcript folder script = replies (begun_over folder) (unmarked (lines script))
 
+-- whether some line of the script is refused, where no call failed
 abbrev pub is_some_refused : Folder → List ℕ → Bool
 is_some_refused folder script = refuses (begun_over folder) (unmarked (lines script))
 
+-- the files after the script, where no call failed
 abbrev pub final_folder : Folder → List ℕ → Folder
 final_folder folder script = (world_after (begun_over folder) (unmarked (lines script))).folder

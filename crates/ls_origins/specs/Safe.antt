@@ -95,10 +95,12 @@ marked_first n f (a ∷ rest) =
     else option_map (λ s. record { family = s.family; answers = a ∷ s.answers })
     (marked_first n f rest)
 
+-- passes that mark answers, until one applies none, and at most m
 abbrev pub marked_passes : ℕ → ℕ → Marks → Marks
 marked_passes n zero s = s
 marked_passes n (suc m) s = option_map_or (marked_passes n m) (marked_first n s.family s.answers) s
 
+-- as many as can apply an answer that waits
 abbrev pub marked_settled : ℕ → Marks → Marks
 marked_settled n s = marked_passes n (length (waiting s.answers)) s
 
@@ -106,10 +108,12 @@ marked_settled n s = marked_passes n (length (waiting s.answers)) s
 abbrev pub coming : List SafeAnswer → Query → SafeAnswer
 coming answers r = record { number = suc (length answers); query = r; applied = false }
 
+-- a turn: the answer comes last, and then there are passes
 abbrev pub marked_turn : ℕ → Marks → Query → Marks
 marked_turn n s r =
     marked_settled n (record { family = s.family; answers = s.answers ++ coming s.answers r ∷ [] })
 
+-- after the answers Yes to these queries, in turn
 abbrev pub after_marked_turns : ℕ → Marks → List Query → Marks
 after_marked_turns n s [] = s
 after_marked_turns n s (r ∷ rs) = after_marked_turns n (marked_turn n s r) rs
@@ -172,17 +176,22 @@ pub record SafeInterview : Type 0 where
   pub yeses : List Query
   pub answers : List Query
 
+-- the safe interview that opens: its start and Yes queries stand, and it has no answers
 abbrev pub opened : Interview → SafeInterview
 opened i = record { start = i.start; yeses = yes_queries i.answers; answers = [] }
 
+-- the states at its opening
 abbrev pub first_family : ℕ → SafeInterview → List Items
 first_family n i = compat n i.start i.yeses
 
+-- the states that remain after its answers
 abbrev pub safe_family : ℕ → SafeInterview → List Items
 safe_family n i = (safe n (first_family n i) i.answers).family
 
+-- its answers with their numbers, each marked where it is applied
 abbrev pub safe_answers : ℕ → SafeInterview → List SafeAnswer
 safe_answers n i = (marked n (first_family n i) i.answers).answers
 
+-- one more answer Yes, to this query, is accepted
 abbrev pub answered : SafeInterview → Query → SafeInterview
 answered i r = record i { answers = i.answers ++ r ∷ [] }

@@ -35,6 +35,7 @@ are_known names (member k d ms) =
     && is_some (read_sets names d)
     && are_known names ms
 
+-- the same of a value; one that is no object isn't known
 abbrev pub is_known : List Text → Data → Bool
 is_known names d = option_map_or (are_known names) (as_object d) false
 
@@ -48,6 +49,7 @@ read_all names d = map (read_own names d) (numbers_from 0 (length names))
 
 -- ---- as they are defined
 
+-- the clauses of a table, where all its names are those of items
 abbrev pub clauses_from : List Text → Table → Result (List (List Items)) SurmiseFault
 clauses_from names table =
     if is_table_named names table then Ok (clauses_in names table) else Err UnknownItem
