@@ -1,9 +1,10 @@
 -- The interior under rules, round by round.
-use Rattle.ls_rules.proofs.Vocabulary.{◌<◌, ◌∙◌, ◌∷◌, ◌≡◌, AllByRecursion, Breaks-from, IsAwake, IsInterior-interior, IsWithin, IsWithin-from, Items, List, None, NoneKeeps, Option, Query, Round, Settles, Settling, Some, ℕ, [], among-filter, and_from, and_parts, ap, arith, breaks, breaks_none, cond, empty, empty-within, false, false_from_ne_true, filter, inl, inr, interior, interior-greatest, interior-is, interior-within, is_among, is_within, is_within-from, is_within-interior, len, len-less, meet, members, minus, nat_tests, not, not-true, refl, same_within, some_missing, sym, true, true≢false, unwrap_or}
+use Rattle.ls_rules.proofs.Vocabulary.{AllByRecursion, AreSingles, Breaks-from, IsAwake, IsInterior-interior, IsWithin, IsWithin-from, Items, List, None, NoneKeeps, Option, Query, Round, Settles, Settling, Some, [], among-filter, and_from, and_parts, ap, arith, breaks, breaks_none, cond, empty, empty-within, false, false_from_ne_true, filter, has, inl, inr, interior, interior-greatest, interior-is, interior-within, is_among, is_same, is_within, is_within-from, is_within-interior, len, len-less, meet, members, minus, nat_tests, not, not-true, refl, same_within, set_at, some_missing, sym, true, true≢false, unwrap_or, without, ℕ, ◌<◌, ◌∙◌, ◌∷◌, ◌≡◌}
 use Rattle.ls_laws.specs.Families.{IsFamily}
 use Rattle.ls_laws.proofs.Families.{ruled-IsFamily}
 use Rattle.ls_interior.specs.Keeping.{interior_keeping}
-use Rattle.ls_rules.proofs.Rounds.{meets_rule, no_item, none_broken}
+use Rattle.ls_rules.proofs.Alone.{asked-out}
+use Rattle.ls_rules.proofs.Rounds.{common_item, meets_rule, no_item, none_broken, taken}
 
 -- the round begins with what is lost of a settled set in its interior in the family, as far as it wakes a rule
 abbrev pub lost : Items → Items → Items → Round
@@ -177,6 +178,17 @@ none_under n f rules s keep family e =
     let h : is_within keep (interior f s) ≡ true = is_within-from keep (interior f s) (λ i x. interior-greatest f s inside a.0 a.2 i (k i x)) in
     let no : None ≡ Some (interior f s) = rw h at e in
     cc)
+
+-- where an item of keep falls with the item by a rule of the item alone, none is given
+pub none_alone : (n : ℕ) (f : List Items) (rules : List Query) (singles : List Items) (member keep : Items) (item : ℕ) → IsFamily n f → AreSingles singles rules → is_same (meet (set_at singles item) keep) empty ≡ false
+    → None ≡ interior_keeping (filter (breaks_none rules) f) (without member item) keep
+none_alone n f rules singles member keep item family a h =
+    let inside = interior (filter (breaks_none rules) f) (without member item) in
+    let x = common_item (set_at singles item) keep h in
+    let b = ruled_interior n f rules (without member item) family in
+    let out : has inside item ≡ false = false_from_ne_true (has inside item) (λ y. true≢false (sym (b.2 item y) ∙ taken member item)) in
+    given_none (filter (breaks_none rules) f) (without member item) keep (λ k.
+    true≢false (sym (k x.0 x.2) ∙ asked-out rules inside item x.0 b.1 out (ap (λ m. has m x.0) (sym (a item)) ∙ x.1)))
 
 given_some : (inside keep next : Items) → Some next ≡ cond (is_within keep inside) (Some inside) None → (next ≡ inside) × IsWithin keep next
 given_some inside keep next e =

@@ -22,7 +22,7 @@ no_least s e = len-zero s (ap length (items-none s e))
 pub kept : (s : Items) (j i : ℕ) → has s j ≡ true → (j ≡ i → ⊥) → has (without s i) j ≡ true
 kept s j i h n = grind (arith, members, nat_tests)
 
-taken : (s : Items) (i : ℕ) → has (without s i) i ≡ false
+pub taken : (s : Items) (i : ℕ) → has (without s i) i ≡ false
 taken s i = grind (arith, members, nat_tests)
 
 len-with : (s : Items) (i : ℕ) → len (with s i) ≤ len s + 1

@@ -11,7 +11,7 @@ pub struct Round {
 }
 
 impl Round {
-    ghost use Rattle.ls_set.specs.{with, without};
+    ghost use Rattle.ls_set.specs.{empty, is_same, with, without};
     ghost use Rattle.ls_theory.specs.{breaks};
     ghost use Rattle.ls_rules.specs.Waking.{look, lose_all};
 
@@ -43,13 +43,25 @@ impl Round {
         self.kept = self.kept.minus(set);
     }
 
-    /// Looks at a rule: where the kept set breaks it, its item falls out.
-    pub fn look(&mut self, rule: &Query)
+    /// Looks at a rule: where the kept set breaks it, its item falls out. The result is whether one
+    /// does.
+    pub fn look(&mut self, rule: &Query) -> bool
         requires { rule.now.q < PLACES }
-        ensures { self.new ≡ look self.old rule.now }
+        ensures round { self.new ≡ look self.old rule.now }
+        ensures lost { result ≡ breaks self.old.kept rule.now }
     {
-        if self.breaks(rule) {
+        let is_broken = self.breaks(rule);
+        if is_broken {
             self.lose(rule.q);
         }
+        is_broken
+    }
+
+    /// Whether nothing is kept any more: then no rule is broken.
+    #[tactic(auto, unfolding(ls_set::specs::ItemSet::is_same))]
+    pub fn is_over(&self) -> bool
+        ensures { result ≡ is_same self.now.kept empty }
+    {
+        self.kept == ItemSet::empty()
     }
 }

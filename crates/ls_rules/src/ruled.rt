@@ -201,8 +201,10 @@ impl<F: Inside> Ruled<F> {
 
     // That of a member without an item, where it has all of `keep`. A member breaks no rule, so
     // without the item only the rules are broken whose sets A have what fell out of it. It is no
-    // part of its caller either.
+    // part of its caller either. What the item takes with it by the rules of the item alone is asked
+    // first.
     #[inline(never)]
+    #[tactic(auto, unfolding(ls_set::specs::ItemSet::is_same))]
     fn inside_ruled_without(&self, member: ItemSet, item: u32, keep: ItemSet) -> Option<ItemSet>
         requires within { IsWithin member (full (F.item_count self.now.inner)) }
         requires item { item < PLACES }
@@ -213,6 +215,9 @@ impl<F: Inside> Ruled<F> {
             (without member item) keep }
         ensures part { IfSome result (λ k. IsWithin k member) }
     {
+        if self.singles.of(item).meet(keep) != ItemSet::empty() {
+            return None;
+        }
         let next = self.inner.inside_without(member, item, keep)?;
         let fallen = member.minus(next).meet(self.waking_items());
         if fallen == ItemSet::empty() {

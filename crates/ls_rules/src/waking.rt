@@ -16,14 +16,17 @@ use crate::round::Round;
 use crate::singles::Singles;
 use ls_set::{ItemSet, PLACES, Query};
 
-// Looks at the rules at the places.
+// Looks at the rules at the places. Where nothing is kept any more, no rule is broken, and the rest
+// need no look.
 fn look_at(rules: &[Query], places: &[usize], round: &mut Round)
     requires items { All (λ r. r.q < PLACES) rules.now }
     requires places { All (λ p. p < length rules.now) places.now }
     ensures { round.new ≡ look_at rules.now places.now round.old }
 {
     for place in places {
-        round.look(&rules[*place]);
+        if round.look(&rules[*place]) && round.is_over() {
+            return;
+        }
     }
 }
 
@@ -41,6 +44,9 @@ fn look_keeping(rules: &[Query], places: &[usize], keep: ItemSet, round: &mut Ro
                 return false;
             }
             round.lose(rule.q);
+            if round.is_over() {
+                return true;
+            }
         }
     }
     true
@@ -149,7 +155,8 @@ pub fn begin(
     round
 }
 
-/// Goes on from the items that fell out, until no rule is broken or an item of `keep` falls out.
+/// Goes on from the items that fell out, until no rule is broken, nothing is kept any more, or an
+/// item of `keep` falls out.
 pub fn settle(
     rules: &[Query],
     singles: &Singles,
@@ -168,6 +175,9 @@ pub fn settle(
 {
     let mut round = round;
     while let Some(i) = round.fallen.least() {
+        if round.is_over() {
+            return Some(round.kept);
+        }
         round.fallen = round.fallen.without(i);
         if !wake(rules, singles, wakes, i, keep, &mut round) {
             return None;

@@ -1,6 +1,7 @@
 use Rattle.ls_rules.proofs.Vocabulary.{◌∙◌, ◌≡◌, IsIndexOf, Items, List, PlaceList, Query, Round, ℕ, ap, least-cases, lose_all, lost_with, map, places_at, refl, several, sym, wake, without}
 use Rattle.ls_rules.proofs.Indexing.{small_items}
 use Rattle.ls_rules.proofs.Rounds.{turned, turn, woken, lighter, After-turn, NoneKeeps-lost, Settling-more, Settling-done}
+use Rattle.ls_rules.proofs.Over.{Settling-over}
 use Rattle.ls_rules.proofs.waking.settle.Goals as goal
 
 -- the rules that the item wakes are those that have it in their A
@@ -49,5 +50,11 @@ loop-i-preserved c =
 pub returns-clause-value : goal.returns-clause-value
 returns-clause-value c = λ first a w. (
   Settling-done c.args.rules.now first c.loop-i.round (sym c.least.ensures.value ∙ c.in_default.is) (c.loop-i.invariant.settling first a),
+  c.loop-i.invariant.keeps w,
+)
+
+pub returns-then-is_over-clause-value : goal.returns-then-is_over-clause-value
+returns-then-is_over-clause-value c = λ first a w. (
+  Settling-over c.args.rules.now first c.loop-i.round (sym c.is_over.ensures ∙ c.if-is_over.true) (c.loop-i.invariant.settling first a),
   c.loop-i.invariant.keeps w,
 )
