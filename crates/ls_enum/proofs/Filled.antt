@@ -1,5 +1,5 @@
 -- The interior of a widest member without an item is the interior in which the next member is looked for.
-use Rattle.ls_enum.proofs.Vocabulary.{◌+◌, ◌<◌, ◌∙◌, ◌≡◌, ◌≤◌, IsFamily, IsWidest, IsWithin, IsWithin-from, Items, List, None, NoneFrom, Option, Some, ℕ, and_from, and_parts, ap, arith, cases_order, cond, eq-eqb, eqb, false, find, first_after, full, has, has-full, has-keep_before, has-without, inl, inr, interior, interior-greatest, interior_keeping, is_among, is_within, keep_before, lt-ltb, ltb, ltb-true, ne_eqb, not, filled_above, refl, same_within, subst, sym, true, true≢false, without}
+use Rattle.ls_enum.proofs.Vocabulary.{◌+◌, ◌<◌, ◌∙◌, ◌≡◌, ◌≤◌, IfSome, IsFamily, IsWidest, IsWithin, IsWithin-from, Items, List, None, NoneFrom, Option, Serves, Some, WidestMember, ℕ, and_from, and_parts, ap, arith, cases_order, cond, eq-eqb, eqb, false, find, first_after, full, has, has-full, has-keep_before, has-without, inl, inr, interior, interior-greatest, interior_keeping, is_among, is_within, keep_before, lt-ltb, ltb, ltb-true, ne_eqb, not, filled_above, refl, same_within, subst, sym, true, true≢false, without}
 use Rattle.ls_enum.proofs.Successors.{inside-is, filled-cases, to-filled, found, failed, inside-small, first-is}
 
 -- ---- what comes before a place
@@ -23,6 +23,25 @@ item-below n s j small h = ltb-true j n (sym (has-full n j) ∙ small j h)
 -- a widest member is one at each later place
 pub later-widest : (f : List Items) (place i : ℕ) (member : Items) → place ≤ i → IsWidest f place member → IsWidest f i member
 later-widest f place i member l widest = (widest.0, λ t c w. widest.1 t c (λ j h. let p = before-parts t place j h in w j (before-from t i j p.0 (let k = p.1 in omega arith))))
+
+-- a widest member that serves before a place is one there
+pub serving-widest : (f : List Items) (word : Items) (i : ℕ) (m : WidestMember) → Serves f word i m → m.place ≤ i → IsWidest f i m.member
+serving-widest f word i m serves l = later-widest f m.place i m.member l serves.0
+
+-- a widest member that has just what is kept serves
+pub serving-from : (f : List Items) (word keep : Items) (i : ℕ) (o : Option WidestMember) → IfSome o (λ m. IsWidest f m.place m.member) → IfSome o (λ m. m.place ≤ i) → IfSome o (λ m. keep_before m.member i ≡ keep) → keep ≡ keep_before word i
+    → IfSome o (λ m. Serves f word i m × (m.place ≤ i))
+serving-from f word keep i None widest place agrees e = tt
+serving-from f word keep i (Some m) widest place agrees e = ((widest, agrees ∙ e), place)
+
+-- what serves before a place serves before each earlier one
+pub serves-before : (f : List Items) (word : Items) (i j : ℕ) (o : Option WidestMember) → j ≤ i → IfSome o (Serves f word i) → IfSome o (Serves f word j)
+serves-before f word i j None l serves = tt
+serves-before f word i j (Some m) l serves =
+    let shorter : (s t : Items) → keep_before s i ≡ keep_before t i → IsWithin (keep_before s j) (keep_before t j) = λ s t same k h.
+    let p = before-parts s j k h in
+    before-from t j k (agreeing s t i k same (let q = p.1 in omega arith) p.0) p.1 in
+    (serves.0, same_within (keep_before m.member j) (keep_before word j) (shorter m.member word serves.1) (shorter word m.member (sym serves.1)))
 
 -- a widest member without i is within the word filled above i
 widest-within : (n : ℕ) (f : List Items) (word member : Items) (i : ℕ) → IsFamily n f → is_among f member ≡ true → keep_before member i ≡ keep_before word i → IsWithin (without member i) (filled_above n word i)

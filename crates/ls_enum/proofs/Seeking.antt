@@ -132,6 +132,18 @@ count-lacks word i h =
     let e : count_before word (i + 1) ≡ count_before word i + 0 = count-next word i ∙ ap (λ b. count_before word i + cond b 1 0) h in
     omega arith
 
+-- the same of an item that the word lacks
+pub count-skipped : (word : Items) (i : ℕ) → 0 < i → has word (i - 1) ≡ false → count_before word i ≡ count_before word (i - 1)
+count-skipped word i l h = let e : i ≡ i - 1 + 1 = omega arith in ap (count_before word) e ∙ count-lacks word (i - 1) h
+
+-- no member first differs from the word at an item that it lacks
+pub none-skipped : (f : List Items) (word : Items) (i : ℕ) → has word (i - 1) ≡ false → NoneFrom f word i → NoneFrom f word (i - 1)
+none-skipped f word i lacks none t c d l differs = elim (cases_order d (i - 1)) [
+  | inl q ↦ true≢false (sym differs.in_first ∙ ap (has word) q ∙ lacks)
+  | inr (inl k) ↦ absurd (omega arith)
+  | inr (inr k) ↦ none t c d (omega arith) differs
+]
+
 pub count-few : (word : Items) (i : ℕ) → count_before word i ≤ i
 count-few word zero = omega arith
 count-few word (suc i) =

@@ -83,18 +83,19 @@ impl WidestMembers {
 
     // The newest widest member at a place that is not above `i`, where its items before `i` are
     // those that are given. Those at places above `i` go.
-    pub(crate) fn at(&mut self, i: u32, before: ItemSet) -> Option<ItemSet>
+    pub(crate) fn at(&mut self, i: u32, before: ItemSet) -> Option<WidestMember>
         requires { i ≤ PLACES }
         ensures widest { (f : List Items) → AreWidest f self.old.held.items →
-            IfSome result (λ k. IsWidest f i k) }
-        ensures before { IfSome result (λ k. keep_before k i ≡ before) }
+            IfSome result (λ m. IsWidest f m.place m.member) }
+        ensures place { IfSome result (λ m. m.place ≤ i) }
+        ensures before { IfSome result (λ m. keep_before m.member i ≡ before) }
         ensures others { (f : List Items) → AreWidest f self.old.held.items →
             AreWidest f self.new.held.items }
     {
         self.drop_above(i);
         let last = *self.held.as_slice().last()?;
         if last.place <= i && last.member.keep_before(i) == before {
-            Some(last.member)
+            Some(last)
         } else {
             None
         }

@@ -1,7 +1,6 @@
 use Rattle.ls_enum.proofs.Vocabulary.{◌-◌, ◌≡◌, AreWidest, IsWidest, Items, List, Some, length, slice_get, subst, sym}
 use Rattle.std.proofs.lemmas.Option.{slice_get_within, get_or_from_slice_get}
 use Rattle.ls_enum.specs.declared.widest.WidestMember.{WidestMember}
-use Rattle.ls_enum.proofs.Filled.{later-widest}
 use Rattle.ls_enum.proofs.widest.WidestMembers.at.Goals as goal
 
 -- the one at a place
@@ -13,5 +12,4 @@ one-widest f members held one same e are =
 pub returns-then-eq-clause-widest : goal.returns-then-eq-clause-widest
 returns-then-eq-clause-widest c = λ f are.
     let widest = c.in_ok-last.field-0.now in
-    later-widest f widest.place c.args.i widest.member c.if-last-i.true
-    (one-widest f c.drop_above.new.self.held.items c.as_slice.result.now widest c.as_slice.ensures.value (sym c.in_ok-last.ensures.value) (c.drop_above.ensures f are))
+    one-widest f c.drop_above.new.self.held.items c.as_slice.result.now widest c.as_slice.ensures.value (sym c.in_ok-last.ensures.value) (c.drop_above.ensures f are)
