@@ -1,8 +1,9 @@
 -- The first member with a missing union, by a walk over the members.
-use Rattle.ls_space.proofs.Vocabulary.{◌++◌, ◌+◌, ◌<◌, ◌∙◌, ◌∷◌, ◌≡◌, ◌≤◌, Decides-is_same, IsGrown, IsInOrder, Items, List, None, Some, ℕ, [], among-append, among-cases, among-here, ap, drop, drop-next, empty, eqb, eqb-true, false, find, get_or, has, has-empty, has-with, inl, inr, is_among, is_missing, is_same, lacks_apart, length, list_any, option_or, or_cases, or_right, refl, subst, suc, sym, take, take-append-drop, take_all, take_more, true, true≢false, with, zero}
+use Rattle.ls_space.proofs.Vocabulary.{◌++◌, ◌+◌, ◌<◌, ◌∙◌, ◌∷◌, ◌≡◌, ◌≤◌, ComesWith, Decides-is_same, IsGrown, IsInOrder, Items, List, None, Some, ℕ, [], among-append, among-here, ap, drop, drop-next, empty, eqb, eqb-true, false, find, get_or, has, has-empty, has-with, inl, inr, is_among, is_missing, is_same, lacks_apart, length, list_any, option_or, or_cases, or_right, refl, subst, suc, sym, take, take-append-drop, take_all, true, true≢false, union, with, zero}
 use Rattle.std.proofs.lemmas.List.Folds.{find-append}
 use Rattle.ls_laws.proofs.Lists.{find-none}
 use Rattle.ls_spans.proofs.Fewer.{missing-apart}
+use Rattle.ls_space.proofs.Together.{among-more}
 
 -- no union of a set of the list with one of g is missing
 abbrev pub IsClean : List Items → List Items → List Items → Type 0
@@ -18,13 +19,13 @@ order-drop (suc i) (t ∷ f) order = order-drop i f order.1
 
 -- ---- items that give members
 
-pub grown-none : (f : List Items) (k s : Items) → s ≡ empty → IsGrown f k s
-grown-none f k s e i h = absurd (true≢false (sym h ∙ ap (λ s. has s i) e ∙ has-empty i))
+pub grown-none : (f g : List Items) (k s : Items) → s ≡ empty → IsGrown f g k s
+grown-none f g k s e i h = absurd (true≢false (sym h ∙ ap (λ s. has s i) e ∙ has-empty i))
 
-pub grown-more : (f : List Items) (k s : Items) (i : ℕ) → IsGrown f k s → has k i ≡ false → is_among f (with k i) ≡ true → IsGrown f k (with s i)
-grown-more f k s i had out there j h = elim (or_cases (has s j) (eqb j i) (sym (has-with s i j) ∙ h)) [
+pub grown-more : (f g : List Items) (k s m : Items) (i : ℕ) → IsGrown f g k s → has k i ≡ false → ComesWith g i m → is_among f (union k m) ≡ true → IsGrown f g k (with s i)
+grown-more f g k s m i had out comes there j h = elim (or_cases (has s j) (eqb j i) (sym (has-with s i j) ∙ h)) [
   | inl a ↦ had j a
-  | inr a ↦ let same = eqb-true j i a in (ap (has k) same ∙ out, ap (λ i. is_among f (with k i)) same ∙ there)
+  | inr a ↦ let same = eqb-true j i a in (ap (has k) same ∙ out, (m, subst (λ q. ComesWith g q m) (sym same) comes, there))
 ]
 
 pub at-place : (f : List Items) (i : ℕ) (k s : Items) → i < length f → k ≡ get_or f i k → is_same k s ≡ true → is_among f s ≡ true
@@ -36,7 +37,7 @@ at-place f i k s l e same =
 -- ---- a walk over the members
 
 module _ (f g : List Items) (order : IsInOrder f) (i : ℕ) (k s : Items) (l : i < length f) (e : k ≡ get_or f i k)
-    (clean : IsClean f g (take i f)) (grown : IsGrown f k s) where
+    (clean : IsClean f g (take i f)) (grown : IsGrown f g k s) where
   split : take i f ++ k ∷ drop (i + 1) f ≡ f
   split = ap (λ ys. take i f ++ ys) (sym (drop-next f i k l e)) ∙ take-append-drop i f
 
@@ -50,10 +51,7 @@ module _ (f g : List Items) (order : IsInOrder f) (i : ℕ) (k s : Items) (l : i
       ∙ ap (λ o. option_or o (find p (k ∷ drop (i + 1) f))) (find-none p (take i f) clean) ∙ rw (fewer ∙ t) refl
 
   pub clean-passed : lacks_apart f g s k ≡ false → IsClean f g (take (i + 1) f)
-  clean-passed t y c = elim (or_cases (is_among (take i f) y) (is_among (k ∷ []) y) (sym (among-append (take i f) (k ∷ []) y) ∙ ap (λ ys. is_among ys y) (sym next) ∙ c)) [
+  clean-passed t y c = elim (among-more f i k l e y c) [
     | inl h ↦ clean y h
-    | inr h ↦ elim (among-cases y k [] h) [ inl same ↦ ap (λ y. list_any (is_missing f y) g) same ∙ fewer ∙ t | inr none ↦ absurd (true≢false (sym none)) ]
+    | inr same ↦ ap (λ y. list_any (is_missing f y) g) same ∙ fewer ∙ t
   ]
-    where
-      next : take (i + 1) f ≡ take i f ++ k ∷ []
-      next = take_more f i k l ∙ ap (λ x. take i f ++ x ∷ []) (sym e)

@@ -1,1 +1,2 @@
 pub mod NextSets
+pub mod Together

@@ -43,7 +43,7 @@ pub fn test<R: Threads + Sync>(rt: &R, alloc: Global, f: &Family) -> Result<Verd
         return Ok(Verdict::NoFull);
     }
     let base = base_sets(rt, alloc, f.members())?;
-    if let Some(left) = first_lacking(f, &base) {
+    if let Some(left) = first_lacking(alloc, f, &base)? {
         let right = first_partner(f, left).unwrap_or(ItemSet::empty());
         return Ok(Verdict::NotClosed { left, right });
     }

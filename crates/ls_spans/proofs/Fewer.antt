@@ -1,6 +1,5 @@
 -- Whether a union of a member with a set of a list is missing, by fewer unions.
-use Rattle.ls_spans.proofs.Vocabulary.{◌++◌, ◌∙◌, ◌∷◌, ◌≡◌, Bool, Decides-is_same, Each-among, IsGrown, IsInOrder, IsWithin, IsWithin-from, Items, List, ℕ, among-append, among-cases, among-here, and_parts, ap, arith, cases_Bool, comes_before, comes_before-asymmetric, comes_before-irreflexive, empty, eqb, eqb-true, false, false_from_ne_true, has, has-meet, has-with, inl, inr, is_among, is_apart, is_missing, is_same, is_within, lacks_apart, list_any, meet, members, not, not-true, not_from_true, or_cases, or_right, refl, same_set, some-among, some-from, some_item, sym, touches, true, true≢false, union, with}
-use Rattle.std.proofs.lemmas.Bool.Decides.{nat_tests}
+use Rattle.ls_spans.proofs.Vocabulary.{◌++◌, ◌∙◌, ◌∷◌, ◌≡◌, Bool, Decides-is_same, Each-among, IsGrown, IsInOrder, IsWithin, IsWithin-from, Items, List, ℕ, among-append, among-cases, among-here, and_parts, ap, arith, cases_Bool, comes_before, comes_before-asymmetric, comes_before-irreflexive, empty, false, false_from_ne_true, has, has-meet, inl, inr, is_among, is_apart, is_missing, is_same, is_within, lacks_apart, list_any, meet, members, not, not-true, not_from_true, or_cases, or_right, refl, same_set, some-among, some-from, some_item, sym, touches, true, true≢false, union, union-left, union-right}
 use Rattle.ls_lists.proofs.Bools.{same_truth}
 use Rattle.ls_spans.proofs.Unclosed.{before-part}
 
@@ -11,18 +10,10 @@ touched s t h = elim (some_item (meet s t)) [
   | inr r ↦ let p = and_parts (has s r.0) (has t r.0) (sym (has-meet s t r.0) ∙ r.1) in (r.0, p.0, p.1)
 ]
 
--- ---- unions with one item more
+-- ---- unions with a part of a set
 
-with-left : (k : Items) (i : ℕ) → IsWithin k (with k i)
-with-left k i j h = has-with k i j ∙ rw h refl
-
-with-here : (k : Items) (i : ℕ) → has (with k i) i ≡ true
-with-here k i = grind (arith, nat_tests, members)
-
-with-other : (k b : Items) (i : ℕ) → has b i ≡ true → union (with k i) b ≡ union k b
-with-other k b i h = same_set (union (with k i) b) (union k b) (λ j.
-    let same : eqb j i ≡ true → has b j ≡ true = λ e. ap (has b) (eqb-true j i e) ∙ h in
-    grind (arith, members, same))
+union-part : (k m b : Items) → IsWithin m b → union (union k m) b ≡ union k b
+union-part k m b w = same_set (union (union k m) b) (union k b) (λ j. let h = w j in grind (arith, members, h))
 
 union-whole : (k b : Items) → IsWithin b k → union k b ≡ k
 union-whole k b w = same_set (union k b) k (λ j. let h = w j in grind (arith, members, h))
@@ -36,7 +27,7 @@ any-same p q g same = same_truth (list_any p g) (list_any q g)
 -- ---- a member before which no union is missing
 
 module _ (f g before xs : List Items) (k s : Items) (e : before ++ k ∷ xs ≡ f) (order : IsInOrder (k ∷ xs))
-    (clean : (y : Items) → is_among before y ≡ true → list_any (is_missing f y) g ≡ false) (grown : IsGrown f k s) where
+    (clean : (y : Items) → is_among before y ≡ true → list_any (is_missing f y) g ≡ false) (grown : IsGrown f g k s) where
   member : is_among f k ≡ true
   member = ap (λ ss. is_among ss k) (sym e) ∙ among-append before (k ∷ xs) k ∙ or_right (is_among before k) (is_among (k ∷ xs) k) (among-here k k xs refl)
 
@@ -53,12 +44,14 @@ module _ (f g before xs : List Items) (k s : Items) (e : before ++ k ∷ xs ≡ 
   there : (b : Items) → is_among g b ≡ true → touches b s ≡ true → is_missing f k b ≡ false
   there b c t =
       let x = touched b s t in
-      let i = x.0 in
-      let out = grown i x.2 in
-      elim (before-part k (with k i) (with-left k i)) [
-        | inl same ↦ absurd (true≢false (sym (with-here k i) ∙ ap (λ u. has u i) same ∙ out.0))
-        | inr first ↦ false_from_ne_true (is_missing f k b) (λ m.
-            true≢false (sym (some-among (is_missing f (with k i)) g b c (ap (λ u. not (is_among f u)) (with-other k b i x.1) ∙ m)) ∙ clean (with k i) (earlier (with k i) out.1 first)))
+      let out = grown x.0 x.2 in
+      let m = out.1.0 in
+      let comes = out.1.1 in
+      let u = union k m in
+      elim (before-part k u (union-left k m)) [
+        | inl same ↦ absurd (true≢false (sym (union-right k m x.0 comes.itself) ∙ ap (λ t. has t x.0) same ∙ out.0))
+        | inr first ↦ false_from_ne_true (is_missing f k b) (λ none.
+            true≢false (sym (some-among (is_missing f u) g b c (ap (λ t. not (is_among f t)) (union-part k m b (comes.together b c x.1)) ∙ none)) ∙ clean u (earlier u out.1.2 first)))
       ]
 
   apart : (b : Items) → is_among g b ≡ true → is_missing f k b ≡ is_apart f s k b

@@ -2,7 +2,7 @@
 use Rattle.ls_spans.proofs.Vocabulary.{◌&&◌, ◌++◌, ◌<◌, ◌∙◌, ◌∷◌, ◌≡◌, BaseVerdict, Bool, AreOn, IsPart, IsWithin, Items, List, None, Option, Some, ℕ, [], among-here, among-there, and_from, and_parts, ap, arith, atom_items, base, base-member, base_verdict, bound, cases_Bool, closed-pair, cond, double-found, double_atom, empty, false, filter, find, full, graded-space, has, has-meet, inl, inner_fringe, inr, is_among, is_atom_at, is_double, is_same, is_space, is_union_closed, is_well_graded, items, items-below, length, list_all, list_any, map, members, not, numbers_from, outer_fringe, pairs, projection, projection-from, refl, state_of, subst, suc, sym, true, true≢false, unclosed_pair, union, verdict, verdict_from, with, with_base, without, zero}
 use Rattle.std.specs.Prelude.{slice_index}
 use Rattle.ls_theory.specs.declared.verdict.BaseVerdict.TheVariants as of_base
-use Rattle.ls_theory.specs.declared.verdict.Verdict.TheVariants.{NoEmpty, NoFull, NotGraded, Learning}
+use Rattle.ls_theory.specs.declared.verdict.Verdict.TheVariants.{NoEmpty, NoFull}
 use Rattle.ls_laws.proofs.ReadBack.{has-inner_fringe, has-outer_fringe}
 use Rattle.ls_spans.specs.Speaking.{IsDoubleOn, IsBaseVerdictOn, IsVerdictOn}
 

@@ -2,7 +2,7 @@
 use Rattle.std.specs.Prelude.{ℕ, ◌≡◌, Bool, true, false, not, ◌&&◌, List, find}
 use Rattle.std.specs.Prelude.{Option, option_map, unwrap_or}
 use Rattle.std.specs.List.{list_any, list_all}
-use Rattle.ls_set.specs.{Items, empty, has, is_among, is_within, union, with}
+use Rattle.ls_set.specs.{IsWithin, Items, empty, has, is_among, is_within, union}
 use Rattle.ls_laws.specs.Spans.{touches}
 
 -- the union of the two is missing
@@ -25,9 +25,17 @@ unclosed_pair_by g f =
 
 -- ---- by fewer unions
 
--- each item of s is outside k, and gives with it a member
-abbrev pub IsGrown : List Items → Items → Items → Type 0
-IsGrown f k s = (i : ℕ) → has s i ≡ true → (has k i ≡ false) × (is_among f (with k i) ≡ true)
+-- m has the item i, and each set of g that has the item has all of m
+pub record ComesWith (g : List Items) (i : ℕ) (m : Items) : Type 0 where
+  pub itself : has m i ≡ true
+  pub together : (b : Items) → is_among g b ≡ true → has b i ≡ true → IsWithin m b
+
+-- each item of s is outside k, and gives with it a member, along with items that
+-- come with it in each set of g
+abbrev pub IsGrown : List Items → List Items → Items → Items → Type 0
+IsGrown f g k s =
+    (i : ℕ) → has s i ≡ true
+    → (has k i ≡ false) × ((m : Items) × ComesWith g i m × (is_among f (union k m) ≡ true))
 
 -- the set has an item outside k, and none of s, and its union with k is missing
 abbrev pub is_apart : List Items → Items → Items → Items → Bool

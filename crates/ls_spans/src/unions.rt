@@ -23,13 +23,13 @@ pub fn unions_by_spanning()
 {}
 
 /// Where the unions of the members before one with the sets of any list are members, those of this
-/// member are looked for by fewer unions: with the sets that have none of any items each of which
-/// gives, with the member, another member.
+/// member are looked for by fewer unions: with the sets that have none of any grown items. Each of
+/// these gives another member, with this one and items that come with it in each set of the list.
 pub fn unions_by_fewer()
     ensures { (f g before after : List Items) (k s : Items) → before ++ k ∷ after ≡ f →
         IsInOrder (k ∷ after) →
         ((y : Items) → is_among before y ≡ true → list_any (is_missing f y) g ≡ false) →
-        IsGrown f k s → list_any (is_missing f k) g ≡ lacks_apart f g s k }
+        IsGrown f g k s → list_any (is_missing f k) g ≡ lacks_apart f g s k }
 {}
 
 /// Any members that span a list tell which sets are atoms, and at which items. A set is an atom at

@@ -25,7 +25,7 @@ returns-in-Some g c =
       verdict = sym (not_closed (full c.args.f.now.item_count) f c.in-Some.left c.members.ensures.in_order
           (ap (is_among f) (sym c.empty.ensures) ∙ sym c.contains.ensures ∙ c.if-not-contains.false)
           (ap (is_among f) (sym (c.full.ensures ∙ ap full c.items.ensures.count)) ∙ sym c.contains-2.ensures ∙ c.if-not-contains-2.false)
-          (ap (λ (b : List Items). find (λ k. list_any (is_missing f k) b) f) (sym is) ∙ sym c.in-Some.ensures) ∙ ap (NotClosed c.in-Some.left) (sym right));
+          (ap (λ (b : List Items). find (λ k. list_any (is_missing f k) b) f) (sym is) ∙ sym c.in_ok-left.ensures ∙ c.in-Some.is) ∙ ap (NotClosed c.in-Some.left) (sym right));
     }
 
 pub with_base-requires-clause-in_order : goal.with_base-requires-clause-in_order
@@ -46,5 +46,5 @@ returns g c =
     let told = closed (full c.args.f.now.item_count) f c.members.ensures.in_order
     (ap (is_among f) (sym c.empty.ensures) ∙ sym c.contains.ensures ∙ c.if-not-contains.false)
     (ap (is_among f) (sym (c.full.ensures ∙ ap full c.items.ensures.count)) ∙ sym c.contains-2.ensures ∙ c.if-not-contains-2.false)
-    (ap (λ (b : List Items). find (λ k. list_any (is_missing f k) b) f) (sym is) ∙ sym c.first_lacking.ensures ∙ c.in_default.is) in
+    (ap (λ (b : List Items). find (λ k. list_any (is_missing f k) b) f) (sym is) ∙ sym c.in_ok-left.ensures ∙ c.in_default.is) in
     record { verdict = IfOk-weaker c.with_base.result _ _ (λ v e. e ∙ ap (λ (b : List Items). with_base b (graded_by b b)) too ∙ sym told) c.with_base.ensures }

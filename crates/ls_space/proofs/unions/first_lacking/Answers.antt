@@ -1,4 +1,4 @@
-use Rattle.ls_space.proofs.Vocabulary.{◌<◌, ◌∙◌, ◌≤◌, Items, List, ap, arith, get_or, length, sym}
+use Rattle.ls_space.proofs.Vocabulary.{◌<◌, ◌∙◌, ◌≤◌, AreTogether, Items, List, ap, arith, get_or, length, subst, sym}
 use Rattle.ls_space.proofs.Adding.{clean-found, clean-passed, clean-all}
 use Rattle.ls_space.proofs.unions.first_lacking.Goals as goal
 
@@ -9,7 +9,7 @@ returns-then-lacks c =
     let l : c.loop-place.place < length f = omega (arith, c.loop-place-test.true, ap length is) in
     sym (clean-found f c.args.base.now c.members-sets.ensures.in_order c.loop-place.place c.index-sets-place.result c.grown-grown.result l
     (c.index-sets-place.is ∙ ap (λ (ss : List Items). get_or ss c.loop-place.place c.index-sets-place.result) is)
-    c.loop-place.invariant c.grown-grown.ensures (sym c.lacks.ensures ∙ c.if-lacks.true))
+    c.loop-place.invariant (c.grown-grown.ensures c.args.base.now (subst (AreTogether c.args.base.now) (sym c.deref.ensures.value) c.in_ok-together.ensures.together)) (sym c.lacks.ensures ∙ c.if-lacks.true))
 
 pub loop-place-preserved : goal.loop-place-preserved
 loop-place-preserved c =
@@ -18,7 +18,7 @@ loop-place-preserved c =
     let l : c.loop-place.place < length f = omega (arith, c.loop-place-test.true, ap length is) in
     clean-passed f c.args.base.now c.members-sets.ensures.in_order c.loop-place.place c.index-sets-place.result c.grown-grown.result l
     (c.index-sets-place.is ∙ ap (λ (ss : List Items). get_or ss c.loop-place.place c.index-sets-place.result) is)
-    c.loop-place.invariant c.grown-grown.ensures (sym c.lacks.ensures ∙ c.if-lacks.false)
+    c.loop-place.invariant (c.grown-grown.ensures c.args.base.now (subst (AreTogether c.args.base.now) (sym c.deref.ensures.value) c.in_ok-together.ensures.together)) (sym c.lacks.ensures ∙ c.if-lacks.false)
 
 pub returns : goal.returns
 returns c =
