@@ -1,5 +1,9 @@
 -- Items that come together, by a walk over the sets of a list.
 use Rattle.ls_space.proofs.Vocabulary.{◌&&◌, ◌+◌, ◌++◌, ◌<◌, ◌∙◌, ◌∷◌, ◌≡◌, ◌≤◌, ◌⊎◌, AreTogether, ComesWith, IsWithin, IsWithin-from, Items, List, ℕ, [], among-append, among-cases, and_parts, ap, arith, empty, false, false_from_ne_true, full, get_or, has, has-full, has-meet, has-union, inl, inr, is_among, is_apart, is_missing, is_within, is_within-from, lacks_apart, length, length-append, lt-ltb, meet, not, not-true, or_cases, refl, subst, sym, take, take_all, take_more, touches, true, true≢false, union, union-left, union-right}
+use Rattle.std.proofs.lemmas.Bool.{cases_eq}
+use Rattle.std.proofs.lemmas.Bool.Decides.{nat_tests}
+use Rattle.ls_set.proofs.Sets.{members}
+use Rattle.ls_set.specs.{with}
 use Rattle.std.proofs.Math.Nat.{eq-or-lt_of_le}
 use Rattle.std.proofs.Math.Seq.{get_or-append_seam}
 use Rattle.std.proofs.lemmas.List.{get_or_append_left}
@@ -19,6 +23,19 @@ among-more f i k l e b c =
 
 pub met-none : (i : ℕ) (m : Items) → i < 512 → m ≡ full 512 → ComesWith [] i m
 met-none i m l e = record { itself = ap (λ s. has s i) e ∙ has-full 512 i ∙ lt-ltb i 512 l; together = λ b c. absurd (true≢false (sym c)) }
+
+-- an item comes with itself
+pub met-alone : (g : List Items) (i : ℕ) (none m : Items) → none ≡ empty → m ≡ with none i → ComesWith g i m
+met-alone g i none m e is = record {
+  itself = ap (λ s. has s i) is ∙ rw e (grind (arith, members, nat_tests));
+  together = λ b c h j a.
+      let here : has (with none i) j ≡ true = ap (λ s. has s j) (sym is) ∙ a in
+      let at_i = rw e at here in
+      elim (cases_eq j i) [
+        | inl q ↦ ap (has b) q ∙ h
+        | inr n ↦ absurd (let no : ⊥ = grind (arith, members, nat_tests) in no)
+      ];
+}
 
 pub met-all : (g : List Items) (n i : ℕ) (m : Items) → length g ≤ n → ComesWith (take n g) i m → ComesWith g i m
 met-all g n i m l h = subst (λ ss. ComesWith ss i m) (take_all n g l) h

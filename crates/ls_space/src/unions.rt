@@ -21,15 +21,20 @@ fn touches(set: ItemSet, other: ItemSet) -> bool
     set.meet(other) != ItemSet::empty()
 }
 
-// Items that come with the item in each of the sets: those that all sets with it have.
+// Items that come with the item in each of the sets: those that all sets with it have. Where it is
+// seen that the item comes alone, the rest of the sets need no look.
 fn met_with(sets: &[ItemSet], item: u32) -> ItemSet
     requires { item < PLACES }
     ensures { ComesWith sets.now item result }
 {
+    let alone = ItemSet::empty().with(item);
     let mut met = ItemSet::full(PLACES);
     for set in sets {
         if set.has(item) {
             met = met.meet(*set);
+            if met == alone {
+                return alone;
+            }
         }
     }
     met
