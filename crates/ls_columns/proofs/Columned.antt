@@ -1,5 +1,5 @@
 -- Columns: the places of the rules that have an item in A.
-use Rattle.ls_columns.proofs.Vocabulary.{AreColumns, ArePlaces, Bool, Decides-is_same, IsWithin, Items, List, None, Option, Query, Some, [], and-false, and_from, ap, arith, cases_Bool, cases_eq, common_item, cond, each, empty, false, false_from_ne_true, get_or, get_or-replicate, get_or-set_other, get_or-set_same, get_or_default, has, has-empty, has-meet, has-minus, has-union, inl, inr, is_at, is_same, length, length-replicate, length-set, meet, meets, members, minus, most_items, nat_tests, not, not-true, not_from_false, option_map_or, or-false, or_assoc, refl, replicate, same_set, set, set_at, slice_get, suc, sym, true, true≢false, union, with, without, zero, ℕ, ◌&&◌, ◌++◌, ◌<◌, ◌||◌, ◌∙◌, ◌∷◌, ◌≡◌, ◌≢◌, ◌≤◌}
+use Rattle.ls_columns.proofs.Vocabulary.{AreColumns, ArePlaces, Bool, Decides-is_same, IsWithin, Items, List, None, Option, Query, Some, [], and-false, and_from, ap, arith, cases_Bool, cases_eq, common_item, cond, empty, false, false_from_ne_true, get_or, get_or-replicate, get_or-set_other, get_or-set_same, get_or_default, has, has-empty, has-meet, has-minus, has-union, inl, inr, is_at, is_same, length, length-replicate, length-set, meet, meets, members, minus, most_items, nat_tests, not, not-true, not_from_false, option_map_or, or-false, or_assoc, refl, replicate, same_set, set, set_at, slice_get, suc, sym, true, true≢false, union, with, without, zero, ℕ, ◌&&◌, ◌++◌, ◌<◌, ◌||◌, ◌∙◌, ◌∷◌, ◌≡◌, ◌≢◌, ◌≤◌}
 
 -- ---- items in common
 

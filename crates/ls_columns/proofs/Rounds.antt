@@ -1,6 +1,6 @@
 -- Rounds in which items fall out of a set, down to the interior under the rules.
 use Rattle.ls_columns.proofs.Vocabulary.{All-list_all, AllByRecursion, Breaks-from, Decides-is_same, Each-both, Falling, IsApart, IsFalling, IsFamily, IsWithin, IsWithin-from, Items, List, Narrows, None, Option, Query, Some, [], among-filter, and_from, and_parts, ap, arith, breaks, breaks-from, breaks_none, common_item, cond, drop, each, each-in, empty, fallen_by, false, false_from_ne_true, filter, full, get-in, has, has-empty, has-meet, has-union, inl, inr, interior, interior-greatest, interior-is, interior-within, interior_keeping, is_among, is_same, is_within, is_within-from, is_within-interior, len, len-less, list_all-All, meet, meets, meets_rule, members, minus, minus-within, most_items, nat_tests, no_item, not, not-true, not_from_false, or_cases, refl, ruled-IsFamily, same_within, set_at, slice_get, some_item, some_missing, suc, sym, true, true≢false, union, with, without, zero, ℕ, ◌<◌, ◌∙◌, ◌∷◌, ◌≡◌, ◌≤◌}
-use Rattle.ls_columns.proofs.Columned.{meets-to, meets-item}
+use Rattle.ls_columns.proofs.Columned.{meets-to}
 use Rattle.ls_columns.proofs.Asked.{fallen-here, fallen-from}
 
 -- the interior under the rules

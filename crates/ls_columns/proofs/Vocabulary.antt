@@ -1,11 +1,11 @@
 -- The words that the proofs of this crate cite, passed on from one place.
-pub use Rattle.std.proofs.Common.{◌&&◌, ◌+◌, ◌-◌, ◌<◌, ◌||◌, ◌++◌, ◌∙◌, ◌∷◌, ◌≡◌, ◌≢◌, ◌≤◌, ◌⊎◌, Bool, List, None, Option, Some, ℕ, [], add-one, ap, ap₂, arith, cond, drop, drop-cons, eq-eqb, eqb, eqb-true, false, filter, get_or, inl, inr, length, length-set, length-take-le, lt-ltb, ltb, ltb-true, map, ne_eqb, not, refl, replicate, rules, set, slice_get, subst, suc, sym, take, true, true≢false, zero}
-pub use Rattle.std.proofs.lemmas.Bool.{and_from, and_parts, cases_Bool, cases_eq, cases_lt, false_from_ne_true, not-false, not-true, not_from_false, or_cases, or_left, or_right}
+pub use Rattle.std.proofs.Common.{◌&&◌, ◌+◌, ◌<◌, ◌||◌, ◌++◌, ◌∙◌, ◌∷◌, ◌≡◌, ◌≢◌, ◌≤◌, ◌⊎◌, Bool, List, None, Option, Some, ℕ, [], add-one, ap, ap₂, arith, cond, drop, drop-cons, eq-eqb, false, filter, get_or, inl, inr, length, length-set, length-take-le, lt-ltb, ltb, ltb-true, map, not, refl, replicate, set, slice_get, subst, suc, sym, take, true, true≢false, zero}
+pub use Rattle.std.proofs.lemmas.Bool.{and_from, and_parts, cases_Bool, cases_eq, false_from_ne_true, not-true, not_from_false, or_cases, or_left, or_right}
 pub use Rattle.std.proofs.lemmas.Bool.Decides.{nat_tests}
-pub use Rattle.std.proofs.lemmas.List.{with_items_is, append-nil, append_assoc, drop_all, get_or-replicate, get_or-set_other, get_or-set_same, get_or_default, length-replicate, take-append-drop, take_all, take_more}
-pub use Rattle.std.proofs.lemmas.Option.{slice_get-get_or, slice_get_read}
+pub use Rattle.std.proofs.lemmas.List.{with_items_is, append-nil, append_assoc, drop_all, get_or-replicate, get_or-set_other, get_or-set_same, get_or_default, length-replicate, take-append-drop, take_more}
+pub use Rattle.std.proofs.lemmas.Option.{slice_get_read}
 pub use Rattle.std.proofs.Math.Bool.{or-false, or_assoc}
-pub use Rattle.std.specs.List.{AllByRecursion, list_all}
+pub use Rattle.std.specs.List.{AllByRecursion}
 pub use Rattle.std.specs.Option.{option_map_or}
 pub use Rattle.ls_interior.specs.Keeping.{interior_keeping}
 pub use Rattle.ls_laws.proofs.Breaks.{Breaks-from, breaks-from}
@@ -24,10 +24,10 @@ pub use Rattle.ls_set.proofs.Members.{among-filter}
 pub use Rattle.ls_set.proofs.Order.{Each-both}
 pub use Rattle.ls_set.proofs.Sets.{Decides-is_same, IsWithin-from, and-false, has-empty, has-meet, has-minus, has-union, has-with, is_within-from, members, minus-within, union-empty_left, union-empty_right, same_set, same_within, without-within}
 pub use Rattle.ls_set.proofs.Sizes.{len-less}
-pub use Rattle.ls_set.specs.{IsWithin, Items, empty, full, has, is_among, is_within, least, meet, minus, most_items, set_of, single, union, with, without}
+pub use Rattle.ls_set.specs.{IsWithin, Items, empty, full, has, is_among, is_within, meet, minus, most_items, set_of, single, union, with, without}
 unfoldable pub use Rattle.ls_set.specs.{is_same, len}
 pub use Rattle.ls_set.specs.declared.query.Query.{Query}
 pub use Rattle.ls_theory.specs.{breaks, breaks_none, interior}
 pub use Rattle.ls_columns.specs.Falling.{FallsWith, IsFalling, fallen_by, falls}
 pub use Rattle.ls_columns.specs.Places.{AreColumns, ArePlaces, IsAsked, is_at, meets}
-pub use Rattle.ls_columns.specs.Rounds.{Falling, IsApart, IsColumned, Narrows, joined}
+pub use Rattle.ls_columns.specs.Rounds.{Falling, IsApart, Narrows, joined}

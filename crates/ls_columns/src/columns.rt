@@ -15,8 +15,8 @@ use ls_set::{ItemSet, PLACES, Query};
 use std::alloc::{AllocError, Global};
 use std::marker::Model;
 
-/// A borrowed family with rules, as which contracts see it. Where its members are listed, what falls
-/// out of one is found for many rules at once.
+/// A borrowed family with rules, as which contracts see it. Of a member without an item it finds
+/// for many rules at once what falls with the item.
 #[derive(Drop)]
 pub struct Columns<'a, F: Inside> {
     family: &'a Ruled<F>,
@@ -66,8 +66,8 @@ impl<'a, F: Inside> Columns<'a, F> {
         with.union(broken_in(&self.blocks, fallen, kept)).meet(kept)
     }
 
-    // What is left of the kept set after a round. Where no rule is broken, it is the interior in the
-    // inner family.
+    // What is left of the kept set after a round. Where no rule is broken, it is the interior in
+    // the inner family.
     #[tactic(auto, unfolding(ls_set::specs::ItemSet::is_same))]
     fn narrowed(&self, fallen: ItemSet, kept: ItemSet) -> ItemSet
         requires { IsWithin kept (full (F.item_count self.now.inner)) }
