@@ -1,0 +1,5 @@
+mod Vocabulary
+pub mod Columned
+pub mod Asked
+pub mod Falls
+pub mod Rounds
