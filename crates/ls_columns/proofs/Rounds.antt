@@ -109,6 +109,17 @@ Narrows-inside n m f rs fallen kept out family few small all none = record {
   stays = λ e. sym (is_within-interior f family.holds_empty family.holds_unions kept) ∙ is_within-from kept (interior f kept) (λ i h. rw e h);
 }
 
+-- a member of which nothing falls stays whole
+pub Narrows-whole : (n : ℕ) (f : List Items) (rs : List Query) (set fallen kept out : Items) → n ≤ most_items → IsWithin kept (full n) → IsWithin kept set → is_within set kept ≡ true → is_among f set ≡ true
+    → IsWithin (meet (fallen_by rs fallen kept) kept) out → out ≡ empty → Narrows f rs fallen kept kept
+Narrows-whole n f rs set fallen kept out few small part whole member all none = record {
+  within = λ i h. h;
+  taken = each {P = λ r. breaks kept r ≡ true → meets r.a fallen ≡ true → has out r.q ≡ true} {Q = λ r. breaks kept r ≡ true → meets r.a fallen ≡ true → has kept r.q ≡ false}
+      (λ r h b x. absurd (true≢false (sym (h b x) ∙ ap (λ s. has s r.q) none ∙ has-empty r.q))) rs (taken_all rs rs 0 n fallen kept out few small refl all);
+  greatest = λ t _ _ w _. w;
+  stays = λ _. ap (is_among f) (same_within kept set part (IsWithin-from set kept whole)) ∙ member;
+}
+
 -- else the set without what falls
 pub Narrows-minus : (n : ℕ) (f : List Items) (rs : List Query) (fallen kept out : Items) → n ≤ most_items → IsWithin kept (full n) → IsWithin out kept → IsWithin (meet (fallen_by rs fallen kept) kept) out
     → ((t : Items) → breaks_none rs t ≡ true → IsWithin t kept → IsApart t fallen → IsApart t out) → is_same out empty ≡ false → Narrows f rs fallen kept (minus kept out)
@@ -232,11 +243,12 @@ under_twice n f rs s family =
 
 -- a member breaks no rule, so what falls out of it is in the A of each rule that the rest breaks
 pub without_settled : (n : ℕ) (f : List Items) (rs : List Query) (member s keep next : Items) (settled : Option Items) → IsFamily n f → (is_among f member ≡ true → Some next ≡ interior_keeping f s keep) → IsWithin next member
-    → (Falling rs (minus member next) next → IsWithin keep next → settled ≡ interior_keeping (filter (breaks_none rs) f) next keep)
+    → (is_among f next ≡ true → Falling rs (minus member next) next → IsWithin keep next → settled ≡ interior_keeping (filter (breaks_none rs) f) next keep)
     → is_among (filter (breaks_none rs) f) member ≡ true → settled ≡ interior_keeping (filter (breaks_none rs) f) s keep
 without_settled n f rs member s keep next settled family given w settles c =
     let p = and_parts (is_among f member) (breaks_none rs member) (sym (among-filter (breaks_none rs) f member) ∙ c) in
     let inner = given_some (interior f s) keep next (given p.0) in
     let unbroken = each {P = λ r. not (breaks member r) ≡ true} {Q = λ r. breaks member r ≡ true → has next r.q ≡ false} (λ r u b. absurd (true≢false (sym b ∙ not-true (breaks member r) u))) rs (list_all-All (λ r. not (breaks member r)) rs p.1) in
-    settles (falling_next rs member next w unbroken) inner.1
+    let here : is_among f next ≡ true = rw inner.0 (interior-is f family.holds_empty family.holds_unions s).member in
+    settles here (falling_next rs member next w unbroken) inner.1
     ∙ ap (λ inside. cond (is_within keep inside) (Some inside) None) (ap (under f rs) inner.0 ∙ under_twice n f rs s family)

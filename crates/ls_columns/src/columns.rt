@@ -66,33 +66,39 @@ impl<'a, F: Inside> Columns<'a, F> {
         with.union(broken_in(&self.blocks, fallen, kept)).meet(kept)
     }
 
-    // What is left of the kept set after a round. Where no rule is broken, it is the interior in
-    // the inner family.
+    // What is left of the kept part of a set after a round. Where no rule is broken it is the
+    // interior in the inner family, of which the set is a member.
     #[tactic(auto, unfolding(ls_set::specs::ItemSet::is_same))]
-    fn narrowed(&self, fallen: ItemSet, kept: ItemSet) -> ItemSet
-        requires { IsWithin kept (full (F.item_count self.now.inner)) }
-        ensures { Narrows (F.members self.now.inner) self.now.rules fallen kept result }
+    fn narrowed(&self, set: ItemSet, fallen: ItemSet, kept: ItemSet) -> ItemSet
+        requires small { IsWithin kept (full (F.item_count self.now.inner)) }
+        requires part { IsWithin kept set }
+        ensures narrows { is_among (F.members self.now.inner) set ≡ true →
+            Narrows (F.members self.now.inner) self.now.rules fallen kept result }
+        ensures within { IsWithin result kept }
     {
         let out = self.broken(fallen, kept);
-        if out == ItemSet::empty() {
-            self.family.inner().inside(kept)
-        } else {
+        if out != ItemSet::empty() {
             kept.minus(out)
+        } else if set.is_within(kept) {
+            kept
+        } else {
+            self.family.inner().inside(kept)
         }
     }
 
-    // The interior of a set from which items fell, where it has all of `keep`.
+    // The interior of a member of the inner family from which items fell, where it has all of
+    // `keep`.
     fn settle_within(&self, set: ItemSet, fallen: ItemSet, keep: ItemSet) -> Option<ItemSet>
         requires { IsWithin set (full (F.item_count self.now.inner)) }
-        ensures value { Falling self.now.rules fallen set → IsWithin keep set →
-            result ≡ interior_keeping
+        ensures value { is_among (F.members self.now.inner) set ≡ true →
+            Falling self.now.rules fallen set → IsWithin keep set → result ≡ interior_keeping
             (filter (breaks_none self.now.rules) (F.members self.now.inner)) set keep }
         ensures part { IfSome result (λ k. IsWithin k set) }
     {
         let mut kept = set;
         let mut fallen = fallen;
         'rounds: loop {
-            let next = self.narrowed(fallen, kept);
+            let next = self.narrowed(set, fallen, kept);
             if kept.is_within(next) {
                 return Some(kept);
             }

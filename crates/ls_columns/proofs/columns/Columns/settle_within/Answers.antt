@@ -6,21 +6,21 @@ pub rounds-init : goal.rounds-init
 rounds-init g c =
     let s = c.args.self.now in
     record {
-      going = λ a k. Going-first (g.F.Inside.members s.inner) s.rules c.args.set c.args.keep c.args.fallen a k;
+      going = λ _ a k. Going-first (g.F.Inside.members s.inner) s.rules c.args.set c.args.keep c.args.fallen a k;
       part = λ i h. h;
     }
 
 pub returns-then-is_within-clause-value : goal.returns-then-is_within-clause-value
-returns-then-is_within-clause-value g c = λ a k.
+returns-then-is_within-clause-value g c = λ m a k.
     let s = c.args.self.now in
-    Going-done (g.F.Inside.item_count s.inner) (g.F.Inside.members s.inner) s.rules c.args.set c.args.keep c.rounds.fallen c.rounds.kept c.narrowed-next.result (g.met.F.Inside.is_family s.inner) c.narrowed-next.ensures
-    (sym c.is_within.ensures ∙ c.if-is_within.true) (c.rounds.invariant.going a k)
+    Going-done (g.F.Inside.item_count s.inner) (g.F.Inside.members s.inner) s.rules c.args.set c.args.keep c.rounds.fallen c.rounds.kept c.narrowed-next.result (g.met.F.Inside.is_family s.inner) (c.narrowed-next.ensures.narrows m)
+    (sym c.is_within.ensures ∙ c.if-is_within.true) (c.rounds.invariant.going m a k)
 
 pub returns-then-not-is_within-clause-value : goal.returns-then-not-is_within-clause-value
-returns-then-not-is_within-clause-value g c = λ a k.
+returns-then-not-is_within-clause-value g c = λ m a k.
     let s = c.args.self.now in
-    Going-none (g.F.Inside.item_count s.inner) (g.F.Inside.members s.inner) s.rules c.args.set c.args.keep c.rounds.fallen c.rounds.kept c.narrowed-next.result (g.met.F.Inside.is_family s.inner) c.narrowed-next.ensures
-    (sym c.is_within-in-rounds.ensures ∙ c.if-not-is_within.true) (c.rounds.invariant.going a k)
+    Going-none (g.F.Inside.item_count s.inner) (g.F.Inside.members s.inner) s.rules c.args.set c.args.keep c.rounds.fallen c.rounds.kept c.narrowed-next.result (g.met.F.Inside.is_family s.inner) (c.narrowed-next.ensures.narrows m)
+    (sym c.is_within-in-rounds.ensures ∙ c.if-not-is_within.true) (c.rounds.invariant.going m a k)
 
 pub rounds-smaller : goal.rounds-smaller
 rounds-smaller g c = fewer_left c.rounds.kept c.narrowed-next.result c.narrowed-next.ensures.within (sym c.is_within.ensures ∙ c.if-is_within.false)
@@ -29,7 +29,7 @@ pub rounds-preserved : goal.rounds-preserved
 rounds-preserved g c =
     let s = c.args.self.now in
     rw c.minus-fallen.ensures (record {
-      going = λ a k. Going-more (g.F.Inside.item_count s.inner) (g.F.Inside.members s.inner) s.rules c.args.set c.args.keep c.rounds.fallen c.rounds.kept c.narrowed-next.result (g.met.F.Inside.is_family s.inner) c.narrowed-next.ensures
-          (sym c.is_within-in-rounds.ensures ∙ c.if-not-is_within.false) (c.rounds.invariant.going a k);
+      going = λ m a k. Going-more (g.F.Inside.item_count s.inner) (g.F.Inside.members s.inner) s.rules c.args.set c.args.keep c.rounds.fallen c.rounds.kept c.narrowed-next.result (g.met.F.Inside.is_family s.inner) (c.narrowed-next.ensures.narrows m)
+          (sym c.is_within-in-rounds.ensures ∙ c.if-not-is_within.false) (c.rounds.invariant.going m a k);
       part = λ i h. c.rounds.invariant.part i (c.narrowed-next.ensures.within i h);
     })
