@@ -2,6 +2,7 @@
 ghost use Rattle.std.specs.Prelude.{◌≡◌, ◌<◌, ◌≤◌, Err, length, IfOk, OnOk};
 ghost use Rattle.ls_theory.specs.{compatible_sets, most_states};
 
+use ls_columns::Columns;
 use ls_enum::{ListFault, list_all};
 use ls_inquiry::Inquiry;
 use ls_interior::{Counted, Steps};
@@ -14,7 +15,7 @@ use std::sync::ledger::Ledger;
 pub const MOST_STATES: u32 = 65_536;
 
 /// The compatible sets of the interview, where they are not too many to be a pupil's states. They
-/// are listed by the Yes queries that those of smaller sets don't force.
+/// are listed by the Yes queries that those of smaller sets don't force, in columns.
 pub(crate) fn list_states<L: Ledger>(
     alloc: Global,
     inquiry: &Inquiry,
@@ -31,7 +32,9 @@ pub(crate) fn list_states<L: Ledger>(
         inquiry.yes_queries(),
         steps,
     )?;
-    let listed = list_all(alloc, &Counted::new(&family), MOST_STATES, steps);
+    let columns = Columns::new(alloc, &family)?;
+    let listed = list_all(alloc, &Counted::new(&columns), MOST_STATES, steps);
+    drop(columns);
     drop(family);
     listed
 }

@@ -10,6 +10,7 @@ ghost use Rattle.ls_files.specs.{follow};
 ghost use Rattle.ls_files.specs.Codecs.{kept_if};
 
 use ls_assess::{Pupil, Reply, Settings, WeightFault};
+use ls_columns::Columns;
 use ls_enum::{ListFault, list_all};
 use ls_inquiry::{OnItems, Start};
 use ls_interior::{Counted, Steps};
@@ -30,7 +31,8 @@ fn listed<L: Ledger>(
         (Some (filter (breaks_none family.now.rules)
         (compat family.now.inner.item_count family.now.inner.start [])))) }
 {
-    match list_all(alloc, &Counted::new(family), MOST_STATES, steps) {
+    let columns = Columns::new(alloc, family)?;
+    match list_all(alloc, &Counted::new(&columns), MOST_STATES, steps) {
         Ok(states) => Ok(Some(states)),
         Err(ListFault::More) => Ok(None),
         Err(ListFault::Memory(e)) => Err(e),

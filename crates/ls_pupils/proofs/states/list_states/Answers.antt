@@ -4,8 +4,8 @@ use Rattle.ls_standing.specs.Starts.{StartOn}
 use Rattle.ls_pupils.proofs.states.list_states.Given as given
 use Rattle.ls_pupils.proofs.states.list_states.Goals as goal
 
-module _ (g : given.Over) (c : goal.After-drop g) where
-  are_states : filter (breaks_none c.new.result.rules) (compat c.new.result.inner.item_count c.new.result.inner.start []) ≡ compatible_sets c.args.inquiry.now
+module _ (g : given.Over) (c : goal.After-drop-3 g) where
+  are_states : filter (breaks_none c.new-2.result.rules) (compat c.new-2.result.inner.item_count c.new-2.result.inner.start []) ≡ compatible_sets c.args.inquiry.now
   are_states =
       let first = c.inner.result.now in
       let all = c.family.result.now in
@@ -13,7 +13,7 @@ module _ (g : given.Over) (c : goal.After-drop g) where
       ap (λ r. filter (breaks_none r) (compat first.item_count first.start [])) (c.yes_queries.ensures.value ∙ sym c.family.ensures.rules)
       ∙ ap (λ (s : StartOn). filter (breaks_none all.rules) (compat s.item_count s.start [])) c.inner.ensures
       ∙ c.family.ensures.members in
-      ap (λ r. filter (breaks_none r.rules) (compat r.inner.item_count r.inner.start [])) c.new.ensures
+      ap (λ r. filter (breaks_none r.rules) (compat r.inner.item_count r.inner.start [])) (c.new-2.ensures ∙ c.in_ok-columns.ensures)
       ∙ few-left c.in_ok-family.family.inner first c.in_ok-family.family.rules c.yes_queries.result.now (compatible_sets c.args.inquiry.now) c.in_ok-family.ensures.inner c.in_ok-family.ensures.members left
 
 pub returns-clause-sets : goal.returns-clause-sets
