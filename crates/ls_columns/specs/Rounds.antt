@@ -30,9 +30,9 @@ pub record Falling (rules : List Query) (fallen kept : Items) : Type 0 where
   pub apart : IsApart kept fallen
   pub awake : AllByRecursion (λ r. breaks kept r ≡ true → meets r.a fallen ≡ true) rules
 
--- what a round leaves of a kept set, in the inner family f: each rule that was broken and has a
--- fallen item in A loses its item q. No member that breaks no rule loses an item, and where
--- nothing falls the set is a member
+-- what a round leaves of a kept set, in the inner family f. Each rule that was broken and has a
+-- fallen item in A loses its item, no member that breaks no rule loses one, and where nothing
+-- is lost the set is a member
 pub record Narrows (f : List Items) (rules : List Query) (fallen kept next : Items) : Type 0 where
   pub within : IsWithin next kept
   pub taken : AllByRecursion (λ r. breaks kept r ≡ true → meets r.a fallen ≡ true →
