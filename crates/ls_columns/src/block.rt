@@ -11,7 +11,7 @@ use std::alloc::{AllocError, Global};
 use std::marker::Model;
 
 // Where so few rules are left, each is looked at by itself.
-const FEW: u32 = 12;
+const FEW: u32 = 32;
 
 /// At most [`PLACES`] rules, with a column for each item: the set of the places of the rules whose
 /// sets A have the item. Contracts see the rules.
