@@ -7,9 +7,8 @@ use Rattle.std.specs.Cmp.{then_total, on_total, both_tied, nat_cmp_total, unsign
 use Rattle.std.specs.Cmp.{eq_by_cmp_equiv}
 use Rattle.std.specs.declared.cmp.Ordering.{Ordering}
 use Rattle.ls_set.specs.declared.query.Query.{Query}
-use Rattle.ls_clauses.specs.Orderings.{order_of}
 use Rattle.ls_theory.specs.{is_same_query}
-use Rattle.ls_family.specs.Orders.{order_of-total, same-order}
+use Rattle.ls_clauses.specs.Orderings.{order_of, order_of-total, same-order}
 
 -- how the first stands to the second
 abbrev pub query_order : Query → Query → Ordering

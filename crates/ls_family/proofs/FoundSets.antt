@@ -3,7 +3,7 @@ use Rattle.ls_family.proofs.Vocabulary.{◌<◌, ◌∙◌, ◌∷◌, ◌≡◌
 use Rattle.std.specs.List.Sorted.{IsStrictlySortedBy}
 use Rattle.std.specs.declared.cmp.Ordering.TheVariants.{Less}
 use Rattle.ls_set.proofs.Order.{comes_before-asymmetric, order_cases, Each-weaker}
-use Rattle.ls_family.specs.Orders.{order-less, order-greater, order-before, same-order}
+use Rattle.ls_clauses.specs.Orderings.{order-less, order-greater, order-before, same-order}
 
 -- what a map by the order of sets has at a set
 row-get : (found : Found) (s : Items) → lookup (is_at (order_of s)) found ≡ row_found found s

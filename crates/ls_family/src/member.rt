@@ -3,8 +3,8 @@ ghost use Rattle.std.specs.Prelude.{◌≡◌, ◌==◌};
 ghost use Rattle.std.proofs.Common.{rules};
 ghost use Rattle.std.specs.Cmp.Rules.{comparing};
 ghost use Rattle.std.specs.Ordering.{as_partial_cmp};
-ghost use Rattle.ls_clauses.specs.Orderings.{order_of};
-ghost use Rattle.ls_family.specs.Orders.{order_of-total, order_of-partial, same-by_order};
+ghost use Rattle.ls_clauses.specs.Orderings.{order_of, order_of-total, order_of-partial};
+ghost use Rattle.ls_clauses.specs.Orderings.{same-by_order};
 
 use ls_set::ItemSet;
 use std::cmp::Ordering;
