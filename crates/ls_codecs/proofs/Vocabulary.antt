@@ -60,4 +60,4 @@ pub use Rattle.serde_json.specs.Read.{read}
 pub use Rattle.serde_json.specs.View.{items_of, items_view, members_view, view}
 pub use Rattle.serde_json.specs.Written.{compact_text}
 pub use Rattle.ls_codecs.specs.{IsNarrow, IsPupil, IsStanding, IsStart, IsWhole}
-pub use Rattle.ls_codecs.specs.QueryOrders.{query_order, same-by_query_order, same_queries}
+pub use Rattle.ls_standing.specs.QueryOrders.{query_order, same-by_query_order, same_queries}

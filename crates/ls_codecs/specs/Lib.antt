@@ -1,4 +1,3 @@
 pub mod Faults
-pub mod QueryOrders
 pub mod Whole
 pub use Rattle.ls_codecs.specs.Whole.{IsNarrow, IsPupil, IsStanding, IsStart, IsWhole}

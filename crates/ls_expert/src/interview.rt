@@ -12,6 +12,7 @@ ghost use Rattle.ls_standing.specs.Standing.{interview_on, IsStanding};
 ghost use Rattle.ls_inquiry.specs.Held.{blocks_of};
 ghost use Rattle.ls_inquiry.specs.Saved.{IsStandingFault};
 ghost use Rattle.ls_inquiry.specs.Steps.{steps_back, most_steps};
+ghost use Rattle.ls_inquiry.specs.Told.{told_before};
 
 use ls_base::Followed;
 use ls_inquiry::{BadQuery, Inquiry, RetractFault, StandingFault, StartFault};
@@ -172,11 +173,11 @@ impl Interview {
     fn take_yes<L: Ledger>(
         &mut self,
         query: &Query,
-        told: Known,
+        told: Option<Known>,
         steps: &mut Steps<L>,
     ) -> Result<u64, AllocError>
         requires passes { refusal self.old query.now true ≡ None }
-        requires known { told ≡ known self.old query.now }
+        requires told { told ≡ told_before self.old query.now true }
         ensures number { IfOk result (λ m. m ≡ self.old.next) }
         ensures ok { OnOk result (self.new ≡ accepted self.old query.now true) }
         ensures err { OnErr result (self.new ≡ self.old) }

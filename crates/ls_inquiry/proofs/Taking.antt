@@ -1,5 +1,5 @@
 -- What an interview keeps when it takes an answer.
-use Rattle.ls_inquiry.proofs.Vocabulary.{AllByRecursion, Answer, AreStates, BlockRange, Bool, Interview, IsDistinct, IsHeld, IsKeptFor, IsSound, IsStanding, IsTabled, Items, List, No, None, Option, Query, Some, SomeFits, TableRoom, [], accepted, accepted-numbered, and-true, and_from, ap, arith, breaks, compat, compat-more, compatible-no, compatible-yes, compatible_sets, cond, false, filter-all, find, first_fault, forced_yes_unbroken, full, is_forced_no, is_forced_yes, is_full, is_good, is_same_query, known, left_by, length, length-append, list_all, list_all-append, map, most_answers, most_number, nat_tests, no_added, nos, not, not-true, not_both, not_first, opposed, option_map, refl, refusal, single_items, some_breaks, spaces_of, standing_number, sym, table_of, true, yes_added, yes_queries, ℕ, ◌&&◌, ◌++◌, ◌<◌, ◌∙◌, ◌∷◌, ◌≡◌, ◌≤◌}
+use Rattle.ls_inquiry.proofs.Vocabulary.{AllByRecursion, Answer, AreStates, BlockRange, Bool, Interview, IsDistinct, IsHeld, IsKeptFor, IsSound, IsStanding, IsTabled, Items, List, No, None, Option, Query, Some, SomeFits, TableRoom, [], accepted, accepted-numbered, and-true, and_from, ap, arith, breaks, cases_Bool, compat, compat-more, compatible-no, compatible-yes, compatible_sets, cond, eqb, false, filter, filter-all, find, first_fault, forced_no_is, forced_yes_unbroken, full, inl, inr, is_forced_by, is_forced_no, is_forced_yes, is_full, is_good, is_same_query, known, left_by, length, length-append, length-map, list_all, list_all-append, list_any, ltb, map, most_answers, most_number, nat_tests, no_added, no_queries, nos, not, not-true, not_both, not_first, opposed, option_map, refl, refusal, single_items, some_breaks, spaces_of, standing_number, suc, sym, table_of, true, yes_added, yes_queries, ℕ, ◌&&◌, ◌++◌, ◌<◌, ◌∙◌, ◌∷◌, ◌≡◌, ◌≤◌}
 use Rattle.ls_lists.proofs.Bools.{none_common}
 use Rattle.ls_theory.specs.declared.known.Known.{Known}
 use Rattle.ls_theory.specs.declared.answer_fault.AnswerFault.{AnswerFault}
@@ -8,6 +8,7 @@ use Rattle.ls_laws.specs.Families.{IsFamily}
 use Rattle.ls_laws.proofs.Families.{compat-IsFamily}
 use Rattle.ls_standing.proofs.FewerRules.{none_left_out}
 use Rattle.ls_inquiry.proofs.Holding.{kept-as}
+use Rattle.ls_inquiry.specs.Told.{told_before}
 use Rattle.ls_standing.proofs.AnswerLists.{yes_queries-yes, yes_queries-no, nos-yes, nos-no}
 
 -- ---- what a refusal that isn't found tells
@@ -58,6 +59,47 @@ unopposed_no false other e = refl
 pub free-no : (i : Interview) (r : Query) → opposed (known i r) false ≡ None → is_forced_yes (spaces_of i) r ≡ false
 unfolding known
 free-no i r e = unopposed_no (is_forced_yes (spaces_of i) r) _ e
+
+-- ---- what is told before
+
+-- what is told of a Yes is known
+pub known-told : (i : Interview) (r : Query) → Some Known.Yes ≡ told_before i r true → known i r ≡ Known.Yes
+known-told i r e = told-yes (eqb (length (nos i.answers)) 0) e
+  where
+    told-yes : (b : Bool) → Some Known.Yes ≡ cond b None (Some (known i r)) → known i r ≡ Known.Yes
+    told-yes true e = absurd (cc e)
+    told-yes false e = cc
+
+-- where no No stands, no query is forced No
+no-nos : (answers : List Answer) → length (nos answers) ≡ 0 → no_queries answers ≡ []
+no-nos [] e = refl
+no-nos (a ∷ answers) e = elim (cases_Bool a.yes) [
+  | inl y ↦ let rest : length (nos answers) ≡ 0 = rw y at e in rw y (no-nos answers rest)
+  | inr n ↦ let some : suc (length (nos answers)) ≡ 0 = rw n at e in absurd (omega (arith, some))
+]
+
+not-opposed : (sure never : Bool) (k : ℕ) → never ≡ false → opposed (cond sure Known.Yes (cond never (Known.No k) Known.Unsettled)) true ≡ None
+not-opposed true never k e = refl
+not-opposed false true k e = absurd (cc e)
+not-opposed false false k e = refl
+
+-- and so nothing opposes a Yes
+pub yes-unopposed : (i : Interview) (r : Query) → SomeFits i → is_good i.count r ≡ true → length (nos i.answers) ≡ 0 → opposed (known i r) true ≡ None
+unfolding known
+yes-unopposed i r fits good none =
+    not-opposed (is_forced_yes (spaces_of i) r) (is_forced_no (spaces_of i) r) _
+    (forced_no_is i r fits good ∙ ap (list_any (is_forced_by (compatible_sets i) r)) (no-nos i.answers none))
+
+-- the Yes queries are fewer than the answers just where a No stands
+pub some-no : (answers : List Answer) → ltb (length (yes_queries answers)) (length answers) ≡ not (eqb (length (nos answers)) 0)
+some-no answers = grind (arith, nat_tests, length-map (filter (λ a. a.yes) answers) (λ a. a.query), length-map (filter (λ a. not a.yes) answers) (λ a. let n : No = record { number = a.number; query = a.query } in n), parts answers)
+  where
+    parts : (l : List Answer) → length (filter (λ a. a.yes) l) + length (filter (λ a. not a.yes) l) ≡ length l
+    parts [] = refl
+    parts (a ∷ l) = elim (cases_Bool a.yes) [
+      | inl y ↦ rw y (let p = parts l in omega (arith, p))
+      | inr n ↦ rw n (let p = parts l in omega (arith, p))
+    ]
 
 -- ---- what is kept
 

@@ -1,5 +1,5 @@
 -- The words that the proofs of this crate cite, passed on from one place.
-pub use Rattle.std.proofs.Common.{◌&&◌, ◌*◌, ◌++◌, ◌+◌, ◌<◌, ◌∙◌, ◌∷◌, ◌≡◌, ◌≤◌, Bool, IfErr, IfOk, IfSome, List, None, Ok, Option, Result, Some, ℕ, [], ap, ap₂, arith, cond, count_by, eqb, false, filter, find, inl, inr, is_some, length, length-append, map, not, refl, remove, subst, suc, sym, true, true≢false, zero}
+pub use Rattle.std.proofs.Common.{◌&&◌, ◌*◌, ◌++◌, ◌+◌, ◌<◌, ◌∙◌, ◌∷◌, ◌≡◌, ◌≤◌, Bool, IfErr, IfOk, IfSome, List, None, Ok, Option, Result, Some, ℕ, [], ap, ap₂, arith, cond, count_by, eqb, false, filter, find, inl, inr, is_some, length, length-append, ltb, map, not, refl, remove, subst, suc, sym, true, true≢false, zero}
 pub use Rattle.std.proofs.Math.Bool.{and_assoc}
 pub use Rattle.std.proofs.lemmas.Bool.{and_from, and_parts, cases_Bool, false_from_ne_true, not-true, not_from_false}
 pub use Rattle.std.proofs.lemmas.Bool.Decides.{nat_tests}
@@ -9,19 +9,19 @@ pub use Rattle.std.proofs.lemmas.List.Folds.{list_all-append}
 pub use Rattle.std.proofs.lemmas.List.Sums.{count_by-le-length, length-filter, sum_by-cons}
 pub use Rattle.std.proofs.lemmas.Result.{IfOk-weaker, err_from_is_err_and}
 pub use Rattle.std.specs.Bool.{Decides}
-pub use Rattle.std.specs.List.{AllByRecursion, list_all}
+pub use Rattle.std.specs.List.{AllByRecursion, list_all, list_any}
 unfoldable pub use Rattle.std.specs.List.{IsDistinct}
 pub use Rattle.std.specs.Option.{option_map}
 pub use Rattle.ls_clauses.proofs.Covers.{start-sound, start-space}
 pub use Rattle.ls_clauses.specs.Starts.{IsStart}
 pub use Rattle.ls_infer.specs.Tables.{AreStates, IsKeptFor, TableRoom, TableState, standing, table_of}
 pub use Rattle.ls_laws.proofs.Accepting.{compatible-no, compatible-yes, no_added, taken_out, yes_added}
-pub use Rattle.ls_laws.proofs.Answering.{FitsIn, all_spaces, compatible_fit, forced_yes_unbroken, no_question, not_both, settles}
+pub use Rattle.ls_laws.proofs.Answering.{FitsIn, all_spaces, compatible_fit, forced_no_is, forced_yes_unbroken, no_question, not_both, settles}
 pub use Rattle.ls_laws.proofs.Breaks.{among-left_parts, good-to}
 pub use Rattle.ls_laws.proofs.Compat.{compat-IsUnionFamily, compat-in_order, compat-more}
 pub use Rattle.ls_laws.proofs.Interiors.{space-from}
 pub use Rattle.ls_laws.proofs.Numbered.{accepted-numbered, begun-numbered, retracted-numbered}
-pub use Rattle.ls_laws.specs.Forced.{IsSound, SomeFits}
+pub use Rattle.ls_laws.specs.Forced.{IsSound, SomeFits, is_forced_by}
 pub use Rattle.ls_laws.specs.Spans.{left_by}
 pub use Rattle.ls_lists.proofs.Every.{All-list_all, list_all-All}
 pub use Rattle.ls_lists.proofs.Filters.{filter-all, filter-both, filter_true}

@@ -1,3 +1,4 @@
 pub mod Steps
+pub mod Told
 pub mod Held
 pub mod Saved

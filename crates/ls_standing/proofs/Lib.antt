@@ -1,5 +1,6 @@
 mod Vocabulary
 pub mod AnswerLists
+pub mod AnsweredQueries
 pub mod Ruling
 mod Saving
 pub mod FewerRules

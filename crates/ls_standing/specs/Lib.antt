@@ -1,2 +1,4 @@
 pub mod Starts
 pub mod Standing
+pub mod QueryOrders
+pub mod Answered

@@ -1,58 +1,99 @@
 // Answers that an inquiry takes and takes back.
-ghost use Rattle.std.specs.Prelude.{◌≡◌, ◌+◌, ◌≤◌, true, false, Some, None, IfOk, IfErr};
-ghost use Rattle.std.specs.Prelude.{OnOk, OnErr};
-ghost use Rattle.ls_theory.specs.{accepted, known, retracted};
+ghost use Rattle.std.specs.Prelude.{◌≡◌, ◌+◌, ◌≤◌, ◌==◌, true, false, not, length};
+ghost use Rattle.std.specs.Prelude.{Some, None, IfOk, IfErr, OnOk, OnErr};
+ghost use Rattle.ls_set.specs.{is_good};
+ghost use Rattle.ls_theory.specs.{accepted, known, nos, opposed, retracted};
 ghost use Rattle.ls_theory.specs.declared.known.Known.TheVariants as Known;
 ghost use Rattle.ls_theory.specs.{answer_with, is_full, refusal, standing_number};
 ghost use Rattle.ls_inquiry.specs.Steps.{steps_back, most_steps};
+ghost use Rattle.ls_inquiry.specs.Told.{told_before};
 
 use crate::inquiry::Inquiry;
-use ls_interior::{Counted, Steps};
+use ls_interior::{Counted, Inside, Steps};
 use ls_set::Query;
 use ls_standing::{MOST_ANSWERS, MOST_NUMBER, opposed, put_last, rules_before, take_out};
 use ls_theory::{Answer, AnswerFault, Known, No};
 use std::alloc::AllocError;
 use std::sync::ledger::Ledger;
 
-// Whether it is known that the answer is Yes.
-fn is_yes(told: Known) -> bool
-    ensures { result ≡ true → told ≡ Known.Yes }
+// Whether it is told that the answer is Yes.
+fn is_yes(told: Option<Known>) -> bool
+    ensures { result ≡ true → told ≡ Some Known.Yes }
 {
-    matches!(told, Known::Yes)
+    matches!(told, Some(Known::Yes))
 }
 
 impl Inquiry {
-    /// What is known of the query whose answer is taken, or why it isn't taken. It takes at most
-    /// one interior.
+    /// What is told of the query before its answer is taken, or why it isn't taken. It takes at
+    /// most one interior, and none for a Yes where no No stands.
     pub fn test<L: Ledger>(
         &self,
         query: &Query,
         yes: bool,
         steps: &mut Steps<L>,
-    ) -> Result<Known, AnswerFault>
+    ) -> Result<Option<Known>, AnswerFault>
         ensures ok { OnOk result (refusal self.now query.now yes ≡ None) }
-        ensures known { IfOk result (λ k. k ≡ known self.now query.now) }
+        ensures told { IfOk result (λ t. t ≡ told_before self.now query.now yes) }
         ensures fault { IfErr result (λ e. refusal self.now query.now yes ≡ Some e) }
         ensures cost { steps.new ≤ steps.old + 1 }
     {
-        let Ok(known) = self.known(query, steps) else {
+        if !query.is_good(self.family.items()) {
             return Err(AnswerFault::BadQuery);
-        };
+        }
         if let Some(number) = self.standing_number(query) {
             return Err(AnswerFault::Repeat { number });
         }
-        if let Some(fault) = opposed(known, yes) {
-            return Err(fault);
-        }
+        let told = self.unopposed(query, yes, steps)?;
         if self.is_full() {
             return Err(AnswerFault::Full);
         }
-        Ok(known)
+        Ok(told)
+    }
+
+    // What is told of the good query before its answer is taken, or what opposes the answer.
+    fn unopposed<L: Ledger>(
+        &self,
+        query: &Query,
+        yes: bool,
+        steps: &mut Steps<L>,
+    ) -> Result<Option<Known>, AnswerFault>
+        requires { is_good self.now.count query.now ≡ true }
+        ensures ok { OnOk result (opposed (known self.now query.now) yes ≡ None) }
+        ensures told { IfOk result (λ t. t ≡ told_before self.now query.now yes) }
+        ensures fault { IfErr result (λ e. opposed (known self.now query.now) yes ≡ Some e) }
+        ensures cost { steps.new ≤ steps.old + 1 }
+    {
+        if yes && !self.has_no() {
+            return Ok(None);
+        }
+        let known = self.known_of(query, steps);
+        match opposed(known, yes) {
+            Some(fault) => Err(fault),
+            None => Ok(Some(known)),
+        }
+    }
+
+    // Whether an answer that stands is No.
+    fn has_no(&self) -> bool
+        ensures { result ≡ not (length (nos self.now.answers) == 0) }
+    {
+        self.family.rules().len() < self.answers.len()
     }
 
     // The number of the standing answer to the query, if there is one.
-    #[tactic(auto, unfolding(ls_set::specs::ItemSet::is_same))]
     fn standing_number(&self, query: &Query) -> Option<u64>
+        ensures { result ≡ standing_number self.now query.now }
+    {
+        if self.answered.has(query) {
+            self.number_of(query)
+        } else {
+            None
+        }
+    }
+
+    // The same, looked for among all answers.
+    #[tactic(auto, unfolding(ls_set::specs::ItemSet::is_same))]
+    fn number_of(&self, query: &Query) -> Option<u64>
         ensures { result ≡ standing_number self.now query.now }
     {
         self.answers
@@ -67,17 +108,17 @@ impl Inquiry {
         self.answers.len() >= MOST_ANSWERS || self.next > MOST_NUMBER
     }
 
-    /// Takes an answer that is not refused, of whose query that is known, and gives its number.
+    /// Takes an answer that is not refused, of whose query that is told, and gives its number.
     /// Nothing changes where memory runs out.
     pub fn take<L: Ledger>(
         &mut self,
         query: &Query,
         yes: bool,
-        told: Known,
+        told: Option<Known>,
         steps: &mut Steps<L>,
     ) -> Result<u64, AllocError>
         requires passes { refusal self.old query.now yes ≡ None }
-        requires known { told ≡ known self.old query.now }
+        requires told { told ≡ told_before self.old query.now yes }
         ensures number { IfOk result (λ m. m ≡ self.old.next) }
         ensures ok { OnOk result (self.new ≡ accepted self.old query.now yes) }
         ensures err { OnErr result (self.new ≡ self.old) }
@@ -96,11 +137,11 @@ impl Inquiry {
     fn take_yes<L: Ledger>(
         &mut self,
         query: &Query,
-        told: Known,
+        told: Option<Known>,
         steps: &mut Steps<L>,
     ) -> Result<u64, AllocError>
         requires passes { refusal self.old query.now true ≡ None }
-        requires known { told ≡ known self.old query.now }
+        requires told { told ≡ told_before self.old query.now true }
         ensures number { IfOk result (λ m. m ≡ self.old.next) }
         ensures ok { OnOk result (self.new ≡ accepted self.old query.now true) }
         ensures err { OnErr result (self.new ≡ self.old) }
@@ -109,6 +150,7 @@ impl Inquiry {
     {
         self.answers.reserve(1)?;
         self.family.reserve()?;
+        self.answered.put(query)?;
         self.family.push_reserved(*query);
         if !is_yes(told) {
             self.table
@@ -129,6 +171,7 @@ impl Inquiry {
     {
         self.answers.reserve(1)?;
         self.table.reserve_no()?;
+        self.answered.put(query)?;
         let no = No {
             number: self.next,
             query: *query,
@@ -165,6 +208,7 @@ impl Inquiry {
             .yes_removed(&Counted::new(&self.family), &answer.query, steps);
         self.from = self.blocks.next_query(None);
         self.is_found = false;
+        self.answered.take_out(&answer.query);
         take_out(&mut self.answers, answer.number);
     }
 
@@ -178,6 +222,7 @@ impl Inquiry {
         self.table.no_removed(number);
         self.from = self.blocks.next_query(None);
         self.is_found = false;
+        self.answered.take_out(&answer.query);
         take_out(&mut self.answers, number);
     }
 }
