@@ -1,5 +1,5 @@
 -- The queries of answers, when an answer is put last or taken out.
-use Rattle.ls_standing.proofs.Vocabulary.{◌&&◌, ◌++◌, ◌<◌, ◌||◌, ◌∙◌, ◌∷◌, ◌≡◌, AllByRecursion, Answer, Bool, Interview, IsDistinct, IsRising, List, None, Query, Some, ℕ, [], answer_with, ap, ap₂, arith, cases_Bool, cond, eq-eqb, false, filter, find, inl, inr, is_same_query, list_any, map, ne_eqb, not, refl, retracted, sym, true}
+use Rattle.ls_standing.proofs.Vocabulary.{◌&&◌, ◌++◌, ◌||◌, ◌∙◌, ◌∷◌, ◌≡◌, AllByRecursion, Answer, Bool, Interview, IsDistinct, IsRising, List, None, Query, Some, ℕ, [], answer_with, ap, ap₂, arith, cond, eq-eqb, false, filter, find, inl, inr, is_same_query, list_any, map, ne_eqb, not, refl, retracted, sym, true}
 use Rattle.std.specs.Ordering.{is_eq}
 use Rattle.std.proofs.lemmas.List.Folds.{list_any-append}
 use Rattle.ls_standing.specs.QueryOrders.{query_order, same-by_query_order, same_queries}
@@ -77,7 +77,7 @@ first-out false later none = refl
 
 -- one further on is
 later-out : (same first later rest : Bool) → (same ≡ true → first ≡ false) → (not same && later) ≡ rest → (not same && (first || later)) ≡ (first || rest)
-later-out true first later rest none e = rw none refl e
+later-out true first later rest none e = rw (none refl) e
 later-out false true later rest none e = refl
 later-out false false later rest none e = e
 
