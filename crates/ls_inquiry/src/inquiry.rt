@@ -59,7 +59,6 @@ pub struct Inquiry {
 
 impl Model for Inquiry {
     ghost use Rattle.ls_theory.specs.{Interview};
-    ghost use Rattle.std.specs.Prelude.{◌×◌};
     ghost use Rattle.ls_standing.specs.Answered.{AreOf};
     ghost use Rattle.ls_inquiry.specs.Held.{interview_of, IsInquiry};
 
