@@ -1,5 +1,5 @@
 -- What an interview keeps when it takes an answer.
-use Rattle.ls_inquiry.proofs.Vocabulary.{AllByRecursion, Answer, AreStates, BlockRange, Bool, Interview, IsDistinct, IsHeld, IsKeptFor, IsSound, IsStanding, IsTabled, Items, List, No, None, Option, Query, Some, SomeFits, TableRoom, [], accepted, accepted-numbered, and-true, and_from, ap, arith, breaks, cases_Bool, compat, compat-more, compatible-no, compatible-yes, compatible_sets, cond, eqb, false, filter, filter-all, find, first_fault, forced_no_is, forced_yes_unbroken, full, inl, inr, is_forced_by, is_forced_no, is_forced_yes, is_full, is_good, is_same_query, known, left_by, length, length-append, length-map, list_all, list_all-append, list_any, ltb, map, most_answers, most_number, nat_tests, no_added, no_queries, nos, not, not-true, not_both, not_first, opposed, option_map, refl, refusal, single_items, some_breaks, spaces_of, standing_number, suc, sym, table_of, true, yes_added, yes_queries, ℕ, ◌&&◌, ◌++◌, ◌<◌, ◌∙◌, ◌∷◌, ◌≡◌, ◌≤◌}
+use Rattle.ls_inquiry.proofs.Vocabulary.{◌+◌, AllByRecursion, Answer, AreStates, BlockRange, Bool, Interview, IsDistinct, IsHeld, IsKeptFor, IsSound, IsStanding, IsTabled, Items, List, No, None, Option, Query, Some, SomeFits, TableRoom, [], accepted, accepted-numbered, and-true, and_from, ap, arith, breaks, cases_Bool, compat, compat-more, compatible-no, compatible-yes, compatible_sets, cond, eqb, false, filter-all, find, first_fault, forced_no_is, forced_yes_unbroken, full, inl, inr, is_forced_by, is_forced_no, is_forced_yes, is_full, is_good, is_same_query, known, left_by, length, length-append, list_all, list_all-append, list_any, ltb, map, most_answers, most_number, nat_tests, no_added, no_queries, nos, not, not-true, not_both, not_first, opposed, option_map, refl, refusal, single_items, some_breaks, spaces_of, standing_number, suc, sym, table_of, true, yes_added, yes_queries, ℕ, ◌&&◌, ◌++◌, ◌<◌, ◌∙◌, ◌∷◌, ◌≡◌, ◌≤◌}
 use Rattle.ls_lists.proofs.Bools.{none_common}
 use Rattle.ls_theory.specs.declared.known.Known.{Known}
 use Rattle.ls_theory.specs.declared.answer_fault.AnswerFault.{AnswerFault}
@@ -90,16 +90,23 @@ yes-unopposed i r fits good none =
     not-opposed (is_forced_yes (spaces_of i) r) (is_forced_no (spaces_of i) r) _
     (forced_no_is i r fits good ∙ ap (list_any (is_forced_by (compatible_sets i) r)) (no-nos i.answers none))
 
--- the Yes queries are fewer than the answers just where a No stands
+-- the answers that are Yes, and the Nos
+both_parts : (answers : List Answer) → length (yes_queries answers) + length (nos answers) ≡ length answers
+both_parts [] = refl
+both_parts (a ∷ answers) = elim (cases_Bool a.yes) [
+  | inl y ↦ rw y (let p = both_parts answers in omega (arith, p))
+  | inr n ↦ rw n (let p = both_parts answers in omega (arith, p))
+]
+
+-- a No stands just where fewer answers are Yes than stand
 pub some-no : (answers : List Answer) → ltb (length (yes_queries answers)) (length answers) ≡ not (eqb (length (nos answers)) 0)
-some-no answers = grind (arith, nat_tests, length-map (filter (λ a. a.yes) answers) (λ a. a.query), length-map (filter (λ a. not a.yes) answers) (λ a. let n : No = record { number = a.number; query = a.query } in n), parts answers)
+some-no answers = fewer (length (yes_queries answers)) (length (nos answers)) (length answers) (both_parts answers)
   where
-    parts : (l : List Answer) → length (filter (λ a. a.yes) l) + length (filter (λ a. not a.yes) l) ≡ length l
-    parts [] = refl
-    parts (a ∷ l) = elim (cases_Bool a.yes) [
-      | inl y ↦ rw y (let p = parts l in omega (arith, p))
-      | inr n ↦ rw n (let p = parts l in omega (arith, p))
-    ]
+    fewer : (a b c : ℕ) → a + b ≡ c → ltb a c ≡ not (eqb b 0)
+    fewer a b c e = grind (arith, nat_tests)
+
+pub none-no : (answers : List Answer) → not (eqb (length (nos answers)) 0) ≡ false → length (nos answers) ≡ 0
+none-no answers e = grind (arith, nat_tests)
 
 -- ---- what is kept
 

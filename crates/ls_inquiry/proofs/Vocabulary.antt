@@ -1,5 +1,5 @@
 -- The words that the proofs of this crate cite, passed on from one place.
-pub use Rattle.std.proofs.Common.{◌&&◌, ◌*◌, ◌++◌, ◌+◌, ◌<◌, ◌∙◌, ◌∷◌, ◌≡◌, ◌≤◌, Bool, IfErr, IfOk, IfSome, List, None, Ok, Option, Result, Some, ℕ, [], ap, ap₂, arith, cond, count_by, eqb, false, filter, find, inl, inr, is_some, length, length-append, ltb, map, not, refl, remove, subst, suc, sym, true, true≢false, zero}
+pub use Rattle.std.proofs.Common.{◌&&◌, ◌*◌, ◌++◌, ◌+◌, ◌<◌, ◌∙◌, ◌∷◌, ◌≡◌, ◌≤◌, Bool, IfErr, IfOk, IfSome, List, None, Ok, Option, Result, Some, ℕ, [], ap, ap₂, arith, cond, count_by, eqb, false, filter, find, inl, inr, is_some, length, length-append, ltb, map, not, refl, remove, rules, subst, suc, sym, true, true≢false, vec_len, zero}
 pub use Rattle.std.proofs.Math.Bool.{and_assoc}
 pub use Rattle.std.proofs.lemmas.Bool.{and_from, and_parts, cases_Bool, false_from_ne_true, not-true, not_from_false}
 pub use Rattle.std.proofs.lemmas.Bool.Decides.{nat_tests}

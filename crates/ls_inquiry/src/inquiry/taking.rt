@@ -2,6 +2,7 @@
 ghost use Rattle.std.specs.Prelude.{◌≡◌, ◌+◌, ◌≤◌, ◌==◌, true, false, not, length};
 ghost use Rattle.std.specs.Prelude.{Some, None, IfOk, IfErr, OnOk, OnErr};
 ghost use Rattle.ls_set.specs.{is_good};
+ghost use Rattle.ls_set.specs.declared.query.Query.{Query as Asked};
 ghost use Rattle.ls_theory.specs.{accepted, known, nos, opposed, retracted};
 ghost use Rattle.ls_theory.specs.declared.known.Known.TheVariants as Known;
 ghost use Rattle.ls_theory.specs.{answer_with, is_full, refusal, standing_number};
@@ -73,9 +74,11 @@ impl Inquiry {
         }
     }
 
-    // Whether an answer that stands is No.
+    // Whether an answer that stands is No. Where none is, nothing opposes a Yes.
     fn has_no(&self) -> bool
-        ensures { result ≡ not (length (nos self.now.answers) == 0) }
+        ensures value { result ≡ not (length (nos self.now.answers) == 0) }
+        ensures none { result ≡ false → (r : Asked) → is_good self.now.count r ≡ true →
+            opposed (known self.now r) true ≡ None }
     {
         self.family.rules().len() < self.answers.len()
     }

@@ -40,7 +40,7 @@ invariant_of-self g c =
     let stands = ap (λ (j : Interview). answer_with j a.number) c.self.view_is ∙ c.requires.stands in
     let removed = c.remove.ensures.rules ∙ ap (remove c.self.inside.family.rules) rule in
     let held = held-without_yes i a c.self.inside.family.rules c.self.inside.table c.yes_removed.new.self c.self.invariant.0.held stands others _ c.requires.yes removed (rw c.new.ensures family) c.yes_removed.ensures.kept in
-    rw (c.take_out.ensures, c.remove.ensures.inner) (
+    rw (c.take_out-2.ensures, c.remove.ensures.inner) (
       asking (retracted i a.number) c.self.inside.blocks others c.yes_removed.new.self c.next_query-self-inside.result held c.self.invariant.0.asked c.self.invariant.0.some_sizes c.next_query-self-inside.ensures,
-      answered-back i a c.self.inside.answered c.take_out-self.new.self c.self.invariant.0.held.standing stands c.self.invariant.1 c.take_out-self.ensures,
+      answered-back i a c.self.inside.answered c.take_out.new.self c.self.invariant.0.held.standing stands c.self.invariant.1 c.take_out.ensures,
     )

@@ -19,7 +19,7 @@ invariant_of-self-2 g c =
     let family =
     ruled-compat c.push_reserved.new.self.inner.item_count c.push_reserved.new.self.inner.start c.push_reserved.new.self.rules
     ∙ ap₂ (λ (u : StartOn) (l : List Query). compat u.item_count u.start l) inner (ruled ∙ ap (λ (l : List Query). l ++ r ∷ []) h.ruled) in
-    let answered = AreOf-last i.answers _ c.self.inside.answered c.put.new.self c.self.invariant.1 c.put.ensures.ok in
+    let answered = AreOf-last i.answers _ c.self.inside.answered c.put.new.self c.self.invariant.1 c.in_ok-put.ensures.ok in
     let kept = λ (new : TableRoom) (tabled : IsTabled (accepted i r true) new).
     still-asking i r true c.self.inside.blocks c.self.inside.family.rules c.push_reserved.new.self.rules c.self.inside.table new c.self.inside.from c.self.inside.is_found c.self.invariant.0
     (held-yes i r c.self.inside.family.rules c.self.inside.table new h c.push_reserved.new.self.rules (ap (λ (j : Interview). refusal j r true) c.self.view_is ∙ c.requires.passes) ruled tabled) in
