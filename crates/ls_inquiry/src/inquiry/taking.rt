@@ -1,6 +1,6 @@
 // Answers that an inquiry takes and takes back.
 ghost use Rattle.std.specs.Prelude.{◌≡◌, ◌+◌, ◌≤◌, ◌==◌, true, false, not, length};
-ghost use Rattle.std.specs.Prelude.{Some, None, IfOk, IfErr, OnOk, OnErr};
+ghost use Rattle.std.specs.Prelude.{Some, None, Ok, IfOk, IfErr, OnOk, OnErr};
 ghost use Rattle.ls_set.specs.{is_good};
 ghost use Rattle.ls_set.specs.declared.query.Query.{Query as Asked};
 ghost use Rattle.ls_theory.specs.{accepted, known, nos, opposed, retracted};
@@ -26,7 +26,7 @@ fn is_yes(told: Option<Known>) -> bool
 
 impl Inquiry {
     /// What is told of the query before its answer is taken, or why it isn't taken. It takes at
-    /// most one interior, and none for a Yes where no No stands.
+    /// most one interior, and none where nothing is told.
     pub fn test<L: Ledger>(
         &self,
         query: &Query,
@@ -37,6 +37,7 @@ impl Inquiry {
         ensures told { IfOk result (λ t. t ≡ told_before self.now query.now yes) }
         ensures fault { IfErr result (λ e. refusal self.now query.now yes ≡ Some e) }
         ensures cost { steps.new ≤ steps.old + 1 }
+        ensures free { result ≡ Ok None → steps.new ≡ steps.old }
     {
         if !query.is_good(self.family.items()) {
             return Err(AnswerFault::BadQuery);
@@ -63,6 +64,7 @@ impl Inquiry {
         ensures told { IfOk result (λ t. t ≡ told_before self.now query.now yes) }
         ensures fault { IfErr result (λ e. opposed (known self.now query.now) yes ≡ Some e) }
         ensures cost { steps.new ≤ steps.old + 1 }
+        ensures free { result ≡ Ok None → steps.new ≡ steps.old }
     {
         if yes && !self.has_no() {
             return Ok(None);
