@@ -1,9 +1,9 @@
 -- The base of what a Yes leaves: the sets that stay, and what is gained at each item.
-use Rattle.ls_base.proofs.Vocabulary.{◌&&◌, ◌++◌, ◌<◌, ◌∙◌, ◌∷◌, ◌≡◌, Bool, IsBelow, IsInOrder, IsInOrder-filter, Items, List, Query, ℕ, [], ap, ap₂, arith, atoms_at, base, breaks, broken_at, broken_in, cases_lt, cond, false, filter, filter-both, filter_agree, gained, gained_at, gained_below, has, has-full, has-interior, has-minus, has_none_within, having, inl, inr, is_among, is_atom_at, is_gained, is_proper, is_same, is_within, joined, joins, least_beside, least_sets, left_by, list_any, ltb-true, map, minus, near, not, refl, some_breaks, spanned, spanned-IsUnionFamily, spanned-in_order, subst, suc, sym, true, true≢false, union_below, zero}
+use Rattle.ls_base.proofs.Vocabulary.{Bool, IsBelow, IsInOrder, IsInOrder-filter, Items, List, Query, [], ap, append-nil, ap₂, arith, atoms_at, base, breaks, broken_at, broken_in, cases_lt, cond, false, filter, filter-append, filter-both, filter_agree, gained, gained_at, gained_below, get_or, has, has-full, has-interior, has-minus, has_none_within, having, inl, inr, is_among, is_atom_at, is_gained, is_proper, is_same, is_within, joined, joins, least_beside, left_by, length, list_any, ltb-true, map, minus, near, not, refl, some_breaks, spanned, spanned-IsUnionFamily, spanned-in_order, subst, suc, sym, take, take_more, true, true≢false, union_below, zero, ℕ, ◌&&◌, ◌++◌, ◌+◌, ◌<◌, ◌∙◌, ◌∷◌, ◌≡◌}
 use Rattle.std.proofs.Math.Bool.{and_comm}
 use Rattle.ls_laws.proofs.Closures.{left-IsUnionFamily}
-use Rattle.ls_changes.proofs.Least.{among-either, among-left, among-right, some-filter, some-same}
-use Rattle.ls_changes.proofs.Atoms.{near_least-below, gained-where, base-list, base-same}
+use Rattle.ls_changes.proofs.Least.{among-either, among-left, among-right, below-through, some-filter, some-same}
+use Rattle.ls_changes.proofs.Atoms.{near-below, gained-where, base-list, base-same}
 use Rattle.ls_base.specs.declared.left.Broken.{Broken}
 use Rattle.ls_base.proofs.Spanned.{base-again, atoms_at-base}
 
@@ -53,6 +53,35 @@ gained_at-is f r gs i order =
     ap (λ l. filter (is_gained (having i (left_by r (base f))) l gs) (joins l gs)) (broken_at-is (base f) r i ∙ ap (filter (λ k. breaks k r)) (atoms_at-base f i order))
     ∙ gained-least (having i (left_by r (base f))) (joined f r gs i)
 
+-- ---- the sets that break the query, one by one
+
+map-last : (g ks : List Items) (k : Items)
+    → map (broken_in g) (ks ++ k ∷ []) ≡ map (broken_in g) ks ++ broken_in g k ∷ []
+map-last g [] k = refl
+map-last g (x ∷ ks) k = ap (λ l. broken_in g x ∷ l) (map-last g ks k)
+
+module _ (g : List Items) (r : Query) (p : ℕ) (k : Items) (less : p < length g)
+    (is : k ≡ get_or g p k) (got : List Broken)
+    (had : got ≡ map (broken_in g) (filter (λ k. breaks k r) (take p g))) where
+  one-more : filter (λ k. breaks k r) (take (p + 1) g)
+      ≡ filter (λ k. breaks k r) (take p g) ++ cond (breaks k r) (k ∷ []) []
+  one-more =
+      ap (filter (λ k. breaks k r)) (take_more g p k less ∙ ap (λ s. take p g ++ s ∷ []) (sym is))
+      ∙ filter-append (λ k. breaks k r) (take p g) (k ∷ [])
+
+  pub broken-next : (made : Broken) → made ≡ broken_in g k → breaks k r ≡ true
+      → got ++ made ∷ [] ≡ map (broken_in g) (filter (λ k. breaks k r) (take (p + 1) g))
+  broken-next made e h =
+      ap₂ (λ l b. l ++ b ∷ []) had e ∙ sym (map-last g (filter (λ k. breaks k r) (take p g)) k)
+      ∙ sym (ap (map (broken_in g)) (one-more
+      ∙ ap (λ b. filter (λ k. breaks k r) (take p g) ++ cond b (k ∷ []) []) h))
+
+  pub broken-passed : breaks k r ≡ false
+      → got ≡ map (broken_in g) (filter (λ k. breaks k r) (take (p + 1) g))
+  broken-passed h = had ∙ sym (ap (map (broken_in g)) (one-more
+      ∙ ap (λ b. filter (λ k. breaks k r) (take p g) ++ cond b (k ∷ []) []) h
+      ∙ append-nil (filter (λ k. breaks k r) (take p g))))
+
 -- ---- what is gained, item by item
 
 among-below : (staying : List Items) (broken : List Broken) (near : List Items) (n i : ℕ) (k : Items) → i < n → is_among (gained_at staying broken near i) k ≡ true → is_among (gained_below staying broken near n) k ≡ true
@@ -72,12 +101,13 @@ from-below staying broken near (suc n) k c = elim (among-either (gained_below st
 -- ---- the base
 
 -- the sets that stay and what is gained, put in order
-pub base-left : (n : ℕ) (b staying : List Items) (broken : List Broken) (gs list : List Items) (r : Query) → staying ≡ left_by r b → broken ≡ map (broken_in b) (filter (λ k. breaks k r) b) → gs ≡ least_sets (near b r)
+pub base-left : (n : ℕ) (b staying : List Items) (broken : List Broken) (gs list : List Items) (r : Query) → staying ≡ left_by r b → broken ≡ map (broken_in b) (filter (λ k. breaks k r) b) → IsBelow gs (near b r)
     → IsInOrder list → ((k : Items) → is_among list k ≡ is_among (staying ++ gained_below staying broken gs n) k) → base (spanned n b) ≡ b → base (left_by r (spanned n b)) ≡ list
 base-left n b staying broken gs list r a d l order same e =
     let f = spanned n b in
     let family = spanned-IsUnionFamily n b in
-    let low : IsBelow gs (near f r) = subst (λ s. IsBelow s (near f r)) (ap (λ g. least_sets (near g r)) e ∙ sym l) (near_least-below f r) in
+    let low : IsBelow gs (near f r) =
+    below-through gs (near (base f) r) (near f r) (subst (λ g. IsBelow gs (near g r)) (sym e) l) (near-below f r) in
     let kept : left_by r (base f) ≡ staying = ap (left_by r) e ∙ sym a in
     let here = λ (i : ℕ). let x : gained f r gs i ≡ gained_at staying broken gs i =
     sym (gained_at-is f r gs i (spanned-in_order n b)) ∙ ap₂ (λ s m. gained_at s m gs i) kept (ap (λ g. map (broken_in g) (filter (λ k. breaks k r) g)) e ∙ sym d) in x in

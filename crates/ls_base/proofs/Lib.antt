@@ -13,3 +13,4 @@ pub mod Reduced
 pub mod OwnItems
 pub mod Rising
 pub mod Grouped
+pub mod Lowest

@@ -1,5 +1,5 @@
 -- The items of a base set that no base set below it has: those at which it is an atom.
-use Rattle.ls_base.proofs.Vocabulary.{Bool, Decides-is_same, IsInOrder, IsWithin, Items, List, Some, [], add-one, among-filter, among-here, among-there, and_from, and_parts, ap, arith, as_many, atom_items, base, base-in_order, base-member, base-needed, base-spans, bound, bound-has, cases_eq, drop, drop-next, drop_all, empty, eq-eqb, eqb-true, false, false_from_ne_true, filter, filter-both, from-interior, get_or, has, has-empty, has-interior, has-meet, has-minus, has-single, has-union, inl, inr, interior-within, is_among, is_atom_at, is_proper, is_same, is_within, is_within-from, items, leb, len, len-one, len-single, len-zero, length, length-drop, list_any, ltb, meet, members, minus, needed, not, not-true, not_from_false, numbers_from, or_cases, or_right, refl, same_set, same_within, set_of, single, slice_get, slice_get_read, some-filter, some-same, subst, suc, sym, take, take_all, to-interior, true, true_from_ne_false, true≢false, union, union-empty_right, union_below, zero, ℕ, ◌&&◌, ◌+◌, ◌-◌, ◌<◌, ◌∙◌, ◌∷◌, ◌≡◌, ◌≢◌, ◌≤◌}
+use Rattle.ls_base.proofs.Vocabulary.{Bool, Decides-is_same, IsInOrder, IsWithin, IsWithin-from, Items, List, Some, [], add-one, among-filter, among-here, among-there, and_from, and_parts, ap, arith, as_many, atom_items, base, base-in_order, base-member, base-needed, base-spans, bound, bound-has, cases_eq, drop, drop-next, drop_all, empty, eq-eqb, eqb-true, false, false_from_ne_true, filter, filter-both, from-interior, get_or, has, has-empty, has-interior, has-meet, has-minus, has-single, has-union, inl, inr, interior-within, is_among, is_atom_at, is_proper, is_same, is_within, is_within-from, items, leb, len, len-one, len-single, len-zero, length, length-drop, list_any, ltb, meet, members, minus, needed, not, not-true, not_from_false, numbers_from, or_cases, or_right, refl, same_set, same_within, set_of, single, slice_get, slice_get_read, some-filter, some-same, subst, suc, sym, take, take_all, to-interior, true, true_from_ne_false, true≢false, union, union-empty_right, union_below, zero, ℕ, ◌&&◌, ◌+◌, ◌-◌, ◌<◌, ◌∙◌, ◌∷◌, ◌≡◌, ◌≢◌, ◌≤◌}
 use Rattle.std.proofs.lemmas.Bool.Decides.{nat_tests}
 use Rattle.ls_set.proofs.Cursors.{has-set_of-filter}
 use Rattle.ls_base.proofs.Below.{below-unites}
@@ -22,6 +22,21 @@ minus-none s = same_set s (minus s empty) (λ i. grind (arith, members))
 pub told-none : (s : Items) (sets : List Items) → IsTold s empty sets
 told-none s sets j h = absurd (true≢false (sym (and_parts (has s j) (has empty j)
     (sym (has-meet s empty j) ∙ h)).1 ∙ has-empty j))
+
+-- one more set that lies below it is told of
+pub told-more : (s known next more : Items) (sets : List Items) → more ≡ union known next
+    → is_proper next s ≡ true → is_among sets next ≡ true → IsTold s known sets
+    → IsTold s more sets
+told-more s known next more sets is proper there told j h =
+    let both = and_parts (has s j) (has more j) (sym (has-meet s more j) ∙ h) in
+    let either = sym (has-union known next j) ∙ ap (λ u. has u j) (sym is) ∙ both.1 in
+    elim (or_cases (has known j) (has next j) either) [
+      | inl a ↦ told j (has-meet s known j ∙ and_from (has s j) (has known j) both.0 a)
+      | inr b ↦ to-interior (filter (λ l. is_proper l s) sets) s next j
+          (among-filter (λ l. is_proper l s) sets next
+          ∙ and_from (is_among sets next) (is_proper next s) there proper)
+          (IsWithin-from next s (and_parts (is_within next s) (not (is_same next s)) proper).0) b
+    ]
 
 minus-more : (s u v k : Items) → minus (minus s (union v u)) k ≡ minus s (union v (union k u))
 minus-more s u v k =
@@ -203,11 +218,22 @@ own-atoms f k = same_set (minus k (union_below (base f) k)) (set_of (atom_items 
     has-minus k (union_below (base f) k) i ∙ ap (λ b. has k i && not b) (has-below (base f) k i) ∙ is_atom_at-base f i k ∙ sym (has-atom_items f k i))
 
 -- what lies below the set at a place of the base lies in the part after it
+-- so what lies below a set of a list in order is told by the sets behind it
+pub after-place : (sets after : List Items) (p : ℕ) (k : Items) → IsInOrder sets
+    → p < length sets → k ≡ get_or sets p k
+    → after ≡ take (length sets - (p + 1)) (drop (p + 1) sets)
+    → union_below after k ≡ union_below sets k
+after-place sets after p k order l e rest =
+    let at : slice_get sets p ≡ Some k = slice_get_read sets (length sets) p k refl l e in
+    let whole : after ≡ drop (suc p) sets =
+    rest ∙ take_all (length sets - (p + 1)) (drop (p + 1) sets)
+    (omega (arith, length-drop (p + 1) sets)) ∙ ap (λ i. drop i sets) (add-one p) in
+    ap (λ g. union_below g k) whole ∙ sym (below-place sets p k order at)
+
 pub own-place : (f sets after : List Items) (p : ℕ) (k : Items) → IsInOrder f → base f ≡ sets → p < length sets → k ≡ get_or sets p k → after ≡ take (length sets - (p + 1)) (drop (p + 1) sets) → union_below after k ≡ union_below (base f) k
 own-place f sets after p k order is l e rest =
-    let at : slice_get sets p ≡ Some k = slice_get_read sets (length sets) p k refl l e in
-    let whole : after ≡ drop (suc p) sets = rest ∙ take_all (length sets - (p + 1)) (drop (p + 1) sets) (omega (arith, length-drop (p + 1) sets)) ∙ ap (λ i. drop i sets) (add-one p) in
-    ap (λ g. union_below g k) whole ∙ sym (below-place sets p k (subst IsInOrder is (base-in_order f order)) at) ∙ ap (λ g. union_below g k) (sym is)
+    after-place sets after p k (subst IsInOrder is (base-in_order f order)) l e rest
+    ∙ ap (λ g. union_below g k) (sym is)
 
 pub own-less : (f sets after : List Items) (p : ℕ) (k : Items) → IsInOrder f → base f ≡ sets → p < length sets → k ≡ get_or sets p k → after ≡ take (length sets - (p + 1)) (drop (p + 1) sets) → is_same (union_below after k) k ≡ false
 own-less f sets after p k order is l e rest =

@@ -1,16 +1,18 @@
 // Bases.
-ghost use Rattle.std.specs.Prelude.{◌≡◌, ◌<◌, ◌≤◌, true, not, Ok, length, slice_index_or, IsTrue};
-ghost use Rattle.std.specs.Prelude.{IfOk, IfErr, OnOk};
+ghost use Rattle.std.specs.Prelude.{◌≡◌, ◌<◌, ◌≤◌, true, not, Ok, filter, length, slice_index_or};
+ghost use Rattle.std.specs.Prelude.{IfOk, IfErr, IsTrue, OnOk};
 ghost use Rattle.ls_set.specs.{empty, is_good, subsets};
 ghost use Rattle.ls_theory.specs.Queries.{some_breaks};
 ghost use Rattle.ls_theory.specs.Bases.{base, atom_sets, based, is_atom_at};
 ghost use Rattle.ls_theory.specs.Bases.{atoms_at, most_base_sets};
-ghost use Rattle.ls_laws.specs.Spans.{AreOn, left_by, spanned};
+ghost use Rattle.ls_laws.specs.Spans.{AreOn, left_by, spanned, touches};
+ghost use Rattle.ls_changes.specs.Least.{IsBelow};
 ghost use Rattle.ls_base.specs.Bases.{family, single_sets, own_items, IsBaseFault};
 ghost use Rattle.ls_base.specs.Bases.{IsPastOf, IsOfMany};
 
 use crate::atoms::is_atom_at;
 use crate::fault::PastFault;
+use crate::least::lowest_touching;
 use crate::left::{base_left, some_break};
 use crate::own::own_items;
 use crate::reduction::base_of;
@@ -152,6 +154,15 @@ impl Base {
         ensures few { length self.now.sets ≤ most_base_sets }
     {
         !some_break(&self.sets, r)
+    }
+
+    /// Some of the sets that have an item of `items`: within each that has one lies one of them.
+    pub fn lowest_touching(&self, items: ItemSet) -> Result<Vec<ItemSet>, AllocError>
+        ensures below { IfOk result (λ lowest.
+            IsBelow lowest.items (filter (λ k. touches k items) self.now.sets)) }
+        ensures few { IfOk result (λ lowest. length lowest.items ≤ most_base_sets) }
+    {
+        lowest_touching(self.alloc, &self.sets, items)
     }
 
     /// Whether the set at a place, counted from 0, is an atom at item `q`.

@@ -1,37 +1,50 @@
-// The least sets of a list, and the least joins of two lists.
-ghost use Rattle.std.specs.Prelude.{◌≡◌, ◌&&◌, ◌++◌, map, filter, IfOk, OnOk};
+// Sets of a list that lie lowest, and the least joins of two lists.
+ghost use Rattle.std.specs.Prelude.{◌≡◌, ◌≤◌, ◌&&◌, ◌++◌, map, filter, length};
+ghost use Rattle.std.specs.Prelude.{IfOk, OnOk};
 ghost use Rattle.std.specs.List.{list_any};
-ghost use Rattle.ls_set.specs.{is_within, union};
-ghost use Rattle.ls_laws.specs.Spans.{is_proper, joins};
-ghost use Rattle.ls_changes.specs.Least.{least_sets};
+ghost use Rattle.ls_set.specs.{is_same, is_within, union};
+ghost use Rattle.ls_laws.specs.Spans.{is_proper, joins, touches};
+ghost use Rattle.ls_changes.specs.Least.{IsBelow};
 ghost use Rattle.ls_base.specs.Gains.{least_size, is_gained};
 
 use crate::unions::is_proper;
 use ls_set::ItemSet;
 use std::alloc::{AllocError, Global};
 
-// Whether another set of the list lies within the set.
-fn has_proper(sets: &[ItemSet], set: ItemSet) -> bool
-    ensures { result ≡ list_any (λ l. is_proper l set) sets.now }
-{
-    sets.iter().any(|l| is_proper(*l, set))
-}
-
-/// The sets of the list within which no other lies.
-pub fn least_sets(alloc: Global, sets: &[ItemSet]) -> Result<Vec<ItemSet>, AllocError>
-    ensures { IfOk result (λ least. least.items ≡ least_sets sets.now) }
-{
-    sets.iter()
-        .copied()
-        .filter(|set| !has_proper(sets, *set))
-        .collect(alloc)
-}
-
 // Whether some set of the list lies within the set.
 fn has_within(sets: &[ItemSet], set: ItemSet) -> bool
     ensures { result ≡ list_any (λ l. is_within l set) sets.now }
 {
     sets.iter().any(|l| l.is_within(set))
+}
+
+// Whether the two have an item in common.
+#[tactic(auto, unfolding(ls_set::specs::ItemSet::is_same))]
+fn touches(set: ItemSet, other: ItemSet) -> bool
+    ensures { result ≡ touches set other }
+{
+    set.meet(other) != ItemSet::empty()
+}
+
+/// Some of the sets that have an item of `items`: within each that has one lies one of them.
+/// They are few where sets stand behind those that they lie within, as in the order of sets.
+pub fn lowest_touching(
+    alloc: Global,
+    sets: &[ItemSet],
+    items: ItemSet,
+) -> Result<Vec<ItemSet>, AllocError>
+    ensures below { IfOk result (λ lowest.
+        IsBelow lowest.items (filter (λ k. touches k items) sets.now)) }
+    ensures few { IfOk result (λ lowest. length lowest.items ≤ length sets.now) }
+{
+    let mut lowest = Vec::new(alloc);
+    for place in (0..sets.len()).rev() {
+        let set = sets[place];
+        if touches(set, items) && !has_within(&lowest, set) {
+            lowest.push(set)?;
+        }
+    }
+    Ok(lowest)
 }
 
 // Whether a union of the set with one of `near` lies within `k`, and is not the same.

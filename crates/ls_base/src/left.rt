@@ -1,12 +1,11 @@
 // The base of what a Yes leaves of a space.
 ghost use Rattle.std.specs.Prelude.{◌≡◌, ◌<◌, ◌≤◌, ◌++◌, true, false, map, filter, IfOk, OnOk};
-ghost use Rattle.ls_set.specs.{Items, is_among, is_same};
+ghost use Rattle.ls_set.specs.{IsInOrder, Items, is_among, is_same};
 ghost use Rattle.ls_theory.specs.{base, breaks, some_breaks};
-ghost use Rattle.ls_laws.specs.Spans.{touches, left_by, spanned, union_below};
-ghost use Rattle.ls_changes.specs.Least.{having};
+ghost use Rattle.ls_laws.specs.Spans.{left_by, spanned, union_below};
 ghost use Rattle.ls_base.specs.Gains.{broken_in, broken_at, gained_at, gained_below};
 
-use crate::least::{least_sets, push_joins};
+use crate::least::{lowest_touching, push_joins};
 use crate::own::own_items;
 use crate::reduction::put_in_order;
 use ls_set::{ItemSet, PLACES, Query};
@@ -36,14 +35,6 @@ pub fn some_break(sets: &[ItemSet], r: &Query) -> bool
     sets.iter().any(|set| breaks(*set, r))
 }
 
-// Whether the two have an item in common.
-#[tactic(auto, unfolding(ls_set::specs::ItemSet::is_same))]
-fn touches(set: ItemSet, other: ItemSet) -> bool
-    ensures { result ≡ touches set other }
-{
-    set.meet(other) != ItemSet::empty()
-}
-
 // The sets that do not break the query.
 fn staying_sets(alloc: Global, sets: &[ItemSet], r: &Query) -> Result<Vec<ItemSet>, AllocError>
     requires { r.now.q < PLACES }
@@ -51,26 +42,6 @@ fn staying_sets(alloc: Global, sets: &[ItemSet], r: &Query) -> Result<Vec<ItemSe
 {
     let staying = sets.iter().copied().filter(|set| !breaks(*set, r));
     staying.collect(alloc)
-}
-
-// The sets that have an item in common with the given one.
-fn touching_sets(
-    alloc: Global,
-    sets: &[ItemSet],
-    other: ItemSet,
-) -> Result<Vec<ItemSet>, AllocError>
-    ensures { IfOk result (λ v. v.items ≡ filter (λ g. touches g other) sets.now) }
-{
-    let touching = sets.iter().copied().filter(|set| touches(*set, other));
-    touching.collect(alloc)
-}
-
-// The sets that have the item.
-fn having(alloc: Global, sets: &[ItemSet], i: u32) -> Result<Vec<ItemSet>, AllocError>
-    requires { i < PLACES }
-    ensures { IfOk result (λ v. v.items ≡ having i sets.now) }
-{
-    sets.iter().copied().filter(|set| set.has(i)).collect(alloc)
 }
 
 // The set, with those of its items that no set of the list below it has.
@@ -85,15 +56,17 @@ fn broken_in(sets: &[ItemSet], set: ItemSet) -> Broken
 // The sets that break the query. None is the union of those below it.
 fn broken_sets(alloc: Global, sets: &[ItemSet], r: &Query) -> Result<Vec<Broken>, AllocError>
     requires place { r.now.q < PLACES }
+    requires in_order { IsInOrder sets.now }
     requires needed { (k : Items) → is_among sets.now k ≡ true →
         is_same (union_below sets.now k) k ≡ false }
     ensures { IfOk result (λ v.
         v.items ≡ map (broken_in sets.now) (filter (λ k. breaks k r.now) sets.now)) }
 {
     let mut broken = Vec::new(alloc);
-    for set in sets {
-        if breaks(*set, r) {
-            broken.push(broken_in(sets, *set))?;
+    for place in 0..sets.len() {
+        let set = sets[place];
+        if breaks(set, r) {
+            broken.push(broken_in(&sets[place + 1..], set))?;
         }
     }
     Ok(broken)
@@ -125,7 +98,7 @@ fn push_gained(
     if breaking.is_empty() {
         return Ok(());
     }
-    let there = having(alloc, staying, i)?;
+    let there = lowest_touching(alloc, staying, ItemSet::empty().with(i))?;
     push_joins(left, &there, &breaking, near)
 }
 
@@ -153,8 +126,8 @@ fn push_all_gained(
 ///
 /// It has the sets that do not break the query. At each item at which a set that breaks it is an
 /// atom, it gains joins, each the union of such a set with one that has an item of its A: those
-/// within which no other lies, and no set with the item that stays. Of the sets with an item of A
-/// those suffice within which no other such set lies.
+/// within which no other lies, and no set with the item that stays. Of the sets with an item of A,
+/// and of those that stay, the ones that lie lowest suffice.
 pub fn base_left(
     alloc: Global,
     n: u32,
@@ -171,7 +144,7 @@ pub fn base_left(
     }
     let staying = staying_sets(alloc, sets, r)?;
     let broken = broken_sets(alloc, sets, r)?;
-    let near = least_sets(alloc, &touching_sets(alloc, sets, r.a)?)?;
+    let near = lowest_touching(alloc, sets, r.a)?;
     let mut left = Vec::from_slice(alloc, &staying)?;
     push_all_gained(&mut left, alloc, n, &staying, &broken, &near)?;
     put_in_order(&mut left);

@@ -20,7 +20,7 @@ pub fn single_items(sets: &[ItemSet]) -> ItemSet
 }
 
 /// The items of the set that are in none of the sets of the list that lie within it and are not the
-/// same; there is one at least. The list is walked from its end, until one item is left.
+/// same; there is one at least.
 pub fn own_items(sets: &[ItemSet], set: ItemSet) -> ItemSet
     requires needed { is_same (union_below sets.now set) set ≡ false }
     ensures { result ≡ minus set (union_below sets.now set) }
@@ -29,7 +29,21 @@ pub fn own_items(sets: &[ItemSet], set: ItemSet) -> ItemSet
 }
 
 /// The same, where it is known of some items that a set of several has none of them for its own.
+/// The first set of the list is asked first: behind a set in the order often comes one that lacks
+/// one item.
 pub fn own_items_but(sets: &[ItemSet], set: ItemSet, known: ItemSet) -> ItemSet
+    requires needed { is_same (union_below sets.now set) set ≡ false }
+    requires known { len set ≢ 1 → IsWithin (meet set known) (union_below sets.now set) }
+    ensures { result ≡ minus set (union_below sets.now set) }
+{
+    match sets.first() {
+        Some(next) if is_proper(*next, set) => own_items_from_end(sets, set, known.union(*next)),
+        _ => own_items_from_end(sets, set, known),
+    }
+}
+
+// The same. The list is walked from its end, until one item is left.
+fn own_items_from_end(sets: &[ItemSet], set: ItemSet, known: ItemSet) -> ItemSet
     requires needed { is_same (union_below sets.now set) set ≡ false }
     requires known { len set ≢ 1 → IsWithin (meet set known) (union_below sets.now set) }
     ensures { result ≡ minus set (union_below sets.now set) }

@@ -1,8 +1,8 @@
 -- Trials: they look at gradation alone, and most need not be made again.
 use Rattle.std.proofs.Common.{ℕ, zero, suc, ◌+◌, ◌*◌, ◌≤◌, ◌≡◌, Bool, true, false, cond, not, ◌&&◌}
 use Rattle.std.proofs.Common.{List, [], ◌∷◌, ◌++◌, map, filter, length, length-append, append_assoc}
-use Rattle.std.proofs.Common.{append-nil, Some, None, refl, sym, ap, ap₂, ◌∙◌, subst, arith}
-use Rattle.std.proofs.Common.{ltb-true, lt-ltb}
+use Rattle.std.proofs.Common.{inl, inr, append-nil, Some, None, refl, sym, ap, ap₂, ◌∙◌, subst}
+use Rattle.std.proofs.Common.{arith, ltb-true, lt-ltb}
 use Rattle.std.specs.List.{list_any, list_all}
 use Rattle.std.specs.Option.{option_map_or}
 use Rattle.std.proofs.lemmas.Bool.{and_from, and_parts, not-true}
@@ -14,19 +14,24 @@ use Rattle.ls_set.specs.declared.query.Query.{Query}
 use Rattle.ls_set.specs.Query.{is_good}
 use Rattle.ls_theory.specs.Queries.{breaks}
 use Rattle.ls_theory.specs.Families.{is_space}
-use Rattle.ls_theory.specs.Bases.{base, is_atom_at}
+use Rattle.ls_theory.specs.Bases.{atoms_at, base, is_atom_at}
 use Rattle.ls_theory.specs.Verdict.{is_well_graded}
-use Rattle.ls_laws.specs.Spans.{is_double, joins, touches, after_yes}
+use Rattle.ls_laws.specs.Spans.{is_double, joins, left_by}
 use Rattle.ls_laws.specs.Families.{IsFamily}
 use Rattle.ls_laws.proofs.Lists.{some-among}
 use Rattle.ls_laws.proofs.Breaks.{among-left_from, among-left_parts, good-from}
 use Rattle.ls_laws.proofs.Interiors.{space-from}
 use Rattle.ls_laws.proofs.Compat.{left-space}
 use Rattle.ls_laws.proofs.Atoms.{IsAtom, IsAtom-from, is_atom_at-from, base-atom, base-member}
-use Rattle.ls_laws.proofs.Atoms.{base-least, among-base}
+use Rattle.ls_laws.proofs.Atoms.{among-base}
 use Rattle.ls_laws.proofs.Spans.{base-in_order}
-use Rattle.ls_laws.proofs.Remains.{after_yes-part, after_yes-whole}
+use Rattle.ls_laws.proofs.Remains.{among-joins, from-joins}
 use Rattle.ls_laws.proofs.WellGraded.{is_well_graded-atoms}
+use Rattle.ls_changes.specs.Least.{IsBelow, gained, has_none_within, having, joined}
+use Rattle.ls_changes.specs.Least.{least_sets, near}
+use Rattle.ls_changes.proofs.Least.{IsLeast-from, among-from, among-left, among-parts, among-right}
+use Rattle.ls_changes.proofs.Least.{below-through}
+use Rattle.ls_changes.proofs.Atoms.{atom-of, base-cases, near-below}
 use Rattle.ls_origins.specs.Safe.{trial, is_safe, Safe, applied_first, passes, settled, awaited}
 use Rattle.ls_origins.specs.Safe.{tried, tried_in, all_tried, safe_turn, first_past, turn_past}
 use Rattle.ls_origins.proofs.Lengths.{no_longer}
@@ -359,21 +364,38 @@ length-joins (k ∷ ks) gs =
     flip : (a b : ℕ) → a + b ≡ b + a
     flip a b = omega arith
 
-pub trial-few : (n : ℕ) (f : List Items) (r : Query) → IsFamily n f
-    → length (base (trial r f)) ≤ length (trial r (base f)) + length
-    (filter (λ k. breaks k r) (base f)) * length (filter (λ g. touches g r.a) (base f))
-unfolding after_yes
-trial-few n f r family =
+-- what is gained is a join of a base set that breaks the query with one of the list
+gained-join : (f : List Items) (r : Query) (gs : List Items) (i : ℕ) (k : Items)
+    → is_among (gained f r gs i) k ≡ true
+    → is_among (joins (filter (λ k. breaks k r) (base f)) gs) k ≡ true
+gained-join f r gs i k c =
+    let there = filter (λ k. breaks k r) (atoms_at f i) in
+    let least =
+    among-parts (has_none_within (having i (left_by r (base f)))) (least_sets (joined f r gs i)) k
+    c in
+    let j = from-joins k there gs (IsLeast-from (joined f r gs i) k least.0).member in
+    let p = among-parts (λ k. breaks k r) (atoms_at f i) j.left j.left_in in
+    let broken = among-from (λ k. breaks k r) (base f) j.left
+    (among-base f i j.left (atom-of f i j.left p.0)) p.1 in
+    subst (λ s. is_among (joins (filter (λ k. breaks k r) (base f)) gs) s ≡ true) (sym j.is)
+    (among-joins j.left j.right (filter (λ k. breaks k r) (base f)) gs broken j.right_in)
+
+pub trial-few : (n : ℕ) (f : List Items) (r : Query) (gs : List Items) → IsFamily n f
+    → IsBelow gs (near (base f) r)
+    → length (base (trial r f)) ≤ length (trial r (base f))
+    + length (filter (λ k. breaks k r) (base f)) * length gs
+trial-few n f r gs family low =
     let b = base f in
-    let part =
-    base-least (trial r f) (after_yes b r) (after_yes-part f r family.holds_unions)
-    (after_yes-whole f r) in
+    let js = joins (filter (λ k. breaks k r) b) gs in
+    let below = below-through gs (near b r) (near f r) low (near-below f r) in
     let few =
-    no_longer (base (trial r f)) (after_yes b r)
-    (base-in_order (trial r f) (left-family n f r family).in_order) part in
+    no_longer (base (trial r f)) (trial r b ++ js)
+    (base-in_order (trial r f) (left-family n f r family).in_order)
+    (λ k c. elim (base-cases f r gs family.holds_unions below k c) [
+      | inl a ↦ among-left (trial r b) js k a
+      | inr x ↦ among-right (trial r b) js k (gained-join f r gs x.0 k x.1)
+    ]) in
     let e =
-    length-append
-    (trial r b) (joins (filter (λ k. breaks k r) b) (filter (λ g. touches g r.a) b)) ∙ ap
-    (λ m. length (trial r b) + m)
-    (length-joins (filter (λ k. breaks k r) b) (filter (λ g. touches g r.a) b)) in
+    length-append (trial r b) js ∙ ap (λ m. length (trial r b) + m)
+    (length-joins (filter (λ k. breaks k r) b) gs) in
     omega arith

@@ -12,11 +12,12 @@ use Rattle.ls_theory.specs.Queries.{breaks}
 use Rattle.ls_theory.specs.Bases.{atom_items, base, most_base_sets}
 use Rattle.ls_theory.specs.Verdict.{base_verdict, double_atom, is_well_graded}
 use Rattle.ls_theory.specs.declared.verdict.BaseVerdict.TheVariants.{Learning, NotGraded}
-use Rattle.ls_laws.specs.Spans.{is_double, touches}
+use Rattle.ls_laws.specs.Spans.{is_double}
 use Rattle.ls_laws.specs.Families.{IsFamily}
 use Rattle.ls_laws.proofs.Atoms.{base-member}
 use Rattle.ls_laws.proofs.Breaks.{among-left_parts}
 use Rattle.ls_laws.proofs.WellGraded.{is_well_graded-atoms}
+use Rattle.ls_changes.specs.Least.{IsBelow, near}
 use Rattle.ls_origins.specs.Safe.{trial, is_safe}
 use Rattle.ls_origins.specs.declared.safe_answer.SafeAnswer.{SafeAnswer}
 use Rattle.ls_safe.specs.Turns.{is_past}
@@ -172,16 +173,17 @@ pub few-of : (p : Items → Bool) (xs : List Items) → length xs ≤ most_base_
     → length (filter p xs) ≤ most_base_sets
 few-of p xs few = let le = filter-few p xs in omega arith
 
-pub few-within : (n : ℕ) (f sets : List Items) (r : Query) → IsFamily n f → base f ≡ sets
+pub few-within : (n : ℕ) (f sets : List Items) (r : Query) (gs : List Items) → IsFamily n f
+    → base f ≡ sets → IsBelow gs (near sets r)
     → length sets - length (filter (λ k. breaks k r) sets)
-    + length (filter (λ k. breaks k r) sets) * length (filter (λ g. touches g r.a) sets)
+    + length (filter (λ k. breaks k r) sets) * length gs
     ≤ most_base_sets
     → is_past most_base_sets (trial r f) ≡ false
-few-within n f sets r family is few =
+few-within n f sets r gs family is low few =
     let bound : length (base (trial r f)) ≤ length (trial r sets)
-    + length (filter (λ k. breaks k r) sets) * length (filter (λ g. touches g r.a) sets) =
+    + length (filter (λ k. breaks k r) sets) * length gs =
     subst (λ b. length (base (trial r f)) ≤ length (trial r b)
-    + length (filter (λ k. breaks k r) b) * length (filter (λ g. touches g r.a) b)) is
-    (trial-few n f r family) in
+    + length (filter (λ k. breaks k r) b) * length gs) is
+    (trial-few n f r gs family (subst (λ b. IsBelow gs (near b r)) (sym is) low)) in
     let parts = parted-length (λ k. breaks k r) sets in
     le-ltb most_base_sets (length (base (trial r f))) (omega arith)

@@ -9,8 +9,9 @@ ghost use Rattle.ls_theory.specs.Queries.{breaks};
 ghost use Rattle.ls_theory.specs.Families.{is_space};
 ghost use Rattle.ls_theory.specs.Bases.{base};
 ghost use Rattle.ls_theory.specs.Verdict.{is_well_graded};
-ghost use Rattle.ls_laws.specs.Spans.{is_double, touches};
+ghost use Rattle.ls_laws.specs.Spans.{is_double};
 ghost use Rattle.ls_laws.specs.Families.{IsFamily};
+ghost use Rattle.ls_changes.specs.Least.{IsBelow, near};
 ghost use Rattle.ls_origins.specs.Safe.{trial, is_safe, Safe, settled, awaited, all_tried};
 ghost use Rattle.ls_origins.specs.Safe.{safe_turn, first_past, turn_past};
 ghost use Rattle.ls_safe.specs.Turns.{is_past, is_still, are_still};
@@ -96,11 +97,11 @@ pub fn doubles_stay()
 {}
 
 /// The base of a trial has no more sets than stay of the base, with each union of one that breaks
-/// the query and one that has an item of its A. Where these are few, it need not be formed to know
-/// that it is not past.
+/// the query and one of a list: base sets with an item of its A, one of which lies within each that
+/// has one. Where these are few, it need not be formed to know that it is not past.
 pub fn trials_have_few_sets()
-    ensures { (n : ℕ) (f : List Items) (r : Query) → IsFamily n f →
+    ensures { (n : ℕ) (f : List Items) (r : Query) (gs : List Items) → IsFamily n f →
+        IsBelow gs (near (base f) r) →
         length (base (trial r f)) ≤ length (trial r (base f))
-        + length (filter (λ k. breaks k r) (base f))
-        * length (filter (λ g. touches g r.a) (base f)) }
+        + length (filter (λ k. breaks k r) (base f)) * length gs }
 {}

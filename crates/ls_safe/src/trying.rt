@@ -6,7 +6,6 @@ ghost use Rattle.ls_set.specs.Query.{is_good};
 ghost use Rattle.ls_theory.specs.Bases.{base, most_base_sets};
 ghost use Rattle.ls_theory.specs.Queries.{breaks};
 ghost use Rattle.ls_theory.specs.Verdict.{is_learning_space};
-ghost use Rattle.ls_laws.specs.Spans.{touches};
 ghost use Rattle.ls_base.specs.Bases.{family};
 ghost use Rattle.ls_origins.specs.Safe.{trial};
 ghost use Rattle.ls_safe.specs.Turns.{is_over, is_past};
@@ -74,14 +73,6 @@ fn breaks(set: ItemSet, r: &Query) -> bool
     set.meet(r.a) == ItemSet::empty() && set.has(r.q)
 }
 
-// Whether the two have an item in common.
-#[tactic(auto, unfolding(ls_set::specs::ItemSet::is_same))]
-fn touches(set: ItemSet, other: ItemSet) -> bool
-    ensures { result ≡ touches set other }
-{
-    set.meet(other) != ItemSet::empty()
-}
-
 // How many of the sets break the query.
 fn count_breaking(sets: &[ItemSet], r: &Query) -> usize
     requires { r.now.q < PLACES }
@@ -90,16 +81,9 @@ fn count_breaking(sets: &[ItemSet], r: &Query) -> usize
     sets.iter().filter(|set| breaks(**set, r)).count()
 }
 
-// How many of the sets have an item in common with the given one.
-fn count_touching(sets: &[ItemSet], other: ItemSet) -> usize
-    ensures { result ≡ length (filter (λ g. touches g other) sets.now) }
-{
-    sets.iter().filter(|set| touches(**set, other)).count()
-}
-
 // Whether the base of the trial of the query is seen not to be too large, with no such base formed:
 // by how many sets stay, and how many unions there can be of a set that breaks the query and one
-// that has an item of its A.
+// of those that lie lowest among the sets with an item of its A. Without memory for these it isn't.
 fn has_few_sets(b: &Base, r: &Query) -> bool
     requires { is_good b.now.item_count r.now ≡ true }
     ensures { result ≡ true → is_past most_base_sets (trial r.now (family b.now)) ≡ false }
@@ -107,7 +91,10 @@ fn has_few_sets(b: &Base, r: &Query) -> bool
     let sets = b.sets();
     let breaking = count_breaking(sets, r);
     let staying = sets.len() - breaking;
-    staying + breaking * count_touching(sets, r.a) <= MOST_BASE_SETS
+    match b.lowest_touching(r.a) {
+        Ok(lowest) => staying + breaking * lowest.len() <= MOST_BASE_SETS,
+        Err(_) => false,
+    }
 }
 
 /// Whether the answer is applied, or is seen to wait without a trial: its witness is a member, and

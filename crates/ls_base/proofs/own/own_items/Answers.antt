@@ -1,4 +1,4 @@
-use Rattle.ls_base.proofs.Vocabulary.{empty, subst, sym}
+use Rattle.ls_base.proofs.Vocabulary.{subst, sym}
 use Rattle.ls_base.proofs.OwnItems.{IsTold, told-none}
 use Rattle.ls_base.proofs.own.own_items.Goals as goal
 

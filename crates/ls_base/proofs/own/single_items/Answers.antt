@@ -1,4 +1,4 @@
-use Rattle.ls_base.proofs.Vocabulary.{◌+◌, ◌∙◌, ap, has, has-empty, subst, sym, true≢false}
+use Rattle.ls_base.proofs.Vocabulary.{◌∙◌, ap, has, has-empty, subst, sym, true≢false}
 use Rattle.ls_base.proofs.OwnItems.{AreSingles, singles-more}
 use Rattle.ls_base.proofs.own.single_items.Goals as goal
 use Rattle.ls_base.proofs.own.single_items.Goals.{then-len-eq1, else-len-eq1}
