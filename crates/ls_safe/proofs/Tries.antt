@@ -2,7 +2,8 @@
 use Rattle.std.proofs.Common.{ℕ, zero, suc, ◌+◌, ◌*◌, ◌≤◌, ◌≡◌, Bool, true, false, cond, not, ◌&&◌}
 use Rattle.std.proofs.Common.{List, [], ◌∷◌, ◌++◌, map, filter, length, length-append, append_assoc}
 use Rattle.std.proofs.Common.{inl, inr, append-nil, Some, None, refl, sym, ap, ap₂, ◌∙◌, subst}
-use Rattle.std.proofs.Common.{arith, ltb-true, lt-ltb}
+use Rattle.std.proofs.Common.{add_comm, arith, ltb-true, lt-ltb}
+use Rattle.std.proofs.lemmas.List.{length-map}
 use Rattle.std.specs.List.{list_any, list_all}
 use Rattle.std.specs.Option.{option_map_or}
 use Rattle.std.proofs.lemmas.Bool.{and_from, and_parts, not-true}
@@ -353,16 +354,9 @@ double-waits n f r k family there twice =
 length-joins : (ks gs : List Items) → length (joins ks gs) ≡ length ks * length gs
 length-joins [] gs = sym (zero-mul (length gs))
 length-joins (k ∷ ks) gs =
-    length-append (map (union k) gs) (joins ks gs) ∙ ap₂ (λ a b. a + b) (length-map (union k) gs)
-    (length-joins ks gs) ∙ flip (length gs) (length ks * length gs) ∙ sym
-    (suc-mul (length ks) (length gs))
-  where
-    length-map : {X Y : Type 0} (g : X → Y) (xs : List X) → length (map g xs) ≡ length xs
-    length-map g [] = refl
-    length-map g (x ∷ xs) = ap suc (length-map g xs)
-
-    flip : (a b : ℕ) → a + b ≡ b + a
-    flip a b = omega arith
+    length-append (map (union k) gs) (joins ks gs)
+    ∙ ap₂ (λ a b. a + b) (length-map gs (union k)) (length-joins ks gs)
+    ∙ add_comm (length gs) (length ks * length gs) ∙ sym (suc-mul (length ks) (length gs))
 
 -- what is gained is a join of a base set that breaks the query with one of the list
 gained-join : (f : List Items) (r : Query) (gs : List Items) (i : ℕ) (k : Items)
