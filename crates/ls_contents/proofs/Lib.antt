@@ -1,1 +1,2 @@
 mod TwoParts
+mod Delineated

@@ -7,7 +7,7 @@ ghost use Rattle.ls_contents.specs.TwoFiles.{right_bytes};
 
 use ls_domain::Domain;
 use ls_family::{Family, FamilyFault, files_have_sets_of_items};
-use ls_meaning::{Refusal, Response, Shown};
+use ls_meaning::{MeshStates, Refusal, Response, Shown};
 use ls_mesh::{Mesh, MeshFault};
 use ls_set::{ItemSet, SetList};
 use std::alloc::{AllocError, Global};
@@ -44,12 +44,16 @@ pub fn page_of_mesh(
         (sets_of domain.now files.now.left.items) (sets_of domain.now (right_bytes files.now))) }
 {
     match read_mesh(alloc, domain, files)? {
-        Ok(mesh) => Ok(Response::Shown(Shown::Mesh {
-            left: SetList::from_slice(alloc, mesh.left())?,
-            right: SetList::from_slice(alloc, mesh.right())?,
-            count,
-            after,
-        })),
+        Ok(mesh) => {
+            let left = SetList::from_slice(alloc, mesh.left())?;
+            let right = SetList::from_slice(alloc, mesh.right())?;
+            let items = domain.count();
+            Ok(Response::Shown(Shown::Mesh {
+                states: MeshStates { items, left, right },
+                count,
+                after,
+            }))
+        }
         Err(refusal) => Ok(Response::Refused(refusal)),
     }
 }

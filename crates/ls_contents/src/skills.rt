@@ -1,10 +1,11 @@
 // Pages of the states that a skill map delineates.
 ghost use Rattle.std.specs.Prelude.{◌≡◌, [], IfOk, length};
+ghost use Rattle.ls_laws.specs.Spans.{AreOn};
 ghost use Rattle.ls_files.specs.SkillFiles.{skills_of};
-ghost use Rattle.ls_meaning.specs.SkillRows.{delineated_by};
+ghost use Rattle.ls_meaning.specs.SkillRows.{delineated, delineated_by};
 
 use ls_domain::Domain;
-use ls_meaning::{Refusal, Response, Shown, SkillModel};
+use ls_meaning::{DualStates, Refusal, Response, Shown, SkillModel, UnionStates};
 use ls_origins::SkillFault;
 use ls_set::{ItemSet, SetList};
 use ls_skill::SkillMap;
@@ -27,14 +28,40 @@ pub fn delineate(
         Ok(map) => {
             let base = map.to_base(alloc)?;
             let sets = SetList::from_slice(alloc, base.sets())?;
-            Ok(Response::Shown(Shown::Delineated {
+            Ok(Response::Shown(page_of(
                 model,
+                domain.count(),
                 sets,
                 count,
                 after,
-            }))
+            )))
         }
         Err(SkillFault::Memory(e)) => Err(e),
         Err(fault) => Ok(Response::Refused(Refusal::Skills(fault))),
+    }
+}
+
+// A page of the states that sets of the items delineate.
+fn page_of(
+    model: SkillModel,
+    items: u32,
+    sets: SetList,
+    count: u32,
+    after: Option<ItemSet>,
+) -> Shown
+    requires { AreOn items sets }
+    ensures { result ≡ delineated items model sets count after }
+{
+    match model {
+        SkillModel::Disjunctive => Shown::Unions {
+            states: UnionStates { items, sets },
+            count,
+            after,
+        },
+        SkillModel::Conjunctive => Shown::Duals {
+            states: DualStates { items, sets },
+            count,
+            after,
+        },
     }
 }

@@ -7,7 +7,8 @@ ghost use Rattle.ls_files.specs.PairFiles.{relation_of};
 ghost use Rattle.ls_files.specs.SurmiseFiles.{surmise_of};
 ghost use Rattle.ls_meaning.specs.{start_of_base, start_of_clauses, start_of_sets, start_read};
 ghost use Rattle.ls_meaning.specs.Rows.{start_of_relation};
-ghost use Rattle.ls_contents.specs.Readings.{IsStartRead};
+ghost use Rattle.ls_meaning.specs.declared.request.StartFile.TheVariants as StartFile;
+ghost use Rattle.ls_contents.specs.Readings.{HasNumber, IsStartRead};
 
 use ls_base::Base;
 use ls_domain::Domain;
@@ -21,15 +22,16 @@ use ls_surmise::Surmise;
 use ls_theory::{BaseFault, SurmiseFault};
 use std::alloc::{AllocError, Global};
 
-/// The start that the bytes of a file give, or the refusal of bytes that give none. The error is
-/// want of memory.
+/// The start that the bytes of a file give, or the refusal of bytes that give none. The base of a
+/// relation's start has as many sets as there are items. The error is want of memory.
 pub fn read_start(
     alloc: Global,
     domain: &Domain,
     file: StartFile,
     bytes: &[u8],
 ) -> Result<Result<Start, Refusal>, AllocError>
-    ensures { IfOk result (IsStartRead domain.now (start_read file domain.now bytes.now)) }
+    ensures read { IfOk result (IsStartRead domain.now (start_read file domain.now bytes.now)) }
+    ensures number { IfOk result (HasNumber file (length domain.now)) }
 {
     match file {
         StartFile::Surmise => read_clauses(alloc, domain, bytes),
@@ -60,11 +62,15 @@ fn read_pairs(
     domain: &Domain,
     bytes: &[u8],
 ) -> Result<Result<Start, Refusal>, AllocError>
-    ensures { IfOk result (IsStartRead domain.now
+    ensures read { IfOk result (IsStartRead domain.now
         (start_of_relation (relation_of domain.now bytes.now))) }
+    ensures number { IfOk result (HasNumber StartFile.Relation (length domain.now)) }
 {
     match Relation::from_text(alloc, domain, bytes) {
-        Ok(relation) => Ok(Ok(Start::Clauses(relation.to_surmise(alloc)?))),
+        Ok(relation) => {
+            let _ = relation.items(); // it is an order
+            Ok(Ok(Start::Clauses(relation.to_surmise(alloc)?)))
+        }
         Err(PairFault::Memory(e)) => Err(e),
         Err(fault) => Ok(Err(Refusal::StartRelation(fault))),
     }

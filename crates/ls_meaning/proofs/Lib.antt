@@ -3,3 +3,4 @@ pub mod Marks
 mod Examples
 pub mod Refusing
 pub mod Effects
+mod Kept

@@ -7,6 +7,7 @@ pub mod FileRefusals
 pub mod Refusals
 pub mod Heads
 pub mod Notices
+pub mod StateLists
 pub mod Lines
 pub mod Effects
 pub mod RelationRows
@@ -16,6 +17,7 @@ pub mod MeshRows
 pub mod SafeRows
 pub mod Pupils
 pub mod Replies
+pub mod Looking
 pub mod Transcripts
 pub mod Saving
 pub use Rattle.ls_meaning.specs.Effects.{◌otherwise◌, Change, Effect, answers, changed, changes}

@@ -5,7 +5,7 @@ use Rattle.std.specs.List.{flat_map}
 use Rattle.ls_set.specs.{Items, comes_before, cursor}
 use Rattle.ls_set.specs.declared.query.Query.{Query}
 use Rattle.ls_theory.specs.declared.known.Known.{Known}
-use Rattle.ls_theory.specs.{Interview, Page, PupilResult, clauses_at, compatible_sets}
+use Rattle.ls_theory.specs.{Interview, Page, PupilResult, compatible_sets}
 use Rattle.ls_theory.specs.{is_lex_before, page, paths, projection}
 use Rattle.ls_theory.specs.declared.verdict.BaseVerdict.{BaseVerdict}
 use Rattle.ls_theory.specs.declared.verdict.BaseVerdict.TheVariants as of_base
@@ -21,7 +21,6 @@ use Rattle.ls_lines.specs.{Text}
 use Rattle.ls_domain.specs.Texts.{name_of, joined_names, set_text, fringe_words}
 use Rattle.ls_files.specs.SurmiseFiles.{surmise_text}
 use Rattle.ls_files.specs.SkillFiles.{base_skills, skills_text}
-use Rattle.ls_origins.specs.Meshes.{mesh_of}
 use Rattle.ls_origins.specs.declared.relation_fault.RelationFault.{RelationFault}
 use Rattle.ls_origins.specs.declared.relation_fault.RelationFault.TheVariants as no_relation
 use Rattle.ls_meaning.specs.Texts.{line_of}
@@ -30,7 +29,7 @@ use Rattle.ls_meaning.specs.Heads.{Head, head_word}
 use Rattle.ls_meaning.specs.Sessions.{Session}
 use Rattle.ls_meaning.specs.Refusals.{refusal_words, reason_word}
 use Rattle.ls_meaning.specs.SafeRows.{applied, pending}
-use Rattle.ls_meaning.specs.SkillRows.{delineated}
+use Rattle.ls_meaning.specs.StateLists.{StateList}
 use Rattle.ls_meaning.specs.declared.response.Response.{Response}
 use Rattle.ls_meaning.specs.declared.response.Response.TheVariants.{Silence, Refused, Done, Agreed}
 use Rattle.ls_meaning.specs.declared.response.Response.TheVariants.{Accepted, Shown}
@@ -86,6 +85,10 @@ more_line is_more = line head.More ((if is_more then codes "yes" else codes "no"
 -- the sets of a page, and whether a further one follows
 abbrev pub page_lines : List Text → Page Items → List Line
 page_lines names p = map (set_line names) p.members ++ more_line p.more ∷ []
+
+-- a page of listed states: as many as are asked for, those after a set or the first ones
+abbrev pub listed_lines : List Text → StateList → ℕ → Option Items → List Line
+listed_lines names l count after = page_lines names (page comes_before l.states after count)
 
 -- a surmise function
 abbrev pub surmise_line : List Text → List (List Items) → Line
@@ -195,8 +198,7 @@ shown_lines names i (shown.Question next) = question_line names next ∷ []
 shown_lines names i (shown.States count after) =
     page_lines names (page comes_before (compatible_sets i) after count)
 shown_lines names i (shown.Base sets) = base_lines names sets
-shown_lines names i (shown.Surmise sets atoms) =
-    surmise_line names (clauses_at (length names) (compatible_sets i)) ∷ []
+shown_lines names i (shown.Surmise clauses) = surmise_line names clauses ∷ []
 shown_lines names i (shown.Learning verdict) = learning_line names verdict ∷ []
 shown_lines names i (shown.Projected part count after) =
     page_lines names
@@ -215,10 +217,9 @@ shown_lines names i (shown.Class results) = class_lines names results
 shown_lines names i (shown.SkillMap sets) = skills_line names sets ∷ []
 shown_lines names i (shown.NoRelation fault) = no_relation_line names fault ∷ []
 shown_lines names i (shown.Covers pairs) = cover_lines names pairs
-shown_lines names i (shown.Delineated model sets count after) =
-    page_lines names (page comes_before (delineated (length names) model sets) after count)
-shown_lines names i (shown.Mesh left right count after) =
-    page_lines names (page comes_before (mesh_of (length names) left right) after count)
+shown_lines names i (shown.Unions l count after) = listed_lines names l count after
+shown_lines names i (shown.Duals l count after) = listed_lines names l count after
+shown_lines names i (shown.Mesh l count after) = listed_lines names l count after
 shown_lines names i (shown.Agree is_agreed) = agree_line is_agreed ∷ []
 shown_lines names i (shown.SafeAnswers answers) = safe_lines answers
 

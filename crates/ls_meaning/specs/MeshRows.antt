@@ -2,7 +2,7 @@
 use Rattle.std.specs.Prelude.{ℕ, List, [], ◌∷◌, ◌++◌, length, Option, Result, Ok, Err}
 use Rattle.ls_set.specs.{Items}
 use Rattle.ls_set.specs.declared.cursor.CursorFault.{CursorFault}
-use Rattle.ls_origins.specs.Meshes.{agree, mesh_fault, side_base}
+use Rattle.ls_origins.specs.Meshes.{agree, mesh_fault, mesh_of}
 use Rattle.ls_lines.specs.{Text}
 use Rattle.ls_files.specs.SetFiles.{sets_of}
 use Rattle.ls_files.specs.declared.family_fault.FamilyFault.{FamilyFault}
@@ -10,6 +10,7 @@ use Rattle.ls_meaning.specs.Scenes.{Fetched}
 use Rattle.ls_meaning.specs.Effects.{refuse_fault, ◌otherwise◌}
 use Rattle.ls_meaning.specs.Rows.{after_or, bytes_fetched, cursor_refusals, file_refusals}
 use Rattle.ls_meaning.specs.Rows.{sets_read}
+use Rattle.ls_meaning.specs.StateLists.{states_on}
 use Rattle.ls_meaning.specs.declared.response.Refusal.{Refusal}
 use Rattle.ls_meaning.specs.declared.response.Refusal.TheVariants as refusal_of
 use Rattle.ls_meaning.specs.declared.response.Response.{Response}
@@ -41,7 +42,7 @@ abbrev pub meshed_by : ℕ → ℕ → Option Items → List Refusal → Result 
     → Result (List Items) FamilyFault → Response
 meshed_by n count after refusals left right =
     (refusals ++ two_parts n left right)
-    otherwise Shown (shown.Mesh (side_base n (sets_read left)) (side_base n (sets_read right))
+    otherwise Shown (shown.Mesh (states_on n (mesh_of n (sets_read left) (sets_read right)))
     count after)
 
 -- `mesh`

@@ -6,7 +6,7 @@ use Rattle.ls_set.specs.{Items, full, is_among, is_good}
 use Rattle.ls_set.specs.declared.query.Query.{Query}
 use Rattle.ls_set.specs.declared.cursor.CursorFault.{CursorFault}
 use Rattle.ls_theory.specs.Starts.{Start, Clauses, Sets}
-use Rattle.ls_theory.specs.{BlockRange, Interview, Peak, accepted, answer_with, atom_sets, base}
+use Rattle.ls_theory.specs.{BlockRange, Interview, Peak, accepted, answer_with, base}
 use Rattle.ls_theory.specs.{base_verdict, based, blocks, clauses_at, compat, compatible_sets}
 use Rattle.ls_theory.specs.{fringes, is_order}
 use Rattle.ls_theory.specs.{known, made, next_question, peak_of, projection, refusal, retracted}
@@ -121,19 +121,26 @@ abbrev pub start_or : Start → Result Start Refusal → Start
 start_or start (Ok read) = read
 start_or start (Err refusal) = start
 
--- the interview with the start that was read, after these refusals; how many sets its base has is
--- told
-abbrev pub starts_by : Interview → List Refusal → Result Start Refusal → Change Interview
-starts_by i refusals reading =
+-- the number that is told of a start on n items: of a relation how many items there are, of the
+-- others how many sets the base has
+abbrev pub start_number : StartFile → ℕ → Start → ℕ
+start_number start_file.Surmise n start = length (base (compat n start []))
+start_number start_file.Base n start = length (base (compat n start []))
+start_number start_file.Relation n start = n
+
+-- the interview with the start that was read from such a file, after these refusals
+abbrev pub starts_by : StartFile → Interview → List Refusal → Result Start Refusal
+    → Change Interview
+starts_by kind i refusals reading =
     let start = start_or i.start reading in
-    changed i (refusals ++ start_refusals reading) (Done (length (base (compat i.count start []))))
+    changed i (refusals ++ start_refusals reading) (Done (start_number kind i.count start))
     (record i { start = start })
 
 -- `start surmise`, `start base` and `start relation`: no answer stands
 abbrev pub start_row : StartFile → Session → Fetched → Change Interview
 start_row kind s fetched =
     let i = s.interview in
-    starts_by i (refuse refusal_of.AnswersStand (not (length i.answers == 0))
+    starts_by kind i (refuse refusal_of.AnswersStand (not (length i.answers == 0))
     ++ file_refusals fetched) (start_read kind s.names (bytes_fetched fetched))
 
 -- ---- what an interview shows
@@ -177,8 +184,7 @@ base_row i = based_row i (Shown (shown.Base (base (compatible_sets i))))
 
 -- `surmise`
 abbrev pub surmise_row : Interview → Response
-surmise_row i =
-    let f = compatible_sets i in based_row i (Shown (shown.Surmise (base f) (atom_sets f)))
+surmise_row i = based_row i (Shown (shown.Surmise (clauses_at i.count (compatible_sets i))))
 
 -- `learning`
 abbrev pub learning_row : Interview → Response

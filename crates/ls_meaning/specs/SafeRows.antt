@@ -10,7 +10,7 @@ use Rattle.ls_origins.specs.Safe.{safe_family, safe_refusal}
 use Rattle.ls_origins.specs.declared.safe_answer.SafeAnswer.{SafeAnswer}
 use Rattle.ls_meaning.specs.Effects.{Change, changed, refuse, refuse_fault}
 use Rattle.ls_meaning.specs.Rows.{learning_refusals, past_refusal}
-use Rattle.ls_meaning.specs.declared.request.SkillModel.TheVariants.{Disjunctive}
+use Rattle.ls_meaning.specs.StateLists.{states_on}
 use Rattle.ls_meaning.specs.declared.request.SafeRequest.{SafeRequest}
 use Rattle.ls_meaning.specs.declared.request.SafeRequest.TheVariants as request
 use Rattle.ls_meaning.specs.declared.response.Refusal.TheVariants as refusal_of
@@ -53,10 +53,10 @@ safe_answer_row n s r =
 abbrev pub safe_list_row : ℕ → SafeInterview → Response
 safe_list_row n s = Shown (shown.SafeAnswers (safe_answers n s))
 
--- `safe-states`: as many of the states that remain as are asked for; they are told by their base
+-- `safe-states`: as many of the states that remain as are asked for
 abbrev pub safe_states_row : ℕ → SafeInterview → ℕ → Result (Option Items) CursorFault → Response
 safe_states_row n s count (Ok after) =
-    Shown (shown.Delineated Disjunctive (base (safe_family n s)) count after)
+    Shown (shown.Unions (states_on n (safe_family n s)) count after)
 safe_states_row n s count (Err fault) = Refused (refusal_of.Cursor fault)
 
 -- the safe interview as it is

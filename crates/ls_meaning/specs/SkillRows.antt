@@ -2,7 +2,6 @@
 use Rattle.std.specs.Prelude.{ℕ, List, [], ◌∷◌, ◌++◌, length, Option, Result, Ok, Err}
 use Rattle.ls_set.specs.{Items}
 use Rattle.ls_set.specs.declared.cursor.CursorFault.{CursorFault}
-use Rattle.ls_theory.specs.{base}
 use Rattle.ls_origins.specs.Skills.{any, all}
 use Rattle.ls_origins.specs.declared.skill_fault.SkillFault.{SkillFault}
 use Rattle.ls_lines.specs.{Text}
@@ -16,12 +15,9 @@ use Rattle.ls_meaning.specs.declared.response.Refusal.{Refusal}
 use Rattle.ls_meaning.specs.declared.response.Refusal.TheVariants as refusal_of
 use Rattle.ls_meaning.specs.declared.response.Response.{Response}
 use Rattle.ls_meaning.specs.declared.response.Response.TheVariants.{Shown}
+use Rattle.ls_meaning.specs.StateLists.{states_on}
+use Rattle.ls_meaning.specs.declared.response.Shown.{Shown as Showing}
 use Rattle.ls_meaning.specs.declared.response.Shown.TheVariants as shown
-
--- the states among n items that the skills' sets delineate
-abbrev pub delineated : ℕ → SkillModel → List Items → List Items
-delineated n Disjunctive sets = any n sets
-delineated n Conjunctive sets = all n sets
 
 -- the items of each skill of a file
 abbrev pub skills_read : Result (List Skill) SkillFault → List Items
@@ -33,16 +29,19 @@ abbrev pub skill_refusals : Result (List Skill) SkillFault → List Refusal
 skill_refusals (Ok skills) = []
 skill_refusals (Err fault) = refusal_of.Skills fault ∷ []
 
--- the sets of the base of the disjunctive states: the least skills that delineate the same states
-abbrev pub least_skills : ℕ → List Items → List Items
-least_skills n sets = base (any n sets)
+-- as many as are asked for of the states among n items that the skills' sets delineate
+abbrev pub delineated : ℕ → SkillModel → List Items → ℕ → Option Items → Showing
+delineated n Disjunctive skills count after =
+    shown.Unions (states_on n (any n skills)) count after
+delineated n Conjunctive skills count after =
+    shown.Duals (states_on n (all n skills)) count after
 
--- after these refusals, as many of the delineated states as are asked for
+-- that is shown, after these refusals
 abbrev pub delineated_by : SkillModel → ℕ → ℕ → Option Items → List Refusal
     → Result (List Skill) SkillFault → Response
 delineated_by model n count after refusals reading =
     (refusals ++ skill_refusals reading)
-    otherwise Shown (shown.Delineated model (least_skills n (skills_read reading)) count after)
+    otherwise Shown (delineated n model (skills_read reading) count after)
 
 -- `skills any` and `skills all`
 abbrev pub skills_row : SkillModel → List Text → Fetched → ℕ

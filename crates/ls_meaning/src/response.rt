@@ -1,5 +1,5 @@
 // Replies as values.
-use crate::SkillModel;
+use crate::families::{DualStates, MeshStates, SurmiseClauses, UnionStates};
 use crate::faults::{
     answer_notice, base_notice, block_notice, cause_word, cursor_notice, domain_notice,
     reply_notice, safe_notice, sets_notice, surmise_notice,
@@ -66,12 +66,8 @@ pub enum Shown {
     Base {
         sets: SetList,
     },
-    /// The surmise function of the states: for each item the atoms at it. `atoms` has, for each set
-    /// of the base, the items at which it is an atom.
-    Surmise {
-        base: SetList,
-        atoms: SetList,
-    },
+    /// The surmise function of the states: for each item the atoms at it.
+    Surmise(SurmiseClauses),
     /// Whether the states are a learning space.
     Learning(BaseVerdict),
     /// At most `count` states of the projection on a part of the items, those after a set or the
@@ -115,20 +111,22 @@ pub enum Shown {
     NoRelation(RelationFault),
     /// The covers of the surmise relation of the states.
     Covers(Covers),
-    /// At most `count` of the states that a skill map delineates, those after a set or the first
-    /// ones, and whether a further one follows. Of the skills' sets those of the base are enough.
-    /// By any one skill they are the unions of these sets.
-    Delineated {
-        model: SkillModel,
-        sets: SetList,
+    /// At most `count` of the states that sets span, those after a set or the first ones, and
+    /// whether a further one follows.
+    Unions {
+        states: UnionStates,
         count: u32,
         after: Option<ItemSet>,
     },
-    /// At most `count` sets of the mesh of two parts, those after a set or the first ones, and
-    /// whether a further one follows. Each part is told by the base of its side.
+    /// The same of the complements of such states.
+    Duals {
+        states: DualStates,
+        count: u32,
+        after: Option<ItemSet>,
+    },
+    /// The same of the mesh of two parts.
     Mesh {
-        left: SetList,
-        right: SetList,
+        states: MeshStates,
         count: u32,
         after: Option<ItemSet>,
     },

@@ -80,18 +80,18 @@ module _ (s : Session) (h : IsWhole (saved s)) where
   no-answers : not (eqb (length i.answers) 0) ≡ false → i.answers ≡ []
   no-answers e = nil_from_length i.answers (eqb-true (length i.answers) 0 (not-false _ e))
 
-  begins-anew : (refusals : List Refusal) (reading : Result Start Refusal) → (refusals ≡ [] → i.answers ≡ []) → ((start : Start) → reading ≡ Ok start → IsStart i.count start) → Holds (starts_by i refusals reading).next
-  begins-anew refusals (Ok start) none starts =
+  begins-anew : (kind : StartFile) (refusals : List Refusal) (reading : Result Start Refusal) → (refusals ≡ [] → i.answers ≡ []) → ((start : Start) → reading ≡ Ok start → IsStart i.count start) → Holds (starts_by kind i refusals reading).next
+  begins-anew kind refusals (Ok start) none starts =
       changed-holds Holds i (record i { start = start }) (refusals ++ []) _ h (λ e.
       let is_start = starts start refl in
       with-interview start i.block i.answers i.next is_start h.blocks
       (from-held (record i { start = start }) (standing-start i start (to-held i h.answers) (none (none-both refusals [] e).0) (start-laws i.count start is_start))))
-  begins-anew refusals (Err why) none starts = changed-holds Holds i i (refusals ++ why ∷ []) _ h (λ e. h)
+  begins-anew kind refusals (Err why) none starts = changed-holds Holds i i (refusals ++ why ∷ []) _ h (λ e. h)
 
   pub start-whole : (kind : StartFile) (fetched : Fetched) → Holds (start_row kind s fetched).next
   start-whole kind fetched =
       let stand = refuse refusal_of.AnswersStand (not (eqb (length i.answers) 0)) in
-      begins-anew (stand ++ file_refusals fetched) (start_read kind s.names (bytes_fetched fetched))
+      begins-anew kind (stand ++ file_refusals fetched) (start_read kind s.names (bytes_fetched fetched))
       (λ e. no-answers (not-refused refusal_of.AnswersStand _ (none-both stand (file_refusals fetched) e).0))
       (λ start e. subst (λ n. IsStart n start) (sym h.count) (start-from_file kind s.names (bytes_fetched fetched) start h.domain.are_names.few e))
 

@@ -2,6 +2,7 @@
 ghost use Rattle.std.specs.Prelude.{◌≡◌, [], Ok, length};
 ghost use Rattle.ls_standing.specs.Starts.{start_of, IsStartOn};
 ghost use Rattle.ls_meaning.specs.{start_read, starts_by};
+ghost use Rattle.ls_contents.specs.Readings.{HasNumber};
 ghost use Rattle.ls_requests.specs.Changes.{IsTrailOf, MakesChange};
 
 use ls_base::Trail;
@@ -28,12 +29,13 @@ pub fn start_from<L: Ledger>(
     requires none { inquiry.old.answers ≡ [] }
     requires trail { IsTrailOf inquiry.old trail.old }
     ensures change { let i = inquiry.old in
-        MakesChange (starts_by i [] (start_read file domain.now bytes.now)) i inquiry.new result }
+        MakesChange (starts_by file i [] (start_read file domain.now bytes.now)) i inquiry.new
+        result }
     ensures trail { IsTrailOf inquiry.new trail.new }
     ensures items { inquiry.new.count ≡ inquiry.old.count }
 {
     match read_start(alloc, domain, file, bytes)? {
-        Ok(start) => begin_with(alloc, inquiry, trail, start, steps),
+        Ok(start) => begin_with(alloc, file, inquiry, trail, start, steps),
         Err(refusal) => Ok(Response::Refused(refusal)),
     }
 }
@@ -42,15 +44,17 @@ pub fn start_from<L: Ledger>(
 // start. How many sets that has is told.
 fn begin_with<L: Ledger>(
     alloc: Global,
+    file: StartFile,
     inquiry: &mut Inquiry,
     trail: &mut Trail,
     start: Start,
     steps: &mut Steps<L>,
 ) -> Result<Response, AllocError>
     requires on { IsStartOn inquiry.old.count start }
+    requires number { HasNumber file inquiry.old.count (Ok start) }
     requires none { inquiry.old.answers ≡ [] }
     requires trail { IsTrailOf inquiry.old trail.old }
-    ensures change { MakesChange (starts_by inquiry.old [] (Ok (start_of start)))
+    ensures change { MakesChange (starts_by file inquiry.old [] (Ok (start_of start)))
         inquiry.old inquiry.new result }
     ensures trail { IsTrailOf inquiry.new trail.new }
     ensures items { inquiry.new.count ≡ inquiry.old.count }

@@ -91,6 +91,8 @@ impl Safe {
     pub fn base(&self) -> &Base
         ensures sets { (n : ℕ) (f : List Items) (queries : List Query) →
             IsSafeOf n f queries self.now → result.now.sets ≡ base (safe n f queries).family }
+        ensures items { (n : ℕ) (f : List Items) (queries : List Query) →
+            IsSafeOf n f queries self.now → result.now.item_count ≡ n }
         ensures learning { is_learning_space (full result.now.item_count) (family result.now)
             ≡ true }
     {

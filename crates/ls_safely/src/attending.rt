@@ -7,7 +7,8 @@ ghost use Rattle.ls_safely.specs.Cases.{IsSafeCase, is_opening, safe_interview, 
 ghost use Rattle.std.specs.Prelude.{false};
 
 use crate::case::SafeCase;
-use ls_meaning::{Refusal, Response, SafeRequest, Shown, SkillModel, count_applied, count_pending};
+use ls_meaning::{Refusal, Response, SafeRequest, Shown, UnionStates};
+use ls_meaning::{count_applied, count_pending};
 use ls_origins::{SafeAnswers, SafeFault};
 use ls_set::{CursorFault, ItemSet, Query, SetList};
 use std::alloc::{AllocError, Global};
@@ -92,12 +93,16 @@ fn states(
         IfOk result (λ r. r ≡ safe_states_row n (safe_of_case case.now) count after) }
 {
     match after {
-        Ok(after) => Ok(Response::Shown(Shown::Delineated {
-            model: SkillModel::Disjunctive,
-            sets: SetList::from_slice(alloc, case.safe.base().sets())?,
-            count,
-            after,
-        })),
+        Ok(after) => {
+            let base = case.safe.base();
+            let sets = SetList::from_slice(alloc, base.sets())?;
+            let items = base.items();
+            Ok(Response::Shown(Shown::Unions {
+                states: UnionStates { items, sets },
+                count,
+                after,
+            }))
+        }
         Err(fault) => Ok(Response::Refused(Refusal::Cursor(fault))),
     }
 }

@@ -73,18 +73,18 @@ abbrev pub loads : StartFile → Session → Fetched → Effect
 loads kind s given = in_domain s (changes_interview s (start_row kind s given))
 
 abbrev pub starts : StartFile → Session → List Refusal → List ℕ → Effect
-starts kind s refusals bytes = changes_interview s (starts_by s.interview refusals (start_read kind s.names bytes))
+starts kind s refusals bytes = changes_interview s (starts_by kind s.interview refusals (start_read kind s.names bytes))
 
 module _ (kind : StartFile) (s : Session) (some : 0 < length s.names) where
   -- an answer stands
   pub loads-stands : (length s.interview.answers == 0) ≡ false → (given : Fetched) → loads kind s given ≡ answers s (Refused AnswersStand)
   loads-stands stands given =
-      in_domain-some s _ some ∙ ap (λ b. changes_interview s (starts_by s.interview (refuse AnswersStand (not b) ++ file_refusals given) (start_read kind s.names (bytes_fetched given)))) stands
+      in_domain-some s _ some ∙ ap (λ b. changes_interview s (starts_by kind s.interview (refuse AnswersStand (not b) ++ file_refusals given) (start_read kind s.names (bytes_fetched given)))) stands
 
   -- or none does
   pub loads-starts : (length s.interview.answers == 0) ≡ true → (given : Fetched) → loads kind s given ≡ starts kind s (file_refusals given) (bytes_fetched given)
   loads-starts none given =
-      in_domain-some s _ some ∙ ap (λ b. changes_interview s (starts_by s.interview (refuse AnswersStand (not b) ++ file_refusals given) (start_read kind s.names (bytes_fetched given)))) none
+      in_domain-some s _ some ∙ ap (λ b. changes_interview s (starts_by kind s.interview (refuse AnswersStand (not b) ++ file_refusals given) (start_read kind s.names (bytes_fetched given)))) none
 
 pub no_answers : (answers : List Answer) → (length answers == 0) ≡ true → answers ≡ []
 no_answers [] e = refl

@@ -1,13 +1,9 @@
 -- What is answered of the safe interview can be said.
-use Rattle.ls_state.proofs.Vocabulary.{[], ◌∷◌, ◌≡◌, CanSay, CursorFault, Err, Interview, IsAfterOn, IsSafeOn, Items, List, None, Ok, Option, Result, SafeCommand, SafeInterview, SafeRequest, Some, Text, ℕ, base, changed, first_family, length, safe_family, safe_of, safe_row, safe_states_row, subst}
-use Rattle.ls_laws.proofs.Atoms.{base-member}
-use Rattle.ls_laws.proofs.Families.{compat-IsFamily}
-use Rattle.ls_laws.specs.Spans.{AreOn}
+use Rattle.ls_state.proofs.Vocabulary.{[], ◌∷◌, ◌≡◌, CanSay, CursorFault, Err, Interview, IsAfterOn, IsSafeOn, Items, List, None, Ok, Option, Result, SafeCommand, SafeInterview, SafeRequest, Some, Text, ℕ, changed, length, safe_of, safe_row, safe_states_row, sym}
 use Rattle.ls_lines.specs.declared.safe.SafeCommand.TheVariants as safes
 use Rattle.ls_meaning.specs.declared.request.SafeRequest.TheVariants as request
 use Rattle.ls_meaning.specs.declared.response.Refusal.{Refusal}
 use Rattle.ls_meaning.specs.declared.response.Response.{Response}
-use Rattle.ls_safe.proofs.Turns.{safe-family}
 use Rattle.ls_state.proofs.Meant.{after-on}
 
 -- the cursor of what is asked is one of the items
@@ -18,19 +14,13 @@ safe_of-on names safes.List = tt
 safe_of-on names (safes.States count after) = after-on (length names) after
 safe_of-on names safes.Close = tt
 
--- the sets of the safe base are sets of the items
-base-on : (n : ℕ) (s : SafeInterview) → AreOn n (base (safe_family n s))
-base-on n s k e =
-    (safe-family n (first_family n s) s.answers (compat-IsFamily n s.start s.yeses)).small k
-    (base-member (safe_family n s) k e)
-
 module _ (n : ℕ) (i : Interview) (items : n ≡ i.count) where
   can-changed : {A : Type 0} (old next : A) (refusals : List Refusal) (r : Response) → CanSay n i r → CanSay n i (changed old refusals r next).response
   can-changed old next [] r can = can
   can-changed old next (refusal ∷ refusals) r can = tt
 
   can-states : (s : SafeInterview) (count : ℕ) (after : Result (Option Items) CursorFault) → IsAfterOn n after → CanSay n i (safe_states_row i.count s count after)
-  can-states s count (Ok after) on = (subst (λ m. AreOn n (base (safe_family m s))) items (base-on n s), on)
+  can-states s count (Ok after) on = (sym items, on)
   can-states s count (Err fault) on = tt
 
   pub can-safe : (o : Option SafeInterview) (asked : SafeRequest) → IsSafeOn n asked → CanSay n i (safe_row i o asked).response

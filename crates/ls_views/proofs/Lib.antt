@@ -1,4 +1,5 @@
 mod Vocabulary
+mod BaseAtoms
 mod OnBases
 mod Spanning
 mod Viewing

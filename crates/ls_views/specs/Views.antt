@@ -1,7 +1,7 @@
 -- The commands that look at an interview, and how many interiors their replies take.
 use Rattle.std.specs.Prelude.{ℕ, ◌+◌, ◌*◌, Bool, true, false, List}
 use Rattle.ls_set.specs.{Items}
-use Rattle.ls_theory.specs.{atom_sets, base, base_verdict, clauses_at, projection, state_of}
+use Rattle.ls_theory.specs.{base, base_verdict, clauses_at, projection, state_of}
 use Rattle.ls_lines.specs.declared.view.ViewCommand.{ViewCommand}
 use Rattle.ls_lines.specs.declared.view.ViewCommand.TheVariants as command
 use Rattle.ls_meaning.specs.{learned, paths_shown, state_shown}
@@ -27,7 +27,7 @@ is_based v = false
 -- what is shown then of states f of n items, where the base did not have too many sets
 abbrev pub based_on : ℕ → List Items → View → Response
 based_on n f view.Base = response.Shown (shown.Base (base f))
-based_on n f view.Surmise = response.Shown (shown.Surmise (base f) (atom_sets f))
+based_on n f view.Surmise = response.Shown (shown.Surmise (clauses_at n f))
 based_on n f view.Learning = response.Shown (shown.Learning (base_verdict f))
 based_on n f (view.ProjectBase part) =
     let g = projection n part f in response.Shown (shown.ProjectedBase (base g) (base_verdict g))

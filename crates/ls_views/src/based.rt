@@ -18,7 +18,7 @@ use ls_base::{Base, Followed};
 use ls_fringe::state_of;
 use ls_inquiry::Inquiry;
 use ls_interior::Inside;
-use ls_meaning::{Refusal, Response, Shown, View};
+use ls_meaning::{Refusal, Response, Shown, SurmiseClauses, View};
 use ls_order::Relation;
 use ls_origins::RelationFault;
 use ls_paths::Order;
@@ -64,10 +64,7 @@ fn show(alloc: Global, base: &Base, asked: View) -> Result<Response, AllocError>
         View::Base => Ok(Response::Shown(Shown::Base {
             sets: SetList::from_slice(alloc, base.sets())?,
         })),
-        View::Surmise => Ok(Response::Shown(Shown::Surmise {
-            base: SetList::from_slice(alloc, base.sets())?,
-            atoms: base.atom_sets()?,
-        })),
+        View::Surmise => Ok(Response::Shown(Shown::Surmise(clauses_of(alloc, base)?))),
         View::Learning => Ok(Response::Shown(Shown::Learning(test_base(base)))),
         View::ProjectBase { part } => projected_base(alloc, base, part),
         View::StateOf { inner, outer } => Ok(state_with(base, inner, outer)),
@@ -79,6 +76,16 @@ fn show(alloc: Global, base: &Base, asked: View) -> Result<Response, AllocError>
         View::Known { .. } | View::Ask | View::Fringes { .. } => unreachable!(),
         View::States { .. } | View::Project { .. } => unreachable!(),
     }
+}
+
+// The surmise function.
+fn clauses_of(alloc: Global, base: &Base) -> Result<SurmiseClauses, AllocError>
+    ensures { IfOk result (λ s. s ≡ clauses_at base.now.item_count (family base.now)) }
+{
+    let items = base.items();
+    let atoms = base.atom_sets()?;
+    let base = SetList::from_slice(alloc, base.sets())?;
+    Ok(SurmiseClauses { items, base, atoms })
 }
 
 // The covers of the surmise relation, or what keeps the surmise function from being one.

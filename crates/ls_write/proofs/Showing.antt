@@ -11,23 +11,15 @@ use Rattle.ls_write.proofs.Vocabulary.{length, lines_bytes, lines_of, not, past_
 use Rattle.ls_write.proofs.Vocabulary.{paths_shown, peak_of, project_row, refl, refuse}
 use Rattle.ls_write.proofs.Vocabulary.{refuse_fault, shown_lines, slice_index, state_of}
 use Rattle.ls_write.proofs.Vocabulary.{state_shown, states_row, subst, sym, true, view_row}
-use Rattle.std.specs.List.{list_any}
-use Rattle.ls_set.specs.ItemSet.{is_same, subsets}
-use Rattle.ls_set.proofs.Members.{among-filter}
-use Rattle.ls_set.proofs.Order.{among-subsets}
-use Rattle.ls_set.proofs.Sets.{IsWithin-from}
-use Rattle.ls_laws.specs.Spans.{AreOn}
-use Rattle.ls_laws.proofs.Atoms.{base-member}
 use Rattle.ls_laws.proofs.Interiors.{space-to}
 use Rattle.ls_laws.proofs.Answering.{compatible_fit, compat_family}
 use Rattle.ls_theory.specs.declared.verdict.BaseVerdict.TheVariants as of_base
 use Rattle.ls_theory.specs.declared.answer_fault.AnswerFault.TheVariants.{BadQuery}
 use Rattle.ls_set.specs.declared.cursor.CursorFault.{CursorFault}
-use Rattle.ls_origins.specs.Skills.{any, any_state}
 use Rattle.ls_origins.specs.Relations.{first_clauses, relation_fault}
 use Rattle.ls_origins.specs.declared.relation_fault.RelationFault.{RelationFault}
 use Rattle.ls_meaning.specs.RelationRows.{covers_unless}
-use Rattle.ls_meaning.specs.SkillRows.{least_skills}
+use Rattle.ls_write.proofs.Atoms.{length-clauses}
 use Rattle.ls_meaning.specs.declared.response.Refusal.{Refusal}
 use Rattle.ls_meaning.specs.declared.response.Refusal.TheVariants as refusal_of
 use Rattle.ls_meaning.specs.declared.response.Response.TheVariants as response
@@ -140,7 +132,7 @@ module _ (i : Interview) (sound : IsSound i) where
   can-row view.Ask on = tt
   can-row (view.States count after) on = can-after count after on
   can-row view.Base on = can-based _ tt
-  can-row view.Surmise on = can-based _ (refl, refl)
+  can-row view.Surmise on = can-based _ (length-clauses n f)
   can-row view.Learning on = can-based _ tt
   can-row view.SkillMap on = can-based _ tt
   can-row view.Relation on = can-based _ (can-relation (relation_fault n (clauses_at n f)))
@@ -158,16 +150,3 @@ pub can-view : (n : ℕ) (i : Interview) → n ≡ i.count → IsSound i → (v 
 can-view n i items sound v on =
     subst (λ m. CanSay m i (view_row i v)) (sym items)
     (can-row i sound v (subst (λ m. IsViewOn m v) items on))
-
--- ---- what stands on a file
-
--- the least skills of a map are sets of the items
-pub least-on : (n : ℕ) (sets : List Items) → AreOn n (least_skills n sets)
-unfolding any
-least-on n sets k c =
-    let is_any =
-    λ (s : Items). list_any (λ t. is_same s (any_state n sets t)) (subsets (length sets)) in
-    let found =
-    and_parts (is_among (subsets n) k) (is_any k)
-    (sym (among-filter is_any (subsets n) k) ∙ base-member (any n sets) k c) in
-    IsWithin-from k (full n) (sym (among-subsets n k) ∙ found.0)

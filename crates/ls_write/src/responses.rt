@@ -20,7 +20,7 @@ use crate::refusals::put_refusal;
 use crate::relations::{put_covers, put_no_relation};
 use crate::safe::{put_accepted, put_safe_answers};
 use crate::skills::put_skills;
-use crate::structures::{put_delineated, put_mesh};
+use crate::structures::{put_complements, put_mesh, put_unions};
 use crate::surmise::put_surmise;
 use crate::walking::put_paths;
 use ls_edge::Sink;
@@ -109,9 +109,7 @@ pub fn put_shown<K: Sink, L: Ledger>(
         Shown::Question(next) => put_question(texts, next, room, out),
         Shown::States { count, after } => put_page(family, texts, *after, *count, room, out, steps),
         Shown::Base { sets } => put_base(texts, sets.as_slice(), room, out),
-        Shown::Surmise { base, atoms } => {
-            put_surmise(texts, base.as_slice(), atoms.as_slice(), room, out);
-        }
+        Shown::Surmise(clauses) => put_surmise(texts, clauses, room, out),
         Shown::Learning(verdict) => put_learning(texts, *verdict, room, out),
         Shown::Projected { part, count, after } => {
             let projection = Trace::new(family, *part);
@@ -131,24 +129,21 @@ pub fn put_shown<K: Sink, L: Ledger>(
         Shown::SkillMap { base } => put_skills(texts, base.as_slice(), room, out),
         Shown::NoRelation(fault) => put_no_relation(texts, *fault, room, out),
         Shown::Covers(covers) => put_covers(texts, covers, room, out),
-        Shown::Delineated {
-            model,
-            sets,
+        Shown::Unions {
+            states,
             count,
             after,
-        } => {
-            let sets = sets.as_slice();
-            put_delineated(texts, *model, sets, *after, *count, room, out, steps);
-        }
+        } => put_unions(texts, states, *after, *count, room, out, steps),
+        Shown::Duals {
+            states,
+            count,
+            after,
+        } => put_complements(texts, states, *after, *count, room, out, steps),
         Shown::Mesh {
-            left,
-            right,
+            states,
             count,
             after,
-        } => {
-            let (left, right) = (left.as_slice(), right.as_slice());
-            put_mesh(texts, left, right, *after, *count, room, out, steps);
-        }
+        } => put_mesh(texts, states, *after, *count, room, out, steps),
         Shown::Agree(is_agreed) => put_agreement(*is_agreed, room, out),
         Shown::SafeAnswers(answers) => put_safe_answers(answers, room, out),
     }

@@ -5,32 +5,32 @@ ghost use Rattle.serde_json.specs.Written.{comma_if};
 ghost use Rattle.json.specs.Print.{quoted};
 ghost use Rattle.ls_set.specs.{set_of};
 ghost use Rattle.ls_domain.specs.Texts.{names_of_set};
-ghost use Rattle.ls_theory.specs.{atom_items, atoms_at, clauses_at};
+ghost use Rattle.ls_theory.specs.{atom_items, atoms_at};
 ghost use Rattle.ls_meaning.specs.{line_bytes, surmise_line};
 ghost use Rattle.ls_room.specs.Rooms.{Says};
 ghost use Rattle.ls_write.specs.SurmiseTexts.{listed, clause_text, row_text};
 
 use ls_edge::Sink;
+use ls_meaning::SurmiseClauses;
 use ls_room::{Room, SetTexts};
 use ls_set::{ItemSet, PLACES};
 
-/// Says the line of a surmise function: for each item the atoms at it among the sets of a base, as
-/// a JSON object with no space. `atoms` has for each of the sets the items at which it is an atom.
+/// Says the line of a surmise function: for each item its clauses, as a JSON object with no space.
 /// The keys are the names, in the order of their bytes. A clause is the array of the names of its
-/// items, in the order of items. Nothing takes memory. After a fault of the sink no more atoms are
-/// looked for.
+/// items, in the order of items. Nothing takes memory. After a fault of the sink no more clauses
+/// are looked for.
 pub fn put_surmise<K: Sink>(
     texts: &SetTexts,
-    sets: &[ItemSet],
-    atoms: &[ItemSet],
+    clauses: &SurmiseClauses,
     room: &mut Room,
     out: &mut K,
 )
-    requires atoms { atoms.now ≡ map (λ k. set_of (atom_items sets.now k)) sets.now }
+    requires items { length clauses.now ≡ length texts.now }
     ensures { Says (K.written out.old) (K.faults out.old) room.old (K.written out.new)
-        (K.faults out.new) room.new (line_bytes (surmise_line texts.now
-        (clauses_at (length texts.now) sets.now))) }
+        (K.faults out.new) room.new (line_bytes (surmise_line texts.now clauses.now)) }
 {
+    let sets = clauses.base.as_slice();
+    let atoms = clauses.atoms.as_slice();
     room.put(b"surmise {", out);
     put_rows(texts, texts.by_name(), sets, atoms, room, out);
     room.put(b"}\n", out);

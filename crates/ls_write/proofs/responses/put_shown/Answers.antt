@@ -6,38 +6,22 @@ use Rattle.ls_write.proofs.Vocabulary.{lines_bytes, map, no_relation_line, page,
 use Rattle.ls_write.proofs.Vocabulary.{path_lines, paths, projection, question_line, set_of}
 use Rattle.ls_write.proofs.Vocabulary.{skills_line, state_line, subst, surmise_line, sym}
 use Rattle.ls_write.proofs.Vocabulary.{verdict_line}
-use Rattle.ls_laws.specs.Spans.{AreOn}
 use Rattle.ls_standing.specs.Starts.{StartOn}
-use Rattle.ls_origins.specs.Meshes.{mesh_of, part_items}
-use Rattle.ls_meaning.specs.SkillRows.{delineated}
 use Rattle.ls_room.proofs.Saying.{says_as, says_then}
 use Rattle.ls_room.proofs.LineBytes.{lines-one, lines-last}
-use Rattle.ls_write.proofs.Atoms.{base-clauses, base-atoms}
 use Rattle.ls_write.proofs.Showing.{shown-same}
 use Rattle.ls_write.proofs.responses.put_shown.Goals as goal
 
 pub put_surmise-requires : goal.put_surmise-requires
 put_surmise-requires g c =
-    let i = c.args.inquiry.now in
-    let can = subst (CanShow (length c.args.texts.now) i) c.in-Surmise.is c.requires.can in
-    let sets = c.as_slice-in-Surmise.ensures in
-    record {
-      atoms =
-          c.as_slice-in-Surmise-2.ensures ∙ can.1 ∙ base-atoms i c.in-Surmise.base can.0 ∙ ap
-          (λ (ks : List Items). map (λ k. set_of (atom_items ks k)) ks) (sym sets);
-    }
+    subst (CanShow (length c.args.texts.now) c.args.inquiry.now) c.in-Surmise.is c.requires.can
 
 pub returns-in-Surmise-clause-says : goal.returns-in-Surmise-clause-says
 returns-in-Surmise-clause-says g c =
     let names = c.args.texts.now in
-    let i = c.args.inquiry.now in
-    let can = subst (CanShow (length names) i) c.in-Surmise.is c.requires.can in
-    let text = λ (clauses : List (List Items)). line_bytes (surmise_line names clauses) in
     says_as
-    (ap (λ (ks : List Items). text (clauses_at (length names) ks)) c.as_slice-in-Surmise.ensures
-    ∙ ap text (base-clauses i (length names) c.in-Surmise.base can.0)
-    ∙ lines-one (surmise_line names (clauses_at (length names) (compatible_sets i))) ∙ shown-same
-    names i c.in-Surmise.is) c.put_surmise.ensures
+    (lines-one (surmise_line names c.in-Surmise.clauses) ∙ shown-same names c.args.inquiry.now
+    c.in-Surmise.is) c.put_surmise.ensures
 
 pub returns-in-Base-clause-says : goal.returns-in-Base-clause-says
 returns-in-Base-clause-says g c =
@@ -166,43 +150,34 @@ returns-in-Agree-clause-says g c =
     (lines-one (agree_line w.is_agreed) ∙ shown-same c.args.texts.now c.args.inquiry.now w.is)
     c.put_agreement.ensures
 
-pub put_delineated-requires : goal.put_delineated-requires
-put_delineated-requires g c =
-    let w = c.in-Delineated in
-    let n = length c.args.texts.now in
-    let can = subst (CanShow n c.args.inquiry.now) w.is c.requires.can in
-    record { on = subst (AreOn n) (sym c.as_slice-sets.ensures) can.0; after = can.1 }
+pub put_unions-requires : goal.put_unions-requires
+put_unions-requires g c =
+    let can =
+    subst (CanShow (length c.args.texts.now) c.args.inquiry.now) c.in-Unions.is c.requires.can in
+    record { items = can.0; after = can.1 }
 
-pub returns-in-Delineated-clause-says : goal.returns-in-Delineated-clause-says
-returns-in-Delineated-clause-says g c =
-    let names = c.args.texts.now in
-    let w = c.in-Delineated in
-    says_as
-    (ap
-    (λ (ks : List Items). lines_bytes
-    (page_lines
-    names (page comes_before (delineated (length names) w.model ks) w.after w.count)))
-    c.as_slice-sets.ensures
-    ∙ shown-same names c.args.inquiry.now w.is) c.put_delineated.ensures.says
+pub returns-in-Unions-clause-says : goal.returns-in-Unions-clause-says
+returns-in-Unions-clause-says g c =
+    says_as (shown-same c.args.texts.now c.args.inquiry.now c.in-Unions.is)
+    c.put_unions.ensures.says
+
+pub put_complements-requires : goal.put_complements-requires
+put_complements-requires g c =
+    let can =
+    subst (CanShow (length c.args.texts.now) c.args.inquiry.now) c.in-Duals.is c.requires.can in
+    record { items = can.0; after = can.1 }
+
+pub returns-in-Duals-clause-says : goal.returns-in-Duals-clause-says
+returns-in-Duals-clause-says g c =
+    says_as (shown-same c.args.texts.now c.args.inquiry.now c.in-Duals.is)
+    c.put_complements.ensures.says
 
 pub put_mesh-requires : goal.put_mesh-requires
 put_mesh-requires g c =
-    let w = c.in-Mesh in
-    let can = subst (CanShow (length c.args.texts.now) c.args.inquiry.now) w.is c.requires.can in
-    record {
-      left = ap part_items c.as_slice-left.ensures ∙ can.0;
-      right = ap part_items
-          c.as_slice-right.ensures ∙ can.1;
-      after = can.2;
-    }
+    let can =
+    subst (CanShow (length c.args.texts.now) c.args.inquiry.now) c.in-Mesh.is c.requires.can in
+    record { items = can.0; after = can.1 }
 
 pub returns-in-Mesh-clause-says : goal.returns-in-Mesh-clause-says
 returns-in-Mesh-clause-says g c =
-    let names = c.args.texts.now in
-    let w = c.in-Mesh in
-    says_as
-    (ap₂
-    (λ (left right : List Items). lines_bytes
-    (page_lines names (page comes_before (mesh_of (length names) left right) w.after w.count)))
-    c.as_slice-left.ensures c.as_slice-right.ensures
-    ∙ shown-same names c.args.inquiry.now w.is) c.put_mesh.ensures.says
+    says_as (shown-same c.args.texts.now c.args.inquiry.now c.in-Mesh.is) c.put_mesh.ensures.says

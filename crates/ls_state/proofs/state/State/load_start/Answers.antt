@@ -30,8 +30,8 @@ returns-in-Ok g c =
     let s = state_session i.texts i.inquiry i.settings i.pupils i.safe in
     let new = state_session i.texts c.start_from.new.inquiry i.settings i.pupils i.safe in
     let none : (length i.inquiry.answers == 0) ≡ true = told i.inquiry i.inquiry refl c.standing.ensures.value c.is_empty.ensures c.if-not-is_empty.false in
-    let read = ap₂ (λ (names : List Text) (bytes : List ℕ). changes_interview s (starts_by i.inquiry [] (start_read kind names bytes))) (sym c.domain.ensures) (sym c.deref.ensures.value) in
-    let change = starts_by i.inquiry [] (start_read kind c.domain.result.now c.deref.result.now) in
+    let read = ap₂ (λ (names : List Text) (bytes : List ℕ). changes_interview s (starts_by kind i.inquiry [] (start_read kind names bytes))) (sym c.domain.ensures) (sym c.deref.ensures.value) in
+    let change = starts_by kind i.inquiry [] (start_read kind c.domain.result.now c.deref.result.now) in
     subst (λ (x : Session). Decides (λ calls. loads kind x (calls.file c.args.file.now)) x new (shelf_state g.H.Shelf c.args.shelf.now) (shelf_state g.H.Shelf c.fetch.new.shelf) c.start_from.result) c.self.view_is
     (decides_read (loads kind s) (starts kind s) (loads-starts kind s c.self.invariant.some none) (λ refusal bytes. refl) (λ refusals bytes. refl) c.fetch.ensures (c.in_ok-bytes.was ∙ ap Ok c.in-Ok.is)
     (makes_as read (makes_interview {c = change} c.start_from.ensures.change)))

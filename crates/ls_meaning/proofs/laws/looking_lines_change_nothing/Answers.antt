@@ -1,0 +1,5 @@
+use Rattle.ls_meaning.proofs.Kept.{line-looks}
+use Rattle.ls_meaning.proofs.laws.looking_lines_change_nothing.Goals as goal
+
+pub returns : goal.returns
+returns c = record { session = line-looks }
