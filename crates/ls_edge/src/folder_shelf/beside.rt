@@ -2,13 +2,12 @@
 // made one holds a lock on it, which ends with the program, however that ends.
 use crate::StoreFault;
 use std::alloc::AllocError;
-use std::fs;
 use std::fs::{File, OpenOptions, TryLockError};
-use std::io;
 use std::io::ErrorKind;
 use std::os::unix::fs::{MetadataExt, OpenOptionsExt};
 use std::path::{Path, PathBuf};
 use std::rt::Files;
+use std::{fs, io};
 
 // How many names are tried for a new file.
 const MOST_TRIES: u32 = 10_000;

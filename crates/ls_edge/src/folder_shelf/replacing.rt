@@ -1,13 +1,12 @@
 // A file of a folder is replaced whole, or stays as it was.
 use super::beside::{clear_beside, make_beside, store_fault};
 use crate::StoreFault;
-use std::fs;
 use std::fs::{File, Metadata, OpenOptions, Permissions};
-use std::io;
 use std::io::{ErrorKind, Write};
 use std::os::unix::fs::{MetadataExt, PermissionsExt, fchown};
 use std::path::Path;
 use std::rt::Files;
+use std::{fs, io};
 
 // What a new file may be used for, where it replaces none; the system takes some of it away.
 const ALL_MAY_WRITE: u32 = 0o666;
@@ -30,10 +29,7 @@ fn try_to_write<R: Files<File = File>>(rt: &R, path: Path<'_>) -> io::Result<()>
 // What is known of the regular file that is to be replaced. A link has nothing to hand on: it is
 // replaced itself, and what it leads to stays. Nothing else is replaced, nor a file that nobody or
 // not the caller may write.
-fn replaced<R: Files<File = File>>(
-    rt: &R,
-    path: Path<'_>,
-) -> Result<Option<Metadata>, StoreFault> {
+fn replaced<R: Files<File = File>>(rt: &R, path: Path<'_>) -> Result<Option<Metadata>, StoreFault> {
     match fs::symlink_metadata(rt, path) {
         Ok(about) if about.is_symlink() => Ok(None),
         Ok(about) if about.is_file() && !about.permissions().readonly() => {
@@ -57,12 +53,7 @@ fn hand_on(file: &File, made: &Metadata, old: &Metadata) -> io::Result<()> {
 }
 
 // Writes a new file, makes it that of whom the old one was, and sees to it that it is on the disk.
-fn fill(
-    mut file: &File,
-    bytes: &[u8],
-    made: &Metadata,
-    old: Option<&Metadata>,
-) -> io::Result<()> {
+fn fill(mut file: &File, bytes: &[u8], made: &Metadata, old: Option<&Metadata>) -> io::Result<()> {
     file.write_all(bytes)?;
     if let Some(old) = old {
         hand_on(file, made, old)?;
@@ -89,7 +80,11 @@ pub fn replace<R: Files<File = File> + AllocGlobal>(
 ) -> Result<(), StoreFault> {
     let path = folder.join(rt.alloc(), name).map_err(StoreFault::Memory)?;
     let old = replaced(rt, path.as_path())?;
-    let mode = if old.is_some() { OWNER_MAY_WRITE } else { ALL_MAY_WRITE };
+    let mode = if old.is_some() {
+        OWNER_MAY_WRITE
+    } else {
+        ALL_MAY_WRITE
+    };
     let (file, beside, number) = make_beside(rt, folder, name, mode)?;
     let stored = file.metadata().and_then(|made| {
         let owner = old.as_ref().map_or(made.uid(), |old| old.uid());
