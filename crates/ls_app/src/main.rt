@@ -5,6 +5,7 @@ use ls_edge::{FolderShelf, StdSink, StdSource};
 use ls_shell::{Status, lspace};
 use std::alloc::AllocError;
 use std::env;
+use std::fs::File;
 use std::io::ErrorKind;
 use std::process::ExitCode;
 use std::rt::{Env, Files};
@@ -24,7 +25,7 @@ fn command_words<R: Env + AllocGlobal>(rt: &R) -> Result<Option<Vec<String>>, Al
 // the words and their texts have a function each.
 fn run_in_folder<R>(rt: &R, words: &[&str]) -> Result<Status, AllocError>
 where
-    R: Files + Input + Print + AllocGlobal + Threads + Sync,
+    R: Files<File = File> + Input + Print + AllocGlobal + Threads + Sync,
 {
     let mut shelf = FolderShelf::new(rt, ".")?;
     let mut src = StdSource::new(rt);
@@ -34,7 +35,7 @@ where
 
 fn run_words<R>(rt: &R, owned: &[String]) -> Result<Status, AllocError>
 where
-    R: Files + Input + Print + AllocGlobal + Threads + Sync,
+    R: Files<File = File> + Input + Print + AllocGlobal + Threads + Sync,
 {
     let mut words = Vec::new(rt.alloc());
     for word in owned {
@@ -45,7 +46,7 @@ where
 
 fn run<R>(rt: &R) -> Result<Status, AllocError>
 where
-    R: Files + Input + Print + Env + AllocGlobal + Threads + Sync,
+    R: Files<File = File> + Input + Print + Env + AllocGlobal + Threads + Sync,
 {
     match command_words(rt)? {
         Some(words) => run_words(rt, &words),

@@ -4,6 +4,7 @@ ghost use Rattle.ls_edge.specs.Causes.{one_more};
 ghost use Rattle.ls_edge.specs.Files.{longest_file, TellsMore, Fetches, Stores};
 ghost use Rattle.ls_edge.specs.Files.{FetchCause, StoreCause};
 
+mod beside;
 mod reading;
 mod replacing;
 
@@ -11,6 +12,7 @@ use crate::{FetchFault, Shelf, StoreFault};
 use reading::read_file;
 use replacing::replace;
 use std::alloc::AllocError;
+use std::fs::File;
 use std::marker::Model;
 use std::path::PathBuf;
 use std::rt::Files;
@@ -26,19 +28,19 @@ use std::rt::Files;
 /// Clauses see the count of its faults: each call counts that fails for any reason but want of
 /// memory, a file to fetch that isn't there, or one that is too large.
 #[derive(Drop)]
-pub struct FolderShelf<R: Files + AllocGlobal + Drop> {
+pub struct FolderShelf<R: Files<File = File> + AllocGlobal + Drop> {
     rt: R,
     folder: PathBuf,
     faults: u64,
 }
 
-impl<R: Files + AllocGlobal + Drop> Model for FolderShelf<R> {
+impl<R: Files<File = File> + AllocGlobal + Drop> Model for FolderShelf<R> {
     ghost Value = { ℕ };
 
     ghost view = { λ s. s.faults };
 }
 
-impl<R: Files + AllocGlobal + Drop> FolderShelf<R> {
+impl<R: Files<File = File> + AllocGlobal + Drop> FolderShelf<R> {
     /// The shelf over the folder of that path, with no fault so far.
     pub fn new(rt: R, path: &str) -> Result<Self, AllocError>
         ensures { IfOk result (λ s. s ≡ 0) }
@@ -64,7 +66,7 @@ impl<R: Files + AllocGlobal + Drop> FolderShelf<R> {
     }
 }
 
-impl<R: Files + AllocGlobal + Drop> Shelf for FolderShelf<R> {
+impl<R: Files<File = File> + AllocGlobal + Drop> Shelf for FolderShelf<R> {
     ghost files = { λ _. None };
 
     ghost faults = { λ s. s };
