@@ -1,5 +1,5 @@
 // A shelf in memory with calls that fail.
-ghost use Rattle.std.specs.Prelude.{◌≡◌, ◌≤◌, ◌↔◌, Some, true, IfOk, IfErr, OnOk, OnErr};
+ghost use Rattle.std.specs.Prelude.{◌≡◌, ◌≤◌, ◌↔◌, Some, true, false, IfOk, IfErr, OnOk, OnErr};
 ghost use Rattle.std.specs.Prelude.{IsErrOf, length};
 ghost use Rattle.std.specs.FinMap as map;
 ghost use Rattle.ls_edge.specs.Causes.{one_more};
@@ -28,10 +28,11 @@ impl Model for MemShelf {
     ghost coded = { shelf_code };
 
     ghost view = { λ s. record {
-      files = s.shelf;
+      files = s.shelf.files;
       fails = s.calls.fails;
       calls = s.calls.calls;
       faults = s.calls.faults;
+      failed = s.calls.last;
     } };
 }
 
@@ -40,8 +41,13 @@ impl MemShelf {
     /// `fails` fail, but for a fetch that has no file to give; a call after number 2^64 - 1
     /// doesn't.
     pub fn new(alloc: Global, fails: Vec<u64>) -> Self
-        ensures { result ≡
-            record { files = map.empty; fails = fails.items; calls = 0; faults = 0 } }
+        ensures { result ≡ record {
+          files = map.empty;
+          fails = fails.items;
+          calls = 0;
+          faults = 0;
+          failed = false;
+        } }
     {
         MemShelf {
             shelf: SureShelf::new(alloc),
@@ -65,17 +71,22 @@ impl Shelf for MemShelf {
 
     ghost faults = { λ s. s.faults };
 
+    ghost calls = { λ s. s.calls };
+
+    ghost failed = { λ s. s.failed };
+
     fn fetch(&mut self, name: &str) -> Result<Vec<u8>, FetchFault>
         ensures short { IfOk result (λ v. length v.items ≤ longest_file) }
         ensures large { IfErr result TellsMore }
         ensures files { Fetches (Some self.old.files) (Some self.new.files) name.now result }
         ensures cause { FetchCause self.old.faults self.new.faults result }
+        ensures calls { self.new.calls ≡ one_more self.old.calls }
+        ensures last { IsErrOf result FetchFault.Failed ↔ (self.new.failed ≡ true) }
 
         // Which calls fail.
         ensures fails { IsErrOf result FetchFault.Failed ↔ (fetch_fails self.old name.now ≡ true) }
 
-        // The counters, and what stays.
-        ensures calls { self.new.calls ≡ one_more self.old.calls }
+        // The other counter, and what stays.
         ensures faults { self.new.faults ≡ fetch_faults self.old name.now }
         ensures kept_fails { self.new.fails ≡ self.old.fails }
     {
@@ -93,13 +104,14 @@ impl Shelf for MemShelf {
         ensures files { Stores (Some self.old.files) (Some self.new.files)
             name.now bytes.now result }
         ensures cause { StoreCause self.old.faults self.new.faults result }
+        ensures calls { self.new.calls ≡ one_more self.old.calls }
+        ensures last { IsErrOf result StoreFault.Failed ↔ (self.new.failed ≡ true) }
 
         // Which calls fail; only memory may refuse the others.
         ensures fails { IsErrOf result StoreFault.Failed ↔
             (fails_next self.old.fails self.old.calls ≡ true) }
 
-        // The counters, and what stays.
-        ensures calls { self.new.calls ≡ one_more self.old.calls }
+        // The other counter, and what stays.
         ensures faults { self.new.faults ≡
             next_faults self.old.fails self.old.calls self.old.faults }
         ensures kept_fails { self.new.fails ≡ self.old.fails }

@@ -1,6 +1,7 @@
 // What the program asks of the outside: where bytes come from, where they go, and where files are
 // kept.
-ghost use Rattle.std.specs.Prelude.{◌<◌, ◌≤◌, List, ℕ, length, IfOk, IfErr};
+ghost use Rattle.std.specs.Prelude.{◌≡◌, ◌<◌, ◌≤◌, ◌↔◌, List, ℕ, Bool, true, length};
+ghost use Rattle.std.specs.Prelude.{IfOk, IfErr, IsErrOf};
 ghost use Rattle.std.specs.declared.option.Option.{Option};
 ghost use Rattle.std.specs.Io.{ReadsAtMost, WritesAtMost};
 ghost use Rattle.std.specs.Io.KnownBytes.{ReadConsumes, WriteAppends};
@@ -99,6 +100,7 @@ pub trait Sink {
 
 /// Where files are kept, each under a name.
 pub trait Shelf {
+    ghost use Rattle.ls_edge.specs.Causes.{one_more};
     ghost use Rattle.ls_edge.specs.Files.{longest_file, TellsMore, Folder, Fetches, Stores};
     ghost use Rattle.ls_edge.specs.Files.{FetchCause, StoreCause};
 
@@ -107,6 +109,12 @@ pub trait Shelf {
 
     /// How often the shelf has failed.
     ghost faults: { Self → ℕ };
+
+    /// How many calls were made on it, up to the greatest value of a counter.
+    ghost calls: { Self → ℕ };
+
+    /// Whether the last call failed.
+    ghost failed: { Self → Bool };
 
     /// The bytes of the file of that name, of which there are at most `LONGEST_FILE`. `TooLarge`
     /// tells more than that. Where the files are told, the answer is `Missing` exactly where none
@@ -117,12 +125,16 @@ pub trait Shelf {
         ensures short { IfOk result (λ v. length v.items ≤ longest_file) }
         ensures large { IfErr result TellsMore }
         ensures files { Fetches (files self.old) (files self.new) name.now result }
-        ensures cause { FetchCause (faults self.old) (faults self.new) result };
+        ensures cause { FetchCause (faults self.old) (faults self.new) result }
+        ensures calls { calls self.new ≡ one_more (calls self.old) }
+        ensures last { IsErrOf result FetchFault.Failed ↔ (failed self.new ≡ true) };
 
     /// Keeps these bytes as the file of that name, in place of any that it had. Where the files are
     /// told, all other names keep theirs, and an `Err` changes nothing. `Failed` comes only where
     /// the count of faults rose; that count never falls.
     fn store(&mut self, name: &str, bytes: &[u8]) -> Result<(), StoreFault>
         ensures files { Stores (files self.old) (files self.new) name.now bytes.now result }
-        ensures cause { StoreCause (faults self.old) (faults self.new) result };
+        ensures cause { StoreCause (faults self.old) (faults self.new) result }
+        ensures calls { calls self.new ≡ one_more (calls self.old) }
+        ensures last { IsErrOf result StoreFault.Failed ↔ (failed self.new ≡ true) };
 }
