@@ -7,6 +7,7 @@ ghost use Rattle.ls_safely.specs.Cases.{IsSafeCase, is_opening, safe_interview, 
 ghost use Rattle.std.specs.Prelude.{false};
 
 use crate::case::SafeCase;
+use ls_interior::Inside;
 use ls_meaning::{Refusal, Response, SafeRequest, Shown, UnionStates};
 use ls_meaning::{count_applied, count_pending};
 use ls_origins::{SafeAnswers, SafeFault};
