@@ -22,4 +22,4 @@ length-numbers i zero = refl
 length-numbers i (suc m) = ap suc (length-numbers (suc i) m)
 
 pub length-clauses : (n : ℕ) (f : List Items) → length (clauses_at n f) ≡ n
-length-clauses n f = length-map (atoms_at f) (numbers_from 0 n) ∙ length-numbers 0 n
+length-clauses n f = length-map (numbers_from 0 n) (atoms_at f) ∙ length-numbers 0 n

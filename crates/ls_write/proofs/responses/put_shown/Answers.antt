@@ -14,7 +14,11 @@ use Rattle.ls_write.proofs.responses.put_shown.Goals as goal
 
 pub put_surmise-requires : goal.put_surmise-requires
 put_surmise-requires g c =
-    subst (CanShow (length c.args.texts.now) c.args.inquiry.now) c.in-Surmise.is c.requires.can
+    record {
+      items =
+          subst (CanShow (length c.args.texts.now) c.args.inquiry.now) c.in-Surmise.is
+          c.requires.can;
+    }
 
 pub returns-in-Surmise-clause-says : goal.returns-in-Surmise-clause-says
 returns-in-Surmise-clause-says g c =

@@ -3,6 +3,7 @@ use Rattle.ls_write.proofs.Vocabulary.{clauses_at, codes, false, length, length-
 use Rattle.ls_write.proofs.Vocabulary.{map, numbers_from, row_text, set_of, subst, surmise_line, sym}
 use Rattle.ls_room.proofs.Saying.{says_as, says_then}
 use Rattle.ls_room.proofs.NameOrder.{items-few}
+use Rattle.ls_write.proofs.Atoms.{length-clauses}
 use Rattle.ls_write.proofs.ClauseTexts.{line-surmise}
 use Rattle.ls_set.specs.declared.item_set.TheConstants.{PLACES}
 use Rattle.ls_write.proofs.surmise.put_surmise.Goals as goal
@@ -25,7 +26,7 @@ returns g c =
     let sets = c.as_slice-sets.result.now in
     let told = c.clauses.inside in
     let items : length names ≡ told.items =
-    sym c.requires ∙ ap (λ (cs : List (List Items)). length cs) (sym c.clauses.view_is)
+    sym c.requires.items ∙ ap (λ (cs : List (List Items)). length cs) (sym c.clauses.view_is)
     ∙ length-clauses told.items told.base in
     says_as
     (ap (λ is. (codes "surmise {" ++ listed (row_text names sets) false is) ++ codes "}\n")
