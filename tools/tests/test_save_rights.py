@@ -7,6 +7,7 @@ import stat
 import subprocess
 import sys
 import tempfile
+import time
 import unittest
 from pathlib import Path
 
@@ -161,6 +162,23 @@ class Left(Saving):
             self.assertEqual(self.save(), KEPT)
             self.assertEqual(self.names(), [".s.part0", "s"])
         self.assertEqual(self.save(), KEPT)
+        self.assertEqual(self.names(), ["s"])
+
+    @traced
+    def test_two_saves_at_once(self):
+        slow = ["strace", "-o", os.devnull, "-e", "inject=fsync:delay_enter=2000000:when=1"]
+        with subprocess.Popen([*slow, self.program], stdin=subprocess.PIPE, cwd=self.folder,
+                              stdout=subprocess.PIPE) as first:
+            first.stdin.write(SCRIPT)
+            first.stdin.close()
+            begun = time.monotonic()
+            while self.names() != [".s.part0"] and time.monotonic() < begun + 60:
+                time.sleep(0.05)
+            time.sleep(0.5)
+            self.assertEqual(self.save(), KEPT)
+            self.assertEqual(self.names(), [".s.part0", "s"])
+            self.assertEqual(first.stdout.read(), b"ok 3\nok 162\n")
+        self.assertTrue(self.is_new())
         self.assertEqual(self.names(), ["s"])
 
     def test_what_is_no_file_or_has_another_name_stays(self):
