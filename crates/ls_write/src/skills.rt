@@ -16,7 +16,7 @@ use ls_set::{ItemSet, PLACES};
 
 /// Says the line of the skill map that has a skill for each of these sets: for each item the names
 /// of its skills, as a JSON object with no space. The keys are the names of the items, in the order
-/// of their bytes. Nothing takes memory. After a fault of the sink no more skills are looked for.
+/// of their bytes. Nothing takes memory. A fault of the sink ends it.
 pub fn put_skills<K: Sink>(texts: &SetTexts, sets: &[ItemSet], room: &mut Room, out: &mut K)
     ensures { Says (K.written out.old) (K.faults out.old) room.old
         (K.written out.new) (K.faults out.new) room.new

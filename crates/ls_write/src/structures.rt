@@ -85,8 +85,7 @@ pub fn put_mesh<K: Sink, L: Ledger>(
     put_page(&both, texts, after, count, room, out, steps);
 }
 
-// Says a page of the sets whose complements are members. After a fault of the sink no more are
-// looked for.
+// Says a page of the sets whose complements are members. A fault of the sink ends it.
 fn put_duals<I: Interior, K: Sink, L: Ledger>(
     f: &I,
     texts: &SetTexts,
