@@ -7,7 +7,7 @@ use Rattle.ls_drill.proofs.TurnsTaken.{IsAtTurn, first_turn, next_turn, settled_
 use Rattle.ls_drill.proofs.turns.interview.Goals as goal
 
 pub loop-init : goal.loop-init
-loop-init g c = subst (IsAtTurn c.items-n.result c.args.hidden.now.number 0) (sym c.in_ok-inquiry.ensures) (first_turn c.items-n.result c.args.hidden.now.number)
+loop-init g c = subst (IsAtTurn c.items-n.result c.args.hidden.now.number 0) (sym c.in_ok-inquiry.ensures.begun) (first_turn c.items-n.result c.args.hidden.now.number)
 
 pub returns-in_default : goal.returns-in_default
 returns-in_default g c =
