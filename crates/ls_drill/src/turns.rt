@@ -51,8 +51,8 @@ pub fn interview<L: Ledger>(
     let n = hidden.items();
     let mut inquiry = Inquiry::new(alloc, n, Start::Free, steps)?;
     for _ in 0..n * n {
-        inquiry.seek();
-        let Some(query) = inquiry.next_question(None) else {
+        inquiry.seek(steps);
+        let Some(query) = inquiry.find_question(None, steps) else {
             return Ok(inquiry);
         };
         let yes = reply(hidden, &query);

@@ -11,7 +11,7 @@ ghost use Rattle.ls_base.specs.Followed.{IsFollowed};
 ghost use Rattle.ls_standing.specs.Standing.{interview_on, IsStanding};
 ghost use Rattle.ls_inquiry.specs.Held.{blocks_of};
 ghost use Rattle.ls_inquiry.specs.Saved.{IsStandingFault};
-ghost use Rattle.ls_inquiry.specs.Steps.{steps_back, most_steps};
+ghost use Rattle.ls_inquiry.specs.Steps.{steps_back, most_steps, question_steps};
 ghost use Rattle.ls_inquiry.specs.Told.{told_before};
 
 use ls_base::Followed;
@@ -58,7 +58,7 @@ impl Interview {
     ghost use Rattle.ls_standing.specs.Starts.{start_of, IsStartOn};
 
     /// The interview on `n` items that begins with the start: blocks of single items, no answers,
-    /// and the next number 1.
+    /// and the next number 1. It takes at most an interior an item.
     pub fn new<L: Ledger>(
         alloc: Global,
         n: u32,
@@ -68,7 +68,8 @@ impl Interview {
         requires some { 0 < n }
         requires few { n ≤ PLACES }
         requires start { IsStartOn n start }
-        ensures { IfOk result (λ i. i ≡ begun n (start_of start)) }
+        ensures begun { IfOk result (λ i. i ≡ begun n (start_of start)) }
+        ensures cost { steps.new ≤ steps.old + n }
     {
         let followed = Followed::begin(start.base(alloc, n)?);
         let inquiry = Inquiry::new(alloc, n, start, steps)?;
@@ -121,7 +122,7 @@ impl Interview {
     }
 
     /// Begins with another start; the blocks and the next number stay. It is refused only where an
-    /// answer stands, and nothing changes then.
+    /// answer stands, and nothing changes then. It takes at most an interior an item.
     pub fn set_start<L: Ledger>(
         &mut self,
         start: Start,
@@ -132,6 +133,7 @@ impl Interview {
         ensures ok { OnOk result (self.new ≡ record self.old { start = start_of start }) }
         ensures answers_stand { result ≡ Err StartFault.AnswersStand → self.old.answers ≢ [] }
         ensures err { OnErr result (self.new ≡ self.old) }
+        ensures cost { steps.new ≤ steps.old + self.old.count }
     {
         if !self.inquiry.standing().is_empty() {
             return Err(StartFault::AnswersStand);
@@ -245,7 +247,23 @@ impl Interview {
     }
 
     /// The first open query of the blocks that comes after the given good one, or the first of all.
-    /// It takes no memory.
+    /// It takes no memory, and for each set that it looks at at most one interior more than the
+    /// largest has items.
+    pub fn find_question<L: Ledger>(
+        &self,
+        after: Option<&Query>,
+        steps: &mut Steps<L>,
+    ) -> Option<Query>
+        requires { ForSome after (λ r. is_good self.now.count r.now ≡ true) }
+        ensures value { result ≡ next_question self.now (option_map (λ r. r.now) after.entry) }
+        ensures good { IfSome result (λ r. is_good self.now.count r ≡ true) }
+        ensures cost { steps.new ≤ steps.old
+            + question_steps self.now (option_map (λ r. r.now) after.entry) }
+    {
+        self.inquiry.find_question(after, steps)
+    }
+
+    /// The same, in a count of its own.
     pub fn next_question(&self, after: Option<&Query>) -> Option<Query>
         requires { ForSome after (λ r. is_good self.now.count r.now ≡ true) }
         ensures value { result ≡ next_question self.now (option_map (λ r. r.now) after.entry) }
@@ -256,6 +274,16 @@ impl Interview {
 
     /// Whether no query of the blocks is open. Where the largest sets are asked, exactly one space
     /// then fits, that of the compatible sets.
+    pub fn is_settled<L: Ledger>(&self, steps: &mut Steps<L>) -> bool
+        ensures value { result ≡ is_settled self.now }
+        ensures one { result ≡ true → self.now.block ≡ max 1 (self.now.count - 1) →
+            spaces_of self.now ≡ compatible_sets self.now ∷ [] }
+        ensures cost { steps.new ≤ steps.old + question_steps self.now None }
+    {
+        self.inquiry.is_settled(steps)
+    }
+
+    /// The same, in a count of its own.
     pub fn settled(&self) -> bool
         ensures value { result ≡ is_settled self.now }
         ensures one { result ≡ true → self.now.block ≡ max 1 (self.now.count - 1) →

@@ -12,5 +12,6 @@ pub mod Changes
 mod Standing
 mod Closing
 mod Searching
+pub mod Looking
 pub mod Least
 pub mod WithinFamily

@@ -1,5 +1,5 @@
 -- The words that the proofs of this crate cite, passed on from one place.
-pub use Rattle.std.proofs.Common.{◌&&◌, ◌*◌, ◌++◌, ◌+◌, ◌<◌, ◌||◌, ◌↔◌, ◌∙◌, ◌∷◌, ◌≡◌, ◌≤◌, ◌⊎◌, Bool, List, None, Option, Some, ℕ, [], add-one, ap, ap₂, arith, cond, drop, eq-eqb, eqb, eqb-true, false, filter, find, get_or, inl, inr, le-leb, leb, leb-true, length, lt-ltb, ltb, ltb-false, ltb-true, map, min, nat_eq, nat_lt, not, refl, rules, set, slice_get, subst, suc, sym, take, take_at, true, true≢false, zero, zero-add}
+pub use Rattle.std.proofs.Common.{◌&&◌, ◌*◌, ◌++◌, ◌+◌, ◌-◌, ◌<◌, ◌||◌, ◌↔◌, ◌∙◌, ◌∷◌, ◌≡◌, ◌≤◌, ◌⊎◌, Bool, List, None, Option, Some, ℕ, [], add-one, ap, ap₂, arith, cond, drop, eq-eqb, eqb, eqb-true, false, filter, find, get_or, inl, inr, le-leb, leb, leb-true, length, lt-ltb, ltb, ltb-false, ltb-true, map, min, nat_eq, nat_lt, not, refl, rules, set, slice_get, subst, suc, sym, take, take_at, true, true≢false, zero, zero-add}
 pub use Rattle.std.proofs.Math.Bool.{and_assoc}
 pub use Rattle.std.proofs.lemmas.Bool.{and_from, and_parts, cases_Bool, cases_lt, false_from_ne_true, not-false, not-true, not_from_false, or_cases, or_left, or_parts, or_right, true_from_ne_false}
 pub use Rattle.std.proofs.lemmas.Bool.Decides.{nat_tests}
@@ -46,7 +46,7 @@ pub use Rattle.ls_theory.specs.declared.no.No.{No}
 pub use Rattle.ls_infer.specs.Changes.{IsChange, can_change, can_grow, is_kept, is_stale, most_steps_each}
 pub use Rattle.ls_infer.specs.BlockClosures.{AreFirst, IsKeptClosure}
 pub use Rattle.ls_infer.specs.Narrowing.{IsNarrowed, owed}
-pub use Rattle.ls_infer.specs.Search.{IsSearch, is_open_by, outside_of}
+pub use Rattle.ls_infer.specs.Search.{IsSearch, is_open_by, looked_at, outside_of}
 pub use Rattle.ls_infer.specs.Tables.{AreStates, IsKeptFor, TableRoom, TableState, closed_of, enough_for, forces, is_open_in, standing, table_of, told}
 pub use Rattle.ls_infer.specs.declared.standing_no.StandingNo.{StandingNo}
 pub use Rattle.ls_infer.specs.declared.yes_change.YesChange.{YesChange}

@@ -1,9 +1,13 @@
 -- From where an inquiry looks for an open query.
-use Rattle.ls_inquiry.proofs.Vocabulary.{◌&&◌, ◌++◌, ◌<◌, ◌∙◌, ◌∷◌, ◌≡◌, AllByRecursion, BlockRange, Bool, FitsIn, Interview, IsHeld, IsIn, IsInquiry, IsSorted, Items, List, None, NoneBefore, Option, PlaceFor, Query, Some, TableRoom, [], accepted, all_spaces, among-left_parts, and_from, and_parts, ap, arith, before-by_item, before-by_set, block_before, blocks_of, cases_Bool, comes_after, compatible-no, compatible-yes, compatible_sets, false, false_from_ne_true, filter, filter_true, find, find-is, find-no_element, find-none_is, find-same, inl, inr, is_among, is_open, list_all, next_question, no_queries, not, not-true, not_from_false, queries, block_queries, query_before, query_before-asymmetric, query_before-cases, refl, some_breaks, sorted-queries, spaces_of, subst, sym, true, true≢false}
+use Rattle.ls_inquiry.proofs.Vocabulary.{◌&&◌, ◌*◌, ◌++◌, ◌+◌, ◌<◌, ◌∙◌, ◌∷◌, ◌≡◌, ◌≤◌, AllByRecursion, BlockRange, Bool, FitsIn, Interview, IsHeld, IsIn, IsInquiry, IsSorted, Items, List, None, NoneBefore, Option, PlaceFor, Query, Some, TableRoom, ℕ, [], accepted, all_spaces, among-left_parts, and_from, and_parts, ap, arith, before-by_item, before-by_set, block_before, blocks_of, cases_Bool, comes_after, compatible-no, compatible-yes, compatible_sets, false, false_from_ne_true, filter, filter_true, find, find-is, find-no_element, find-none_is, find-same, inl, inr, is_among, is_open, list_all, next_question, no_queries, not, not-true, not_from_false, option_map, queries, block_queries, query_before, query_before-asymmetric, query_before-cases, refl, some_breaks, sorted-queries, spaces_of, subst, sym, true, true≢false}
 use Rattle.ls_lists.proofs.Finds.{find-filter}
+use Rattle.std.proofs.lemmas.Nat.{mul-le}
+use Rattle.ls_infer.specs.Search.{looked_at}
+use Rattle.ls_infer.proofs.Looking.{looked_at-later}
 use Rattle.ls_query.proofs.BlockOrder.{before-transitive}
 use Rattle.ls_query.proofs.Sorted.{sorted-cases}
 use Rattle.ls_standing.proofs.AnswerLists.{no_queries-yes, no_queries-no}
+use Rattle.ls_inquiry.specs.Steps.{question_steps}
 
 -- ---- the first of a list that passes, from an element on
 
@@ -147,6 +151,28 @@ place-none i (Some r) p = question-past i r p
 pub place-some : (i : Interview) (last : Option Query) (s : Query) → PlaceFor i last (Some s) → find (λ x. not (query_before x s) && is_open (spaces_of i) x) (queries i.count i.block) ≡ next_question i last
 place-some i None s p = question-from i s p
 place-some i (Some r) s p = question-after i r s p
+
+-- and no more sets are looked at from there on than from that query on
+pub place-looked : (i : Interview) (last : Option Query) (s : Query) → PlaceFor i last (Some s) → looked_at (blocks_of i) (Some s.a) (next_question i last) ≤ looked_at (blocks_of i) (option_map (λ r. r.a) last) (next_question i last)
+place-looked i None s p = looked_at-later (blocks_of i) None s.a (next_question i None) (λ a h. refl)
+place-looked i (Some r) s p =
+    let before = (find-is query_before (query_before r) (queries i.count i.block) s (sorted-queries i.count i.block) query_before-asymmetric (sym p)).1 in
+    looked_at-later (blocks_of i) (Some r.a) s.a (next_question i (Some r)) (λ a h.
+    not_from_false (block_before a r.a) (false_from_ne_true (block_before a r.a) (λ e. true≢false (sym (earlier a before e) ∙ not-true (block_before a s.a) h))))
+  where
+    earlier : (a : Items) → query_before r s ≡ true → block_before a r.a ≡ true → block_before a s.a ≡ true
+    earlier a h e = elim (query_before-cases r s h) [
+      | inl x ↦ before-transitive a r.a s.a e x
+      | inr x ↦ subst (λ b. block_before a b ≡ true) x.0 e
+    ]
+
+-- the interiors that the search takes
+pub place-cost : (i : Interview) (b : BlockRange) (last : Option Query) (s : Query) (found : Option Query) (old now : ℕ) → PlaceFor i last (Some s) → b ≡ blocks_of i → found ≡ next_question i last
+    → now ≤ old + (b.largest + 1) * looked_at b (Some s.a) found → now ≤ old + question_steps i last
+place-cost i b last s found old now p e f cost =
+    let here : now ≤ old + (i.block + 1) * looked_at (blocks_of i) (Some s.a) (next_question i last) = subst (λ (r : Option Query). now ≤ old + (i.block + 1) * looked_at (blocks_of i) (Some s.a) r) f (subst (λ (x : BlockRange). now ≤ old + (x.largest + 1) * looked_at x (Some s.a) found) e cost) in
+    let more = mul-le (i.block + 1) (looked_at (blocks_of i) (Some s.a) (next_question i last)) (i.block + 1) (looked_at (blocks_of i) (option_map (λ r. r.a) last) (next_question i last)) (omega arith) (place-looked i last s p) in
+    omega arith
 
 -- ---- what an inquiry keeps
 

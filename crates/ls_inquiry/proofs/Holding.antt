@@ -14,10 +14,14 @@ choose-one zero = choose-zero_more 0
 choose-one (suc n) = choose-more n 0 ∙ omega (arith, choose-none n, choose-one n)
 
 -- n sets of one item, which are never too many
+pub length-singles : (n : ℕ) → length (blocks n 1) ≡ n
+length-singles n =
+    let sets : length (blocks n 1) ≡ length (blocks n 0) + choose n 1 = length-blocks_more n 0 in
+    omega (arith, sets, length-blocks_none n, choose-one n)
+
 pub made-one : (n : ℕ) → 0 < n → n ≤ PLACES → made n 1 ≡ Ok (record { item_count = n; largest = 1 })
 made-one n some few =
-    let sets : length (blocks n 1) ≡ length (blocks n 0) + choose n 1 = length-blocks_more n 0 in
-    let many : length (blocks n 1) ≤ most_sets = omega (arith, sets, length-blocks_none n, choose-one n) in
+    let many : length (blocks n 1) ≤ most_sets = omega (arith, length-singles n) in
     made-ok n 1 (λ e. cc) (omega arith) (none_too_wide n 1 many)
 
 pub one-made : (n m : ℕ) (r : Result BlockRange BlockFault) (b : BlockRange) → 0 < n → n ≤ PLACES → m ≡ n → r ≡ made m 1 → r ≡ Ok b → b ≡ single_items n

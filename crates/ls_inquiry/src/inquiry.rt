@@ -110,15 +110,17 @@ fn begin<L: Ledger>(
     ensures rules { IfOk result (λ p. p.0.rules ≡ []) }
     ensures table { IfOk result (λ p.
         IsKeptFor (single_items n) (compat n (start_of start) []) [] p.1) }
+    ensures cost { steps.new ≤ steps.old + n }
 {
     let family = Ruled::new(alloc, OnItems::new(n, start));
-    let table = build(alloc, &family, &[], steps)?;
+    let blocks = Blocks::new(n, 1).unwrap();
+    let table = Table::build(alloc, blocks, &Counted::new(&family), &[], steps)?;
     Ok((family, table))
 }
 
 impl Inquiry {
     /// The inquiry on `n` items that begins with the start: blocks of single items, no answers, and
-    /// the next number 1.
+    /// the next number 1. It takes at most an interior an item.
     pub fn new<L: Ledger>(
         alloc: Global,
         n: u32,
@@ -128,7 +130,8 @@ impl Inquiry {
         requires some { 0 < n }
         requires few { n ≤ PLACES }
         requires start { IsStartOn n start }
-        ensures { IfOk result (λ i. i ≡ begun n (start_of start)) }
+        ensures begun { IfOk result (λ i. i ≡ begun n (start_of start)) }
+        ensures cost { steps.new ≤ steps.old + n }
     {
         let (family, table) = begin(alloc, n, start, steps)?;
         let blocks = Blocks::new(n, 1).unwrap();
@@ -162,7 +165,7 @@ impl Inquiry {
     }
 
     /// Begins with another start; the blocks and the next number stay. It is refused only where an
-    /// answer stands, and nothing changes then.
+    /// answer stands, and nothing changes then. It takes at most an interior an item.
     pub fn set_start<L: Ledger>(
         &mut self,
         start: Start,
@@ -173,6 +176,7 @@ impl Inquiry {
         ensures ok { OnOk result (self.new ≡ record self.old { start = start_of start }) }
         ensures answers_stand { result ≡ Err StartFault.AnswersStand → self.old.answers ≢ [] }
         ensures err { OnErr result (self.new ≡ self.old) }
+        ensures cost { steps.new ≤ steps.old + self.old.count }
     {
         if !self.answers.is_empty() {
             return Err(StartFault::AnswersStand);

@@ -32,7 +32,7 @@ pub fn show<L: Ledger>(
     if is_based(&view) {
         show_based(alloc, inquiry, trail, view)
     } else {
-        seek(inquiry, &view);
+        seek(inquiry, &view, steps);
         Ok(decide(inquiry, &view, steps))
     }
 }
@@ -82,10 +82,10 @@ fn begin(trail: &mut Trail, inquiry: &Inquiry) -> Result<(), AllocError>
 }
 
 // Looks for the first open query where it is asked for, so that the next search begins with it.
-fn seek(inquiry: &mut Inquiry, view: &View)
+fn seek<L: Ledger>(inquiry: &mut Inquiry, view: &View, steps: &mut Steps<L>)
     ensures { inquiry.new ≡ inquiry.old }
 {
     if matches!(view, View::Ask) {
-        inquiry.seek();
+        inquiry.seek(steps);
     }
 }

@@ -4,8 +4,8 @@ use Rattle.ls_infer.proofs.search.Search.open_items.Goals as goal
 
 pub returns-clause-open : goal.returns-clause-open
 returns-clause-open g c q =
-    let n = g.F.Inside.item_count c.args.f.now in
-    let f = g.F.Inside.members c.args.f.now in
+    let n = g.I.Interior.item_count c.args.f.now in
+    let f = g.I.Interior.members c.args.f.now in
     let b = c.args.walk.now.blocks in
     let a = c.args.walk.now.set in
     let rest = list_any (forces (asked_of a q)) c.args.standing.now in

@@ -3,15 +3,15 @@ use Rattle.ls_inquiry.proofs.Asking.{none-before_question}
 use Rattle.ls_inquiry.proofs.inquiry.Inquiry.seek.Goals as goal
 
 pub invariant_of-self : goal.invariant_of-self
-invariant_of-self c =
+invariant_of-self g c =
     let s = c.self.inside in
     let i = interview_of s.family.inner s.block s.answers.items s.next in
-    let first = c.next_question-self-inside.ensures.value ∙ ap (λ (j : Interview). next_question j None) (sym c.self.view_is) in (
+    let first = c.find_question-self-inside.ensures.value ∙ ap (λ (j : Interview). next_question j None) (sym c.self.view_is) in (
       record {
         held = c.self.invariant.0.held;
         asked = c.self.invariant.0.asked;
         some_sizes = c.self.invariant.0.some_sizes;
-        none_before = none-before_question i c.next_question-self-inside.result first;
+        none_before = none-before_question i c.find_question-self-inside.result first;
         found = λ _. first;
       },
       c.self.invariant.1,
