@@ -179,7 +179,7 @@ class Reports(unittest.TestCase):
         self.assertIn("there are no pupils", self.report("s", status=2))
         self.assertIn("nowhere can't be read", self.report("nowhere", status=2))
         self.write("s", "ask\n")
-        self.assertIn("s makes no space: no items were given", self.report("s", status=1))
+        self.assertIn("s has no session: no items were given", self.report("s", status=1))
         self.assertFalse((self.folder / "t.html").exists())
 
 
