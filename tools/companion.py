@@ -18,12 +18,14 @@ import os
 import re
 import shutil
 import subprocess
+import sys
 from pathlib import Path
 
 from streams import Trouble, demand_input, status_of, tell, telling, write_whole  # noqa: F401
 
 TOP = Path(__file__).resolve().parent.parent
 LONGEST_LINE = 65536
+LONGEST_TEXT = 2**28  # bytes of a file that is read, so that one without end is refused
 MOST_PUPILS = 4096  # that a class table may have
 LONGEST_FIELD = 2**31 - 1
 PAGE = 256  # of states that are read at once
@@ -78,8 +80,27 @@ def find_program(option=None):
 
 def read_text(path):
     """The text of a file. Bytes that aren't UTF-8 are kept as they are."""
-    with telling(f"{path} can't be read"):
-        return Path(path).read_bytes().decode("utf-8", "surrogateescape")
+    return read_bytes(path).decode("utf-8", "surrogateescape")
+
+
+def read_bytes(path):
+    with telling(f"{path} can't be read"), open(path, "rb") as file:
+        return bounded(file, path)
+
+
+def bounded(file, name):
+    """The bytes of a file, if they aren't too many."""
+    data = file.read(LONGEST_TEXT + 1)
+    if len(data) > LONGEST_TEXT:
+        raise Trouble(f"{name} has more than {LONGEST_TEXT:,} bytes")
+    return data
+
+
+def read_input():
+    """The bytes of standard input."""
+    demand_input()
+    with telling("standard input can't be read"):
+        return bounded(sys.stdin.buffer, "standard input")
 
 
 def records_of(text, separator=","):

@@ -14,7 +14,7 @@ import sys
 import termios
 import tty
 
-from companion import demand_input, telling
+from companion import LONGEST_LINE, Trouble, demand_input, telling
 
 
 class Keys:
@@ -72,4 +72,7 @@ class Keys:
 
     def read_line(self):
         with telling("standard input can't be read"):
-            return sys.stdin.readline()
+            text = sys.stdin.readline(LONGEST_LINE)
+        if len(text) == LONGEST_LINE:
+            raise Trouble(f"standard input has a line of {LONGEST_LINE:,} letters or more")
+        return text

@@ -9,11 +9,15 @@ The status is 0 where all was done, 1 where the program refused something, 2 whe
 streams are wrong, and 3 where the program can't be used. Where a signal ends the companion, the
 status is 128 and the signal's number. So it is, without a line, where nobody reads its output any
 more (141)."""
+import signal
+
+if signal.getsignal(signal.SIGINT) == signal.default_int_handler:
+    signal.signal(signal.SIGINT, signal.SIG_DFL)  # until `status_of` sets it: no trace of Python
+
 import contextlib
 import errno
 import io
 import os
-import signal
 import stat
 import sys
 import tempfile
@@ -106,7 +110,9 @@ def demand_input():
 
 
 def set_signals(action):
-    """Sets what the signals do that end a process. One that is ignored stays so, as by `nohup`."""
+    """Sets what the signals do that end a process. One that is ignored stays so, as by `nohup`. The
+    action is a function of this file: Python complains of a signal that comes while it becomes
+    one of the system's."""
     for number in ENDING:
         if signal.getsignal(number) != signal.SIG_IGN:
             signal.signal(number, action)
@@ -114,8 +120,13 @@ def set_signals(action):
 
 def stop(number, _):
     """Ends by an exception, so that all is put back. Further signals don't disturb that."""
-    set_signals(signal.SIG_IGN)
+    set_signals(lambda *_: None)
     raise KeyboardInterrupt(number)
+
+
+def leave(number, _):
+    """Ends at once: there is nothing to put back."""
+    os._exit(128 + number)
 
 
 def fault_of(error):
@@ -149,7 +160,7 @@ def run(main):
     try:
         return main()
     finally:
-        set_signals(signal.SIG_DFL)
+        set_signals(leave)
 
 
 def status_of(main):
