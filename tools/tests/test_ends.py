@@ -86,12 +86,12 @@ class Streams(Companions):
             os.close(writing)
 
     def test_errors_that_cannot_be_told(self):
-        """The output is as otherwise, and no file gets the number of the closed stream."""
+        """The output is as otherwise, and no file or pipe gets the number of a closed stream."""
         self.write("twice", "items a\nitems a\nsave kept\n")
         for words in ["kst states twice", *COMPANIONS[:-1]]:
             made = self.run_by(words)
             self.assertEqual(made.returncode, 0)
-            for redirected in ("2>&-", "2> /dev/full"):
+            for redirected in ("2>&-", "<&- 2>&-", "2> /dev/full"):
                 self.assertEqual(self.ends(words, redirected, 0, ""), made.stdout, words)
         self.run_by(COMPANIONS[-1], "2>&-")
         self.run_by("interview i --items z", "2>&-")  # it has its items already
@@ -131,9 +131,9 @@ class Programs(Companions):
             name = words.split()[0]
             for path, why in [(plain, "Exec format error"), (lost, "No such file or directory")]:
                 self.ends(f"{words} --program {path}", "", 3, f"{name}: {path} can't be run: {why}\n")
-            for path in ("/nowhere", "/tmp", "/" + "x" * 300):
-                told = f"{name}: {path} is no program that can be run; name it by --program PATH\n"
-                self.ends(f"{words} --program {path}", "", 3, told)
+        for path in ("/nowhere", "/tmp", "/" + "x" * 300):
+            told = f"{path} is no program that can be run; name it by --program PATH\n"
+            self.ends(f"interview i --items a b --program {path}", "", 3, f"interview: {told}")
 
     def test_a_program_that_ends_at_once(self):
         for words in COMPANIONS:
@@ -200,6 +200,15 @@ class Signals(Companions):
             running.communicate(timeout=20)
             self.assertEqual(running.returncode, 128 + number)
 
+    def test_a_signal_while_nobody_reads(self):
+        """What isn't written yet is dropped: else the end would wait for a reader."""
+        running = self.started("made-class s 100000")
+        running.stdout.read(1)
+        time.sleep(0.5)  # then the pipe is full
+        running.send_signal(signal.SIGTERM)
+        self.assertEqual(running.wait(timeout=20), 128 + signal.SIGTERM)
+        self.assertEqual(running.communicate()[1], b"")
+
     def test_an_ignored_signal_stays_so(self):
         running = self.started("interview i --items a b", stdin=subprocess.PIPE,
                                preexec_fn=lambda: signal.signal(signal.SIGHUP, signal.SIG_IGN))
@@ -217,20 +226,22 @@ class Writing(Companions):
         streams.write_whole(str(self.folder / "new"), b"page")
         self.assertEqual(stat.S_IMODE((self.folder / "new").stat().st_mode), 0o640)
         self.assertEqual(self.files()["new"], b"page")
+        self.assertEqual(os.umask(0o027), 0o027)
 
     def test_an_old_file_keeps_its_rights_and_links(self):
-        old = Path(self.write("old", "as it was", 0o600))
+        old = Path(self.write("old", "as it was", 0o640))
         (self.folder / "link").symlink_to("old")
         streams.write_whole(str(self.folder / "link"), b"page")
         self.assertTrue((self.folder / "link").is_symlink())
-        self.assertEqual((old.read_bytes(), stat.S_IMODE(old.stat().st_mode)), (b"page", 0o600))
+        self.assertEqual((old.read_bytes(), stat.S_IMODE(old.stat().st_mode)), (b"page", 0o640))
         self.assertEqual(sorted(self.files()), ["link", "old", "s", "t.csv"])
 
     def test_what_is_no_file_is_written_and_not_replaced(self):
         pipe = self.folder / "pipe"
         os.mkfifo(pipe)
         read = []
-        reader = threading.Thread(target=lambda: read.append(pipe.read_bytes()))
+        reader = threading.Thread(target=lambda: read.append(pipe.read_bytes()),
+                                  daemon=True)
         reader.start()
         streams.write_whole(str(pipe), b"page")
         if not stat.S_ISFIFO(pipe.stat().st_mode):
@@ -251,6 +262,27 @@ class Writing(Companions):
             told = f"{words.split()[0]}: page can't be written: File too large\n"
             self.assertEqual((done.returncode, done.stderr.decode()), (2, told))
             self.assertEqual(self.files(), before)
+
+    def test_names_of_files_that_are_not_utf8(self):
+        """Each companion takes such a name, and shows the byte in its note and its message."""
+        script, table = (os.fsencode(self.folder) + it for it in (b"/s\xff", b"/t\xff.csv"))
+        for path, text in [(script, "items a\nfoo\n"), (table, "a\n2\n")]:
+            Path(os.fsdecode(path)).write_text(text)
+        for words in ("draw", "kst states", "made-class"):
+            made = subprocess.run([*self.command(words), script, *["3"][:words == "made-class"]],
+                                  cwd=self.folder, stdout=subprocess.PIPE, stderr=subprocess.PIPE,
+                                  env={**os.environ, "PATH": "/nowhere"})
+            self.assertEqual(made.returncode, 3 if words == "draw" else 0)
+            self.assertIn(rb"/s\udcff: the line is no command (no 10 1)", made.stderr)
+        for words, path, status, told in [
+                ("interview", script, 0, b""), ("kst class", table, 2, b"kst: line 2, column a: 2"),
+                ("report s", table, 1, rb"report: " + os.fsencode(self.folder) + rb"/t\udcff.csv: "
+                                       rb"the first record has to be any word")]:
+            made = subprocess.run([*self.command(words), path], cwd=self.folder,
+                                  stdin=subprocess.DEVNULL, stdout=subprocess.PIPE,
+                                  stderr=subprocess.PIPE)
+            self.assertEqual(made.returncode, status, made.stderr)
+            self.assertIn(told, made.stderr)
 
     def test_a_folder_is_no_file(self):
         (self.folder / "pages").mkdir()

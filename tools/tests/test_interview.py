@@ -7,13 +7,16 @@ import subprocess
 import sys
 import tempfile
 import termios
+import threading
 import time
 import unittest
 from pathlib import Path
+from unittest import mock
 
 TOP = Path(__file__).resolve().parents[2]
 sys.path.insert(0, str(TOP / "tools"))
 import companion
+import script
 
 PROGRAM = companion.find_program()
 INTERVIEW = [sys.executable, str(TOP / "tools/interview")]
@@ -171,7 +174,7 @@ class Interviews(unittest.TestCase):
                                        stdout=subprocess.PIPE)
             running.stdin.write(b"n\n" * 200)
             running.stdin.flush()
-            printed = [running.stdout.readline() for _ in range(drawn.randrange(1, 90))]
+            printed = [running.stdout.readline() for _ in range(drawn.randrange(2, 90))]
             time.sleep(drawn.uniform(0, 0.004))
             os.kill(running.pid, signal.SIGKILL)
             printed = b"".join(printed) + running.communicate()[0]
@@ -237,6 +240,24 @@ class Interviews(unittest.TestCase):
         self.assertEqual(self.lines(), ["items a b", "yes a : b"])
 
 
+    def test_a_script_that_another_interview_just_had(self):
+        """It was made here, and another interview was the first to lock it; or another has taken
+        it away, and a third has made it again. It isn't taken away here."""
+        def refuse(*_):
+            raise BlockingIOError
+
+        def exchange(*_):
+            self.script.unlink()
+            self.script.touch()
+
+        for lock in (refuse, exchange):
+            with mock.patch("fcntl.flock", lock), self.assertRaises(companion.Trouble) as caught:
+                script.Script(self.script)
+            self.assertIn("is used by another interview", str(caught.exception))
+            self.assertTrue(self.script.exists())
+            self.script.unlink()
+
+
 class Terminal(unittest.TestCase):
     """Single keys, at a terminal of the test's own."""
 
@@ -255,6 +276,9 @@ class Terminal(unittest.TestCase):
                                         stdout=subprocess.PIPE, stderr=subprocess.PIPE)
         self.addCleanup(self.running.communicate)
         self.addCleanup(self.running.kill)
+        patience = threading.Timer(60, self.running.kill)  # so that nothing waits without end
+        patience.start()
+        self.addCleanup(patience.cancel)
         self.wait_for(b"fail decimal?")
 
     def wait_for(self, shown):

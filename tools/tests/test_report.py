@@ -5,7 +5,6 @@ import re
 import subprocess
 import sys
 import tempfile
-import time
 import unittest
 from pathlib import Path
 
@@ -194,14 +193,14 @@ class Reports(unittest.TestCase):
         self.assertEqual(len(list(self.folder.iterdir())), 3)
 
     def test_more_pupils_than_a_table_may_have(self):
-        """The number is the cause; and thirty thousand names are looked at once, not each with
-        each, which took a quarter of a minute."""
+        """The number is the cause. Each of the names is looked up, and not compared with all before
+        it: of thirty thousand that took twelve seconds of the processor."""
         self.write("s", "items a b\n")
         for count, shown in [(4097, "4,097"), (30000, "30,000")]:
             rows = "".join(f"p{n},1,1\n" for n in range(count))
-            start = time.monotonic()
+            before = os.times().children_user
             printed = self.report("s", self.write("t.csv", "pupil,a,b\n" + rows), status=2)
-            self.assertLess(time.monotonic() - start, 8)
+            self.assertLess(os.times().children_user - before, 5)
             self.assertIn(f"t.csv has {shown} pupils, and a table may have 4,096: cut it", printed)
         rows = "".join(f"p{n},1,1\n" for n in range(4096))
         self.assertIn("4,096 pupils", self.report("s", self.write("t.csv", "pupil,a,b\n" + rows)))
