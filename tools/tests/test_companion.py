@@ -8,6 +8,7 @@ from pathlib import Path
 TOP = Path(__file__).resolve().parents[2]
 sys.path.insert(0, str(TOP / "tools"))
 import companion
+import course
 
 PROGRAM = companion.find_program()
 
@@ -64,9 +65,25 @@ class Troubles(unittest.TestCase):
                          "the earlier answers already tell No (no 21 7)")
 
 
+class Courses(unittest.TestCase):
+    def test_a_course_leaves_neither_its_program_nor_its_folder(self):
+        with course.Course(PROGRAM, str(TOP / "samples/fractions.txt")) as open_one:
+            self.assertIsNone(open_one.running.poll())
+            self.assertTrue((open_one.folder / "fractions.txt").is_symlink())
+        self.assertEqual(open_one.running.returncode, 0)
+        self.assertFalse(open_one.folder.exists())
+
+    def test_cursors(self):
+        with course.Course(PROGRAM, str(TOP / "samples/fractions.txt")) as open_one:
+            self.assertEqual("".join(open_one.cursors(9)), "fecba8640")
+            self.assertIsNone(open_one.cursors(8))
+            self.assertEqual(open_one.names("a"), ["expand", "compare"])
+        self.assertEqual(companion.marks_of("a8", 6), "101010")
+
+
 class Helps(unittest.TestCase):
     def test_each_companion_tells_its_use_and_that_it_proves_nothing(self):
-        for name in ["interview", "report"]:
+        for name in ["interview", "report", "draw", "kst", "made-class"]:
             done = subprocess.run([sys.executable, str(TOP / "tools" / name), "--help"],
                                   stdout=subprocess.PIPE)
             told = " ".join(done.stdout.decode().split())
