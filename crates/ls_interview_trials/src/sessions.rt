@@ -32,7 +32,14 @@ fn are_shown<L: Ledger>(alloc: Global, saved: &Saved, steps: &mut Steps<L>) -> b
         after: None,
     };
     let mut out = SureSink::new(alloc, 100);
-    let shown = view(alloc, &saved.domain, &saved.interview, &command, &mut out, steps);
+    let shown = view(
+        alloc,
+        &saved.domain,
+        &saved.interview,
+        &command,
+        &mut out,
+        steps,
+    );
     shown == Ok(false) && out.written() == STATES.as_bytes()
 }
 

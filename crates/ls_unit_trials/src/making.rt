@@ -49,8 +49,14 @@ fn relations(tally: &mut Tally, alloc: Global, domain: &Domain) {
         let Ok(relation) = Relation::from_text(alloc, domain, pairs.as_bytes()) else {
             return tally.want(false, pairs);
         };
-        tally.want(is_text(covers(alloc, domain, &relation), of_covers), of_covers);
-        tally.want(is_text(skills(alloc, domain, &relation), of_skills), of_skills);
+        tally.want(
+            is_text(covers(alloc, domain, &relation), of_covers),
+            of_covers,
+        );
+        tally.want(
+            is_text(skills(alloc, domain, &relation), of_skills),
+            of_skills,
+        );
     }
 }
 
