@@ -1,5 +1,5 @@
 -- What a fetch lets a command see.
-use Rattle.ls_requests.proofs.Vocabulary.{◌≡◌, AllocError, Bool, Bytes, Err, Failed, FetchCause, Fetched, FetchedFrom, Fetches, FileFailed, Folder, GivesBytes, IsErrOf, IsFetched, LargeFile, List, MatchResult, Missing, NoFile, None, Ok, Option, Refusal, Result, SeesFile, ShelfState, Some, Text, TooLarge, Vec, ℕ, ap, cond, false, fetched_from, length, longest_file, ltb, refl, subst, sym, true}
+use Rattle.ls_requests.proofs.Vocabulary.{◌≡◌, ◌↔◌, AllocError, Bool, Bytes, Err, Failed, FetchCause, Fetched, FetchedFrom, Fetches, FileFailed, Folder, GivesBytes, IsErrOf, IsFetched, LargeFile, List, MatchResult, Missing, NoFile, None, Ok, Option, Refusal, Result, SeesFile, ShelfState, Some, Text, TooLarge, Vec, ℕ, ap, cond, false, fetched_from, length, longest_file, ltb, one_more, refl, subst, sym, true}
 use Rattle.ls_requests.proofs.Seen.{calls_told, sees_told}
 use Rattle.std.specs.declared.alloc.Global.{Global}
 use Rattle.std.specs.FinMap as map
@@ -69,12 +69,14 @@ seen_is None left name r h = fetched_is r
 seen_is (Some m) left name r h = told_is (map.get m name) r h.1
 
 -- what was answered of the file of a name, by the name that was passed
-pub sees_file : {before after : ShelfState} {name passed : Text} {r answered : Result (Vec ℕ Global) FetchFault} → passed ≡ name → Fetches before.files after.files passed r → FetchCause before.faults after.faults r → r ≡ answered → SeesFile name before after (answer_of answered)
-sees_file {before} {after} {name} {passed} {r} {answered} same fetches cause is =
+pub sees_file : {before after : ShelfState} {name passed : Text} {r answered : Result (Vec ℕ Global) FetchFault} → passed ≡ name → Fetches before.files after.files passed r → FetchCause before.faults after.faults r → after.calls ≡ one_more before.calls → (IsErrOf r fetch.Failed ↔ (after.failed ≡ true)) → r ≡ answered
+    → SeesFile name before after (answer_of answered)
+sees_file {before} {after} {name} {passed} {r} {answered} same fetches cause made last is =
     subst (λ x. SeesFile name before after (answer_of x)) is (subst (λ (n : Text). SeesFile n before after (answer_of r)) same (record {
       calls = calls_told before.files (given_by r) (is_failed r);
-      sees = sees_told before.files (given_by r) (is_failed r) before.faults after.faults (given_failed r) (λ f. cause.failed (failed_only r f));
+      sees = sees_told before after (given_by r) (is_failed r) (given_failed r) (λ f. (cause.failed (failed_only r f), last.0 (failed_only r f)));
       given = seen_is before.files after.files passed r fetches;
+      made = made;
       kept = fetches.0;
       later = cause.later;
     }))

@@ -1,5 +1,5 @@
 -- What is seen of the folder.
-use Rattle.ls_requests.proofs.Vocabulary.{◌∙◌, ◌≡◌, Bool, Bytes, Calls, Failed, Fetched, Folder, FolderStays, List, None, Option, Rose, Sees, Some, TooLarge, ℕ, ap, calls_of, cond, false, fetched_from, length, longest_file, ltb, refl, true}
+use Rattle.ls_requests.proofs.Vocabulary.{◌∙◌, ◌≡◌, Bool, Bytes, Calls, Failed, FailedLast, Fetched, Folder, FolderStays, List, None, Option, Sees, ShelfState, Some, TooLarge, ℕ, ap, calls_of, cond, false, fetched_from, length, longest_file, ltb, refl, sym, true}
 use Rattle.std.specs.FinMap as map
 
 pub failed_from : (b : Bool) (o : Option (List ℕ)) → fetched_from b o ≡ Failed → b ≡ true
@@ -17,13 +17,16 @@ pub calls_told-failed : (folder : Option Folder) (given : Fetched) (failed : Boo
 calls_told-failed None given failed = refl
 calls_told-failed (Some m) given failed = refl
 
-pub sees_told : (folder : Option Folder) (given : Fetched) (failed : Bool) (before now : ℕ) → (given ≡ Failed → failed ≡ true) → (failed ≡ true → Rose before now) → Sees (calls_told folder given failed) folder before now
-sees_told None given failed before now is cause = record { told = λ m e. absurd (cc e); failed = λ name e. is e; cause = cause }
-sees_told (Some m) given failed before now is cause = record {
-  told = λ k e name. ap (λ (x : Folder). (calls_of x failed).file name) (let same : m ≡ k = cc e in same);
-  failed = λ name e. failed_from failed (map.get m name) e;
-  cause = cause;
-}
+pub sees_told : (before after : ShelfState) (given : Fetched) (failed : Bool) → (given ≡ Failed → failed ≡ true) → (failed ≡ true → FailedLast before after) → Sees (calls_told before.files given failed) before after
+sees_told before after given failed is cause = go before.files refl
+  where
+    go : (folder : Option Folder) → before.files ≡ folder → Sees (calls_told folder given failed) before after
+    go None none = record { told = λ m e. absurd (cc (sym none ∙ e)); failed = λ name e. is e; cause = cause }
+    go (Some m) some = record {
+      told = λ k e name. ap (λ (x : Folder). (calls_of x failed).file name) (let same : m ≡ k = cc (sym some ∙ e) in same);
+      failed = λ name e. failed_from failed (map.get m name) e;
+      cause = cause;
+    }
 
 -- told files stay as they were
 pub files_stay : (folder left : Option Folder) → FolderStays folder left → (m : Folder) → folder ≡ Some m → left ≡ Some m

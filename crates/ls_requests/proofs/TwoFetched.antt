@@ -1,5 +1,5 @@
 -- What the fetches of two files let a command see.
-use Rattle.ls_requests.proofs.Vocabulary.{◌++◌, ◌∙◌, ◌∷◌, ◌≡◌, Bool, Err, List, None, Ok, Option, Result, Some, Vec, ℕ, [], ap, arith, bytes_eq, cond, false, length, ltb, refl, subst, sym, true, AllocError, Rose, Folder, FolderStays, longest_file, Text, Bytes, Calls, Failed, Fetched, Missing, TooLarge, calls_of, fetched_from, file_refusals, Refusal, FileFailed, AreFetched, IsFetched, SeesFile, SeesFiles, ShelfState}
+use Rattle.ls_requests.proofs.Vocabulary.{◌++◌, ◌∙◌, ◌∷◌, ◌≡◌, Bool, Err, List, None, Ok, Option, Result, Some, Vec, ℕ, [], ap, arith, bytes_eq, cond, false, inl, inr, length, ltb, one_more, refl, subst, sym, true, AllocError, FailedLast, Folder, FolderStays, longest_file, Text, Bytes, Calls, Failed, Fetched, Missing, TooLarge, calls_of, fetched_from, file_refusals, Refusal, FileFailed, AreFetched, GaveBytes, IsFetched, SeesFile, SeesFiles, ShelfState}
 use Rattle.ls_requests.proofs.Seen.{failed_from, files_stay}
 use Rattle.ls_contents.specs.declared.meshes.TwoFiles.{TwoFiles}
 use Rattle.std.specs.declared.alloc.Global.{Global}
@@ -84,6 +84,14 @@ module _ (left : Vec ℕ Global) (first second : Text) (given : Fetched) where
   untold-failed false is name e =
       absurd (elim (bytes_eq first name) as (λ t. cond t (Bytes left.items) given ≡ Failed → ⊥) [ true ↦ λ e. cc e | false ↦ λ e. unfailed given is e ] e)
 
+  untold-gave : (b : Bool) → bytes_eq first first ≡ true → GaveBytes ((calls_untold b).file first)
+  untold-gave true same = tt
+  untold-gave false same = rw same tt
+
+  told-gave : (m : Folder) (b : Bool) → fetched_from b (map.get m first) ≡ Bytes left.items → (f : Bool) → GaveBytes (fetched_from f (map.get m first))
+  told-gave m b at_first true = rw (given_bytes b (map.get m first) left.items at_first).1 tt
+  told-gave m b at_first false = rw (given_bytes b (map.get m first) left.items at_first).0 tt
+
   untold-given : (b : Bool) → is_failed given ≡ b → bytes_eq first first ≡ true → bytes_eq first second ≡ false → (fetched : Result (Result (Vec ℕ Global) Refusal) AllocError) → IsFetched given fetched
       → AreFetched ((calls_untold b).file first) ((calls_untold b).file second) (both_of left fetched)
   untold-given true is same other fetched h = second_failed left fetched (subst (λ g. IsFetched g fetched) (failed_is given is) h)
@@ -104,23 +112,27 @@ pub sees_files : {before between after : ShelfState} (first second : Text) (left
     → SeesFile first before between (Ok (Ok left)) → SeesFile second between after fetched → SeesFiles first second before after (both_of left fetched)
 sees_files {before} {between} {after} first second left fetched same other seen then =
     let given = then.calls.file second in
-    let rose : is_failed given ≡ true → Rose before.faults after.faults = λ is. rises (then.sees.cause (then.sees.failed second (failed_is given is))) in
-    go before.files refl rose
+    let failed : is_failed given ≡ true → FailedLast before after = λ is. since (then.sees.cause (then.sees.failed second (failed_is given is))) in
+    go before.files refl failed
   where
-    rises : Rose between.faults after.faults → Rose before.faults after.faults
-    rises h = omega (arith, h, seen.later)
+    since : FailedLast between after → FailedLast before after
+    since h = (let rose = h.0 in omega (arith, rose, seen.later), h.1)
 
-    go : (folder : Option Folder) → before.files ≡ folder → (is_failed (then.calls.file second) ≡ true → Rose before.faults after.faults) → SeesFiles first second before after (both_of left fetched)
-    go None none rose =
+    twice : after.calls ≡ one_more (one_more before.calls)
+    twice = then.made ∙ ap (λ n. one_more n) seen.made
+
+    go : (folder : Option Folder) → before.files ≡ folder → (is_failed (then.calls.file second) ≡ true → FailedLast before after) → SeesFiles first second before after (both_of left fetched)
+    go None none failed =
         let given = then.calls.file second in
         record {
           calls = calls_untold left first second given (is_failed given);
           sees = record {
             told = λ m e. absurd (cc (sym none ∙ e));
             failed = λ name e. untold_is (is_failed given) refl name e;
-            cause = λ e. rose (untold_mark (is_failed given) e);
+            cause = λ e. failed (untold_mark (is_failed given) e);
           };
           given = untold-given left first second given (is_failed given) refl same other fetched then.given;
+          made = inr (twice, other, untold-gave left first second given (is_failed given) same);
           kept = subst (λ o. FolderStays o after.files) (sym none) tt;
           later = omega (arith, seen.later, then.later);
         }
@@ -132,7 +144,7 @@ sees_files {before} {between} {after} first second left fetched same other seen 
         untold_mark : (b : Bool) → (calls_untold left first second (then.calls.file second) b).failed ≡ true → b ≡ true
         untold_mark true e = refl
         untold_mark false e = e
-    go (Some m) some rose =
+    go (Some m) some failed =
         let given = then.calls.file second in
         let at_first = sym (seen.sees.told m some first) ∙ seen.given in
         let kept : between.files ≡ Some m = files_stay before.files between.files seen.kept m some in
@@ -141,9 +153,10 @@ sees_files {before} {between} {after} first second left fetched same other seen 
           sees = record {
             told = λ k e name. ap (λ (x : Folder). (calls_of x (is_failed given)).file name) (let at : m ≡ k = cc (sym some ∙ e) in at);
             failed = λ name e. failed_from (is_failed given) (map.get m name) e;
-            cause = rose;
+            cause = failed;
           };
           given = told-given left first second given m seen.calls.failed then.calls.failed at_first (then.sees.told m kept second) fetched then.given (is_failed given) refl;
+          made = inr (twice, other, told-gave left first second given m seen.calls.failed at_first (is_failed given));
           kept = subst (λ o. FolderStays o after.files) (sym some) (files_stay between.files after.files then.kept m kept);
           later = omega (arith, seen.later, then.later);
         }
@@ -154,6 +167,7 @@ sees_first {before} {after} first second refusal seen = record {
   calls = seen.calls;
   sees = seen.sees;
   given = (file_refusals (seen.calls.file second), ap (λ (rs : List Refusal). rs ++ file_refusals (seen.calls.file second)) seen.given);
+  made = inl seen.made;
   kept = seen.kept;
   later = seen.later;
 }
@@ -164,6 +178,7 @@ sees_one {before} {after} first second left same seen = record {
   calls = seen.calls;
   sees = seen.sees;
   given = (seen.given, subst (λ (name : Text). seen.calls.file name ≡ Bytes left.items) same seen.given);
+  made = inl seen.made;
   kept = seen.kept;
   later = seen.later;
 }

@@ -1,6 +1,5 @@
 -- The words that the proofs of this crate cite, passed on from one place.
 pub use Rattle.ls_domain.specs.Domains.{names_of_table, names_of_words}
-pub use Rattle.ls_edge.specs.Files.{Folder}
 unfoldable pub use Rattle.ls_files.specs.{session_of}
 pub use Rattle.ls_lines.specs.{Text, is_long, longest_line}
 pub use Rattle.ls_lines.specs.declared.opening.OpeningCommand.{OpeningCommand}

@@ -5,7 +5,7 @@ use Rattle.std.specs.Io.KnownBytes.{Appends, Keeps}
 use Rattle.ls_edge.specs.Causes.{Rose, AppendsFront}
 use Rattle.ls_edge.specs.Files.{Folder}
 use Rattle.ls_meaning.specs.{Calls, Effect, Session, is_refusal, reply_of}
-use Rattle.ls_state.specs.Decides.{Sees, IsDecided}
+use Rattle.ls_state.specs.Decides.{FewCalls, IsDecided, Sees, ShelfState}
 
 -- the bytes were appended, and it is told whether they begin with `no `
 pub record Said (before after : Option (List ℕ)) (bytes : List ℕ) (refused : Bool) : Type 0 where
@@ -37,16 +37,16 @@ pub record MovesSink {T E : Type 0} (write : E) (before after : Option (List ℕ
   pub later : faults_before ≤ faults_now
   pub cause : IsErrOf result write → Rose faults_before faults_now
 
--- The effect by what was seen of the folder was given, whole or, after a fault, in part. Where the
--- effect does not depend on the folder, the folder is left alone. It is told that the sink failed
--- (by `write`) only where its count of faults rose; no count of faults falls.
+-- The effect by what was seen of the folder was given, whole or, after a fault, in part, by few calls
+-- on the folder. It is told that the sink failed (by `write`) only where its count of faults rose; no
+-- count of faults falls.
 pub record Follows {E : Type 0} (write : E) (effect : Calls → Effect) (old new : Session)
-    (folder left : Option Folder) (shelf_before shelf_now : ℕ) (before after : Option (List ℕ))
+    (shelf left : ShelfState) (before after : Option (List ℕ))
     (faults_before faults_now : ℕ) (result : Result Bool E) : Type 0 where
   pub calls : Calls
-  pub sees : Sees calls folder shelf_before shelf_now
-  pub gives : Gives write (effect calls) old new folder left before after result
-  pub alone : ((a b : Calls) → effect a ≡ effect b) → (left ≡ folder) × (shelf_now ≡ shelf_before)
-  pub shelf_later : shelf_before ≤ shelf_now
+  pub sees : Sees calls shelf left
+  pub gives : Gives write (effect calls) old new shelf.files left.files before after result
+  pub few : FewCalls effect calls shelf left
+  pub shelf_later : shelf.faults ≤ left.faults
   pub cause : IsErrOf result write → Rose faults_before faults_now
   pub later : faults_before ≤ faults_now

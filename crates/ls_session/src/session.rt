@@ -1,12 +1,11 @@
 // A session.
 ghost use Rattle.std.specs.Prelude.{◌≡◌, true, List, ℕ, [], length, IfOk};
-ghost use Rattle.std.specs.declared.option.Option.{Option};
-ghost use Rattle.ls_edge.specs.Files.{Folder};
 ghost use Rattle.ls_lines.specs.{is_long};
 ghost use Rattle.ls_meaning.specs.{Calls, Session as State, answers, line_effect, started};
 ghost use Rattle.ls_meaning.specs.declared.response.Response.TheVariants.{Silence};
 ghost use Rattle.ls_room.specs.Rooms.{Ends, no_reply};
 ghost use Rattle.ls_session.specs.Follows.{Follows, MovesSink};
+ghost use Rattle.ls_state.specs.Decides.{ShelfState, shelf_state};
 
 use crate::StepFault;
 use crate::decider::Decider;
@@ -71,8 +70,7 @@ impl Session {
         shelf: &mut H,
     ) -> Result<bool, StepFault>
         ensures follows { Follows StepFault.Write (λ calls. line_effect self.old calls line.now)
-            self.old self.new
-            (H.files shelf.old) (H.files shelf.new) (H.faults shelf.old) (H.faults shelf.new)
+            self.old self.new (shelf_state H.Shelf shelf.old) (shelf_state H.Shelf shelf.new)
             (K.written out.old) (K.written out.new) (K.faults out.old) (K.faults out.new) result }
     {
         if is_passed(line) {
@@ -84,9 +82,9 @@ impl Session {
     /// Answers a line that is too long to be read, of which the number of bytes is known alone.
     pub fn refuse_long<K: Sink>(&mut self, bytes: u64, out: &mut K) -> Result<bool, StepFault>
         ensures follows { (line : List ℕ) → length line ≡ bytes → is_long line ≡ true →
-            (folder : Option Folder) (faults : ℕ) →
+            (shelf : ShelfState) →
             Follows StepFault.Write (λ calls. line_effect self.old calls line) self.old self.new
-            folder folder faults faults
+            shelf shelf
             (K.written out.old) (K.written out.new) (K.faults out.old) (K.faults out.new) result }
         ensures sink { MovesSink StepFault.Write (K.written out.old) (K.written out.new)
             (K.faults out.old) (K.faults out.new) result }
@@ -112,8 +110,7 @@ impl Session {
         requires parts { blank.parts ≡ L.parts }
         requires one { blank.parts ≡ 1 }
         ensures follows { Follows StepFault.Write (λ calls. line_effect self.old calls line.now)
-            self.old self.new
-            (H.files shelf.old) (H.files shelf.new) (H.faults shelf.old) (H.faults shelf.new)
+            self.old self.new (shelf_state H.Shelf shelf.old) (shelf_state H.Shelf shelf.new)
             (K.written out.old) (K.written out.new) (K.faults out.old) (K.faults out.new) result }
     {
         let mut steps = Steps::<L>::new(blank);

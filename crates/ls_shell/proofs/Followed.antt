@@ -3,11 +3,11 @@ use Rattle.ls_shell.proofs.Vocabulary.{◌||◌, ◌∙◌, ◌≡◌, ◌⊎◌
 use Rattle.std.proofs.Math.Path.{fun_ext}
 use Rattle.std.specs.declared.option.Option.{Option}
 use Rattle.ls_cutting.specs.declared.ended.Ended.TheVariants.{Whole, Long}
-use Rattle.ls_state.specs.Decides.{Sees, IsDecided}
+use Rattle.ls_state.specs.Decides.{IsDecided, Sees, ShelfState}
 
 -- where the files are told, what was seen is the folder, with the line's mark
-pub seen_whole : (calls : Calls) (folder : Option Folder) (before now : ℕ) (m : Folder) → Sees calls folder before now → folder ≡ Some m → calls ≡ calls_of m calls.failed
-seen_whole calls folder before now m h told = ap (λ (file : Text → Fetched). record { file = file; failed = calls.failed }) (fun_ext (h.told m told))
+pub seen_whole : (calls : Calls) (before after : ShelfState) (m : Folder) → Sees calls before after → before.files ≡ Some m → calls ≡ calls_of m calls.failed
+seen_whole calls before after m h told = ap (λ (file : Text → Fetched). record { file = file; failed = calls.failed }) (fun_ext (h.told m told))
 
 pub OnErr_from : {T E : Type 0} (r : Result T E) {P : Type 0} → P → OnErr r P
 OnErr_from (Ok x) h = tt
@@ -24,13 +24,13 @@ gives_bytes write effect old new folder left a b (Err e) (inl h) = (_, Appends-k
 gives_bytes write effect old new folder left a b (Err e) (inr h) = (_, h.1.2)
 
 -- a line that was followed moves the sink
-pub follows_moves : {E : Type 0} {write : E} {effect : Calls → Effect} {old new : Session} {folder left : Option Folder} {i j : ℕ} {a b : Option (List ℕ)} {k l : ℕ} {r : Result Bool E} → Follows write effect old new folder left i j a b k l r → MovesSink write a b k l r
-follows_moves {E} {write} {effect} {old} {new} {folder} {left} {i} {j} {a} {b} {k} {l} {r} h =
-    record { kept = gives_bytes write (effect h.calls) old new folder left a b r h.gives; later = h.later; cause = h.cause }
+pub follows_moves : {E : Type 0} {write : E} {effect : Calls → Effect} {old new : Session} {shelf left : ShelfState} {a b : Option (List ℕ)} {k l : ℕ} {r : Result Bool E} → Follows write effect old new shelf left a b k l r → MovesSink write a b k l r
+follows_moves {E} {write} {effect} {old} {new} {shelf} {left} {a} {b} {k} {l} {r} h =
+    record { kept = gives_bytes write (effect h.calls) old new shelf.files left.files a b r h.gives; later = h.later; cause = h.cause }
 
-module _ {E : Type 0} (write : E) (line : List ℕ) (old new : Run) (next : Session) (folder left : Option Folder) (shelf_before shelf_now : ℕ) (a b : Option (List ℕ)) (faults_before faults_now : ℕ) (q : Result Bool E) (m : Folder) where
+module _ {E : Type 0} (write : E) (line : List ℕ) (old new : Run) (next : Session) (shelf left : ShelfState) (a b : Option (List ℕ)) (faults_before faults_now : ℕ) (q : Result Bool E) (m : Folder) where
   abbrev FollowsIt : Type 0
-  FollowsIt = Follows write (λ calls. line_effect old.session calls line) old.session next folder left shelf_before shelf_now a b faults_before faults_now q
+  FollowsIt = Follows write (λ calls. line_effect old.session calls line) old.session next shelf left a b faults_before faults_now q
 
   abbrev world : World
   world = record { session = old.session; folder = m }
@@ -38,19 +38,19 @@ module _ {E : Type 0} (write : E) (line : List ℕ) (old new : Run) (next : Sess
   abbrev at : Bool → Marked
   at failed = record { line = line; failed = failed }
 
-  same_answer : (h : FollowsIt) → folder ≡ Some m → line_effect old.session h.calls line ≡ effect_at world (at h.calls.failed)
-  same_answer h told = ap (λ (calls : Calls). line_effect old.session calls line) (seen_whole h.calls folder shelf_before shelf_now m h.sees told)
+  same_answer : (h : FollowsIt) → shelf.files ≡ Some m → line_effect old.session h.calls line ≡ effect_at world (at h.calls.failed)
+  same_answer h told = ap (λ (calls : Calls). line_effect old.session calls line) (seen_whole h.calls shelf left m h.sees told)
 
   -- the reply was said
-  pub line_answered : (refused : Bool) → q ≡ Ok refused → new.session ≡ next → new.cutter ≡ old.cutter → new.is_refused ≡ (old.is_refused || refused) → folder ≡ Some m → FollowsIt
-      → AnswersLine {T = Unit {0}} {E = E} write m line old new left shelf_before shelf_now a b (Ok tt)
+  pub line_answered : (refused : Bool) → q ≡ Ok refused → new.session ≡ next → new.cutter ≡ old.cutter → new.is_refused ≡ (old.is_refused || refused) → shelf.files ≡ Some m → FollowsIt
+      → AnswersLine {T = Unit {0}} {E = E} write m line old new left.files shelf.faults left.faults a b (Ok tt)
   line_answered refused was same cutter told files h =
       let e = same_answer h files in
-      let given : Gives write (line_effect old.session h.calls line) old.session next folder left a b (Ok refused) = subst (λ (r : Result Bool E). Gives write (line_effect old.session h.calls line) old.session next folder left a b r) was h.gives in
+      let given : Gives write (line_effect old.session h.calls line) old.session next shelf.files left.files a b (Ok refused) = subst (λ (r : Result Bool E). Gives write (line_effect old.session h.calls line) old.session next shelf.files left.files a b r) was h.gives in
       let whole : Said a b (reply_of (effect_at world (at h.calls.failed))) refused = subst (λ (x : Effect). Said a b (reply_of x) refused) e given.1 in
       record {
         failed = h.calls.failed;
-        cause = h.sees.cause;
+        cause = λ e. (h.sees.cause e).0;
         later = h.shelf_later;
         answered = record {
           session = same ∙ given.0.session ∙ ap (λ (x : Effect). x.session) e;
@@ -62,18 +62,18 @@ module _ {E : Type 0} (write : E) (line : List ℕ) (old new : Run) (next : Sess
         begun = tt;
       }
 
-  begun_by : (x y : Effect) (f : E) (W : Type 0) → (W → f ≡ write) → x ≡ y → folder ≡ Some m → (IsUndone old.session next folder left a b × (f ≡ write → ⊥)) ⊎ (IsDecided x next folder left × AppendsFront a b (reply_of x))
-      → ((left ≡ Some m) × Keeps a b × (W → ⊥)) ⊎ ((left ≡ Some (folder_with m y.stored)) × AppendsFront a b (reply_of y))
+  begun_by : (x y : Effect) (f : E) (W : Type 0) → (W → f ≡ write) → x ≡ y → shelf.files ≡ Some m → (IsUndone old.session next shelf.files left.files a b × (f ≡ write → ⊥)) ⊎ (IsDecided x next shelf.files left.files × AppendsFront a b (reply_of x))
+      → ((left.files ≡ Some m) × Keeps a b × (W → ⊥)) ⊎ ((left.files ≡ Some (folder_with m y.stored)) × AppendsFront a b (reply_of y))
   begun_by x y f W same e files (inl h) = inl (h.0.files m files, h.0.written, λ w. h.1 (same w))
   begun_by x y f W same e files (inr h) = inr (h.0.files m files ∙ ap (λ (z : Effect). Some (folder_with m z.stored)) e, subst (λ (z : Effect). AppendsFront a b (reply_of z)) e h.1)
 
   -- a front of it was said
-  pub line_begun : {T : Type 0} (r : Result T E) (e : E) → q ≡ Err e → IsErr r → (IsErrOf r write → IsErrOf q write) → folder ≡ Some m → FollowsIt → AnswersLine write m line old new left shelf_before shelf_now a b r
+  pub line_begun : {T : Type 0} (r : Result T E) (e : E) → q ≡ Err e → IsErr r → (IsErrOf r write → IsErrOf q write) → shelf.files ≡ Some m → FollowsIt → AnswersLine write m line old new left.files shelf.faults left.faults a b r
   line_begun r f was err passed files h =
-      let given = subst (λ (x : Result Bool E). Gives write (line_effect old.session h.calls line) old.session next folder left a b x) was h.gives in
+      let given = subst (λ (x : Result Bool E). Gives write (line_effect old.session h.calls line) old.session next shelf.files left.files a b x) was h.gives in
       record {
         failed = h.calls.failed;
-        cause = h.sees.cause;
+        cause = λ e. (h.sees.cause e).0;
         later = h.shelf_later;
         answered = OnOk_never r _ err;
         begun = OnErr_from r (begun_by (line_effect old.session h.calls line) (effect_at world (at h.calls.failed)) f (IsErrOf r write) (λ w. let wrote : q ≡ Err write = passed w in let same : f ≡ write = cc in same) (same_answer h files) files given);

@@ -6,6 +6,7 @@ ghost use Rattle.ls_edge.specs.Files.{Folder};
 ghost use Rattle.ls_lines.specs.{ended_of, kept, lines};
 ghost use Rattle.ls_meaning.specs.{line_effect};
 ghost use Rattle.ls_session.specs.Follows.{Follows, MovesSink};
+ghost use Rattle.ls_state.specs.Decides.{shelf_state};
 
 use ls_edge::{Shelf, Sink};
 use ls_lines::{Cutter, Ended};
@@ -155,7 +156,7 @@ impl Run {
             → ended ≡ ended_of line → self.old.cutter.line ≡ kept line
             → Follows StepFault.Write (λ calls. line_effect self.old.session calls line)
             self.old.session self.new.session
-            (H.files shelf.old) (H.files shelf.new) (H.faults shelf.old) (H.faults shelf.new)
+            (shelf_state H.Shelf shelf.old) (shelf_state H.Shelf shelf.new)
             (K.written out.old) (K.written out.new) (K.faults out.old) (K.faults out.new) result }
         ensures cutter { self.new.cutter ≡ self.old.cutter }
         ensures before { self.new.is_refused ≡ self.old.is_refused }

@@ -1,5 +1,5 @@
 -- What is decided, by what is made.
-use Rattle.ls_state.proofs.Vocabulary.{[], ◌<◌, ◌∙◌, ◌∷◌, ◌≡◌, AllocError, Bool, Calls, Change, Command, Decides, EditCommand, Effect, Err, Folder, FolderStays, IfOk, Interview, IsAfterLine, IsDecided, IsErrAnd, List, Makes, MakesChange, Missing, None, Ok, OnOk, Option, PupilCommand, Refused, Response, Result, Sees, Session, SettingCommand, ShelfState, Some, Unnamed, ViewCommand, ℕ, answers, ap, arith, changes_interview, changes_pupils, changes_settings, command_effect, cond, edit_effect, edit_item_words, edit_of, edit_row, false, has_domain, in_domain, length, line_effect, pupil_effect, pupil_item_words, pupil_name, pupil_of, pupil_row, refl, setting_effect, setting_item_words, setting_of, setting_row, standing_session, started, subst, sym, true, unless_unnamed, unnamed, view_effect, view_item_words, view_of, view_row, SafeCommand, SafeInterview, changes_safe, safe_effect, safe_item_words, safe_of, safe_row}
+use Rattle.ls_state.proofs.Vocabulary.{[], ◌<◌, ◌∙◌, ◌∷◌, ◌≡◌, AllocError, Bool, Calls, Change, Command, Decides, EditCommand, Effect, Err, Folder, FewCalls, FolderStays, IfOk, Interview, IsAfterLine, IsDecided, IsErrAnd, List, Makes, MakesChange, Missing, None, Ok, OnOk, Option, PupilCommand, Refused, Response, Result, Sees, Session, SettingCommand, ShelfState, Some, Unnamed, ViewCommand, ℕ, answers, ap, arith, changes_interview, changes_pupils, changes_settings, command_effect, cond, edit_effect, edit_item_words, edit_of, edit_row, false, has_domain, in_domain, length, line_effect, pupil_effect, pupil_item_words, pupil_name, pupil_of, pupil_row, refl, setting_effect, setting_item_words, setting_of, setting_row, standing_session, started, subst, sym, true, unless_unnamed, unnamed, view_effect, view_item_words, view_of, view_row, SafeCommand, SafeInterview, changes_safe, safe_effect, safe_item_words, safe_of, safe_row}
 pub use Rattle.ls_requests.proofs.Seen.{files_stay}
 use Rattle.ls_requests.proofs.Seen.{calls_told, sees_told}
 use Rattle.std.proofs.lemmas.Result.{on_ok_weaker, on_err_weaker}
@@ -14,8 +14,11 @@ same_folder (Some m) = refl
 abbrev calls_none : Option Folder → Calls
 calls_none folder = calls_told folder Missing false
 
-sees_none : (folder : Option Folder) (faults : ℕ) → Sees (calls_none folder) folder faults faults
-sees_none folder faults = sees_told folder Missing false faults faults (λ e. absurd (cc e)) (λ e. absurd (cc e))
+sees_none : (shelf : ShelfState) → Sees (calls_none shelf.files) shelf shelf
+sees_none shelf = sees_told shelf shelf Missing false (λ e. absurd (cc e)) (λ e. absurd (cc e))
+
+few_none : (effect : Calls → Effect) (calls : Calls) (shelf : ShelfState) → FewCalls effect calls shelf shelf
+few_none effect calls shelf = record { alone = λ _. refl; once = λ name given one. omega arith; twice = omega arith }
 
 -- ---- what is made
 
@@ -56,14 +59,14 @@ decides_made {effect} {e} {old} {new} {shelf} {r} same none h =
     let is : effect calls ≡ e = same calls in
     record {
       calls = calls;
-      sees = sees_none shelf.files shelf.faults;
+      sees = sees_none shelf;
       response = subst (λ (y : Effect). IfOk r (λ x. x ≡ y.response)) (sym is) h.response;
       decided = on_ok_weaker r (λ at. record {
         session = at ∙ sym (ap (λ (y : Effect). y.session) is);
         files = λ m told. rw (ap (λ (y : Effect). y.stored) is ∙ none) told;
       }) h.session;
       undone = on_err_weaker r (λ at. (at, same_folder shelf.files)) h.undone;
-      alone = λ _. refl;
+      few = few_none effect calls shelf;
       later = omega arith;
     }
 
@@ -75,7 +78,11 @@ decides_as {effect} {other} {old} {new} {before} {after} {r} same h = record {
   response = subst (λ (x : Effect). IfOk r (λ y. y ≡ x.response)) (sym (same h.calls)) h.response;
   decided = subst (λ (x : Effect). OnOk r (IsDecided x new before.files after.files)) (sym (same h.calls)) h.decided;
   undone = h.undone;
-  alone = λ one. h.alone (λ a b. sym (same a) ∙ one a b ∙ same b);
+  few = record {
+    alone = λ one. h.few.alone (λ a b. sym (same a) ∙ one a b ∙ same b);
+    once = λ name given one. h.few.once name given (λ b e. sym (same b) ∙ one b e ∙ same h.calls);
+    twice = h.few.twice;
+  };
   later = h.later;
 }
 
@@ -83,11 +90,11 @@ decides_as {effect} {other} {old} {new} {before} {after} {r} same h = record {
 pub decides_nothing : {effect : Calls → Effect} {s : Session} {shelf : ShelfState} {e : AllocError} → Decides effect s s shelf shelf (Err e)
 decides_nothing {effect} {s} {shelf} {e} = record {
   calls = calls_none shelf.files;
-  sees = sees_none shelf.files shelf.faults;
+  sees = sees_none shelf;
   response = tt;
   decided = tt;
   undone = (refl, same_folder shelf.files);
-  alone = λ _. refl;
+  few = few_none effect (calls_none shelf.files) shelf;
   later = omega arith;
 }
 

@@ -1,14 +1,18 @@
 -- What a command does by what it fetches.
-use Rattle.ls_state.proofs.Vocabulary.{[], ◌++◌, ◌<◌, ◌==◌, ◌∙◌, ◌∷◌, ◌≡◌, AllocError, Answer, AnswersStand, Bytes, Calls, Decides, Effect, Err, Failed, Fetched, FileFailed, IsErrAnd, IsFetched, List, Makes, Missing, NoFile, None, Ok, Refusal, Refused, Response, Result, SeesFile, Session, ShelfState, Text, Vec, ℕ, answers, ap, arith, bytes_fetched, changes_interview, false, file_refusals, in_domain, in_domain-some, length, ne_eqb, not, refl, refuse, start_read, start_row, starts_by, subst, sym, true, true≢false, Fetching}
+use Rattle.ls_state.proofs.Vocabulary.{[], ◌++◌, ◌<◌, ◌==◌, ◌∙◌, ◌∷◌, ◌≡◌, AllocError, Answer, AnswersStand, Bytes, Calls, Decides, Effect, Err, Failed, Fetched, FewCalls, FileFailed, IsErrAnd, IsFetched, List, Makes, Missing, NoFile, None, Ok, Refusal, Refused, Response, Result, SeesFile, Session, ShelfState, Text, Vec, ℕ, answers, ap, arith, bytes_fetched, changes_interview, false, file_refusals, in_domain, in_domain-some, length, ne_eqb, not, one_more, refl, refuse, start_read, start_row, starts_by, subst, sym, true, true≢false, Fetching}
 use Rattle.ls_state.proofs.Decided.{files_stay, makes_as, makes_nothing}
 use Rattle.std.specs.declared.alloc.Global.{Global}
 use Rattle.std.proofs.lemmas.Result.{on_ok_weaker, on_err_weaker}
 use Rattle.ls_meaning.specs.declared.request.StartFile.{StartFile}
 
--- an effect that stores nothing and depends on the folder
-module _ {s : Session} (whole : Calls → Effect) (none : (calls : Calls) → (whole calls).stored ≡ None) (depends : ((a b : Calls) → whole a ≡ whole b) → ⊥) where
-  pub decides_seen : {IsGiven : Calls → Type 0} {before after : ShelfState} {new : Session} {r : Result Response AllocError} (seen : Fetching IsGiven before after) → Makes (whole seen.calls) s new r → Decides whole s new before after r
-  decides_seen {IsGiven} {before} {after} {new} {r} seen h = record {
+-- one call was made, for an effect that depends on the folder
+pub few_one : {effect : Calls → Effect} {calls : Calls} {before after : ShelfState} → (((a b : Calls) → effect a ≡ effect b) → ⊥) → after.calls ≡ one_more before.calls → FewCalls effect calls before after
+few_one depends made = record { alone = λ one. absurd (depends one); once = λ name given one. omega (arith, made); twice = omega (arith, made) }
+
+-- an effect that stores nothing
+module _ {s : Session} (whole : Calls → Effect) (none : (calls : Calls) → (whole calls).stored ≡ None) {IsGiven IsMade : Calls → Type 0} {before after : ShelfState} (seen : Fetching IsGiven IsMade before after) (few : FewCalls whole seen.calls before after) where
+  pub decides_seen : {new : Session} {r : Result Response AllocError} → Makes (whole seen.calls) s new r → Decides whole s new before after r
+  decides_seen {new} {r} h = record {
     calls = seen.calls;
     sees = seen.sees;
     response = h.response;
@@ -17,14 +21,14 @@ module _ {s : Session} (whole : Calls → Effect) (none : (calls : Calls) → (w
       files = λ m told. rw (none seen.calls) (files_stay before.files after.files seen.kept m told);
     }) h.session;
     undone = on_err_weaker r (λ at. (at, seen.kept)) h.undone;
-    alone = λ one. absurd (depends one);
+    few = few;
     later = seen.later;
   }
 
   -- memory ran out
-  pub decides_unseen : {IsGiven : Calls → Type 0} {before after : ShelfState} (seen : Fetching IsGiven before after) (P : AllocError → Type 0) (r : Result Response AllocError) → IsErrAnd r P → Decides whole s s before after r
-  decides_unseen seen P (Ok x) e = absurd e
-  decides_unseen seen P (Err x) e = decides_seen seen makes_nothing
+  pub decides_unseen : (P : AllocError → Type 0) (r : Result Response AllocError) → IsErrAnd r P → Decides whole s s before after r
+  decides_unseen P (Ok x) e = absurd e
+  decides_unseen P (Err x) e = decides_seen makes_nothing
 
 -- the folder gives no file, or none that can be fetched
 abbrev pub calls_missing : Calls
@@ -48,22 +52,22 @@ module _ {s : Session} (whole : Fetched → Effect) (effect : List Refusal → L
   none name calls = let given = calls.file name in ap (λ (e : Effect). e.stored) (same given) ∙ stores_none (file_refusals given) (bytes_fetched given)
 
   -- memory ran out
-  pub decides_unfetched : (name : Text) {IsGiven : Calls → Type 0} {before after : ShelfState} (seen : Fetching IsGiven before after) (P : AllocError → Type 0) (r : Result Response AllocError) → IsErrAnd r P → Decides (λ calls. whole (calls.file name)) s s before after r
-  decides_unfetched name seen P r e = decides_unseen (λ calls. whole (calls.file name)) (none name) (depends name) seen P r e
+  pub decides_unfetched : (name : Text) {before after : ShelfState} {fetched : Result (Result (Vec ℕ Global) Refusal) AllocError} (seen : SeesFile name before after fetched) (P : AllocError → Type 0) (r : Result Response AllocError) → IsErrAnd r P → Decides (λ calls. whole (calls.file name)) s s before after r
+  decides_unfetched name seen P r e = decides_unseen (λ calls. whole (calls.file name)) (none name) seen (few_one (depends name) seen.made) P r e
 
   module _ {name : Text} {before after : ShelfState} {fetched : Result (Result (Vec ℕ Global) Refusal) AllocError} (seen : SeesFile name before after fetched) where
     -- the bytes were fetched
     pub decides_read : {bytes : Vec ℕ Global} {new : Session} {r : Result Response AllocError} → fetched ≡ Ok (Ok bytes) → Makes (effect [] bytes.items) s new r → Decides (λ calls. whole (calls.file name)) s new before after r
     decides_read {bytes} {new} {r} is h =
         let given : seen.calls.file name ≡ Bytes bytes.items = subst (IsFetched (seen.calls.file name)) is seen.given in
-        decides_seen (λ calls. whole (calls.file name)) (none name) (depends name) seen (makes_as (ap whole given ∙ same (Bytes bytes.items)) h)
+        decides_seen (λ calls. whole (calls.file name)) (none name) seen (few_one (depends name) seen.made) (makes_as (ap whole given ∙ same (Bytes bytes.items)) h)
 
     -- or refused
     pub decides_unread : {refusal : Refusal} → fetched ≡ Ok (Err refusal) → Decides (λ calls. whole (calls.file name)) s s before after (Ok (Refused refusal))
     decides_unread {refusal} is =
         let given = seen.calls.file name in
         let refused : file_refusals given ≡ refusal ∷ [] = subst (IsFetched given) is seen.given in
-        decides_seen (λ calls. whole (calls.file name)) (none name) (depends name) seen
+        decides_seen (λ calls. whole (calls.file name)) (none name) seen (few_one (depends name) seen.made)
         (makes_as (same given ∙ ap (λ (rs : List Refusal). effect rs (bytes_fetched given)) refused ∙ refuses refusal (bytes_fetched given))
         (record { response = refl; session = refl; undone = tt }))
 

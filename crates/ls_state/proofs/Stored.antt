@@ -1,5 +1,6 @@
 -- A command that stores a file.
-use Rattle.ls_state.proofs.Vocabulary.{◌++◌, ◌<◌, ◌∙◌, ◌≡◌, ◌≤◌, AllocError, Bool, Calls, Decides, Done, Effect, Err, FileFailed, Folder, FolderStays, LargeFile, List, Missing, None, Ok, Option, Refused, Response, Result, Rose, Sees, Session, ShelfState, Some, StoreCause, Stores, ℕ, answers, ap, false, le-ltb, length, longest_file, lt-ltb, refl, refuse, save_row, saved, session_text, stores, subst, sym, true}
+use Rattle.ls_state.proofs.Vocabulary.{◌++◌, ◌<◌, ◌∙◌, ◌≡◌, ◌≤◌, ◌↔◌, AllocError, Bool, Calls, Decides, Done, Effect, Err, FailedLast, FileFailed, Folder, FolderStays, IsErrOf, LargeFile, List, Missing, None, Ok, Option, Refused, Response, Result, Sees, Session, ShelfState, Some, StoreCause, Stores, ℕ, answers, ap, false, le-ltb, length, longest_file, lt-ltb, one_more, refl, refuse, save_row, saved, session_text, stores, subst, sym, true}
+use Rattle.ls_state.proofs.Fetched.{few_one}
 use Rattle.ls_requests.proofs.Seen.{calls_told, calls_told-failed, files_stay, sees_told}
 use Rattle.std.specs.FinMap as map
 use Rattle.ls_edge.specs.declared.traits.StoreFault.{StoreFault}
@@ -23,13 +24,13 @@ module _ (s : Session) (name text : List ℕ) where
   kept None left e h = tt
   kept (Some k) left e h = h
 
-  module _ (before after : ShelfState) (later : before.faults ≤ after.faults) where
+  module _ (before after : ShelfState) (later : before.faults ≤ after.faults) (made : after.calls ≡ one_more before.calls) where
     -- that a call failed is seen, and is told
     abbrev calls_seen : Bool → Calls
     calls_seen failed = calls_told before.files Missing failed
 
-    sees : (failed : Bool) → (failed ≡ true → Rose before.faults after.faults) → Sees (calls_seen failed) before.files before.faults after.faults
-    sees failed rose = sees_told before.files Missing failed before.faults after.faults (λ e. absurd (cc e)) rose
+    sees : (failed : Bool) → (failed ≡ true → FailedLast before after) → Sees (calls_seen failed) before after
+    sees failed cause = sees_told before after Missing failed (λ e. absurd (cc e)) cause
 
     seen : (failed : Bool) → effect (calls_seen failed).failed ≡ effect failed
     seen failed = ap effect (calls_told-failed before.files Missing failed)
@@ -47,21 +48,21 @@ module _ (s : Session) (name text : List ℕ) where
         files = λ m told. rw (ap (λ (e : Effect). e.stored) (seen false)) (inserted before.files after.files u h m told);
       };
       undone = tt;
-      alone = λ one. absurd (depends one);
+      few = few_one depends made;
       later = later;
     }
 
-    failed : Stores before.files after.files name text (Err store.Failed) → Rose before.faults after.faults → Decided (Ok (Refused FileFailed))
-    failed h rose = record {
+    failed : Stores before.files after.files name text (Err store.Failed) → FailedLast before after → Decided (Ok (Refused FileFailed))
+    failed h cause = record {
       calls = calls_seen true;
-      sees = sees true (λ e. rose);
+      sees = sees true (λ e. cause);
       response = sym (ap (λ (e : Effect). e.response) (seen true));
       decided = record {
         session = sym (ap (λ (e : Effect). e.session) (seen true));
         files = λ m told. rw (ap (λ (e : Effect). e.stored) (seen true)) (files_stay before.files after.files (kept before.files after.files store.Failed h) m told);
       };
       undone = tt;
-      alone = λ one. absurd (depends one);
+      few = few_one depends made;
       later = later;
     }
 
@@ -72,7 +73,7 @@ module _ (s : Session) (name text : List ℕ) where
       response = tt;
       decided = tt;
       undone = (refl, kept before.files after.files (store.Memory e) h);
-      alone = λ one. absurd (depends one);
+      few = few_one depends made;
       later = later;
     }
 
@@ -80,15 +81,15 @@ module _ (s : Session) (name text : List ℕ) where
 stored_as : {name passed : List ℕ} (text : List ℕ) (folder left : Option Folder) {answered r : Result (Unit {0}) StoreFault} → passed ≡ name → answered ≡ r → Stores folder left passed text answered → Stores folder left name text r
 stored_as {name} {passed} text folder left {answered} {r} same is h = subst (λ x. Stores folder left name text x) is (subst (λ (n : List ℕ). Stores folder left n text answered) same h)
 
-module _ (s : Session) (name passed text : List ℕ) (before after : ShelfState) (answered : Result (Unit {0}) StoreFault) (same : passed ≡ name) (stores_it : Stores before.files after.files passed text answered) (cause : StoreCause before.faults after.faults answered) where
+module _ (s : Session) (name passed text : List ℕ) (before after : ShelfState) (answered : Result (Unit {0}) StoreFault) (same : passed ≡ name) (stores_it : Stores before.files after.files passed text answered) (cause : StoreCause before.faults after.faults answered) (made : after.calls ≡ one_more before.calls) (last : IsErrOf answered store.Failed ↔ (after.failed ≡ true)) where
   pub decides_stored : (u : Unit {0}) → answered ≡ Ok u → Decides (λ calls. stores s (refuse FileFailed calls.failed) name text) s s before after (Ok (Done (length text)))
-  decides_stored u is = stored s name text before after cause.later u (stored_as text before.files after.files same is stores_it)
+  decides_stored u is = stored s name text before after cause.later made u (stored_as text before.files after.files same is stores_it)
 
   pub decides_failed : answered ≡ Err store.Failed → Decides (λ calls. stores s (refuse FileFailed calls.failed) name text) s s before after (Ok (Refused FileFailed))
-  decides_failed is = failed s name text before after cause.later (stored_as text before.files after.files same is stores_it) (cause.failed is)
+  decides_failed is = failed s name text before after cause.later made (stored_as text before.files after.files same is stores_it) (cause.failed is, last.0 is)
 
   pub decides_unstored : (e : AllocError) → answered ≡ Err (store.Memory e) → Decides (λ calls. stores s (refuse FileFailed calls.failed) name text) s s before after (Err e)
-  decides_unstored e is = unstored s name text before after cause.later e (stored_as text before.files after.files same is stores_it)
+  decides_unstored e is = unstored s name text before after cause.later made e (stored_as text before.files after.files same is stores_it)
 
 -- ---- `save`
 

@@ -1,11 +1,11 @@
 -- The words that the proofs of this crate cite, passed on from one place.
-pub use Rattle.std.proofs.Common.{◌++◌, ◌+◌, ◌<◌, ◌==◌, ◌∙◌, ◌∷◌, ◌≡◌, ◌≤◌, Bool, Err, IfOk, IsErrAnd, List, None, Ok, OnOk, Option, Result, Some, Vec, ℕ, [], ap, ap₂, arith, bytes_eq, cond, false, inl, inr, le-ltb, length, lt-ltb, ne_eqb, not, refl, subst, suc, sym, true}
+pub use Rattle.std.proofs.Common.{◌++◌, ◌+◌, ◌<◌, ◌==◌, ◌∙◌, ◌∷◌, ◌≡◌, ◌≤◌, ◌↔◌, Bool, Err, IfOk, IsErrAnd, IsErrOf, List, None, Ok, OnOk, Option, Result, Some, Vec, ℕ, [], ap, ap₂, arith, bytes_eq, cond, false, inl, inr, le-ltb, length, lt-ltb, ne_eqb, not, refl, subst, suc, sym, true}
 pub use Rattle.std.proofs.lemmas.Bool.{cases_Bool, true≢false}
 pub use Rattle.std.proofs.lemmas.List.Quantifiers.{position-Some}
 pub use Rattle.std.specs.declared.alloc.AllocError.{AllocError}
 pub use Rattle.ls_domain.proofs.Numbers.{is_named-none, item_of-some, with-within}
 pub use Rattle.ls_domain.specs.Meanings.{is_named, item_of, items_of, number_of}
-pub use Rattle.ls_edge.specs.Causes.{Rose}
+pub use Rattle.ls_edge.specs.Causes.{one_more}
 pub use Rattle.ls_edge.specs.Files.{Folder, StoreCause, FolderStays, Stores, longest_file}
 unfoldable pub use Rattle.ls_files.specs.{session_text}
 pub use Rattle.ls_laws.specs.Forced.{IsSound}
@@ -45,8 +45,8 @@ pub use Rattle.ls_room.proofs.Saying.{says_as}
 pub use Rattle.ls_write.proofs.Showing.{can-view}
 pub use Rattle.ls_write.specs.Showing.{CanSay, is_shown}
 pub use Rattle.ls_requests.specs.Changes.{MakesChange}
-pub use Rattle.ls_requests.specs.Fetches.{AreFetched, Fetching, IsFetched, Sees, SeesFile, SeesFiles, ShelfState, shelf_state}
-pub use Rattle.ls_state.specs.Decides.{Decides, IsDecided, Makes}
+pub use Rattle.ls_requests.specs.Fetches.{AreFetched, AreMade, FailedLast, Fetching, GaveBytes, IsFetched, Sees, SeesFile, SeesFiles, ShelfState, shelf_state}
+pub use Rattle.ls_state.specs.Decides.{Decides, FewCalls, IsDecided, Makes}
 pub use Rattle.ls_state.specs.Standing.{IsAfterLine, standing_session}
 pub use Rattle.ls_state.specs.States.{state_session}
 pub use Rattle.ls_files.specs.ClassTables.{class_of}
