@@ -1,8 +1,8 @@
 -- What commands do, by whether a domain stands.
 use Rattle.ls_meaning.proofs.Vocabulary.{◌++◌, ◌<◌, ◌∙◌, ◌∷◌, ◌≡◌, ◌≤◌, Bool, Calls, Change, DomainStands, Effect, Fetched, List, LongLine, NoCommand, None, Option, Refused, Session, Some, Text, ℕ, [], answers, ap, arith, command_effect, command_of, cond, false, fault_place, has_domain, le-ltb, length, line_effect, longest_line, lt-ltb, names_of_table, names_of_words, ne_eqb, not, refl, refuse, sym, true, words, words_effect}
+use Rattle.ls_lines.specs.{is_long}
 use Rattle.ls_lines.specs.declared.command.Command.{Command}
 use Rattle.ls_meaning.specs.Rows.{items_row, load_items_row, started_by, file_refusals, bytes_fetched}
-use Rattle.ls_lines.specs.{is_long}
 use Rattle.ls_meaning.specs.Replies.{in_domain, unless_unnamed}
 use Rattle.ls_meaning.specs.declared.response.Refusal.TheVariants.{Unnamed}
 use Rattle.ls_meaning.specs.declared.response.Response.{Response}

@@ -28,7 +28,7 @@ may_change_pupils (pupils.Question name) = false
 may_change_pupils (pupils.Report name) = false
 may_change_pupils c = true
 
--- all but the empty command and those that only look
+-- whether a command may change the session
 abbrev pub may_change : Command → Bool
 may_change command.Nothing = false
 may_change (command.Opening c) = true
