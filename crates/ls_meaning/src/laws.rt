@@ -20,8 +20,8 @@ pub fn refused_lines_change_nothing()
         world_next w l ≡ w }
 {}
 
-/// A line leaves the session as it was, unless it has a command that may change it; and it stores no
-/// file, unless it has `save`.
+/// A line leaves the session as it was, unless it has a command that may change it; and it stores
+/// no file, unless it has `save`.
 pub fn looking_lines_change_nothing()
     ensures session { (s : Session) (calls : Calls) (line : List ℕ) →
         IfSome (command_of (words line)) (λ c. may_change c ≡ false) →
