@@ -4,3 +4,4 @@ mod Examples
 pub mod Refusing
 pub mod Effects
 mod Kept
+mod Looks

@@ -1,5 +1,5 @@
 -- The words that the proofs of this crate cite, passed on from one place.
-pub use Rattle.std.proofs.Common.{◌++◌, ◌+◌, ◌<◌, ◌||◌, ◌∙◌, ◌∷◌, ◌≡◌, ◌≤◌, Bool, List, None, Option, Some, ℕ, [], ap, append-nil, append_assoc, ap₂, arith, codes, cond, decimal, false, le-ltb, length, lt-ltb, ne_eqb, not, refl, replicate, sym, true}
+pub use Rattle.std.proofs.Common.{◌++◌, ◌+◌, ◌<◌, ◌||◌, ◌∙◌, ◌∷◌, ◌≡◌, ◌≤◌, Bool, List, None, Option, Some, ℕ, [], ap, append-nil, append_assoc, ap₂, arith, codes, cond, decimal, false, le-ltb, length, lt-ltb, ne_eqb, not, refl, replicate, subst, sym, true}
 pub use Rattle.ls_domain.specs.Domains.{names_of_table, names_of_words}
 unfoldable pub use Rattle.ls_domain.specs.Domains.{names_from}
 pub use Rattle.ls_domain.specs.Texts.{fringe_words}

@@ -1,4 +1,4 @@
--- Commands that may change the session.
+-- Which commands may change the session, and which store a file.
 use Rattle.std.specs.Prelude.{Bool, true, false}
 use Rattle.ls_lines.specs.declared.command.Command.{Command}
 use Rattle.ls_lines.specs.declared.command.Command.TheVariants as command
@@ -28,6 +28,7 @@ may_change_pupils (pupils.Question name) = false
 may_change_pupils (pupils.Report name) = false
 may_change_pupils c = true
 
+-- whether a command may change the session
 abbrev pub may_change : Command → Bool
 may_change command.Nothing = false
 may_change (command.Opening c) = true
@@ -37,3 +38,15 @@ may_change (command.View c) = false
 may_change (command.Safe c) = may_change_safe c
 may_change (command.Setting c) = true
 may_change (command.Pupil c) = may_change_pupils c
+
+-- ---- files
+
+-- `save`
+abbrev pub is_save : FileCommand → Bool
+is_save (files.Save file) = true
+is_save c = false
+
+-- no other command stores a file
+abbrev pub stores_file : Command → Bool
+stores_file (command.File c) = is_save c
+stores_file c = false

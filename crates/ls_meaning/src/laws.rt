@@ -1,7 +1,7 @@
 // Laws of what lines change.
 ghost use Rattle.std.specs.Prelude.{◌≡◌, ℕ, List, true, false, None, IfSome};
 ghost use Rattle.ls_lines.specs.{command_of, words};
-ghost use Rattle.ls_meaning.specs.Looking.{may_change};
+ghost use Rattle.ls_meaning.specs.Looking.{may_change, stores_file};
 ghost use Rattle.ls_meaning.specs.Replies.{is_refusal, line_effect, reply_of};
 ghost use Rattle.ls_meaning.specs.Scenes.{Calls};
 ghost use Rattle.ls_meaning.specs.Sessions.{Session};
@@ -20,9 +20,13 @@ pub fn refused_lines_change_nothing()
         world_next w l ≡ w }
 {}
 
-/// A line leaves the session as it was, unless it has a command that may change it.
+/// A line leaves the session as it was, unless it has a command that may change it; and it stores
+/// no file, unless it has `save`.
 pub fn looking_lines_change_nothing()
     ensures session { (s : Session) (calls : Calls) (line : List ℕ) →
         IfSome (command_of (words line)) (λ c. may_change c ≡ false) →
         (line_effect s calls line).session ≡ s }
+    ensures stored { (s : Session) (calls : Calls) (line : List ℕ) →
+        IfSome (command_of (words line)) (λ c. stores_file c ≡ false) →
+        (line_effect s calls line).stored ≡ None }
 {}
