@@ -13,5 +13,5 @@ invariant_of-result c =
 
 pub returns : goal.returns
 returns c =
-    ap₂ clauses_at c.items.ensures.count (c.in_ok-base.ensures ∙ c.sets.ensures.value)
+    ap₂ clauses_at c.items-items.ensures.count (c.in_ok-base.ensures ∙ c.sets.ensures.value)
     ∙ base-clauses c.args.base.now c.sets.ensures.base c.args.base.now.item_count
