@@ -26,7 +26,8 @@ class Keys:
     def __enter__(self):
         if self.alone:
             atexit.register(self.put_back)  # for a signal that comes when `with` ends
-            signal.signal(signal.SIGTSTP, self.pause)
+            if signal.getsignal(signal.SIGTSTP) != signal.SIG_IGN:
+                signal.signal(signal.SIGTSTP, self.pause)
             self.take()
         return self
 
@@ -45,10 +46,12 @@ class Keys:
                 termios.tcsetattr(sys.stdin, termios.TCSANOW, self.before)
 
     def pause(self, *_):
-        """Stops here, and goes on here with the keys as they were."""
+        """Stops here, if anyone could let it go on, and goes on here with the keys as they were."""
         now = termios.tcgetattr(sys.stdin)
         self.put_back()
-        os.kill(os.getpid(), signal.SIGSTOP)
+        signal.signal(signal.SIGTSTP, signal.SIG_DFL)
+        os.kill(os.getpid(), signal.SIGTSTP)
+        signal.signal(signal.SIGTSTP, self.pause)
         termios.tcsetattr(sys.stdin, termios.TCSANOW, now)
 
     def next(self):

@@ -75,8 +75,8 @@ class Streams(Companions):
 
     def test_output_that_is_full(self):
         for words in [*COMPANIONS, "draw --help", "interview --help"]:
-            told = f"{words.split()[0]}: standard output can't be written: No space left on device\n"
-            self.ends(words, "> /dev/full", 2, told)
+            told = "standard output can't be written: No space left on device"
+            self.ends(words, "> /dev/full", 2, f"{words.split()[0]}: {told}\n")
 
     def test_output_that_nobody_reads(self):
         for words in [*COMPANIONS, "kst --help"]:
@@ -130,7 +130,8 @@ class Programs(Companions):
         for words in COMPANIONS:
             name = words.split()[0]
             for path, why in [(plain, "Exec format error"), (lost, "No such file or directory")]:
-                self.ends(f"{words} --program {path}", "", 3, f"{name}: {path} can't be run: {why}\n")
+                told = f"{name}: {path} can't be run: {why}\n"
+                self.ends(f"{words} --program {path}", "", 3, told)
         for path in ("/nowhere", "/tmp", "/" + "x" * 300):
             told = f"{path} is no program that can be run; name it by --program PATH\n"
             self.ends(f"interview i --items a b --program {path}", "", 3, f"interview: {told}")

@@ -273,7 +273,8 @@ class Terminal(unittest.TestCase):
         self.script.unlink() if self.script.exists() else None
         self.running = subprocess.Popen([*INTERVIEW, "first.txt", "--items", *ITEMS.split()],
                                         cwd=self.script.parent, stdin=self.terminal,
-                                        stdout=subprocess.PIPE, stderr=subprocess.PIPE)
+                                        stdout=subprocess.PIPE, stderr=subprocess.PIPE,
+                                        preexec_fn=os.setpgrp)  # a job, that can be stopped
         self.addCleanup(self.running.communicate)
         self.addCleanup(self.running.kill)
         patience = threading.Timer(60, self.running.kill)  # so that nothing waits without end
