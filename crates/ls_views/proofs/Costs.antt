@@ -1,5 +1,5 @@
 -- How many interiors the reply to a look at an interview takes at most.
-use Rattle.ls_views.proofs.Vocabulary.{◌≡◌, ◌otherwise◌, Interview, Items, List, Option, Response, Text, arith, base_verdict, based_row, compatible_sets, past_refusal, refuse_fault, view_of, view_row, ℕ, []}
+use Rattle.ls_views.proofs.Vocabulary.{◌≡◌, ◌otherwise◌, Interview, Items, List, Option, Response, Text, ap, arith, base_verdict, based_row, compatible_sets, past_refusal, refuse_fault, view_of, view_row, ℕ, []}
 use Rattle.std.proofs.Common.{◌*◌, ◌+◌, ◌∷◌, ◌≤◌, Err, None, Ok, Result, Some, not, refl, true}
 use Rattle.std.specs.Option.{option_map_or}
 use Rattle.ls_set.specs.{is_among, is_good}
@@ -72,21 +72,21 @@ module _ (n : ℕ) where
   row-cost i view.SkillMap = none (based-steps i _ refl)
   row-cost i view.Relation = none (based-steps i _ (cover-steps _ _ _))
 
-  command-cost : (names : List Text) (c : ViewCommand) → view_steps (view_of names c) + row_steps (view_of names c) ≤ command_steps c n
-  command-cost names (command.Known ws w) = omega arith
-  command-cost names command.Ask = omega arith
-  command-cost names (command.States count after) = omega arith
-  command-cost names command.Base = omega arith
-  command-cost names command.Surmise = omega arith
-  command-cost names command.Learning = omega arith
-  command-cost names (command.Project count after ws) = omega arith
-  command-cost names (command.ProjectBase ws) = omega arith
-  command-cost names (command.Fringes ws) = omega arith
-  command-cost names (command.StateOf inner outer) = omega arith
-  command-cost names (command.Paths count after) = omega arith
-  command-cost names command.SkillMap = omega arith
-  command-cost names command.Relation = omega arith
+  command-cost : (i : Interview) → n ≡ i.count → (names : List Text) (c : ViewCommand) → view_steps i (view_of names c) + row_steps (view_of names c) ≤ command_steps i c
+  command-cost i e names (command.Known ws w) = omega arith
+  command-cost i e names command.Ask = omega arith
+  command-cost i e names (command.States count after) = omega (arith, ap (λ m. (count + 1) * (m + 1)) e)
+  command-cost i e names command.Base = omega arith
+  command-cost i e names command.Surmise = omega arith
+  command-cost i e names command.Learning = omega arith
+  command-cost i e names (command.Project count after ws) = omega (arith, ap (λ m. (count + 1) * (m + 1)) e)
+  command-cost i e names (command.ProjectBase ws) = omega arith
+  command-cost i e names (command.Fringes ws) = omega arith
+  command-cost i e names (command.StateOf inner outer) = omega arith
+  command-cost i e names (command.Paths count after) = omega arith
+  command-cost i e names command.SkillMap = omega arith
+  command-cost i e names command.Relation = omega arith
 
   -- of deciding and saying it
-  pub view-cost : (i : Interview) (names : List Text) (c : ViewCommand) → view_steps (view_of names c) + response_steps (view_row i (view_of names c)) n ≤ command_steps c n
-  view-cost i names c = omega (arith, row-cost i (view_of names c), command-cost names c)
+  pub view-cost : (i : Interview) → n ≡ i.count → (names : List Text) (c : ViewCommand) → view_steps i (view_of names c) + response_steps (view_row i (view_of names c)) n ≤ command_steps i c
+  view-cost i e names c = omega (arith, row-cost i (view_of names c), command-cost i e names c)

@@ -1,9 +1,10 @@
 -- The commands that look at an interview, and how many interiors their replies take.
-use Rattle.std.specs.Prelude.{ℕ, ◌+◌, ◌*◌, Bool, true, false, List}
+use Rattle.std.specs.Prelude.{ℕ, ◌+◌, ◌*◌, Bool, true, false, List, None}
 use Rattle.ls_set.specs.{Items}
-use Rattle.ls_theory.specs.{base, base_verdict, clauses_at, projection, state_of}
+use Rattle.ls_theory.specs.{Interview, base, base_verdict, clauses_at, projection, state_of}
 use Rattle.ls_lines.specs.declared.view.ViewCommand.{ViewCommand}
 use Rattle.ls_lines.specs.declared.view.ViewCommand.TheVariants as command
+use Rattle.ls_inquiry.specs.Steps.{question_steps}
 use Rattle.ls_meaning.specs.{learned, paths_shown, state_shown}
 use Rattle.ls_meaning.specs.RelationRows.{relation_shown}
 use Rattle.ls_meaning.specs.declared.request.View.{View}
@@ -37,14 +38,16 @@ based_on n f view.SkillMap = response.Shown (shown.SkillMap (base f))
 based_on n f view.Relation = relation_shown n (clauses_at n f)
 based_on n f v = response.Silence
 
--- how many interiors it takes at most to decide what is shown
-abbrev pub view_steps : View → ℕ
-view_steps (view.Known r) = 1
-view_steps v = 0
+-- how many interiors it takes at most to decide what is shown of an interview
+abbrev pub view_steps : Interview → View → ℕ
+view_steps i (view.Known r) = 1
+view_steps i view.Ask = question_steps i None
+view_steps i v = 0
 
--- how many interiors the reply to a command takes at most, on n items
-abbrev pub command_steps : ViewCommand → ℕ → ℕ
-command_steps (command.Known names item) n = 1
-command_steps (command.States count after) n = (count + 1) * (n + 1)
-command_steps (command.Project count after names) n = (count + 1) * (n + 1)
-command_steps c n = 0
+-- how many interiors the reply to a command takes at most
+abbrev pub command_steps : Interview → ViewCommand → ℕ
+command_steps i (command.Known names item) = 1
+command_steps i command.Ask = question_steps i None
+command_steps i (command.States count after) = (count + 1) * (i.count + 1)
+command_steps i (command.Project count after names) = (count + 1) * (i.count + 1)
+command_steps i c = 0

@@ -30,16 +30,17 @@ pub fn is_based(view: &View) -> bool
 }
 
 /// What is shown where something that doesn't stand on the base is asked of the interview. It takes
-/// at most one counted interior for a query, and none for the others.
+/// at most one counted interior for a query, those of the search for a question, and none for the
+/// others.
 pub fn decide<L: Ledger>(inquiry: &Inquiry, view: &View, steps: &mut Steps<L>) -> Response
     requires other { is_based view.now ≡ false }
     requires on { IsViewOn inquiry.now.count view.now }
     ensures response { result ≡ view_row inquiry.now view.now }
-    ensures cost { steps.new ≤ steps.old + view_steps view.now }
+    ensures cost { steps.new ≤ steps.old + view_steps inquiry.now view.now }
 {
     match view {
         View::Known { query } => known(inquiry, query, steps),
-        View::Ask => Response::Shown(Shown::Question(inquiry.next_question(None))),
+        View::Ask => Response::Shown(Shown::Question(inquiry.find_question(None, steps))),
         View::States { count, after } => states(*count, after),
         View::Project { part, count, after } => projected(*part, *count, after),
         View::Fringes { set } => fringes_at(inquiry, *set),

@@ -42,11 +42,10 @@ fn respond<L: Ledger>(
         let s = session_with s domain.now inquiry.now in
         IfOk result (λ r. command_effect s calls (commands.View command.now) ≡ answers s r) }
     ensures can { IfOk result (CanSay (length domain.now) inquiry.now) }
-    ensures cost { let n = inquiry.now.count in
+    ensures cost { let i = inquiry.now in
         IfOk result (λ r.
-        steps.new + response_steps r n ≤ steps.old + command_steps command.now n) }
-    ensures err { OnErr result
-        (steps.new ≤ steps.old + command_steps command.now inquiry.now.count) }
+        steps.new + response_steps r i.count ≤ steps.old + command_steps i command.now) }
+    ensures err { OnErr result (steps.new ≤ steps.old + command_steps inquiry.now command.now) }
 {
     prove!(domain.count() > 0);
     let _ = inquiry.standing(); // it is sound
@@ -69,7 +68,7 @@ fn show<L: Ledger>(
     requires followed { let i = inquiry.now in IsFollowed i.count i.start (yes_queries i.answers)
         followed.now }
     ensures response { IfOk result (λ r. r ≡ view_row inquiry.now view) }
-    ensures cost { steps.new ≤ steps.old + view_steps view }
+    ensures cost { steps.new ≤ steps.old + view_steps inquiry.now view }
 {
     if is_based(&view) {
         decide_based(alloc, inquiry, followed, view)
@@ -108,8 +107,8 @@ fn set_texts(alloc: Global, domain: &Domain) -> Result<SetTexts, AllocError>
 
 /// Writes the reply to a command that looks at the interview on a domain's items, and says whether
 /// it begins with `no `. After a fault a front of the reply is written. It takes at most one
-/// interior for `known`, and for a page of `COUNT` states of n items at most `(COUNT + 1) * (n +
-/// 1)`.
+/// interior for `known`, for `ask` those of the search for a question, and for a page of `COUNT`
+/// states of n items at most `(COUNT + 1) * (n + 1)`.
 pub fn view<K: Sink, L: Ledger>(
     alloc: Global,
     domain: &Domain,
@@ -132,7 +131,7 @@ pub fn view<K: Sink, L: Ledger>(
         AppendsFront (K.written out.old) (K.written out.new)
         (reply_of (command_effect s calls (commands.View command.now))) }
     ensures cause { HasSinkCause (K.faults out.old) (K.faults out.new) result }
-    ensures cost { steps.new ≤ steps.old + command_steps command.now interview.now.count }
+    ensures cost { steps.new ≤ steps.old + command_steps interview.now command.now }
 {
     let mut room = Room::new(alloc).map_err(SinkFault::Memory)?;
     let texts = set_texts(alloc, domain).map_err(SinkFault::Memory)?;

@@ -1,5 +1,5 @@
 use Rattle.ls_views.proofs.Vocabulary.{◌<◌, ◌∙◌, CanSay, Err, IfOk-weaker, Refused, ResolvesInMemory, Response, answers, ap, arith, length, session_with, subst, sym, unnamed, view_item_words, view_of, view_row}
-use Rattle.std.proofs.Common.{◌+◌, ◌≤◌}
+use Rattle.std.proofs.Common.{◌+◌, ◌≤◌, refl}
 use Rattle.ls_meaning.specs.declared.request.View.{View}
 use Rattle.ls_write.specs.Showing.{response_steps}
 use Rattle.ls_views.specs.Views.{command_steps, view_steps}
@@ -46,10 +46,10 @@ returns-in-Ok-clause-cost g c =
     let names = c.args.domain.now in
     let asked = c.args.command.now in
     let is = c.in-Ok.ensures.resolves.0 in
-    let cost = subst (λ (v : View). c.show.new.steps ≤ c.args.steps.now + view_steps v) is c.show.ensures.cost in
+    let cost = subst (λ (v : View). c.show.new.steps ≤ c.args.steps.now + view_steps i v) is c.show.ensures.cost in
     IfOk-weaker c.show.result _ _
     (λ r e.
     let same = e ∙ ap (view_row i) is in
-    let spent = subst (λ (x : Response). view_steps (view_of names asked) + response_steps x n ≤ command_steps asked n) (sym same) (view-cost n i names asked) in
+    let spent = subst (λ (x : Response). view_steps i (view_of names asked) + response_steps x n ≤ command_steps i asked) (sym same) (view-cost n i refl names asked) in
     omega (arith, cost, spent))
     c.show.ensures.response
