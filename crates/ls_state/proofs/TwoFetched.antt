@@ -1,5 +1,5 @@
 -- What a command does by two files.
-use Rattle.ls_state.proofs.Vocabulary.{[], ◌++◌, ◌∙◌, ◌∷◌, ◌≡◌, AllocError, Bool, Bytes, Calls, Decides, Effect, Err, Failed, FewCalls, Fetched, FileFailed, GaveBytes, IsErrAnd, List, Makes, Missing, NoFile, None, Ok, Refusal, Refused, Response, Result, Session, ShelfState, Text, ℕ, answers, ap, ap₂, arith, bytes_eq, bytes_fetched, cond, false, file_refusals, inl, inr, refl, subst, sym, true, AreFetched, AreMade, SeesFiles}
+use Rattle.ls_state.proofs.Vocabulary.{[], ◌++◌, ◌∙◌, ◌∷◌, ◌≡◌, AllocError, Bool, Bytes, Calls, Decides, Effect, Err, Failed, FewCalls, Fetched, FileFailed, GaveBytes, IsErrAnd, List, Makes, Missing, NoFile, None, Ok, Refusal, Refused, Response, Result, Session, ShelfState, Text, ℕ, answers, ap, ap₂, arith, bytes_eq, bytes_fetched, cond, false, file_refusals, inl, inr, refl, subst, sym, true, AreFetched, AreMade, SeesFiles, TooLarge}
 use Rattle.ls_state.proofs.Decided.{makes_as}
 use Rattle.ls_state.proofs.Fetched.{calls_failed, calls_missing, decides_seen, decides_unseen, few_one, refused_apart}
 use Rattle.std.proofs.lemmas.Slice.Eq.{bytes_eq-Decides}
@@ -47,8 +47,8 @@ module _ {s : Session} (whole : Fetched → Fetched → Effect) (effect : List R
     seen-mixed : (left right : Fetched) → seen_by (mixed left right) ≡ whole left right
     seen-mixed left right = rw ((bytes_eq-Decides first first).1 refl, other) refl
 
-    alike : (left right more : Fetched) (again : Fetched) → (mixed left right).file name ≡ calls.file name → (mixed more again).file name ≡ calls.file name → whole left right ≡ whole more again
-    alike left right more again is as = sym (seen-mixed left right) ∙ one (mixed left right) is ∙ sym (one (mixed more again) as) ∙ seen-mixed more again
+    alike : (left right more again : Fetched) → (mixed left right).file name ≡ calls.file name → (mixed more again).file name ≡ calls.file name → whole left right ≡ whole more again
+    alike left right more again is also = sym (seen-mixed left right) ∙ one (mixed left right) is ∙ sym (one (mixed more again) also) ∙ seen-mixed more again
 
     undecided : ⊥
     undecided = go (bytes_eq first name) refl

@@ -22,7 +22,7 @@ pub use Rattle.ls_lines.specs.declared.safe.SafeCommand.{SafeCommand}
 pub use Rattle.ls_lines.specs.declared.setting.SettingCommand.{SettingCommand}
 pub use Rattle.ls_lines.specs.declared.view.ViewCommand.{ViewCommand}
 pub use Rattle.ls_meaning.proofs.Effects.{in_domain-some}
-pub use Rattle.ls_meaning.specs.{Bytes, Calls, Change, Effect, Failed, Fetched, IsAfterOn, IsViewOn, Missing, Session, after_of, answers, bytes_fetched, changed, changes, changes_interview, changes_pupils, changes_settings, class_row, edit_effect, edit_item_words, edit_of, edit_row, file_effect, file_refusals, has_domain, in_domain, lines_of, opening_row, placed, projected_place, pupil_effect, pupil_item_words, pupil_of, pupil_row, pupil_with, question_shown, refuse, reply_row, report_shown, save_row, setting_effect, setting_item_words, setting_of, setting_row, shown_of, start_read, start_row, started, starts_by, stores, test_row, unless_unnamed, unnamed, view_effect, view_item_words, view_of, view_row, words_effect, ◌otherwise◌}
+pub use Rattle.ls_meaning.specs.{Bytes, Calls, Change, Effect, Failed, Fetched, IsAfterOn, IsViewOn, Missing, Session, TooLarge, after_of, answers, bytes_fetched, changed, changes, changes_interview, changes_pupils, changes_settings, class_row, edit_effect, edit_item_words, edit_of, edit_row, file_effect, file_refusals, has_domain, in_domain, lines_of, opening_row, placed, projected_place, pupil_effect, pupil_item_words, pupil_of, pupil_row, pupil_with, question_shown, refuse, reply_row, report_shown, save_row, setting_effect, setting_item_words, setting_of, setting_row, shown_of, start_read, start_row, started, starts_by, stores, test_row, unless_unnamed, unnamed, view_effect, view_item_words, view_of, view_row, words_effect, ◌otherwise◌}
 unfoldable pub use Rattle.ls_meaning.specs.{bytes_of, command_effect, line_effect}
 pub use Rattle.ls_meaning.specs.Meanings.{some_read}
 pub use Rattle.ls_meaning.specs.Sessions.{Pupil}
