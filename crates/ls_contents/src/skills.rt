@@ -28,13 +28,7 @@ pub fn delineate(
         Ok(map) => {
             let base = map.to_base(alloc)?;
             let sets = SetList::from_slice(alloc, base.sets())?;
-            Ok(Response::Shown(page_of(
-                model,
-                domain.count(),
-                sets,
-                count,
-                after,
-            )))
+            Ok(Response::Shown(page_of(model, domain.count(), sets, count, after)))
         }
         Err(SkillFault::Memory(e)) => Err(e),
         Err(fault) => Ok(Response::Refused(Refusal::Skills(fault))),

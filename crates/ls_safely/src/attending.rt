@@ -8,8 +8,9 @@ ghost use Rattle.std.specs.Prelude.{false};
 
 use crate::case::SafeCase;
 use ls_interior::Inside;
-use ls_meaning::{Refusal, Response, SafeRequest, Shown, UnionStates};
-use ls_meaning::{count_applied, count_pending};
+use ls_meaning::{
+    Refusal, Response, SafeRequest, Shown, UnionStates, count_applied, count_pending,
+};
 use ls_origins::{SafeAnswers, SafeFault};
 use ls_set::{CursorFault, ItemSet, Query, SetList};
 use std::alloc::{AllocError, Global};

@@ -27,9 +27,9 @@ invariant_of-result c =
     c.in_ok-mesh.ensures in
     let items = ap full (sym c.count-items.ensures.value) in (
       ap part_items (c.in_ok-left-in-Ok.ensures ∙ c.left.ensures n left right read.1)
-      ∙ side_base-full n left (sets-on names first) ∙ items,
+          ∙ side_base-full n left (sets-on names first) ∙ items,
       ap part_items (c.in_ok-right-in-Ok.ensures ∙ c.right.ensures n left right read.1)
-      ∙ side_base-full n right (sets-on names second) ∙ items,
+          ∙ side_base-full n right (sets-on names second) ∙ items,
     )
 
 pub returns-in_ok-right-in-Ok : goal.returns-in_ok-right-in-Ok
