@@ -1,5 +1,6 @@
 -- What the fetches of two files let a command see.
 use Rattle.ls_requests.proofs.Vocabulary.{◌++◌, ◌∙◌, ◌∷◌, ◌≡◌, Bool, Err, List, None, Ok, Option, Result, Some, Vec, ℕ, [], ap, arith, bytes_eq, cond, false, inl, inr, length, ltb, one_more, refl, subst, sym, true, AllocError, FailedLast, Folder, FolderStays, longest_file, Text, Bytes, Calls, Failed, Fetched, Missing, TooLarge, calls_of, fetched_from, file_refusals, Refusal, FileFailed, AreFetched, GaveBytes, IsFetched, SeesFile, SeesFiles, ShelfState}
+use Rattle.std.specs.Prelude.{IsErrAnd}
 use Rattle.ls_requests.proofs.Seen.{failed_from, files_stay}
 use Rattle.ls_contents.specs.declared.meshes.TwoFiles.{TwoFiles}
 use Rattle.std.specs.declared.alloc.Global.{Global}
@@ -182,3 +183,18 @@ sees_one {before} {after} first second left same seen = record {
   kept = seen.kept;
   later = seen.later;
 }
+
+-- memory ran out: whatever was given
+pub sees_err : {before after : ShelfState} (first second : Text) (given : Result (Result TwoFiles Refusal) AllocError) (P : AllocError → Type 0) (r : Result (Result TwoFiles Refusal) AllocError) → SeesFiles first second before after given → IsErrAnd r P → SeesFiles first second before after r
+sees_err first second given P r seen e = record {
+  calls = seen.calls;
+  sees = seen.sees;
+  given = err_given r e;
+  made = seen.made;
+  kept = seen.kept;
+  later = seen.later;
+}
+  where
+    err_given : (r : Result (Result TwoFiles Refusal) AllocError) → IsErrAnd r P → AreFetched (seen.calls.file first) (seen.calls.file second) r
+    err_given (Ok x) e = absurd e
+    err_given (Err x) e = tt

@@ -1,5 +1,5 @@
 use Rattle.ls_requests.proofs.Vocabulary.{◌∙◌, Err, Ok, SeesFile, ap, ap₂, bytes_eq, shelf_state, subst, sym}
-use Rattle.ls_requests.proofs.TwoFetched.{sees_files, sees_first}
+use Rattle.ls_requests.proofs.TwoFetched.{both_of, sees_err, sees_files, sees_first}
 use Rattle.ls_pupils.proofs.Own.{own_name}
 use Rattle.ls_requests.proofs.fetching.fetch_both.Goals as goal
 
@@ -23,3 +23,13 @@ returns-in-Err-2 g c =
     sees_files c.args.left.now c.args.right.now c.in-Ok.bytes (Ok (Err c.in-Err-2.refusal)) (own_name c.args.left.now) (ap₂ bytes_eq (sym c.as_str.ensures) (sym c.as_str-2.ensures) ∙ sym c.eq.ensures ∙ c.if-eq.false)
     (subst (λ r. SeesFile c.args.left.now before between r) (c.in_ok-bytes.was ∙ ap Ok c.in-Ok.is) c.fetch.ensures)
     (subst (λ r. SeesFile c.args.right.now between after r) (c.in_ok-second.was ∙ ap Ok c.in-Err-2.is) c.fetch-2.ensures)
+
+pub returns-in_err-second : goal.returns-in_err-second
+returns-in_err-second g c =
+    let before = shelf_state g.H.Shelf c.args.shelf.now in
+    let between = shelf_state g.H.Shelf c.fetch.new.shelf in
+    sees_err c.args.left.now c.args.right.now (both_of c.in-Ok.bytes c.fetch-2.result) _ c.from_residual-in_err-second.result
+    (sees_files c.args.left.now c.args.right.now c.in-Ok.bytes c.fetch-2.result (own_name c.args.left.now) (ap₂ bytes_eq (sym c.as_str.ensures) (sym c.as_str-2.ensures) ∙ sym c.eq.ensures ∙ c.if-eq.false)
+    (subst (λ r. SeesFile c.args.left.now before between r) (c.in_ok-bytes.was ∙ ap Ok c.in-Ok.is) c.fetch.ensures)
+    c.fetch-2.ensures)
+    c.from_residual-in_err-second.ensures.1
