@@ -1,4 +1,5 @@
 """What the companions of the program share: finding it, asking it, and telling what it says.
+How they read, write and end is told by `streams`, of which the names are here as well.
 
 A companion is a script of this folder that wraps the program's own words. It proves nothing: what
 it prints is what the program replied, put in another form.
@@ -7,8 +8,12 @@ it prints is what the program replied, put in another form.
   for line, reply in run_script(program, text):   a script's lines, each with its reply's lines
   with Session(program) as session:               the program, kept running
       session.say("yes a : b")                    the lines of one reply: ["ok 1"]
-  sys.exit(status_of(main))                       runs main, and tells a Trouble in one line
+      session.cursors(128)                        those of the states; None where they are more
 """
+import argparse
+import contextlib
+import csv
+import io
 import os
 import re
 import shutil
@@ -16,8 +21,15 @@ import subprocess
 import sys
 from pathlib import Path
 
+from streams import Trouble, demand_input, status_of, tell, telling, write_whole  # noqa: F401
+
 TOP = Path(__file__).resolve().parent.parent
 LONGEST_LINE = 65536
+LONGEST_TEXT = 2**28  # bytes of a file that is read, so that one without end is refused
+MOST_PUPILS = 4096  # that a class table may have
+LONGEST_FIELD = 2**31 - 1
+PAGE = 256  # of states that are read at once
+PATIENCE = 10  # seconds, after which a program that doesn't end is ended
 # How the last line of a reply begins, for the commands whose reply may have more than one line.
 LAST_LINES = {
     "states": "more ", "project": "more ", "skills": "more ", "mesh": "more ", "paths": "more ",
@@ -55,37 +67,12 @@ REFUSALS = {
 }
 
 
-class Trouble(Exception):
-    """What can't be done, in one plain line, with the status of the companion: 1 where the program
-    refused something, 2 where the words or files are wrong, 3 where the program can't be used."""
-
-    def __init__(self, text, status=2):
-        super().__init__(text)
-        self.status = status
-
-
-def status_of(main):
-    """The status that `main` returns, or that of its Trouble, which is told in one line."""
-    for stream in (sys.stdin, sys.stdout, sys.stderr):
-        stream.reconfigure(errors="backslashreplace")
-    try:
-        return main() or 0
-    except Trouble as trouble:
-        print(f"{Path(sys.argv[0]).name}: {trouble}", file=sys.stderr)
-        return trouble.status
-    except KeyboardInterrupt:
-        return 130
-    except BrokenPipeError:
-        os.dup2(os.open(os.devnull, os.O_WRONLY), sys.stdout.fileno())
-        return 1
-
-
 def find_program(option=None):
     """The path of the program: the option, the variable LSPACE, the built one, or the launcher."""
     named = option or os.environ.get("LSPACE")
     built = TOP / "crates/ls_app/out/ls_app"
     path = Path(named) if named else built if os.access(built, os.X_OK) else TOP / "lspace"
-    found = str(path.absolute()) if path.is_file() else shutil.which(str(path))
+    found = os.path.abspath(path) if os.path.isfile(path) else shutil.which(str(path))
     if not found or not os.access(found, os.X_OK):
         raise Trouble(f"{path} is no program that can be run; name it by --program PATH", 3)
     return found
@@ -93,10 +80,60 @@ def find_program(option=None):
 
 def read_text(path):
     """The text of a file. Bytes that aren't UTF-8 are kept as they are."""
+    return read_bytes(path).decode("utf-8", "surrogateescape")
+
+
+def read_bytes(path):
+    with telling(f"{path} can't be read"), open(path, "rb") as file:
+        return bounded(file, path)
+
+
+def bounded(file, name):
+    """The bytes of a file, if they aren't too many."""
+    data = file.read(LONGEST_TEXT + 1)
+    if len(data) > LONGEST_TEXT:
+        raise Trouble(f"{name} has more than {LONGEST_TEXT:,} bytes")
+    return data
+
+
+def read_input():
+    """The bytes of standard input."""
+    demand_input()
+    with telling("standard input can't be read"):
+        return bounded(sys.stdin.buffer, "standard input")
+
+
+def records_of(text, separator=","):
+    """The records of a table, each with the number of the line on which it ends. A field may have
+    any length."""
+    if "\0" in text:
+        raise Trouble("the table has a byte 0, so it is no text; save it as CSV in UTF-8")
+    csv.field_size_limit(LONGEST_FIELD)
+    reader = csv.reader(io.StringIO(text, newline=""), delimiter=separator)
     try:
-        return Path(path).read_bytes().decode("utf-8", "surrogateescape")
-    except OSError as error:
-        raise Trouble(f"{path} can't be read: {error.strerror}") from None
+        yield from ((reader.line_num, fields) for fields in reader if fields)
+    except csv.Error as error:
+        raise Trouble(f"line {reader.line_num} of the table: {error}") from None
+
+
+def clipped(text):
+    """A text of a table, as it stands in a message: in one line, and not without end."""
+    line = " ".join(text.split())
+    return line if len(line) <= 60 else line[:60] + ".."
+
+
+def count_of(word):
+    """The number from 1 on that a word of the command line is."""
+    if not re.fullmatch("[1-9][0-9]{0,8}", word):
+        raise argparse.ArgumentTypeError(f"{word} is no number from 1 on")
+    return int(word)
+
+
+def percent_of(word):
+    """The number from 0 to 100 that a word of the command line is."""
+    if not re.fullmatch("[0-9]{1,2}|100", word):
+        raise argparse.ArgumentTypeError(f"{word} is no number from 0 to 100")
+    return int(word)
 
 
 def words_of(line):
@@ -128,8 +165,11 @@ class Session:
     """The program, kept running in a folder: a line in, its reply's lines out."""
 
     def __init__(self, program, folder="."):
-        self.running = subprocess.Popen([program], stdin=subprocess.PIPE, stdout=subprocess.PIPE,
-                                        cwd=folder)
+        try:
+            self.running = subprocess.Popen([program], stdin=subprocess.PIPE,
+                                            stdout=subprocess.PIPE, cwd=folder)
+        except OSError as error:
+            raise Trouble(f"{program} can't be run: {error.strerror}", 3) from None
 
     def __enter__(self):
         return self
@@ -139,6 +179,8 @@ class Session:
 
     def say(self, line):
         """The lines of the reply to a line; none where it is empty or a note."""
+        if "\n" in line:
+            raise Trouble(f"{line!r} is more than one line")
         self.write(line + "\n")
         return take_reply(line, self.next_line)
 
@@ -166,14 +208,41 @@ class Session:
         why = ENDS.get(status, f"its status is {status}")
         raise Trouble(f"the program ended before it had replied: {why}", 3)
 
+    def cursors(self, most):
+        """The cursors of all states, in their order; None where there are more than `most`, which
+        is known as soon as that many were read. The sets themselves would take too much memory."""
+        found, after, more = [], "", "more yes"
+        while more == "more yes" and len(found) <= most:
+            doing = f"states {min(PAGE, most + 1)}{after}"
+            *lines, more = demand(self.say(doing), doing)
+            found += [cursor_of(line) for line in lines]
+            after = f" after {found[-1]}"
+        return found if len(found) <= most else None
+
     def close(self):
-        """Ends the input, and waits until the program has ended."""
-        try:
+        """Ends the input, and waits until the program has ended, which may need an end by force
+        where it is still at work."""
+        with contextlib.suppress(BrokenPipeError):
             self.running.stdin.close()
-        except BrokenPipeError:
-            pass
         self.running.stdout.close()
-        self.running.wait()
+        try:
+            self.running.wait(PATIENCE)
+        except subprocess.TimeoutExpired:
+            self.running.kill()
+            self.running.wait()
+
+
+def cursor_of(line):
+    """The cursor of a set line."""
+    words = line.split(" ", 2)
+    if len(words) != 3 or words[0] != "set":
+        raise Trouble(f"the program's line is no set line: {line}", 3)
+    return words[1]
+
+
+def marks_of(cursor, count):
+    """The set of a cursor: for each of so many items 1 where it is in the set, and 0 where not."""
+    return "".join(f"{int(digit, 16):04b}" for digit in cursor)[:count]
 
 
 def names_in(text):

@@ -5,26 +5,17 @@ shows. The script finds the files of its folder, but by links: what it saves is 
 
   with Course(program, script) as course:
       course.items              the names of the items, in their order
-      course.states(128)        the states as (cursor, names), or None where they are more than 128
+      course.cursors(128)       the cursors of the states, or None where they are more than 128
+      course.states(128)        the states as (cursor, names), or None
       course.base()             the base in the same form
       course.ask("relation")    the lines of any reply
 """
-import argparse
-import re
-import sys
+import contextlib
 import tempfile
 from pathlib import Path
 
-from companion import Session, Trouble, demand, names_in, read_text, refusal_of
-
-PAGE = 4096
-
-
-def count_of(word):
-    """The number from 1 on that a word of the command line is."""
-    if not re.fullmatch("[1-9][0-9]{0,8}", word):
-        raise argparse.ArgumentTypeError(f"{word} is no number from 1 on")
-    return int(word)
+from companion import (Session, cursor_of, demand, marks_of, names_in, read_text, refusal_of, tell,
+                       words_of)
 
 
 class Course(Session):
@@ -32,46 +23,53 @@ class Course(Session):
 
     def __init__(self, program, script):
         text = read_text(script)
-        self.folder = tempfile.TemporaryDirectory()
-        for file in Path(script).absolute().parent.iterdir():
-            if file.is_file():  # a `save` of the script replaces such a link, and not the file
-                (Path(self.folder.name) / file.name).symlink_to(file)
-        super().__init__(program, self.folder.name)
-        try:
+        with contextlib.ExitStack() as stack:
+            self.folder = Path(stack.enter_context(tempfile.TemporaryDirectory()))
+            self.link_files(Path(script).absolute().parent)
+            super().__init__(program, self.folder)
+            stack.callback(super().close)
             self.answer(script, text)
             self.items = names_in(self.ask("states 1", f"{script} has no session")[0])
-        except BaseException:
-            self.close()
-            raise
+            self.ends = stack.pop_all()
 
     def close(self):
         """Ends the program, and takes the folder of its links away."""
-        super().close()
-        self.folder.cleanup()
+        self.ends.close()
+
+    def link_files(self, folder):
+        """Links the files of a folder. A `save` of the script replaces a link, and not the file."""
+        for file in folder.iterdir():
+            if file.is_file():
+                (self.folder / file.name).symlink_to(file)
 
     def answer(self, script, text):
         """Says each line of the script. One that is refused is told, and changes nothing."""
         for number, line in enumerate(text.split("\n"), 1):
-            refusal = refusal_of(self.say(line))
-            if refusal:
-                print(f"{Path(sys.argv[0]).name}: note: line {number} of {script}: {refusal}",
-                      file=sys.stderr)
+            reply = self.say(line)
+            if refusal_of(reply):
+                tell(f"note: line {number} of {script}: {refusal_of(reply)}")
+            elif reply:
+                self.follow(words_of(line), reply)
+
+    def follow(self, words, reply):
+        """For a companion that has to know what an accepted line changed."""
 
     def ask(self, line, doing=None):
         return demand(self.say(line), doing or line)
 
     def states(self, most):
         """All states, in the order of the program; None where there are more than `most`."""
-        found, after, more = [], "", "more yes"
-        while more == "more yes" and len(found) <= most:
-            *lines, more = self.ask(f"states {min(PAGE, most + 1)}{after}")
-            found += map(state_of, lines)
-            after = " after " + found[-1][0]
-        return found if len(found) <= most else None
+        found = self.cursors(most)
+        return None if found is None else [(cursor, self.names(cursor)) for cursor in found]
+
+    def names(self, cursor):
+        """The names of the set of a cursor."""
+        marks = marks_of(cursor, len(self.items))
+        return [item for item, mark in zip(self.items, marks) if mark == "1"]
 
     def base(self):
         """The sets of the base, in the order of the program."""
-        return [state_of(line) for line in self.ask("base")[:-1]]
+        return [(cursor_of(line), names_in(line)) for line in self.ask("base")[:-1]]
 
     def fringes(self, names):
         """The inner and the outer fringe of a state."""
@@ -82,11 +80,3 @@ class Course(Session):
     def state_of_pupil(self, name):
         """The heaviest state of a pupil, which the report tells."""
         return names_in(self.ask(f"report {name}", f"pupil {name}")[0])
-
-
-def state_of(line):
-    """The cursor and the names of a set line."""
-    words = line.split(" ", 2)
-    if len(words) != 3 or words[0] != "set":
-        raise Trouble(f"the program's line is no set line: {line}", 3)
-    return words[1], names_in(words[2])

@@ -1,17 +1,14 @@
-"""Tables of zeros and ones, as R writes and reads them.
+"""Tables of zeros and ones, as R writes them.
 
   table = read_matrix(text, options)   its names, and its rows of True and False
-  written(names, rows)                 the text of a matrix, with a header and commas
 
 It takes what write.csv, write.csv2 and write.table write of a matrix or a data frame: commas,
 semicolons, tabs or spaces; quoted texts; with or without a header; with or without row names, whose
 header is empty or missing; 0 and 1, or FALSE and TRUE."""
-import csv
-import io
 import re
 from collections import namedtuple
 
-from companion import Trouble
+from companion import Trouble, clipped, records_of
 
 MARKS = {"0": False, "FALSE": False, "F": False, "1": True, "TRUE": True, "T": True}
 MISSING = ("NA", "")
@@ -27,7 +24,7 @@ def separator_of(text):
     return next((it for it in ",;\t" if it in first), None)
 
 
-def records_of(text):
+def rows_of(text):
     """The records of the text, each with the number of the line on which it ends."""
     text = text[1:] if text.startswith("\ufeff") else text
     separator = separator_of(text)
@@ -37,10 +34,8 @@ def records_of(text):
             if fields:
                 yield number, fields
         return
-    reader = csv.reader(io.StringIO(text, newline=""), delimiter=separator)
-    for fields in reader:
-        if fields:
-            yield reader.line_num, [field.strip() for field in fields]
+    for number, fields in records_of(text, separator):
+        yield number, [field.strip() for field in fields]
 
 
 def is_mark(field):
@@ -55,8 +50,8 @@ def mark_of(field, place, item, missing, hint):
         if missing is not None:
             return missing
         hint = "; --missing 0 or 1 takes it for that"
-    raise Trouble(f"line {place}, column {item}: {field or 'nothing'} is neither 0 nor 1, "
-                  f"nor TRUE or FALSE{hint}")
+    raise Trouble(f"line {place}, column {clipped(item)}: {clipped(field) or 'nothing'} is neither "
+                  f"0 nor 1, nor TRUE or FALSE{hint}")
 
 
 def marks_of(fields, items, place, named, missing):
@@ -81,7 +76,7 @@ def parts_of(records, named):
 def read_matrix(text, named=False, items=None, missing=None):
     """The table of a text. `named` says that the first column has names of the rows, and `items`
     names the columns, in place of the header's names."""
-    records = list(records_of(text))
+    records = list(rows_of(text))
     if not records:
         raise Trouble("the table is empty")
     header, named, rows = parts_of(records, named)
@@ -110,22 +105,13 @@ def fitted(names, what):
         if not new:
             raise Trouble(f"{what} {len(owners) + 1} has no name")
         if new in owners:
-            same = f"{name} stands twice" if name == owners[new] else \
-                f"{owners[new]} and {name} would both be {new}"
+            same = f"{clipped(name)} stands twice" if name == owners[new] else \
+                f"{clipped(owners[new])} and {clipped(name)} would both be {new}"
             raise Trouble(f"each {what} needs a name of its own: {same}")
         owners[new] = name
-    changed = [f"{name!r} is now {new}" for name, new in zip(names, made) if name != new]
+    changed = [f"{clipped(name)!r} is now {new}" for name, new in zip(names, made) if name != new]
     if not changed:
         return made, None
     more = f", and {len(changed) - 3} more" if len(changed) > 3 else ""
     return made, f"names of {what}s have letters, digits, _ - and . only: " \
                  f"{', '.join(changed[:3])}{more}"
-
-
-def written(names, rows):
-    """The text of a matrix: the names, and then a row of zeros and ones for each of the rows, which
-    are collections of names."""
-    lines = [",".join(names)]
-    for row in map(frozenset, rows):
-        lines.append(",".join("1" if name in row else "0" for name in names))
-    return "\n".join(lines) + "\n"

@@ -6,6 +6,7 @@ import signal
 import subprocess
 import sys
 import tempfile
+import termios
 import time
 import unittest
 from pathlib import Path
@@ -203,23 +204,141 @@ class Interviews(unittest.TestCase):
         self.assertIn(b"can't keep 'yes expand : compare'", done.stderr)
         self.assertEqual(self.script.read_text(), before)
 
-    def test_single_keys_at_a_terminal(self):
-        main, terminal = pty.openpty()
-        running = subprocess.Popen([*INTERVIEW, "first.txt", "--items", *ITEMS.split()],
-                                   cwd=self.folder, stdin=terminal, stdout=subprocess.PIPE)
-        for key, shown in [(b"n", b"fail decimal?"), (b"y", b"fail compare?"),
-                           (b"u", b"fail add?"), (b"w", b"fail compare?"),
-                           (b"decimal : add\n", b"Of which question?"),
-                           (b"q", b"fail compare?")]:
-            while shown not in running.stdout.readline():
-                pass
-            os.write(main, key)
-        printed = running.communicate()[0]
-        os.close(main)
-        os.close(terminal)
-        self.assertIn(b"1 answer in first.txt", printed)
+    def test_keys_with_a_question_that_is_none(self):
+        """None ends the interview, none is kept, and the answer behind them is."""
+        keys = [f"{key} {words}".strip() for key in ("y", "n", "u", "w")
+                for words in (":", ": a", "a :", ": :", "a : b :", ":a:", "a b", "\\xff : a", "\0")]
+        printed = self.interview([*keys, "y"], items="a b c")
+        self.assertEqual(printed.count("That is no question of the items."), len(keys))
+        self.assertEqual(self.lines(), ["items a b c", "yes a : b"])
+
+    def test_blocks_that_are_none(self):
+        for word in ("0", "-1", "x", "1.5"):
+            self.assertIn(f"{word} is no number from 1 on",
+                          self.interview(["y"], f"--blocks={word}", status=2))
+        self.assertFalse(self.script.exists())
+
+    def test_a_script_without_a_line_is_taken_away(self):
+        self.assertIn("these are no items", self.interview([], items="a a", status=1))
+        self.assertIn("no items were given", self.interview([], items=None, status=2))
+        self.assertEqual(list(self.folder.iterdir()), [])
+        self.script.write_text("")  # this one was there before
+        self.assertIn("no items were given", self.interview([], items=None, status=2))
+        self.assertEqual(self.script.read_text(), "")
+
+    def test_another_interview_keeps_its_empty_script(self):
+        running = subprocess.Popen([*INTERVIEW, "first.txt"], cwd=self.folder,
+                                   stdin=subprocess.PIPE, stdout=subprocess.PIPE)
+        while b"Which items?" not in running.stdout.readline():
+            pass
+        self.assertIn("is used by another interview", self.interview([], status=2))
+        self.assertTrue(self.script.exists())
+        running.communicate(b"a b\ny\n")
+        self.assertEqual(self.lines(), ["items a b", "yes a : b"])
+
+
+class Terminal(unittest.TestCase):
+    """Single keys, at a terminal of the test's own."""
+
+    def setUp(self):
+        kept = tempfile.TemporaryDirectory()
+        self.addCleanup(kept.cleanup)
+        self.script = Path(kept.name) / "first.txt"
+        self.main, self.terminal = pty.openpty()
+        self.addCleanup(os.close, self.terminal)
+        self.before = termios.tcgetattr(self.terminal)
+
+    def start(self):
+        self.script.unlink() if self.script.exists() else None
+        self.running = subprocess.Popen([*INTERVIEW, "first.txt", "--items", *ITEMS.split()],
+                                        cwd=self.script.parent, stdin=self.terminal,
+                                        stdout=subprocess.PIPE, stderr=subprocess.PIPE)
+        self.addCleanup(self.running.communicate)
+        self.addCleanup(self.running.kill)
+        self.wait_for(b"fail decimal?")
+
+    def wait_for(self, shown):
+        line = b"."
+        while line and shown not in line:
+            line = self.running.stdout.readline()
+        self.assertIn(shown, line)
+
+    def press(self, key, shown):
+        os.write(self.main, key)
+        self.wait_for(shown)
+
+    def is_as_before(self):
+        return termios.tcgetattr(self.terminal) == self.before
+
+    def ends(self, status):
+        """That the interview ends so, says nothing of it, and leaves the terminal as it was."""
+        said = self.running.communicate(timeout=20)[1]
+        self.assertEqual((self.running.returncode, said), (status, b""))
+        self.assertTrue(self.is_as_before())
+
+    def lines(self):
+        return self.script.read_text().splitlines()
+
+    def test_keys(self):
+        self.start()
+        for key, shown in [(b"n", b"fail compare?"), (b"y", b"fail add?"), (b"u", b"fail compare?"),
+                           (b"w", b"Of which question?"), (b"decimal : add\n", b"fail compare?"),
+                           (b"w", b"Of which question?"), (b":\n", b"fail compare?"),
+                           (b"\xff", b"fail compare?")]:
+            self.press(key, shown)
+        self.assertFalse(self.is_as_before())
+        self.press(b"q", b"1 answer in first.txt")
+        self.ends(0)
         self.assertEqual(self.lines()[1:], ["no expand : decimal", "yes expand : compare",
                                             "retract 2"])
+
+    def test_signals_put_the_terminal_back(self):
+        """And what was told as kept is kept; also while a line is typed."""
+        for number in (signal.SIGTERM, signal.SIGHUP, signal.SIGQUIT, signal.SIGINT):
+            self.start()
+            self.press(b"n", b"fail compare?")
+            self.assertFalse(self.is_as_before())
+            self.running.send_signal(number)
+            self.ends(128 + number)
+            self.assertEqual(self.lines()[1:], ["no expand : decimal"])
+        self.start()
+        self.press(b"w", b"Of which question?")
+        self.running.send_signal(signal.SIGTERM)
+        self.ends(128 + signal.SIGTERM)
+
+    def test_a_stop_puts_the_terminal_back_and_keys_come_again(self):
+        self.start()
+        self.running.send_signal(signal.SIGTSTP)
+        _, status = os.waitpid(self.running.pid, os.WUNTRACED)
+        self.assertTrue(os.WIFSTOPPED(status))
+        self.assertTrue(self.is_as_before())
+        self.running.send_signal(signal.SIGCONT)
+        self.press(b"y", b"fail compare?")
+        self.assertFalse(self.is_as_before())
+        self.press(b"q", b"1 answer in first.txt")
+        self.ends(0)
+
+    def test_a_program_that_is_killed(self):
+        """It is told in a line, the terminal is put back, and the answers before are kept."""
+        self.start()
+        self.press(b"n", b"fail compare?")
+        children = Path(f"/proc/{self.running.pid}/task/{self.running.pid}/children").read_text()
+        os.kill(int(children), signal.SIGKILL)
+        os.write(self.main, b"y")
+        told = self.running.communicate(timeout=20)[1]
+        self.assertEqual((self.running.returncode, told), (
+            3, b"interview: the program ended before it had replied: its status is -9\n"))
+        self.assertTrue(self.is_as_before())
+        self.assertEqual(self.lines()[1:], ["no expand : decimal"])
+
+    def test_a_terminal_that_goes(self):
+        self.start()
+        self.press(b"n", b"fail compare?")
+        os.close(self.main)
+        said = self.running.communicate(timeout=20)[1]
+        self.assertNotIn(b"Traceback", said)
+        self.assertLessEqual(said.count(b"\n"), 1)
+        self.assertEqual(self.lines()[1:], ["no expand : decimal"])
 
 
 if __name__ == "__main__":

@@ -1,4 +1,5 @@
 """Whether tables of zeros and ones are read and written as R has them, and come back the same."""
+import os
 import subprocess
 import sys
 import tempfile
@@ -68,6 +69,22 @@ class FromTheProgram(Kst):
         self.assertEqual(self.kst("states", "free", "--most", "8")[0].count("\n"), 9)
         _, told = self.kst("states", "free", "--most", "7", status=1)
         self.assertEqual(told, "kst: there are more than 7 states; --most N takes more\n")
+
+    def test_more_states_than_fit_in_memory(self):
+        """Of 512 free items there are 2^512 states. That is told within 100 MB."""
+        (self.folder / "free").write_text("items " + " ".join(
+            f"an-item-whose-name-has-forty-letters-{n:03}" for n in range(512)))
+        for words in (["kst", "states", "free"], ["made-class", "free", "5"]):
+            running = subprocess.Popen([sys.executable, str(TOP / "tools" / words[0]), *words[1:]],
+                                       cwd=self.folder, stdout=subprocess.PIPE,
+                                       stderr=subprocess.STDOUT)
+            told = running.stdout.read()
+            running.stdout.close()
+            _, status, used = os.wait4(running.pid, 0)
+            running.returncode = os.WEXITSTATUS(status)
+            self.assertIn(b"there are more than 65536 states", told)
+            self.assertEqual((running.returncode, told.count(b"\n")), (1, 1))
+            self.assertLess(used.ru_maxrss, 100000)  # in KB
 
     def test_a_refused_line_is_told_and_changes_nothing(self):
         (self.folder / "twice").write_text("items a\nitems a b\nfoo\n")
@@ -146,6 +163,22 @@ class ToTheProgram(Kst):
         self.assertEqual(told, "kst: 4097 pupils are more than one class table may have (4096): "
                                "cut it\n")
         self.assertEqual(self.kst("class", "-", text="a\n" + "1\n" * 4096)[1], "")
+
+
+    def test_long_names(self):
+        """A field may be longer than 131,072 letters; of it a name and a message have a part."""
+        text = "pupil,a\n" + "x" * 200000 + ",1\n"
+        table, told = self.kst("class", "-", "--named", text=text)
+        self.assertEqual(table, "pupil,a\n" + "x" * 40 + ",1\n")
+        self.assertIn(f"'{'x' * 60}..' is now {'x' * 40}\n", told)
+        _, told = self.kst("class", "-", text=text, status=2)
+        self.assertIn("xxx.. is neither 0 nor 1", told)
+        self.assertLess(len(told), 300)
+
+    def test_a_table_that_is_no_text(self):
+        _, told = self.kst("sets", "-", text="a,b\n1,\0\n", status=2)
+        self.assertEqual(told, "kst: the table has a byte 0, so it is no text; save it as CSV in "
+                               "UTF-8\n")
 
 
 class FormsOfR(unittest.TestCase):

@@ -37,3 +37,11 @@ class MadeClass(unittest.TestCase):
         self.assertEqual(self.made("50", "--seed", "7"), table)
         self.assertNotEqual(self.made("50", "--seed", "8"), table)
         self.assertEqual(self.made("20", "--seed", "7"), table[:21])
+
+    def test_words_that_are_no_numbers(self):
+        for words in (["3", "--slip=-5"], ["3", "--slip=101"], ["3", "--guess=1000"],
+                      ["3", "--guess=x"], ["0"], ["-1"]):
+            done = subprocess.run([sys.executable, str(TOP / "tools/made-class"), FRACTIONS,
+                                   *words], stdout=subprocess.PIPE, stderr=subprocess.PIPE)
+            self.assertEqual((done.returncode, done.stdout), (2, b""), words)
+            self.assertRegex(done.stderr, rb"(is no number from|arguments are required)")

@@ -1,9 +1,11 @@
 """What the page of a class shows."""
 import html.parser
+import os
 import re
 import subprocess
 import sys
 import tempfile
+import time
 import unittest
 from pathlib import Path
 
@@ -58,7 +60,7 @@ class Reports(unittest.TestCase):
         self.folder = Path(kept.name)
 
     def report(self, *words, status=0):
-        done = subprocess.run([sys.executable, str(TOP / "tools/report"), *map(str, words)],
+        done = subprocess.run([sys.executable, str(TOP / "tools/report"), *words],
                               cwd=self.folder, stdout=subprocess.PIPE, stderr=subprocess.STDOUT)
         self.assertEqual(done.returncode, status, done.stdout.decode())
         return done.stdout.decode()
@@ -166,6 +168,51 @@ class Reports(unittest.TestCase):
         self.assertEqual(sorted(it.name for it in self.folder.iterdir()),
                          ["kept", "s", "t.csv", "t.html", "table0"])
 
+    def test_long_names(self):
+        """A field may be longer than 131,072 letters."""
+        self.write("s", "items a b\n")
+        name = "x" * 200000
+        page = self.page("s", self.write("t.csv", f"pupil,a,b\n{name},1,0\n"))
+        self.assertEqual(page.texts("Pupils")[0][:2], [name, "1 of 2"])
+        for text, told in [(f"pupil,a,b\n{name},1,{name}\n", "record 2, of xxx"),
+                           (f"pupil,a,b\n{name},1,0\n{name},1,0\n", "there is a pupil xxx")]:
+            printed = self.report("s", self.write("t.csv", text), status=2 - ("of" in told))
+            self.assertIn(told, printed)
+            self.assertLess(len(printed), 300)
+
+    def test_names_that_are_not_utf8(self):
+        """The page shows that a letter is none, and its file has the name of the table's."""
+        self.write("s", "items a b\n")
+        table = os.fsencode(self.folder) + b"/bad\xff.csv"
+        with open(table, "w") as file:
+            file.write("pupil,a,b\nAnn,1,0\n")
+        for words in (["--title", b"x\xff"], []):
+            self.report("s", table, *words)
+            text = (self.folder / os.fsdecode(b"bad\xff.html")).read_text(encoding="utf-8")
+            self.assertIn(f"<h1>{'x' if words else 'bad'}\ufffd</h1>", text)
+            self.assertIn("From s and bad\ufffd.csv", text)
+        self.assertEqual(len(list(self.folder.iterdir())), 3)
+
+    def test_more_pupils_than_a_table_may_have(self):
+        """The number is the cause; and thirty thousand names are looked at once, not each with
+        each, which took a quarter of a minute."""
+        self.write("s", "items a b\n")
+        for count, shown in [(4097, "4,097"), (30000, "30,000")]:
+            rows = "".join(f"p{n},1,1\n" for n in range(count))
+            start = time.monotonic()
+            printed = self.report("s", self.write("t.csv", "pupil,a,b\n" + rows), status=2)
+            self.assertLess(time.monotonic() - start, 8)
+            self.assertIn(f"t.csv has {shown} pupils, and a table may have 4,096: cut it", printed)
+        rows = "".join(f"p{n},1,1\n" for n in range(4096))
+        self.assertIn("4,096 pupils", self.report("s", self.write("t.csv", "pupil,a,b\n" + rows)))
+
+    def test_tables_that_are_no_text(self):
+        self.write("s", "items a\n")
+        for data, told in [(b"\xff\xfep\0,\0a\0\n\0", "is no text in UTF-8"),
+                           (b"pupil,a\nA\0n,1\n", "the table has a byte 0")]:
+            (self.folder / "t.csv").write_bytes(data)
+            self.assertIn(told, self.report("s", "t.csv", status=2))
+
     def test_troubles_are_told_in_a_line(self):
         self.write("s", "items a b\n")
         for text, told in [
@@ -179,7 +226,7 @@ class Reports(unittest.TestCase):
         self.assertIn("there are no pupils", self.report("s", status=2))
         self.assertIn("nowhere can't be read", self.report("nowhere", status=2))
         self.write("s", "ask\n")
-        self.assertIn("s makes no space: no items were given", self.report("s", status=1))
+        self.assertIn("s has no session: no items were given", self.report("s", status=1))
         self.assertFalse((self.folder / "t.html").exists())
 
 
