@@ -50,6 +50,6 @@ def page(readme, commands, date):
         section("REFUSALS", [tagged("no " + " ".join(it.form), f"{it.cause}. {it.remedy}")
                              for it in refusals.entries(commands)]),
         section("EXIT STATUS", [tagged(*it) for it in refusals.rows_of(commands, STATUS)]),
-        section("SEE ALSO", ["The documents in share/lspace/docs, and lspace\\-shell \\-\\-help.\n"]),
+        section("SEE ALSO", ["The documents in share/lspace/docs; lspace\\-shell \\-\\-help.\n"]),
     ]
     return "".join(parts)
