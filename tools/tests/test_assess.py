@@ -65,7 +65,8 @@ class Assessments(unittest.TestCase):
 
     def replies(self, *more):
         """What the program says to the script, what was kept, and more lines."""
-        script = SPACE + self.kept.read_text() + "".join(f"{it}\n" for it in more)
+        script = (self.folder / "course.txt").read_text() + self.kept.read_text()
+        script += "".join(f"{it}\n" for it in more)
         done = subprocess.run([PROGRAM], input=script.encode(), cwd=self.folder,
                               stdout=subprocess.PIPE)
         return done.stdout.decode().splitlines()
@@ -131,7 +132,8 @@ class Assessments(unittest.TestCase):
             printed = self.assess([key for it in ANN for key in (it, "y")])
             self.assertEqual(printed.count("These states lead"), 6, printed)
             self.kept.unlink()
-        script = SPACE + "odds add 9 2\nratio 5 3 4 3\npupil Ann\nreply Ann decimal wrong\nsave it\n"
+        script = SPACE + "odds add 9 2\nratio 5 3 4 3\npupil Ann\nreply Ann decimal wrong\n"
+        script += "save it\n"
         subprocess.run([PROGRAM], input=script.encode(), cwd=self.folder, stdout=subprocess.PIPE)
         (self.folder / "course.txt").write_text("open it\n")
         printed = self.assess(["y", "u", "r"])
