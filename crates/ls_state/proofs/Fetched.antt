@@ -52,7 +52,7 @@ module _ {s : Session} (whole : Fetched → Effect) (effect : List Refusal → L
   none name calls = let given = calls.file name in ap (λ (e : Effect). e.stored) (same given) ∙ stores_none (file_refusals given) (bytes_fetched given)
 
   -- memory ran out
-  pub decides_unfetched : (name : Text) {before after : ShelfState} {fetched : Result (Result (Vec ℕ Global) Refusal) AllocError} (seen : SeesFile name before after fetched) (P : AllocError → Type 0) (r : Result Response AllocError) → IsErrAnd r P → Decides (λ calls. whole (calls.file name)) s s before after r
+  pub decides_unfetched : (name : Text) {IsGiven : Calls → Type 0} {before after : ShelfState} (seen : Fetching IsGiven (λ calls. after.calls ≡ one_more before.calls) before after) (P : AllocError → Type 0) (r : Result Response AllocError) → IsErrAnd r P → Decides (λ calls. whole (calls.file name)) s s before after r
   decides_unfetched name seen P r e = decides_unseen (λ calls. whole (calls.file name)) (none name) seen (few_one (depends name) seen.made) P r e
 
   module _ {name : Text} {before after : ShelfState} {fetched : Result (Result (Vec ℕ Global) Refusal) AllocError} (seen : SeesFile name before after fetched) where

@@ -29,7 +29,7 @@ module _ {s : Session} (whole : Fetched → Fetched → Effect) (effect : List R
   apart none failed one = refused_apart s (sym (refused NoFile none) ∙ one ∙ refused FileFailed failed)
 
   depends : ((a b : Calls) → seen_by a ≡ seen_by b) → ⊥
-  depends one = apart {Missing} {Missing} {Failed} {Failed} refl refl (one calls_missing calls_failed)
+  depends one = apart {a = Missing} {b = Missing} {c = Failed} {d = Failed} refl refl (one calls_missing calls_failed)
 
   none : (calls : Calls) → (seen_by calls).stored ≡ None
   none calls =
@@ -58,11 +58,11 @@ module _ {s : Session} (whole : Fetched → Fetched → Effect) (effect : List R
             let at : calls.file first ≡ calls.file name = ap calls.file ((bytes_eq-Decides first name).0 is) in
             let given = calls.file first in
             let bytes = gave-unrefused given gave (λ e. unfailed (sym at ∙ e)) in
-            apart {given} {Missing} {given} {Failed} (ap (λ (rs : List Refusal). rs ++ NoFile ∷ []) bytes) (ap (λ (rs : List Refusal). rs ++ FileFailed ∷ []) bytes)
+            apart {a = given} {b = Missing} {c = given} {d = Failed} (ap (λ (rs : List Refusal). rs ++ NoFile ∷ []) bytes) (ap (λ (rs : List Refusal). rs ++ FileFailed ∷ []) bytes)
             (alike given Missing given Failed (rw is at) (rw is at))
         go false is =
             let given = calls.file name in
-            apart {Missing} {given} {Failed} {given} refl refl (alike Missing given Failed given (rw is refl) (rw is refl))
+            apart {a = Missing} {b = given} {c = Failed} {d = given} refl refl (alike Missing given Failed given (rw is refl) (rw is refl))
 
   few_two : {calls : Calls} {before after : ShelfState} → AreMade first second calls before after → FewCalls seen_by calls before after
   few_two {calls} {before} {after} (inl made) = few_one depends made
@@ -70,11 +70,11 @@ module _ {s : Session} (whole : Fetched → Fetched → Effect) (effect : List R
       let made = m.0 in
       record { alone = λ one. absurd (depends one); once = λ name unfailed one. absurd (undecided m.1 calls m.2 name unfailed one); twice = omega (arith, made) }
 
-  module _ {before after : ShelfState} {fetched : Result (Result TwoFiles Refusal) AllocError} (seen : SeesFiles first second before after fetched) where
-    -- memory ran out
-    pub both_unfetched : (P : AllocError → Type 0) (r : Result Response AllocError) → IsErrAnd r P → Decides seen_by s s before after r
-    both_unfetched P r e = decides_unseen seen_by none seen (few_two seen.made) P r e
+  -- memory ran out
+  pub both_unfetched : {IsGiven : Calls → Type 0} {before after : ShelfState} (seen : Fetching IsGiven (λ calls. AreMade first second calls before after) before after) (P : AllocError → Type 0) (r : Result Response AllocError) → IsErrAnd r P → Decides seen_by s s before after r
+  both_unfetched seen P r e = decides_unseen seen_by none seen (few_two seen.made) P r e
 
+  module _ {before after : ShelfState} {fetched : Result (Result TwoFiles Refusal) AllocError} (seen : SeesFiles first second before after fetched) where
     -- the bytes of both were fetched
     pub both_read : {files : TwoFiles} {r : Result Response AllocError} → fetched ≡ Ok (Ok files) → Makes (effect [] files.left.items (right_bytes files)) s s r → Decides seen_by s s before after r
     both_read {files} {r} is h =
