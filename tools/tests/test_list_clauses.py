@@ -95,7 +95,8 @@ class ListClauses(unittest.TestCase):
 
     def test_the_document_quotes_nothing(self):
         text = (self.top / "docs/PROVED.md").read_text()
-        self.change("docs/PROVED.md", re.search(r"^```quote .*?^```\n", text, flags=re.M | re.S)[0], "")
+        for quote in re.findall(r"^```quote .*?^```\n", text, flags=re.M | re.S):
+            self.change("docs/PROVED.md", quote, "")
         self.assert_fails("docs/PROVED.md:1: it quotes no clause")
 
     def test_a_quote_has_no_end(self):
