@@ -1,5 +1,5 @@
 -- What a command does by two files.
-use Rattle.ls_state.proofs.Vocabulary.{[], ◌++◌, ◌∙◌, ◌∷◌, ◌≡◌, AllocError, Bool, Bytes, Calls, Decides, Effect, Err, Failed, FewCalls, Fetched, FileFailed, GaveBytes, IsErrAnd, List, Makes, Missing, NoFile, None, Ok, Refusal, Refused, Response, Result, Session, ShelfState, Text, ℕ, answers, ap, ap₂, arith, bytes_eq, bytes_fetched, cond, false, file_refusals, inl, inr, refl, subst, sym, true, AreFetched, AreMade, SeesFiles, TooLarge}
+use Rattle.ls_state.proofs.Vocabulary.{[], ◌++◌, ◌∙◌, ◌∷◌, ◌≡◌, AllocError, Bool, Bytes, Calls, Decides, Effect, Err, Failed, FewCalls, Fetched, FileFailed, GaveBytes, IsErrAnd, List, Makes, Missing, NoFile, None, Ok, Refusal, Refused, Response, Result, Session, ShelfState, Text, ℕ, answers, ap, ap₂, arith, bytes_eq, bytes_fetched, cond, false, file_refusals, inl, inr, refl, subst, sym, true, AreFetched, AreMade, Fetching, SeesFiles, TooLarge}
 use Rattle.ls_state.proofs.Decided.{makes_as}
 use Rattle.ls_state.proofs.Fetched.{calls_failed, calls_missing, decides_seen, decides_unseen, few_one, refused_apart}
 use Rattle.std.proofs.lemmas.Slice.Eq.{bytes_eq-Decides}
