@@ -63,9 +63,23 @@ class Launcher(unittest.TestCase):
         status, output, told = self.run_it("1", script="items a\n")
         self.assertEqual((status, output), (1, "items a\n"))
         self.assertIn("lspace: building", told)
-        self.assertIn("lspace: 1/1: ls_app", told)
+        self.assertIn("lspace: 1 of 1 crates: ls_app\n", told)
         self.assertEqual(self.run_it("1", script="x"), (1, "x", ""))
         self.assertEqual(self.built(), 1)
+
+    def test_it_tells_how_far_the_build_is(self):
+        self.write(self.top / "crates/ls_set/src/lib.rt", "one")
+        self.write(self.top / "crates.txt", "ls_set:\nls_app: ls_set\n")
+        self.write(self.kit / "rt", KIT.replace("echo \"rt: ls_app", "echo \"rt: ls_set is kept:"
+                                                " the same\"; echo \"rt: ls_app"))
+        self.assertIn("lspace: 1 of 2 crates: ls_set\nlspace: 2 of 2 crates: ls_app\n",
+                      self.run_it()[2])
+        self.write(self.top / "crates/ls_app/src/main.rt", "two")
+        self.write(self.kit / "rt", KIT.replace("echo \"rt: ls_app", "sleep 1; echo \"rt: ls_set"
+                                                " proved\"; echo \"rt: ls_app"))
+        told = self.run_it()[2]
+        self.assertIn("lspace: 1 of 2 crates: ls_set; about 1 minutes are left\n", told)
+        self.assertIn("in some three minutes 'rt try'", told)
 
     def test_another_program_source_or_kit_is_built_anew(self):
         self.run_it()
