@@ -8,7 +8,7 @@ run that has no other answers; None where none were found. `number` is that of t
 from companion import Session, refusal_of
 from questions import command_of
 
-MOST_REPLIES = 900  # of the second run, after which a part that was found stays as it is
+MOST_REPLIES = 900  # that make a part smaller, after which it stays as it is
 
 
 class Trial:
@@ -44,18 +44,22 @@ class Trial:
             self.wanted)
 
     def least(self, numbers):
-        """Leaves out what isn't needed, in parts that get smaller, as long as the replies last."""
-        size = len(numbers)
-        while size:
-            place = 0
-            while place < len(numbers) and self.replies < MOST_REPLIES:
-                rest = numbers[:place] + numbers[place + size:]
-                if self.tells(rest):
-                    numbers = rest
+        """Of answers that tell the question those that are needed, found last to first: each time
+        the least front that tells it, with those found. Where the replies run out, the front that
+        was reached tells it too."""
+        found = []
+        while True:
+            low, high = -1, len(numbers)
+            while high - low > 1 and self.replies < MOST_REPLIES:
+                middle = (low + high) // 2
+                if self.tells(found + numbers[:middle]):
+                    high = middle
                 else:
-                    place += size
-            size //= 2
-        return numbers
+                    low = middle
+            if high == 0 or high - low > 1:
+                return found + numbers[:high]
+            found.append(numbers[high - 1])
+            numbers = numbers[:high - 1]
 
 
 def chain(rules, before, item):
@@ -94,5 +98,6 @@ def telling(program, folder, answers, question, number=None):
         trial = Trial(session, answers, question, number)
         for some in candidates(yes, answers.standing, question, number):
             if trial.tells(some):
+                trial.replies = 0
                 return sorted(trial.least(some) + ([] if number is None else [number]))
     return None

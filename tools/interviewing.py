@@ -56,14 +56,15 @@ class Interview(Answers):
         return (f"{asked:,} asked, {self.count() - asked - opened:,} settled without asking,"
                 f" {opened:,} open")
 
-    def answer(self, question, word):
+    def answer(self, question, word, behind=""):
+        """Gives an answer, and tells whether it is kept, with some words behind Yes or No."""
         reply = self.add(f"{word} {command_of(question)}")
         if refusal_of(reply):
-            print(f"  Not kept: {self.told(reply)}.")
+            print(f"  Not kept{behind}: {self.told(reply)}.")
             self.contradicted(question, word, reply[0].split()[1:])
             return
         self.settle(question)
-        print(f"  {word.capitalize()}, kept as answer {reply[0].split()[1]}.")
+        print(f"  {word.capitalize()}{behind}, kept as answer {reply[0].split()[1]}.")
 
     def settle(self, question):
         """The question needn't be asked now."""
@@ -182,15 +183,23 @@ class Interview(Answers):
         print(f"  A pupil fails {self.wording.failed(before)}."
               f" Which of these would such a pupil fail too?\n{self.wording.choice(items)}\n"
               "  Names or numbers in one line; nothing where it is none of them.", flush=True)
-        text = self.keys.line()
-        named, wrong = questions.chosen(text, items)
-        if wrong is not None or not text:
-            what = f"'{clipped(plain(wrong))}' is none of these" if text else "No line came"
-            print(f"  {what}: nothing is kept.")
+        named = self.picked(items)
+        if named is None:
             return
         for word, some in self.confirmed(named, [it for it in items if it not in named]):
             for item in some:
                 self.answer_unless_told((before, item), word)
+
+    def picked(self, items):
+        """Those of the items that a line names; None at the end of the input. A line with another
+        word is asked for again, so that what is typed behind it isn't taken for an answer."""
+        while True:
+            text = self.keys.line()
+            named, wrong = questions.chosen(text.strip(), items)
+            if not text or wrong is None:
+                return named if text else None
+            print(f"  '{clipped(plain(wrong))}' is none of these, and nothing is kept. The line"
+                  " again:", flush=True)
 
     def confirmed(self, named, others):
         """The items answered Yes and No, as the expert confirms them; none without that."""
@@ -212,8 +221,7 @@ class Interview(Answers):
     def answer_unless_told(self, question, word):
         """Answers a question, if it doesn't follow so from the answers before."""
         if self.known(question)[0] != word:
-            print(f"  {self.wording.names([question[1]])}:")
-            self.answer(question, word)
+            self.answer(question, word, f" for {self.wording.names(question[1:])}")
         else:
             self.settle(question)
 
@@ -273,7 +281,8 @@ class Interview(Answers):
                 self.tell_end()
             elif question:
                 self.larger = None
-                print(f"[{self.progress()}] {self.wording.question(question)}", flush=True)
+                print(f"[{self.progress()}] {self.wording.question(question)}")
+            print(end="", flush=True)
             goes_on = self.act(*self.keys.next(), question)
         print(f"{plural(len(self.standing), 'answer')} in {self.script.path.name}."
               " The same command goes on with it.")
@@ -286,7 +295,7 @@ class Interview(Answers):
         print("\n".join(learned.lines(self.session, self.items, self.wording)))
         print(self.offer_larger())
         going_on = "" if self.larger is None else f"b blocks of {self.larger}, "
-        print(f"Keys: {going_on}u undo, w why, l a line, q quit.", flush=True)
+        print(f"Keys: {going_on}u undo, w why, l a line, q quit.")
         self.changed = False
 
     def offer_larger(self):

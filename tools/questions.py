@@ -44,8 +44,9 @@ def chosen(text, items):
         {str(number): item for number, item in enumerate(items, 1)}
     by_word.update((item, item) for item in items)
     words = words_of(text)
-    named = {by_word[word] for word in words if word in by_word}
-    return [it for it in items if it in named], next((it for it in words if it not in by_word), None)
+    named = {by_word.get(word) for word in words}
+    wrong = next((word for word in words if word not in by_word), None)
+    return [it for it in items if it in named], wrong
 
 
 def numbered_by_names(items):
