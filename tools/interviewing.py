@@ -84,8 +84,10 @@ class Interview(Answers):
             if self.standing[int(refusal[1])][1] != word:
                 self.offer([int(refusal[1])], question)
         elif refusal[0] in ("20", "21"):
-            numbers = self.telling(question, *(int(it) for it in refusal[1:]))
+            named = [int(it) for it in refusal[1:]]
+            numbers = self.telling(question, *named)
             self.show_telling(numbers)
+            numbers = named if numbers is None else numbers
             if numbers:
                 self.offer(numbers, question)
 
@@ -116,6 +118,9 @@ class Interview(Answers):
         word = text.strip()
         if re.fullmatch("[0-9]{1,9}", word) and int(word) in numbers:
             self.take_back(int(word), [question])
+            told = self.known(question)[0]
+            if told != "open":
+                print(f"  The others still tell {told.capitalize()}.")
         elif word and not self.keys.alone and not re.fullmatch("[0-9]+", word):
             self.keys.give_back(text)
         else:
@@ -196,8 +201,11 @@ class Interview(Answers):
         while True:
             text = self.keys.line()
             named, wrong = questions.chosen(text.strip(), items)
-            if not text or wrong is None:
-                return named if text else None
+            if not text:
+                print("  Nothing is kept.")
+                return None
+            if wrong is None:
+                return named
             print(f"  '{clipped(plain(wrong))}' is none of these, and nothing is kept. The line"
                   " again:", flush=True)
 

@@ -39,7 +39,7 @@ class Many(ByLines):
 
     def test_none_and_all_are_named(self):
         printed = self.interview(["m", "", "o", "m", "", "y"], items="a b c")
-        self.assertEqual(printed.count("Nothing is kept."), 1)  # there is no Yes that `o` could keep
+        self.assertEqual(printed.count("Nothing is kept."), 1)  # `o` has no Yes to keep
         self.assertEqual(self.lines()[1:], ["no a : b", "no a : c"])
         self.assertNotIn("o only", self.interview(["m", "1 2", "y"]))
         self.assertEqual(self.lines()[3:], ["yes b : a", "yes b : c"])
@@ -140,6 +140,24 @@ class Contradictions(ByLines):
         self.assertEqual(self.lines()[10:], ["retract 9", "yes add : expand"])
         self.assertEqual(self.tells(["items " + ITEMS, "no compare : expand",
                                      "yes compare : add"], "add : expand"), "known no 1")
+
+    def test_others_that_still_tell(self):
+        """There are two chains, of which one is shown."""
+        self.script.write_text("items a b c d\nyes a : b\nyes b : c\nyes a : d\nyes d : c\n")
+        printed = self.interview(["n a : c", "1", "n a : c", "4", "n a : c"])
+        self.assertIn("  Taken back: answer 1, 'yes a : b'.\n  The others still tell Yes.\n",
+                      printed)
+        self.assertEqual(printed.count("The others"), 1)
+        self.assertEqual(self.lines()[5:], ["retract 1", "retract 4", "no a : c"])
+
+    def test_a_saved_session_that_was_written_again(self):
+        """A second run opens other answers, so that the one is told that the reply names."""
+        subprocess.run([PROGRAM], cwd=self.folder, stdout=subprocess.DEVNULL,
+                       input=b"items a b c\nyes a : b\nno a : c\nsave kept\n")
+        self.script.write_text("open kept\nretract 1\nsave kept\nyes a : b\n")
+        printed = self.interview(["y b : c", "2"])
+        self.assertIn("tell No (no 21 2), by answer 2, 'no a : c'.\n  Take it back? 2, or", printed)
+        self.assertEqual(self.lines()[4:], ["retract 2"])
 
     def test_another_answer_before(self):
         self.interview(["y"], items="a b")
@@ -244,7 +262,9 @@ class Ends(ByLines):
         self.assertEqual(self.lines()[-1], "blocks 2")
 
     def test_the_two_ways_of_the_guide(self):
-        self.assertIn("The longest chain of what comes first: expand, then add.\n",
+        # by all 14 families that fit these answers, written down once: five are open
+        self.assertIn("The longest chain of what comes first: expand, then add.\n"
+                      "Blocks of 2 may leave fewer states. 5 questions would be open:",
                       self.interview(KEYS))
         printed = self.interview(["y", "n", "n", "n"], "--blocks", "2")
         self.assertIn("The answers leave 9 states.\nThey are a learning space: all can be learned"
