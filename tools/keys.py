@@ -2,13 +2,16 @@
 
   with Keys() as keys:
       key, words = keys.next()    a key, and the words behind it, which only a line has
+      key = keys.key()            a key alone
       text = keys.line()          a whole line, also at a terminal
+      keys.give_back(text)        a line of standard input, which comes again
 
 At a terminal a key comes without the end of a line, and isn't shown. However the interview ends,
 and while it is stopped (^Z), the terminal is as it was before."""
 import atexit
 import contextlib
 import os
+import select
 import signal
 import sys
 import termios
@@ -16,11 +19,20 @@ import tty
 
 from companion import LONGEST_LINE, Trouble, demand_input, telling
 
+REST = 0.05  # seconds, in which the rest of such a key as an arrow comes
+LONGEST_KEY = 16
+
+
+def parted(line):
+    """The key of a line, and the words behind it."""
+    words = line.strip().split(None, 1)
+    return (words + [""])[0].lower(), (words[1:] + [""])[0]
+
 
 class Keys:
     def __init__(self):
         demand_input()
-        self.alone = sys.stdin.isatty()
+        self.alone, self.waiting = sys.stdin.isatty(), []
         self.before = termios.tcgetattr(sys.stdin) if self.alone else None
 
     def __enter__(self):
@@ -55,16 +67,33 @@ class Keys:
         termios.tcsetattr(sys.stdin, termios.TCSANOW, now)
 
     def next(self):
-        """A key, and the words behind it; `q` at the end of the input."""
+        """A key, and the words behind it; `q` at the end of the input. At a terminal `l` takes a
+        line, which is a key with its words."""
         if not self.alone:
-            words = (self.read_line() or "q").strip().split(None, 1)
-            return (words + [""])[0].lower(), (words[1:] + [""])[0]
-        with telling("the terminal can't be read"):
-            key = os.read(sys.stdin.fileno(), 1).decode("ascii", "replace").lower()
+            return parted(self.read_line() or "q")
+        key = self.key()
         if key == "w":
             print("Of which question? Names : name, or nothing for this one.", flush=True)
             return key, self.line().strip()
-        return ("q" if key in ("", "\x04") else key), ""
+        if key == "l":
+            print("A line with a key and a question, such as: n add : expand", flush=True)
+            return parted(self.line())
+        return key, ""
+
+    def key(self):
+        """A key alone, or a line as it stands; `q` at the end of the input."""
+        if not self.alone:
+            return self.read_line() or "q"
+        with telling("the terminal can't be read"):
+            key = os.read(sys.stdin.fileno(), 1)
+            while key == b"\x1b" and select.select([sys.stdin], [], [], REST)[0]:
+                if len(os.read(sys.stdin.fileno(), LONGEST_KEY)) < LONGEST_KEY:
+                    break  # an arrow or the like, of which no letter is a key
+        key = key.decode("ascii", "replace").lower()
+        return "q" if key in ("", "\x04") else key
+
+    def give_back(self, text):
+        self.waiting.append(text)
 
     def line(self):
         """A whole line; an empty text at the end of the input."""
@@ -74,6 +103,8 @@ class Keys:
         return text
 
     def read_line(self):
+        if self.waiting:
+            return self.waiting.pop()
         with telling("standard input can't be read"):
             text = sys.stdin.readline(LONGEST_LINE)
         if len(text) == LONGEST_LINE:
