@@ -3,15 +3,17 @@
   table = read_matrix(text, options)   its names, and its rows of True and False
 
 It takes what write.csv, write.csv2 and write.table write of a matrix or a data frame: commas,
-semicolons, tabs or spaces; quoted texts; with or without a header; with or without row names, whose
-header is empty or missing; 0 and 1, or FALSE and TRUE."""
+semicolons, tabs or spaces; quoted texts; with or without a header; with or without names of rows; 0
+and 1, or FALSE and TRUE. A first column has names of rows where its header is empty, missing or
+`pupil`, and where no row begins with a mark."""
 import re
 from collections import namedtuple
 
-from companion import Trouble, clipped, records_of
+from companion import Trouble, clipped, records_of, tell
 
 MARKS = {"0": False, "FALSE": False, "F": False, "1": True, "TRUE": True, "T": True}
 MISSING = ("NA", "")
+PUPIL = "pupil"  # heads the names of a class table
 WORDS = re.compile(r'"((?:[^"\\]|\\.)*)"|(\S+)')  # write.table puts \ before a quote in a text
 NAME = re.compile(r"[A-Za-z0-9_.-]{1,40}")
 
@@ -69,8 +71,26 @@ def parts_of(records, named):
     short = len(records) > 1 and len(first) == width - 1  # write.table gives row names no header
     if short or not all(map(is_mark, first[1:] if named or first[0] == "" else first)):
         header = first if not short else ["", *first]
-        return header, named or header[0] == "", records[1:]
+        return header, named or has_names(header, records[1:]), records[1:]
     return None, named, records
+
+
+def has_names(header, rows):
+    """Whether the first column of a table with this header has names of rows. Where its rows alone
+    show that, it is told."""
+    if header[0] == "" or header[0].lower() == PUPIL:
+        return True
+    if len(header) == 1 or not rows or any(is_mark(fields[0]) for _, fields in rows):
+        return False
+    tell(f"the column {clipped(header[0])} is taken for the names of the rows")
+    return True
+
+
+def without_numbers(records):
+    """The records without the numbers of rows that write.csv puts before a column of pupils."""
+    if [it.lower() for it in records[0][1][:2]] != ["", PUPIL]:
+        return records
+    return [(place, fields[1:]) for place, fields in records]
 
 
 def read_matrix(text, named=False, items=None, missing=None):
@@ -79,7 +99,7 @@ def read_matrix(text, named=False, items=None, missing=None):
     records = list(rows_of(text))
     if not records:
         raise Trouble("the table is empty")
-    header, named, rows = parts_of(records, named)
+    header, named, rows = parts_of(without_numbers(records), named)
     width = len(header) if header else len(records[0][1])
     found = header[named:] if header else [f"V{place}" for place in range(1, width - named + 1)]
     if items is not None and len(items) != len(found):

@@ -26,10 +26,11 @@ def part(title, kind, names, none):
     return f"<h2>{title}</h2>" + (f"<ul class={kind}>{told}</ul>" if told else f"<p>{none}</p>")
 
 
-def page(pupil, found, told, replies):
-    """The sheet by what was found of a pupil, a sentence on how sure that is, and the replies."""
+def page(pupil, found, told, replies, named):
+    """The sheet by what was found of a pupil, a sentence on how sure that is, the replies, and the
+    labels of the items."""
     name = html.escape(pupil)
-    asked = ", ".join(f"{html.escape(item)} {'right' if right else 'wrong'}"
+    asked = ", ".join(f"<bdi>{html.escape(named.of(item))}</bdi> {'right' if right else 'wrong'}"
                       for item, right in replies)
     sure = "" if found.is_sure else " class=warn"
     return "\n".join([
@@ -37,8 +38,8 @@ def page(pupil, found, told, replies):
         '<meta name="viewport" content="width=device-width, initial-scale=1">',
         f"<title>{name}</title><style>{STYLE}</style>", f"<h1 dir=auto>{name}</h1>",
         f"<p{sure}>{html.escape(told)}</p>",
-        part("You master", "mastered", found.state, "No item yet."),
-        part("You can learn next", "next", found.ready, "All is learned."),
-        part("Learned last: look at these again", "last", found.last, "Nothing yet."),
+        part("You master", "mastered", map(named.of, found.state), "No item yet."),
+        part("You can learn next", "next", map(named.of, found.ready), "All is learned."),
+        part("Learned last: look at these again", "last", map(named.of, found.last), "Nothing yet."),
         f"<h2>What was asked</h2><p>{asked or 'Nothing.'}</p>",
         "<footer>By lspace.</footer></html>", ""])

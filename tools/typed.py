@@ -16,6 +16,7 @@ from companion import names_in, words_of
 OWN = {"help": ["help", "help COMMAND"], "keep": ["keep FILE"], "quit": ["quit"]}
 PUPILS = ("question", "reply", "report", "close")
 NEW = ("items", "pupil")  # whose names are new ones
+NAMING = ("items", "load-items", "open")  # which give the items
 CHANGES = {"items", "load-items", "start", "blocks", "yes", "no", "retract", "odds", "ratio",
            "limits", "pupil", "reply", "close", "open", "safe-open", "safe", "safe-close"}
 LISTED = 12  # so many items, pupils or files are named in a sentence
@@ -67,7 +68,7 @@ class Typed:
     def follow(self, line, reply):
         """Keeps what a line changed that wasn't refused."""
         words = words_of(line)
-        if words[0] in ("items", "load-items", "open"):
+        if words[0] in NAMING:
             self.items = names_in(self.session.say("states 1")[0])
         if words[0] == "open":
             self.pupils = self.saved_pupils(words[1])

@@ -21,6 +21,12 @@ ASSESS = [sys.executable, str(TOP / "tools/assess")]
 SPACE = "items expand decimal compare add\nstart surmise fractions.json\n"
 # Ann of the guide: decimal wrong, compare right, add wrong, and the same again.
 ANN = ["w", "r", "w", "w", "r", "w"]
+HEBREW = "\u05db\u05ea\u05d5\u05d1 \u05db\u05e9\u05d1\u05e8"
+LABELS = f"""name,label,task
+expand,Write over another <denominator>,
+decimal,{HEBREW},write 3/4 as 0.75
+compare,"Compare two fractions, of whatever kind they are",
+"""
 
 
 class Tags(HTMLParser):
@@ -104,6 +110,14 @@ class Assessments(unittest.TestCase):
         self.assertEqual(self.replies("report Ann")[-2].split()[-1], "6")
         self.assertIn("No reply stands.", self.assess(["u"], "Bea"))
 
+    def test_the_end_is_told_again_after_an_undo(self):
+        """Also where as many replies stand as before. With `add` right the end is another."""
+        (self.folder / "course.txt").write_text(SPACE + "limits 3 90\n")
+        printed = self.assess([*ANN[:3], "u", "r"])
+        self.assertIn("  Masters: expand, compare.\n", printed)
+        self.assertIn("  Masters: expand, compare, add.\n", printed)
+        self.assertEqual(printed.count("UNCERTAIN"), 2)
+
     def test_undo_and_why_where_the_space_changed(self):
         (self.folder / "course.txt").write_text(SPACE + "pupil Ann\nreply Ann decimal wrong\n"
                                                 "limits 20 80\n")
@@ -113,7 +127,8 @@ class Assessments(unittest.TestCase):
 
     def test_skip_and_keys(self):
         printed = self.assess(["s", "loud", "r"])
-        self.assertIn("Take another task of decimal. It is asked until it has a reply", printed)
+        self.assertIn("  Take another task of decimal, or quit: until it has a reply the program"
+                      " asks no other item, also later.\n", printed)
         self.assertIn("  Keys: r right", printed)
         self.assertEqual(self.lines(), ["pupil Ann", "reply Ann decimal right"])
 
@@ -166,6 +181,63 @@ class Assessments(unittest.TestCase):
         tags.feed(text)
         self.assertEqual(tags.stack, [])
         self.assertNotIn("http", text)
+
+    def test_labels(self):
+        (self.folder / "labels.csv").write_text(LABELS + "gone,Nothing,\n", encoding="utf-8")
+        printed = self.assess([*ANN, "u", "s", "w", "y"], "Ann", "--labels", "labels.csv",
+                              "--sheet", "ann.html")
+        compare = "Compare two fractions, of whatever kind they are"
+        for part in [
+                f"of 100] {HEBREW} (decimal): right or wrong?\n  Such as: write 3/4 as 0.75\n",
+                f"of 100] {compare} (compare): right or wrong?\n  Right, kept.\n",
+                "of 100] add: right or wrong?\n", "  Taken back: add wrong.\n",
+                "  Take another task of add, or quit: ",
+                f"  Masters: Write over another <denominator> (expand), {compare} (compare).\n"
+                f"  Can learn next: {HEBREW} (decimal), add.\n"
+                f"  Learned last: {compare} (compare).\n",
+                f"lacks {HEBREW} (decimal), add.\n",
+                "assess: note: there is a label for gone, and no such item\n"]:
+            self.assertIn(part, printed)
+        self.assertEqual(self.lines()[1], "reply Ann decimal wrong")
+        text = (self.folder / "ann.html").read_text(encoding="utf-8")
+        self.assertIn("<li dir=auto>Write over another &lt;denominator&gt;</li>"
+                      f"<li dir=auto>{compare}</li></ul>", text)
+        self.assertIn(f"<bdi>{HEBREW}</bdi> wrong, <bdi>{compare}</bdi> right, <bdi>add</bdi>",
+                      text)
+        self.assertNotIn("(decimal)", text)
+        tags = Tags()
+        tags.feed(text)
+        self.assertEqual(tags.stack, [])
+
+    def test_labels_wrap_at_the_width_of_a_terminal(self):
+        """Each line has at most its 40 columns, and its words stay whole."""
+        (self.folder / "labels.csv").write_text(LABELS, encoding="utf-8")
+        main, terminal = pty.openpty()
+        running = subprocess.Popen([*ASSESS, "course.txt", "Ann", "--labels", "labels.csv"],
+                                   cwd=self.folder, stdin=subprocess.PIPE, stdout=terminal,
+                                   env={**os.environ, "COLUMNS": "40", "LC_ALL": "C.UTF-8"})
+        running.communicate("".join(f"{it}\n" for it in [*ANN, "y"]).encode())
+        os.close(terminal)
+        printed = b""
+        with open(main, "rb", 0) as shown:
+            try:
+                while part := shown.read(65536):
+                    printed += part
+            except OSError:  # all was read
+                pass
+        printed = printed.decode().replace("\r", "")
+        self.assertIn("[1 reply, the leading state has 21 of\n  100] Compare two fractions, of\n"
+                      "  whatever kind they are (compare):\n  right or wrong?\n", printed)
+        self.assertIn(f"  Can learn next: {HEBREW} (decimal),\n    add.\n", printed)
+        self.assertLessEqual(max(map(len, printed.split("\n"))), 40)
+
+    def test_labels_that_are_none(self):
+        for text, told in [("item,label\n", "the first record has to name the columns"),
+                           ("name,label\na,b\na,c\n", "line 3: a has a label before")]:
+            (self.folder / "labels.csv").write_text(text)
+            self.assertRegex(self.assess([], "Ann", "--labels", "labels.csv", status=2),
+                             rf"^assess: labels.csv[^\n]*{told}[^\n]*\n$")
+            self.assertFalse(self.kept.exists())
 
     def test_names_and_files(self):
         for name in ("Ann Lee", "../Ann", "<b>", "a\nb", "it's", "\"", "", "x" * 41, "\u05d0"):

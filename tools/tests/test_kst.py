@@ -1,5 +1,6 @@
 """Whether tables of zeros and ones are read and written as R has them, and come back the same."""
 import os
+import shutil
 import subprocess
 import sys
 import tempfile
@@ -152,6 +153,42 @@ class ToTheProgram(Kst):
     def test_a_class_table_is_read_as_it_is(self):
         text = (TOP / "samples/class.csv").read_text()
         self.assertEqual(self.kst("class", "-", "--named", text=text)[0], text)
+        self.assertEqual(self.kst("class", "-", text=text), (text, ""))
+
+    def test_the_names_of_a_class_table_are_no_item(self):
+        text = (TOP / "samples/class.csv").read_text()
+        self.assertEqual(self.kst("items", "-", text=text)[0], "items expand decimal compare add\n")
+        self.assertEqual(self.kst("sets", "-", text=text)[0].splitlines()[1:], [
+            "{expand compare}", "{decimal compare}", "{decimal}", "{expand decimal compare add}",
+            "{add}"])
+        told = self.kst("items", "-", text="id,a,b\n1001,1,0\n1002,0,0\n")
+        self.assertEqual(told, ("items a b\n",
+                                "kst: the column id is taken for the names of the rows\n"))
+
+    def test_patterns(self):
+        """Each once with its count, as states are listed; the counts are those of the rows."""
+        text = "pupil,b,a\nA,0,1\nB,1,1\nC,0,1\nD,0,0\nE,0,1\n"
+        self.assertEqual(self.kst("patterns", "-", text=text),
+                         ("b,a,count\n1,1,1\n0,1,3\n0,0,1\n", ""))
+
+    @unittest.skipUnless(shutil.which("Rscript"), "Rscript isn't found")
+    def test_the_sample_of_r(self):
+        """With `blim` of another kind, which shows what pks would get; its columns are of K."""
+        table = "pupil,add,expand,decimal,compare\nA,0,1,0,1\nB,0,1,0,1\nC,0,0,1,0\nD,1,1,1,1\n"
+        made = {"states.csv": self.kst("states", str(TOP / "samples/fractions.txt"))[0],
+                "patterns.csv": self.kst("patterns", "-", text=table)[0],
+                "stub.R": "library <- function(...) NULL\n"
+                          'commandArgs <- function(...) c("states.csv", "patterns.csv")\n'
+                          "blim <- function(K, N.R, method) {\n"
+                          '  cat(dim(K), colnames(K), names(N.R), N.R, method, "\\n")\n'
+                          "  list(P.K = 1)\n}\n"
+                          f"source('{TOP / 'samples/blim.R'}')\n"}
+        for name, text in made.items():
+            (self.folder / name).write_text(text)
+        done = subprocess.run(["Rscript", "--vanilla", "stub.R"], cwd=self.folder,
+                              stdout=subprocess.PIPE, stderr=subprocess.PIPE)
+        self.assertEqual(done.stdout.decode().splitlines()[:1], [
+            "9 4 expand decimal compare add 0100 1010 1111 1 2 1 ML "], done.stderr)
 
     def test_pupils_without_names(self):
         self.assertEqual(self.kst("class", "-", text="a,b\n1,0\n0,0\n")[0],
@@ -171,6 +208,7 @@ class ToTheProgram(Kst):
         table, told = self.kst("class", "-", "--named", text=text)
         self.assertEqual(table, "pupil,a\n" + "x" * 40 + ",1\n")
         self.assertIn(f"'{'x' * 60}..' is now {'x' * 40}\n", told)
+        text = "id,a\n0,1\n" + "x" * 200000 + ",1\n"
         _, told = self.kst("class", "-", text=text, status=2)
         self.assertIn("xxx.. is neither 0 nor 1", told)
         self.assertLess(len(told), 300)
@@ -197,6 +235,8 @@ class FormsOfR(unittest.TestCase):
         self.reads('"","a","b"\n"1",1,0\n"2",0,0\n', row_names=["1", "2"])
         self.reads('"","a","b"\r\n"1",TRUE,FALSE\r\n"2",FALSE,FALSE\r\n', row_names=["1", "2"])
         self.reads('"a","b"\n1,0\n0,0\n')  # row.names = FALSE
+        self.reads(',a,b\nx,1,0\ny,0,0\n', row_names=["x", "y"])  # quote = FALSE
+        self.reads('"","pupil","a","b"\n"1","x",1,0\n"2","y",0,0\n', row_names=["x", "y"])
         self.reads('\ufeff"","a","b"\n"x",1,0\n"y",0,0\n', row_names=["x", "y"])
 
     def test_write_csv2(self):
@@ -233,7 +273,7 @@ class FormsOfR(unittest.TestCase):
         self.refuses("", "the table is empty")
         self.refuses("a,b\n1,0\n0\n1,1\n", "line 3 has 1 fields in place of 2")
         self.refuses("a,b\n1,2\n", "line 2, column b: 2 is neither 0 nor 1, nor TRUE or FALSE")
-        self.refuses("id,a\nx,1\n", "line 2, column id: x is neither 0 nor 1, nor TRUE or FALSE; "
+        self.refuses("id,a\n1,1\nx,1\n", "line 3, column id: x is neither 0 nor 1, nor TRUE or FALSE; "
                                     "--named says that this column has names of rows")
         self.refuses("1,0\n", "1 items are named, and the table has 2 columns", items=["a"])
 

@@ -124,6 +124,39 @@ class Lines(Shells):
         self.assertIn("load-items", it.following(""))
         self.assertIn("safe", it.following("help "))
 
+    def test_labels(self):
+        """Sentences stand behind replies that name items, and only where there are labels."""
+        hebrew = "\u05d7\u05d9\u05d1\u05d5\u05e8"
+        (self.folder / "labels.csv").write_text(
+            f"name,label,task\nadd,{hebrew},\nsub,Subtract,\nmul,,2 x 3\ngone,Nothing,\n",
+            encoding="utf-8")
+        lines = ["items add sub mul", "ask", "yes add : sub", "known add mul : sub",
+                 "no sub : mul", "known sub : mul", "known mul : add", "blocks 2", "pupil Ann",
+                 "question Ann", "report Ann", "limits 1 99", "pupil Bea", "reply Bea mul right",
+                 "question Bea", "known add : add"]
+        told = self.shell(lines, "--labels", "labels.csv", status=1)
+        self.assertIn("shell: note: there is a label for gone, and no such item\n", told)
+        self.assertEqual(re.findall(r"^(.*)\n  (\S.*)$", told, re.M)[:6], [
+            ("ask add : sub", f"Would a pupil who fails {hebrew} (add) also fail Subtract (sub)?"),
+            ("known yes", f"By the answers, a pupil who fails all of {hebrew} (add), mul also fails"
+                          " Subtract (sub)."),
+            ("known no 2", "By the answers, some pupil fails Subtract (sub) and masters mul."),
+            ("known open", "The answers leave open whether a pupil who fails mul also fails"
+                           f" {hebrew} (add)."),
+            ("question mul", "Give Ann a task of mul, such as: 2 x 3"),
+            ("fringes sub mul |", f"The heaviest state of Ann: {hebrew} (add), Subtract (sub), mul."
+                                  " Learned last: Subtract (sub), mul. Can learn next: nothing.")])
+        self.assertIn("\nover budget\nno 18\n", told)
+        plain = self.shell(lines, status=1)
+        self.assertEqual(plain.count("\n  "), 1)  # of the refusal
+
+    def test_labels_of_a_script(self):
+        (self.folder / "labels.csv").write_text("name,label\na,First\nb,Second\nc,Third\n")
+        (self.folder / "s").write_text("items a b\n")
+        told = self.shell(["ask"], "s", "--labels", "labels.csv")
+        self.assertIn("who fails First (a) also fail Second (b)?", told)
+        self.assertEqual(told.count("a label for c, and no such item"), 1)
+
 
 class Ends(Shells):
     def test_hostile_lines(self):
@@ -267,6 +300,19 @@ class Terminals(Shells):
         os.write(self.terminal, b"\x04")
         self.assertEqual(self.status(), 0)
         self.assertFalse((self.folder / "state").exists())
+
+    def test_long_labels_wrap(self):
+        (self.folder / "labels.csv").write_text(
+            f"name,label\na,{'many words ' * 8}\nb,{'x' * 70}\n")
+        self.places["COLUMNS"] = "60"
+        self.begin("--labels", "labels.csv")
+        self.type(b"items a b\r", b"ok 2")
+        shown = self.type(b"ask\r", b"ask a : b").decode().replace("\r", "")
+        self.assertIn("\n  Would a pupil who fails many words many words many words\n"
+                      "    many words many words many words many words many words\n"
+                      f"    (a) also fail\n    {'x' * 70}\n    (b)?\n", shown)
+        os.write(self.terminal, b"quit\r")
+        self.assertEqual(self.status(), 0)
 
     def test_a_history_that_cannot_be_kept(self):
         (self.folder / "state").write_text("no folder")
