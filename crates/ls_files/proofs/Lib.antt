@@ -4,3 +4,5 @@ mod ExamplesPairs
 mod ExamplesSkills
 pub mod Texts
 pub mod CodecLaws
+pub mod PutMembers
+pub mod RowTables

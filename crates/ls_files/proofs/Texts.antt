@@ -6,7 +6,10 @@ use Rattle.json.proofs.Printed.Utf8.{IsUtf8-are_ascii, IsUtf8-boolean, IsUtf8-qu
 use Rattle.serde_json.specs.Data.{Data, Items as Values, Members, Num, array, boolean, depth, float, item, items_depth, member, members_depth, negative, no_items, no_members, null, number, object, put, string, unsigned}
 use Rattle.serde_json.specs.Read.{max_depth, of_items, of_json, of_members, read}
 use Rattle.serde_json.specs.Written.{comma_if, compact_text, items_outline, items_text, members_outline, members_text, outline}
-use Rattle.ls_files.specs.Codecs.{read_object}
+use Rattle.std.specs.Option.{is_some}
+use Rattle.serde_json.specs.Find.{as_object}
+use Rattle.ls_files.specs.SurmiseFiles.{value_of}
+use Rattle.ls_files.specs.Codecs.{kept_if, read_object}
 use Rattle.std.proofs.lemmas.Fmt.{IsAscii-decimal}
 use Rattle.json.specs.Json as json
 use Rattle.json.specs.Tree as tree
@@ -134,14 +137,16 @@ mutual
   of_members-outline (member k d ms) found h =
       ap (option_and_then (λ e. of_members (members_outline ms) (put k e found))) (of_json-outline d h.1) ∙ of_members-outline ms (put k d found) h.2
 
-pub read-compact_text : (d : Data) → IsPlain d → depth d ≤ max_depth → read (compact_text d) ≡ Some d
+read-compact_text : (d : Data) → IsPlain d → depth d ≤ max_depth → read (compact_text d) ≡ Some d
 read-compact_text d plain shallow =
     let ts = tree.json_tokens (outline d) in
     let same : tokens (compact_text d) ≡ ts = ap tokens (sym (print-outline d)) ∙ tokens-print ts (ArePrintable-json_tokens (outline d) (HasNumbers-outline d plain)) in
     ap (λ o. option_and_then of_json (option_and_then (λ p. json.if_last p.0 p.1) o))
     (ap (json.value max_depth) (same ∙ sym (append-nil ts)) ∙ value-json_tokens (outline d) max_depth [] (omega (arith, depth-outline d))) ∙ of_json-outline d plain
 
+pub value_of-compact_text : (d : Data) → IsPlain d → depth d ≤ max_depth → value_of (compact_text d) ≡ Some d
+value_of-compact_text d plain shallow = rw (is_utf8-from_IsUtf8 (compact_text d) (IsUtf8-compact_text d plain)) (read-compact_text d plain shallow)
+
 -- the object of the text of an object
 pub read_object-compact_text : (ms : Members) → IsPlain (object ms) → depth (object ms) ≤ max_depth → read_object (compact_text (object ms)) ≡ Some (object ms)
-read_object-compact_text ms plain shallow =
-    rw (is_utf8-from_IsUtf8 (compact_text (object ms)) (IsUtf8-compact_text (object ms) plain), read-compact_text (object ms) plain shallow) refl
+read_object-compact_text ms plain shallow = ap (kept_if (λ d. is_some (as_object d))) (value_of-compact_text (object ms) plain shallow)

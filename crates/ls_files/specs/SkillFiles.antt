@@ -9,15 +9,15 @@ use Rattle.std.specs.Prelude.{◌∷◌, map, filter, length, position, slice_in
 use Rattle.std.specs.Prelude.{Result, Ok, Err, ⊤, ◌≡◌}
 use Rattle.std.specs.List.{list_any, list_all, flat_map}
 use Rattle.std.specs.Option.{option_map_or, option_and_then}
-use Rattle.std.specs.Map.{lookup}
-use Rattle.serde_json.specs.Data.{Data, string, object, Members, no_members, put}
+use Rattle.serde_json.specs.Data.{Data, string, object, Members}
 use Rattle.serde_json.specs.Find.{as_str, as_object}
 use Rattle.serde_json.specs.Written.{compact_text}
 use Rattle.ls_set.specs.ItemSet.{Items, has, set_of, numbers_from}
 use Rattle.ls_theory.specs.Words.{is_lex_before}
 use Rattle.ls_cutting.specs.Lines.{Text}
 use Rattle.ls_domain.specs.Meanings.{is_named}
-use Rattle.ls_files.specs.SurmiseFiles.{read_list, read_members, value_of, list_value}
+use Rattle.ls_files.specs.SurmiseFiles.{read_list, read_members, row_under, value_of, list_value}
+use Rattle.ls_files.specs.SurmiseFiles.{put_each}
 use Rattle.ls_origins.specs.Skills.{most_skills}
 use Rattle.ls_origins.specs.declared.skill_fault.SkillFault.{SkillFault}
 use Rattle.ls_origins.specs.declared.skill_fault.SkillFault.TheVariants.{BadJson, UnknownItem}
@@ -49,10 +49,6 @@ table_of bytes = option_and_then read_table (value_of bytes)
 -- each key is an item's name
 unfoldable pub has_named_keys : List Text → Table → Bool
 has_named_keys names table = list_all (λ row. is_named names row.0) table
-
--- what stands under a key
-abbrev pub row_under : Table → Text → List Text
-row_under table w = option_map_or (λ row. row) (lookup (bytes_eq w) table) []
 
 -- of each item in turn, the names of its skills
 unfoldable pub rows_in : List Text → Table → List (List Text)
@@ -126,10 +122,9 @@ own_skills skills q = map (λ s. s.name) (filter (λ s. has s.items q) skills)
 unfoldable pub rows_of : ℕ → List Skill → List (List Text)
 rows_of n skills = map (own_skills skills) (numbers_from 0 n)
 
--- the rows under their items' names; keys stand in the order of their bytes
+-- the rows under their items' names
 unfoldable pub members_from : List Text → List (List Text) → Members
-members_from (w ∷ ws) (row ∷ rows) = put w (list_value string row) (members_from ws rows)
-members_from ws rows = no_members
+members_from ws rows = put_each (list_value string) ws rows
 
 -- an object: under each item's name, the names of its skills
 abbrev pub skills_value : List Text → List Skill → Data

@@ -72,7 +72,7 @@ unfoldable pub is_table_named : List Text → Table → Bool
 is_table_named names table = list_all (λ row. is_named names row.0 && are_named names row.1) table
 
 -- what stands under a key
-abbrev pub row_under : Table → Text → List (List Text)
+abbrev pub row_under : {X : Type 0} → List (Text × List X) → Text → List X
 row_under table w = option_map_or (λ row. row) (lookup (bytes_eq w) table) []
 
 -- the clauses of each item in turn, as they stand in the table
@@ -127,11 +127,14 @@ list_value value xs = array (values_of (map value xs))
 abbrev pub clause_value : List Text → Items → Data
 clause_value names c = list_value string (names_of_set names c)
 
--- the clauses under their items' names; keys stand in the order of their bytes
+-- what each element is written as, under its key; keys stand in the order of their bytes
+abbrev pub put_each : {X : Type 0} → (X → Data) → List Text → List X → Members
+put_each value (w ∷ ws) (x ∷ xs) = put w (value x) (put_each value ws xs)
+put_each value ws xs = no_members
+
+-- the clauses under their items' names
 unfoldable pub members_from : List Text → List Text → List (List Items) → Members
-members_from names (w ∷ ws) (own ∷ clauses) =
-    put w (list_value (clause_value names) own) (members_from names ws clauses)
-members_from names ws clauses = no_members
+members_from names ws clauses = put_each (list_value (clause_value names)) ws clauses
 
 -- an object: under each item's name, its clauses
 abbrev pub surmise_value : List Text → List (List Items) → Data
