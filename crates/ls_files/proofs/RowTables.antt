@@ -21,7 +21,7 @@ use Rattle.ls_files.specs.SurmiseFiles.{put_each, read_members, value_of}
 use Rattle.ls_files.specs.Codecs.{Codec}
 use Rattle.ls_files.proofs.CodecLaws.{IsReadBack}
 
-some_same : {X : Type 0} (x y : X) → Some x ≡ Some y → x ≡ y
+pub some_same : {X : Type 0} (x y : X) → Some x ≡ Some y → x ≡ y
 some_same x y e = ap (λ o. unwrap_or o x) e
 
 -- ---- what is read of members

@@ -10,8 +10,5 @@ mod Made
 mod Tables
 mod OfBases
 mod Numbers
-mod PutMembers
-mod PlainValues
 mod Printed
-mod RowTables
 mod ReadBack

@@ -1,24 +1,23 @@
 -- The value of a skill map, put together from the last item on.
-use Rattle.std.proofs.Common.{ℕ, zero, suc, ◌+◌, ◌<◌, ◌≡◌, Bool, true, false, cond, List, [], ◌∷◌}
-use Rattle.std.proofs.Common.{◌++◌}
+use Rattle.std.proofs.Common.{ℕ, ◌+◌, ◌<◌, ◌≡◌, Bool, true, false, cond, List, [], ◌∷◌, ◌++◌}
 use Rattle.std.proofs.Common.{Global, String, string_bytes, map, filter, length, take, drop, get_or}
 use Rattle.std.proofs.Common.{refl, rules, sym, ap, ap₂, ◌∙◌, arith, append-nil}
-use Rattle.std.specs.Prelude.{⊤}
-use Rattle.std.proofs.lemmas.List.{drop_all, drop_more, map-append, map_push, take_more}
+use Rattle.std.proofs.lemmas.List.{map-append, map_push, take_more}
 use Rattle.std.proofs.lemmas.List.Elements.{filter-append}
 use Rattle.serde_json.specs.declared.value.Value.{Value, the_lemmas}
 use Rattle.serde_json.specs.declared.value.Value.TheVariants as variant
-use Rattle.serde_json.specs.Data.{Data, string, Members, no_members, member, put}
-use Rattle.serde_json.specs.View.{view, items_of as values_of}
-use Rattle.serde_json.specs.Written.{has_float, items_have_float, members_have_float}
-use Rattle.ls_lists.proofs.Every.{All-given}
-use Rattle.ls_set.specs.ItemSet.{Items, has, numbers_from}
+use Rattle.serde_json.specs.Data.{Data, string, Members, no_members, put}
+use Rattle.serde_json.specs.View.{view}
+use Rattle.serde_json.specs.Written.{has_float}
+use Rattle.ls_set.specs.ItemSet.{Items, has}
 use Rattle.ls_cutting.specs.Lines.{Text}
 use Rattle.ls_domain.specs.Texts.{name_of}
 use Rattle.ls_files.specs.SurmiseFiles.{list_value}
 use Rattle.ls_files.specs.SkillFiles.{Skill, own_skills, rows_of, members_from, skills_value}
+use Rattle.ls_files.proofs.CodecLaws.{lists-back, texts-back}
+use Rattle.ls_files.proofs.PutMembers.{each-end, each-next, object-exact}
 use Rattle.ls_skill.specs.Maps.{skills_seen}
-use Rattle.ls_skill.proofs.PutMembers.{EachMember, each-members}
+use Rattle.ls_skill.proofs.Tables.{rows-at, rows-length}
 
 pub view-String : (s : String Global) → view (variant.String s) ≡ string (string_bytes s)
 view-String s = search (rules, the_lemmas)
@@ -77,22 +76,10 @@ row-without es i q e l is h =
 
 -- ---- the members
 
-rows-drop : (h : ℕ → List Text) (i m q : ℕ) → q < m
-    → drop q (map h (numbers_from i m)) ≡ h (i + q) ∷ drop (q + 1) (map h (numbers_from i m))
-rows-drop h i zero q l = absurd (omega arith)
-rows-drop h i (suc m) zero l =
-    ap (λ k. h k ∷ map h (numbers_from (suc i) m)) (let e : i ≡ i + 0 = omega arith in e)
-rows-drop h i (suc m) (suc q) l =
-    rows-drop h (suc i) m q (omega arith)
-    ∙ ap₂ (λ k j. h k ∷ drop j (map h (numbers_from i (suc m))))
-    (let e : suc i + q ≡ i + suc q = omega arith in e)
-    (let e : suc (q + 1) ≡ suc q + 1 = omega arith in e)
-
 pub members-end : (names : List Text) (rows : List (List Text)) (q : ℕ) → q ≡ length names
     → no_members ≡ members_from (drop q names) (drop q rows)
 unfolding members_from
-members-end names rows q e =
-    ap (λ ws. members_from ws (drop q rows)) (sym (drop_all q names (omega (arith, e))))
+members-end names rows q e = each-end (list_value string) names rows q e
 
 -- one more item
 pub members-next : (names : List Text) (skills : List Skill) (q p : ℕ) (key : Text) (value : Data)
@@ -103,30 +90,17 @@ pub members-next : (names : List Text) (skills : List Skill) (q p : ℕ) (key : 
     → after ≡ members_from (drop q names) (drop q (rows_of (length names) skills))
 unfolding members_from rows_of
 members-next names skills q p key value before after e l is_key is_value so_far is =
-    let rows = rows_of (length names) skills in
-    is ∙ ap (λ k. put k value before) is_key
-    ∙ ap₂ (put (name_of names q)) is_value
-    (so_far ∙ ap (λ i. members_from (drop i names) (drop i rows)) e)
-    ∙ sym (ap₂ members_from (drop_more names q [] l)
-    (rows-drop (own_skills skills) 0 (length names) q l
-    ∙ ap (λ k. own_skills skills k ∷ drop (q + 1) rows) (let z : 0 + q ≡ q = omega arith in z)))
+    let n = length names in
+    let own = own_skills skills in
+    let here = rows-at own 0 n q l ∙ ap own (let z : 0 + q ≡ q = omega arith in z) in
+    each-next (list_value string) names (rows_of n skills) q p key [] value before after e l
+    (omega (arith, l, rows-length own 0 n)) is_key (is_value ∙ ap (list_value string) (sym here))
+    so_far is
 
 -- ---- no float
 
-texts-no_float : (ws : List Text) → items_have_float (values_of (map string ws)) ≡ false
-texts-no_float [] = refl
-texts-no_float (w ∷ ws) = texts-no_float ws
-
-members-no_float : (ms : Members) → EachMember (λ k. ⊤) (λ d. has_float d ≡ false) ms
-    → members_have_float ms ≡ false
-members-no_float no_members h = refl
-members-no_float (member k d ms) h = rw h.1 (members-no_float ms h.2)
-
 pub skills-no_float : (names : List Text) (skills : List Skill)
     → has_float (skills_value names skills) ≡ false
+unfolding members_from
 skills-no_float names skills =
-    let rows = rows_of (length names) skills in
-    members-no_float (members_from names rows)
-    (each-members (λ k. ⊤) (λ d. has_float d ≡ false) names rows
-    (All-given (λ k. ⊤) (λ k. tt) names)
-    (All-given (λ row. has_float (list_value string row) ≡ false) texts-no_float rows))
+    object-exact (lists-back texts-back) names (rows_of (length names) skills)

@@ -1,5 +1,5 @@
 -- What is printed of a skill map is read as the same map.
-use Rattle.std.proofs.Common.{ℕ, suc, ◌+◌, ◌<◌, ◌≤◌, ◌≡◌, ◌==◌, inl, inr, Bool, true, false}
+use Rattle.std.proofs.Common.{ℕ, suc, ◌+◌, ◌<◌, ◌≤◌, ◌≡◌, ◌==◌, inl, inr, Bool, true, false, option_and_then}
 use Rattle.std.proofs.Common.{List, [], ◌∷◌, map, filter, length, get_or, Some, None, Ok, IsUtf8}
 use Rattle.std.proofs.Common.{cond, eqb-true, ltb-true, refl, sym, ap, ap₂, ◌∙◌, subst, arith}
 use Rattle.std.proofs.Common.{true≢false}
@@ -8,11 +8,7 @@ use Rattle.std.specs.Str.{bytes_eq}
 use Rattle.std.specs.Option.{option_map_or}
 use Rattle.std.specs.List.{AllByRecursion, IsDistinct, list_all, list_any, flat_map}
 use Rattle.std.proofs.lemmas.Bool.{and_from, and_parts, false_from_ne_true, or_right}
-use Rattle.std.proofs.lemmas.Cmp.{nat_list_eq_equiv}
-use Rattle.std.proofs.lemmas.Slice.Eq.{bytes_eq-Decides}
-use Rattle.serde_json.specs.Data.{string, Members, no_members, member, depth, items_depth}
-use Rattle.serde_json.specs.Data.{members_depth}
-use Rattle.serde_json.specs.View.{items_of as values_of}
+use Rattle.std.proofs.lemmas.List.{map-id}
 use Rattle.ls_lists.specs.Lists.{IsIn, IsSorted}
 use Rattle.ls_lists.proofs.Bools.{same_truth}
 use Rattle.ls_lists.proofs.Elements.{in-map, map-in, in-filter, filter-in, in-flat_map, flat_map-in}
@@ -32,27 +28,21 @@ use Rattle.ls_cutting.specs.Lines.{Text}
 use Rattle.ls_domain.specs.Domains.{IsDomain, is_name}
 use Rattle.ls_domain.specs.Meanings.{is_named}
 use Rattle.ls_domain.proofs.Numbers.{is_name-utf8}
-use Rattle.ls_files.specs.SurmiseFiles.{value_of, list_value}
-use Rattle.ls_files.specs.SkillFiles.{Table, Skill, item_sets, has_named_keys, row_under, rows_in}
+use Rattle.ls_files.specs.SkillFiles.{Skill, item_sets, has_named_keys, read_table, rows_in}
 use Rattle.ls_files.specs.SkillFiles.{table_of, first_bare, in_text_order, items_with, skills_in}
 use Rattle.ls_files.specs.SkillFiles.{skills_from, skills_of, own_skills, rows_of, members_from}
-use Rattle.ls_files.specs.SkillFiles.{skills_value, skills_text}
+use Rattle.ls_files.specs.SkillFiles.{skills_text}
+use Rattle.ls_files.proofs.CodecLaws.{lists-back, texts-back}
+use Rattle.ls_files.proofs.PutMembers.{object-back}
+use Rattle.ls_files.proofs.RowTables.{all-named, rows-back, rows-pass, rows-read, table_of_rows}
 use Rattle.ls_skill.specs.Maps.{IsMap, skill_names}
-use Rattle.ls_skill.proofs.PutMembers.{EachMember, each-members, sorted-members, put_all-sorted}
-use Rattle.ls_skill.proofs.PlainValues.{IsPlain, ArePlain, MembersArePlain, value_of-compact_text}
-use Rattle.ls_skill.proofs.RowTables.{insert_row, table_from, lookup-here, lookup-other, each-row}
-use Rattle.ls_skill.proofs.RowTables.{read-table}
 use Rattle.ls_skill.proofs.TextOrder.{lex-same, same_texts, sorted-in_text_order, in-order-from}
 use Rattle.ls_skill.proofs.TextOrder.{in-order-to, any-in, in-any}
 use Rattle.ls_skill.proofs.Gathered.{skilled}
 use Rattle.ls_skill.proofs.Made.{get-in_list, place-in, items-has, has-items}
 use Rattle.ls_skill.proofs.Tables.{rows-at, rows-length, of_few}
 
--- ---- the value is read from its text
-
-texts-plain : (ws : List Text) → AllByRecursion IsUtf8 ws → ArePlain (values_of (map string ws))
-texts-plain [] h = tt
-texts-plain (w ∷ ws) h = (h.0, texts-plain ws h.1)
+-- ---- the texts of the rows
 
 own-utf8 : (skills : List Skill) (q : ℕ) → AllByRecursion IsUtf8 (skill_names skills)
     → AllByRecursion IsUtf8 (own_skills skills q)
@@ -65,86 +55,10 @@ own-utf8 (s ∷ skills) q h = at (has s.items q) (own-utf8 skills q h.1)
     at true later = (h.0, later)
     at false later = later
 
-rows-plain : (skills : List Skill) (ns : List ℕ) → AllByRecursion IsUtf8 (skill_names skills)
-    → AllByRecursion (λ row. IsPlain (list_value string row)) (map (own_skills skills) ns)
-rows-plain skills [] h = tt
-rows-plain skills (n ∷ ns) h =
-    (texts-plain (own_skills skills n) (own-utf8 skills n h), rows-plain skills ns h)
-
-members-plain : (ms : Members) → EachMember IsUtf8 IsPlain ms → MembersArePlain ms
-members-plain no_members h = tt
-members-plain (member k d ms) h = (h.0, h.1, members-plain ms h.2)
-
-texts-depth : (ws : List Text) → items_depth (values_of (map string ws)) ≤ 0
-texts-depth [] = omega arith
-texts-depth (w ∷ ws) = let d = texts-depth ws in omega arith
-
-members-depth : (ms : Members) → EachMember (λ k. ⊤) (λ d. depth d ≤ 1) ms → members_depth ms ≤ 1
-members-depth no_members h = omega arith
-members-depth (member k d ms) h =
-    let first = h.1 in let rest = members-depth ms h.2 in omega arith
-
-text-value : (names : List Text) (skills : List Skill) → list_all is_name names ≡ true
-    → AllByRecursion IsUtf8 (skill_names skills)
-    → value_of (skills_text names skills) ≡ Some (skills_value names skills)
-unfolding skills_text rows_of
-text-value names skills named texts =
-    let rows = rows_of (length names) skills in
-    let deep =
-    members-depth (members_from names rows)
-    (each-members (λ k. ⊤) (λ d. depth d ≤ 1) names rows (All-given (λ k. ⊤) (λ k. tt) names)
-    (All-given (λ row. depth (list_value string row) ≤ 1)
-    (λ row. let d = texts-depth row in omega arith) rows)) in
-    value_of-compact_text (skills_value names skills) (
-      members-plain (members_from names rows)
-          (each-members IsUtf8 IsPlain names rows
-          (each is_name-utf8 names (list_all-All is_name names named))
-          (rows-plain skills (numbers_from 0 (length names)) texts)),
-      put_all-sorted (members_from names rows) (sorted-members names rows),
-    )
-    (omega arith)
-
--- ---- the rows are those of the table
-
-keys-named : (names ws : List Text) (rows : List (List Text)) → list_all (is_named names) ws ≡ true
-    → has_named_keys names (table_from ws rows) ≡ true
-unfolding has_named_keys
-keys-named names [] rows h = refl
-keys-named names (w ∷ ws) [] h = refl
-keys-named names (w ∷ ws) (row ∷ rows) h =
-    let p = and_parts (is_named names w) (list_all (is_named names) ws) h in
-    each-row (λ r. is_named names r.0) w row (table_from ws rows) p.0 (keys-named names ws rows p.1)
-
-rows-same : (table : Table) (w : Text) (row : List Text) (ws : List Text)
-    → AllByRecursion (λ v. bytes_eq w v ≡ false) ws
-    → map (row_under (insert_row table w row)) ws ≡ map (row_under table) ws
-rows-same table w row [] apart = refl
-rows-same table w row (v ∷ ws) apart =
-    ap₂ (λ x xs. x ∷ xs)
-    (ap (λ o. option_map_or (λ r. r) o [])
-    (lookup-other v w row table (nat_list_eq_equiv.symm v w ∙ apart.0)))
-    (rows-same table w row ws apart.1)
-
-rows-back : (ws : List Text) (rows : List (List Text)) → length ws ≡ length rows
-    → IsDistinct bytes_eq ws → map (row_under (table_from ws rows)) ws ≡ rows
-unfolding IsDistinct
-rows-back [] [] e apart = refl
-rows-back [] (row ∷ rows) e apart = absurd (omega (arith, e))
-rows-back (w ∷ ws) [] e apart = absurd (omega (arith, e))
-rows-back (w ∷ ws) (row ∷ rows) e apart =
-    ap₂ (λ x xs. x ∷ xs)
-    (ap (λ o. option_map_or (λ r. r) o []) (lookup-here w row (table_from ws rows)))
-    (rows-same (table_from ws rows) w row ws apart.0 ∙ rows-back ws rows (omega (arith, e)) apart.1)
-
--- each name is one of the names
-all-named : (names : List Text) → list_all (is_named names) names ≡ true
-all-named [] = refl
-all-named (w ∷ names) =
-    and_from (is_named (w ∷ names) w) (list_all (is_named (w ∷ names)) names)
-    (rw ((bytes_eq-Decides w w).1 refl) refl)
-    (All-list_all (is_named (w ∷ names)) names
-    (each (λ v h. or_right (bytes_eq v w) (is_named names v) h) names
-    (list_all-All (is_named names) names (all-named names))))
+rows-utf8 : (skills : List Skill) (ns : List ℕ) → AllByRecursion IsUtf8 (skill_names skills)
+    → AllByRecursion (AllByRecursion IsUtf8) (map (own_skills skills) ns)
+rows-utf8 skills [] h = tt
+rows-utf8 skills (n ∷ ns) h = (own-utf8 skills n h, rows-utf8 skills ns h)
 
 -- ---- the skills of the rows
 
@@ -303,19 +217,32 @@ module _ (n : ℕ) (skills : List Skill) (is : IsMap n skills) where
 
 table-back : (names : List Text) (skills : List Skill) → IsDomain names
     → AllByRecursion IsUtf8 (skill_names skills)
-    → table_of (skills_text names skills) ≡ Some (table_from names (rows_of (length names) skills))
-unfolding table_of
+    → table_of (skills_text names skills)
+    ≡ Some (table_of_rows names (rows_of (length names) skills))
+unfolding table_of skills_text members_from rows_of
 table-back names skills domain texts =
-    rw (text-value names skills domain.are_names.named texts)
-    (read-table names (rows_of (length names) skills))
+    let rows = rows_of (length names) skills in
+    let fine = rows-utf8 skills (numbers_from 0 (length names)) texts in
+    let keys = each is_name-utf8 names (list_all-All is_name names domain.are_names.named) in
+    ap (option_and_then read_table)
+    (object-back (lists-back texts-back) names rows keys fine (omega arith))
+    ∙ rows-read (lists-back texts-back) names rows fine
+
+keys-named : (names : List Text) (rows : List (List Text))
+    → has_named_keys names (table_of_rows names rows) ≡ true
+unfolding has_named_keys
+keys-named names rows =
+    rows-pass (λ row. is_named names row.0) (λ w. is_named names w ≡ true) (λ row. ⊤) (λ w row a b. a)
+    names rows (all-named names) (All-given (λ row. ⊤) (λ row. tt) rows)
 
 pub map-back : (names : List Text) (skills : List Skill) → IsDomain names
     → IsMap (length names) skills → skills_of names (skills_text names skills) ≡ Ok skills
 unfolding skills_of rows_in rows_of
 map-back names skills domain is =
     let rows = rows_of (length names) skills in
-    rw (table-back names skills domain is.texts, keys-named names names rows (all-named names))
+    rw (table-back names skills domain is.texts, keys-named names rows)
     (ap skills_from
-    (rows-back names rows (sym (rows-length (own_skills skills) 0 (length names)))
-    domain.are_names.distinct)
+    (rows-back (λ o. option_map_or (λ row. row) o []) names rows
+    (sym (rows-length (own_skills skills) 0 (length names))) domain.are_names.distinct
+    ∙ map-id rows)
     ∙ skills-back (length names) skills is)
