@@ -1,19 +1,18 @@
 -- What is printed of a skill map is read as the same map.
-use Rattle.std.proofs.Common.{ℕ, suc, ◌+◌, ◌<◌, ◌≤◌, ◌≡◌, ◌==◌, inl, inr, Bool, true, false, option_and_then}
+use Rattle.std.proofs.Common.{ℕ, suc, ◌+◌, ◌<◌, ◌≡◌, ◌==◌, inl, inr, Bool, true, false, option_and_then}
 use Rattle.std.proofs.Common.{List, [], ◌∷◌, map, filter, length, get_or, Some, None, Ok, IsUtf8}
 use Rattle.std.proofs.Common.{cond, eqb-true, ltb-true, refl, sym, ap, ap₂, ◌∙◌, subst, arith}
 use Rattle.std.proofs.Common.{true≢false}
 use Rattle.std.specs.Prelude.{⊤}
-use Rattle.std.specs.Str.{bytes_eq}
 use Rattle.std.specs.Option.{option_map_or}
-use Rattle.std.specs.List.{AllByRecursion, IsDistinct, list_all, list_any, flat_map}
-use Rattle.std.proofs.lemmas.Bool.{and_from, and_parts, false_from_ne_true, or_right}
+use Rattle.std.specs.List.{AllByRecursion, list_any, flat_map}
+use Rattle.std.proofs.lemmas.Bool.{false_from_ne_true}
 use Rattle.std.proofs.lemmas.List.{map-id}
 use Rattle.ls_lists.specs.Lists.{IsIn, IsSorted}
 use Rattle.ls_lists.proofs.Bools.{same_truth}
 use Rattle.ls_lists.proofs.Elements.{in-map, map-in, in-filter, filter-in, in-flat_map, flat_map-in}
 use Rattle.ls_lists.proofs.Elements.{some-in}
-use Rattle.ls_lists.proofs.Every.{All-given, All-list_all, each, list_all-All}
+use Rattle.ls_lists.proofs.Every.{All-given, each, list_all-All}
 use Rattle.ls_lists.proofs.Options.{nothing}
 use Rattle.ls_lists.proofs.Places.{is_some-position}
 use Rattle.ls_set.specs.ItemSet.{Items, has, empty, is_among, numbers_from}

@@ -1,10 +1,7 @@
 mod Vocabulary
 mod OfBases
-mod PutMembers
 mod Printed
-mod PlainValues
 mod SurmiseValues
-mod RowTables
 mod ReadBack
 mod Firsts
 mod Walks

@@ -1,10 +1,12 @@
 -- What is printed of a surmise function is read as the same function.
-use Rattle.ls_surmise.proofs.Vocabulary.{◌&&◌, ◌∙◌, ◌∷◌, ◌≡◌, ◌≤◌, All-list_all, AllByRecursion, Clauses, IsDistinct, IsDomain, IsInOrder, IsInOrder-filter, AreOn, IsSurmise, Items, List, None, Ok, Some, Table, Text, ℕ, [], all-small, all_clauses, among-filter, among-here, among-subsets, among-there, and_from, and_parts, ap, ap₂, are_named, arith, base, base-ordered, bytes_eq-Decides, clauses_in, clauses_of, compat, each, false, full, in_order, is_among, is_table_named, is_within-from, le-ltb, length, list_all, list_all-All, map, most_base_sets, names_of_set, nat_list_eq_equiv, option_map_or, or_right, refl, row_under, same_members, same_truth, subsets, subsets_from-in_order, subst, suc, surmise-flawless, surmise_from, surmise_of, surmise_text, sym, table_of, true, wide}
+use Rattle.ls_surmise.proofs.Vocabulary.{◌&&◌, ◌∙◌, ◌∷◌, ◌≡◌, ◌≤◌, AllByRecursion, Clauses, IsDistinct, IsDomain, IsInOrder, IsInOrder-filter, AreOn, IsSurmise, Items, List, None, Ok, Text, ℕ, [], all-small, all_clauses, among-filter, among-here, among-subsets, among-there, and_from, and_parts, ap, ap₂, are_named, base, base-ordered, clauses_in, clauses_of, compat, each, full, in_order, is_among, is_table_named, is_within-from, le-ltb, length, list_all, map, most_base_sets, names_of_set, option_map_or, refl, same_members, same_truth, subsets, subsets_from-in_order, subst, suc, surmise-flawless, surmise_from, surmise_of, surmise_text, sym, true, wide}
 use Rattle.std.specs.Str.{bytes_eq}
+use Rattle.std.proofs.lemmas.List.{length-map}
 use Rattle.ls_domain.specs.Meanings.{is_named, items_of}
 use Rattle.ls_domain.proofs.NamedSets.{set-back, set-named}
-use Rattle.ls_surmise.proofs.RowTables.{insert_row, row_of, table_from, lookup-here, lookup-other, each-row, read-table}
-use Rattle.ls_surmise.proofs.SurmiseValues.{value_of-surmise_text}
+use Rattle.ls_lists.proofs.Every.{All-map}
+use Rattle.ls_files.proofs.RowTables.{all-named, rows-back, rows-pass, table_of_rows}
+use Rattle.ls_surmise.proofs.SurmiseValues.{row_of, rows_of, table-back}
 
 -- ---- the clauses of an item by their names
 
@@ -19,41 +21,15 @@ module _ (names : List Text) (distinct : IsDistinct bytes_eq names) where
   row-named (c ∷ own) small =
       and_from (list_all (is_named names) (names_of_set names c)) (are_named names (row_of names own)) (set-named names distinct c (small c (among-here c c own refl))) (row-named own (λ k a. small k (among-there k c own a)))
 
-  -- ---- the table
+  rows-back-all : (clauses : List (List Items)) → AllByRecursion (AreOn (length names)) clauses → map (map (items_of names)) (rows_of names clauses) ≡ clauses
+  rows-back-all [] small = refl
+  rows-back-all (own ∷ clauses) small = ap₂ (λ x xs. x ∷ xs) (row-back own small.0) (rows-back-all clauses small.1)
 
-  table-named : (ws : List Text) (clauses : List (List Items)) → list_all (is_named names) ws ≡ true → AllByRecursion (AreOn (length names)) clauses → is_table_named names (table_from names ws clauses) ≡ true
+  table-named : (clauses : List (List Items)) → AllByRecursion (AreOn (length names)) clauses → is_table_named names (table_of_rows names (rows_of names clauses)) ≡ true
   unfolding is_table_named
-  table-named [] clauses h small = refl
-  table-named (w ∷ ws) [] h small = refl
-  table-named (w ∷ ws) (own ∷ clauses) h small =
-      let parts = and_parts (is_named names w) (list_all (is_named names) ws) h in
-      each-row (λ row. is_named names row.0 && are_named names row.1) w (row_of names own) (table_from names ws clauses)
-      (and_from (is_named names w) (are_named names (row_of names own)) parts.0 (row-named own small.0))
-      (table-named ws clauses parts.1 small.1)
-
-  rows-same : (table : Table) (w : Text) (row : List (List Text)) (ws : List Text) → AllByRecursion (λ v. bytes_eq w v ≡ false) ws
-      → map (λ v. map (items_of names) (row_under (insert_row table w row) v)) ws ≡ map (λ v. map (items_of names) (row_under table v)) ws
-  rows-same table w row [] apart = refl
-  rows-same table w row (v ∷ ws) apart =
-      ap₂ (λ x xs. x ∷ xs) (ap (λ o. map (items_of names) (option_map_or (λ row. row) o [])) (lookup-other v w row table (nat_list_eq_equiv.symm v w ∙ apart.0))) (rows-same table w row ws apart.1)
-
-  rows-back : (ws : List Text) (clauses : List (List Items)) → length ws ≡ length clauses → IsDistinct bytes_eq ws → AllByRecursion (AreOn (length names)) clauses
-      → map (λ w. map (items_of names) (row_under (table_from names ws clauses) w)) ws ≡ clauses
-  unfolding IsDistinct
-  rows-back [] [] e apart small = refl
-  rows-back [] (own ∷ clauses) e apart small = absurd (omega (arith, e))
-  rows-back (w ∷ ws) [] e apart small = absurd (omega (arith, e))
-  rows-back (w ∷ ws) (own ∷ clauses) e apart small =
-      ap₂ (λ x xs. x ∷ xs)
-      (ap (λ o. map (items_of names) (option_map_or (λ row. row) o [])) (lookup-here w (row_of names own) (table_from names ws clauses)) ∙ row-back own small.0)
-      (rows-same (table_from names ws clauses) w (row_of names own) ws apart.0 ∙ rows-back ws clauses (omega (arith, e)) apart.1 small.1)
-
--- each name is one of the names
-all-named : (names : List Text) → list_all (is_named names) names ≡ true
-all-named [] = refl
-all-named (w ∷ names) =
-    and_from (is_named (w ∷ names) w) (list_all (is_named (w ∷ names)) names) (rw ((bytes_eq-Decides w w).1 refl) refl)
-    (All-list_all (is_named (w ∷ names)) names (each (λ v h. or_right (bytes_eq v w) (is_named names v) h) names (list_all-All (is_named names) names (all-named names))))
+  table-named clauses small =
+      rows-pass (λ row. is_named names row.0 && are_named names row.1) (λ w. is_named names w ≡ true) (λ row. are_named names row ≡ true) (λ w row a b. and_from (is_named names w) (are_named names row) a b)
+      names (rows_of names clauses) (all-named names) (All-map (λ row. are_named names row ≡ true) (row_of names) clauses (each row-named clauses small))
 
 -- ---- the clauses
 
@@ -93,16 +69,13 @@ from-again n clauses surmise few =
 
 -- ---- the whole
 
-table-back : (names : List Text) (clauses : List (List Items)) → IsDomain names → table_of (surmise_text names clauses) ≡ Some (table_from names names clauses)
-unfolding table_of
-table-back names clauses domain = rw (value_of-surmise_text names clauses domain.are_names.named) (read-table names names clauses)
-
 pub surmise-back : (names : List Text) (clauses : List (List Items)) → IsDomain names → IsSurmise (length names) clauses → length (base (compat (length names) (Clauses clauses) [])) ≤ most_base_sets → surmise_of names (surmise_text names clauses) ≡ Ok clauses
 unfolding surmise_of clauses_in
 surmise-back names clauses domain surmise few =
     let n = length names in
     let distinct = domain.are_names.distinct in
     let small = each-clauses (AreOn n) clauses surmise.small in
-    let table = table_from names names clauses in
-    rw (table-back names clauses domain, table-named names distinct names clauses (all-named names) small)
-    (ap (surmise_from n) (rows-back names distinct names clauses (sym surmise.each_item) distinct small) ∙ from-again n clauses surmise few)
+    rw (table-back names clauses domain.are_names.named, table-named names distinct clauses small)
+    (ap (surmise_from n)
+    (rows-back (λ o. map (items_of names) (option_map_or (λ row. row) o [])) names (rows_of names clauses) (sym surmise.each_item ∙ sym (length-map clauses (row_of names))) distinct ∙ rows-back-all names distinct clauses small)
+    ∙ from-again n clauses surmise few)

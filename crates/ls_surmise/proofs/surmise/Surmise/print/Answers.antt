@@ -1,7 +1,7 @@
 use Rattle.ls_surmise.proofs.Vocabulary.{◌∙◌, ◌≡◌, ap, object, surmise_text, surmise_value, view, view-Object}
 use Rattle.std.proofs.lemmas.Result.{IfOk-weaker}
 use Rattle.serde_json.specs.declared.value.Value.TheVariants.{Object}
-use Rattle.ls_surmise.proofs.Printed.{surmise-no_float}
+use Rattle.ls_surmise.proofs.SurmiseValues.{surmise-no_float}
 use Rattle.ls_surmise.proofs.surmise.Surmise.print.Goals as goal
 
 pub returns : goal.returns
