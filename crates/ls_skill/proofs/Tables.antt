@@ -91,8 +91,7 @@ unfolding table_of skills_of
 told names bytes d b e t h =
     let same : has_named_keys names t.table ≡ b =
     sym (keys-named names t.members t.table t.of_members) ∙ ap (are_keys_named names) (sym t.is) ∙ h
-    in
-    (
+    in (
       same,
       of-table (read_list as_str) (skills_named names) (Err BadJson) bytes d e t
           ∙ ap (λ a. cond a (skills_from (rows_in names t.table)) (Err UnknownItem)) same,
