@@ -41,4 +41,4 @@ invariant_of-self g c =
     let removed = c.remove.ensures.rules ∙ ap (remove c.self.inside.family.rules) rule in
     let held = held-without_yes i a c.self.inside.family.rules c.self.inside.table c.yes_removed.new.self c.self.invariant.held stands others _ c.requires.yes removed (rw c.new.ensures family) c.yes_removed.ensures.kept in
     rw (c.take_out.ensures, c.remove.ensures.inner)
-      (asking (retracted i a.number) c.self.inside.blocks others c.yes_removed.new.self c.next_query-self-inside.result held c.self.invariant.asked c.self.invariant.some_sizes c.next_query-self-inside.ensures)
+    (asking (retracted i a.number) c.self.inside.blocks others c.yes_removed.new.self c.next_query-self-inside.result held c.self.invariant.asked c.self.invariant.some_sizes c.next_query-self-inside.ensures)
