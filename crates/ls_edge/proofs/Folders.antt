@@ -1,5 +1,5 @@
 -- The files of a map in memory, by the bytes of their names.
-use Rattle.std.proofs.Common.{◌≡◌, ◌∙◌, ap, sym, cond, ℕ, List, [], ◌∷◌, Bool, true, false, Some, Ok, Err, Result, Vec, length, nat_lt, ◌<◌, ◌≤◌, refl, arith, Bor}
+use Rattle.std.proofs.Common.{◌≡◌, ◌∙◌, ap, sym, cond, ℕ, List, [], ◌∷◌, Bool, true, false, Some, Ok, Err, Vec, length, nat_lt, ◌<◌, ◌≤◌, refl, arith, Bor}
 use Rattle.std.proofs.lemmas.Bool.{lt-ltb, le-ltb}
 use Rattle.std.proofs.lemmas.Map.Text.{btree_map_updates_text, is_eq-slice_cmp}
 use Rattle.std.specs.Cmp.{eq_by_cmp_equiv}
@@ -13,8 +13,7 @@ use Rattle.std.specs.String.{string_bytes, string_cmp}
 use Rattle.std.specs.declared.alloc.Global.{Global}
 use Rattle.std.specs.declared.option.Option.{Option}
 use Rattle.std.specs.declared.string.String.{String}
-use Rattle.ls_edge.specs.Files.{longest_file, Folder, folder_of, FetchedFrom, GivesBytes, given}
-use Rattle.ls_edge.specs.declared.traits.FetchFault.{FetchFault}
+use Rattle.ls_edge.specs.Files.{longest_file, Folder, folder_of, given}
 use Rattle.ls_edge.specs.declared.traits.FetchFault.TheVariants as fetch
 
 map_cond : (b : Bool) (v : Vec ℕ Global) (o : Option (Vec ℕ Global)) → cond b (Some v.items) (option_map (λ w. w.items) o) ≡ option_map (λ w. w.items) (cond b (Some v) o)
@@ -47,10 +46,6 @@ pub given_short : (file : Option (List ℕ)) (bytes : List ℕ) → file ≡ Som
 given_short file bytes is within =
     let no_more : nat_lt longest_file (length bytes) ≡ false = le-ltb _ _ within in
     rw (is, no_more) refl
-
--- a fetch that gives what it has to give
-pub fetched : (file : Option (List ℕ)) (bytes : List ℕ) (result : Result (Vec ℕ Global) FetchFault) → given file ≡ Ok bytes → GivesBytes bytes result → FetchedFrom file result
-fetched file bytes result is gives = rw is gives
 
 -- a name that is set in the map is set in the folder
 pub folder_of-insert : (old new : BTreeMap (String Global) (Vec ℕ Global)) (name : String Global) (v : Vec ℕ Global)

@@ -1,9 +1,7 @@
 -- What an interview keeps when it takes an answer back.
-use Rattle.ls_inquiry.proofs.Vocabulary.{◌&&◌, ◌*◌, ◌+◌, ◌<◌, ◌∙◌, ◌∷◌, ◌≡◌, ◌≤◌, AllByRecursion, Answer, AreStates, BlockRange, Bool, Interview, IsDistinct, IsHeld, IsKeptFor, IsStanding, IsTabled, Items, List, No, Query, Some, TableRoom, TableState, ℕ, [], and_assoc, and_parts, answer_with, ap, ap₂, arith, blocks, breaks, breaks_none, closure, compat, compatible_sets, cond, count_by, count_by-le-length, eqb, false, filter, filter-both, filter_agree, full, is_compatible, is_good, is_same_query, is_within, left_by, length, length-filter, length-map, list_all, list_any, map, meets, nos, not, refl, remove, retracted, retracted-numbered, rules_before, single_items, standing, subsets, subst, sum_by-cons, sym, table_of, taken_out, true, yes_queries}
+use Rattle.ls_inquiry.proofs.Vocabulary.{◌&&◌, ◌*◌, ◌+◌, ◌<◌, ◌∙◌, ◌∷◌, ◌≡◌, ◌≤◌, AllByRecursion, Answer, AreStates, BlockRange, Bool, Interview, IsDistinct, IsHeld, IsKeptFor, IsStanding, IsTabled, Items, List, No, Query, Some, TableRoom, TableState, ℕ, [], and_assoc, and_parts, answer_with, ap, ap₂, arith, blocks, breaks, breaks_none, closure, compat, compatible_sets, cond, count_by, count_by-le-length, eqb, false, filter, filter-both, filter_agree, full, is_compatible, is_good, is_same_query, is_within, left_by, length, length-filter, length-map, list_all, map, meets, nos, not, refl, remove, retracted, retracted-numbered, rules_before, single_items, standing, subsets, subst, sum_by-cons, sym, table_of, taken_out, true, yes_queries}
 use Rattle.std.proofs.lemmas.List.Recursion.{is_sum_by}
 use Rattle.ls_inquiry.specs.Steps.{closures_over}
-use Rattle.ls_standing.specs.Answered.{AreOf}
-use Rattle.ls_standing.proofs.AnsweredQueries.{AreOf-without}
 use Rattle.ls_inquiry.proofs.Holding.{kept-as}
 use Rattle.ls_standing.proofs.AnswerLists.{is_other, all-fewer, all-told, told-all, nos-others, rising, yes_queries-without_yes, yes_queries-without_no, nos-without_yes, rules_before-within}
 
@@ -39,11 +37,6 @@ standing-back i number h = record {
   some_number = h.some_number;
   numbers_left = h.numbers_left;
 }
-
--- the others are answered
-pub answered-back : (i : Interview) (a : Answer) (was now : List Query) → IsStanding i → answer_with i a.number ≡ Some a → AreOf i.answers was
-    → ((r : Query) → list_any (is_same_query r) now ≡ (not (is_same_query a.query r) && list_any (is_same_query r) was)) → AreOf (retracted i a.number).answers now
-answered-back i a was now h stands = AreOf-without i a was now (rising i a h.numbered stands) h.distinct stands
 
 -- ---- interiors
 

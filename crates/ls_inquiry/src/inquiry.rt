@@ -27,7 +27,7 @@ use ls_interior::{Counted, Inside, Steps};
 use ls_query::{BlockFault, Blocks};
 use ls_rules::Ruled;
 use ls_set::{PLACES, Query};
-use ls_standing::{Answered, OnItems, Start, answer_with, leading, nos, rules_before, yes_others};
+use ls_standing::{OnItems, Start, answer_with, leading, nos, rules_before, yes_others};
 use ls_theory::{Answer, AnswerFault, Known};
 use std::alloc::{AllocError, Global};
 use std::marker::Model;
@@ -43,8 +43,6 @@ pub struct Inquiry {
     // the sets that meet the start, with the Yes answers as rules
     family: Ruled<OnItems>,
     answers: Vec<Answer>,
-    // their queries
-    answered: Answered,
     next: u64,
     block: u32,
     // the sets that are asked
@@ -59,7 +57,6 @@ pub struct Inquiry {
 
 impl Model for Inquiry {
     ghost use Rattle.ls_theory.specs.{Interview};
-    ghost use Rattle.ls_standing.specs.Answered.{AreOf};
     ghost use Rattle.ls_inquiry.specs.Held.{interview_of, IsInquiry};
 
     ghost Value = { Interview };
@@ -68,8 +65,7 @@ impl Model for Inquiry {
 
     ghost invariant = { λ s. IsInquiry
         (interview_of s.family.inner s.block s.answers.items s.next)
-        s.blocks s.family.rules s.table s.from s.is_found
-        × AreOf s.answers.items s.answered };
+        s.blocks s.family.rules s.table s.from s.is_found };
 }
 
 // The table of a family with rules, of the sets of one item, for the answers that are No. It is
@@ -139,7 +135,6 @@ impl Inquiry {
             alloc,
             family,
             answers: Vec::new(alloc),
-            answered: Answered::new(alloc),
             next: 1,
             block: 1,
             blocks,

@@ -1,5 +1,5 @@
 -- Searches and lists over numbers, by what is left of them.
-use Rattle.std.proofs.Common.{ℕ, suc, ◌+◌, ◌-◌, ◌<◌, ◌≡◌, Bool, false, [], ◌∷◌, find}
+use Rattle.std.proofs.Common.{ℕ, suc, ◌+◌, ◌-◌, ◌<◌, ◌≡◌, Bool, false, ◌∷◌, find}
 use Rattle.std.proofs.Common.{refl, sym, ap, ◌∙◌, arith}
 use Rattle.ls_set.specs.ItemSet.{numbers_from}
 
@@ -9,9 +9,6 @@ numbers-next j end l =
     let e : end - j ≡ suc (end - (j + 1)) = omega arith in
     let s : suc j ≡ j + 1 = omega arith in
     ap (numbers_from j) e ∙ ap (λ k. j ∷ numbers_from k (end - (j + 1))) s
-
-pub numbers-end : (end : ℕ) → numbers_from end (end - end) ≡ []
-numbers-end end = ap (numbers_from end) (let e : end - end ≡ 0 = omega arith in e)
 
 -- a number that fails is passed over
 pub passed-next : (p : ℕ → Bool) (j end : ℕ) → j < end → p j ≡ false

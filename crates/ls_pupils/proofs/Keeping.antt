@@ -1,5 +1,5 @@
 -- Pupils stay pupils of n items, and what their rows come to.
-use Rattle.ls_pupils.proofs.Vocabulary.{case_name, ◌++◌, ◌+◌, ◌<◌, ◌∙◌, ◌∷◌, ◌≡◌, ◌≤◌, Agreed, All, All-append, All-drop, All-push, All-set, All-take, ArePupils, Bool, Done, IsCase, IsOwnCase, List, None, Pupil, PupilCase, Refused, ReplyFault, Some, ℕ, [], ap, arith, asked, asked_of, close_row, drop, false, filter, get-map, get_or, has_name, have_own_names, is_called, length, length-append, list_any, map-remove, most_pupils, not, pupil_of_case, pupil_with, pupils_of, refl, remove, replied, reply_fault, reply_row, set, slice_get, slice_get_within, subst, suc, sym, take, true, unwrap_or, unwrap_or-slice_get, with_pupil, zero}
+use Rattle.ls_pupils.proofs.Vocabulary.{case_name, ◌++◌, ◌+◌, ◌<◌, ◌∙◌, ◌∷◌, ◌≡◌, ◌≤◌, Agreed, All, All-append, All-drop, All-push, All-set, All-take, ArePupils, Bool, Done, IsCase, IsOwnCase, List, None, Pupil, PupilCase, Refused, ReplyFault, Some, ℕ, [], ap, arith, asked, asked_of, close_row, drop, false, filter, get-map, has_name, have_own_names, is_called, length, length-append, list_any, map-remove, most_pupils, not, pupil_of_case, pupil_with, pupils_of, refl, remove, replied, reply_fault, reply_row, set, slice_get, slice_get_within, subst, suc, sym, take, true, unwrap_or, unwrap_or-slice_get, with_pupil, zero}
 use Rattle.std.proofs.lemmas.List.{map-set, length-set}
 use Rattle.ls_meaning.specs.declared.response.Refusal.TheVariants as refusal
 use Rattle.ls_pupils.proofs.Own.{replaced-set, left_out-remove, own-set, own-remove, own-push, own-map, own_name}
@@ -14,10 +14,6 @@ own_pupils cases own = sym (own-map pupil_name pupil_of_case cases) ∙ own
 
 pub own-at : (cases : List PupilCase) (i : ℕ) (c : PupilCase) → All IsOwnCase cases → slice_get cases i ≡ Some c → IsOwnCase c
 own-at cases i c h at = subst IsOwnCase (sym (unwrap_or-slice_get cases i c) ∙ ap (λ o. unwrap_or o c) at) (h i c (slice_get_within cases i c at))
-
--- pupils of n items are cases of as many items as their settings
-pub own-cases : (n : ℕ) (cases : List PupilCase) → ArePupils n cases → All IsOwnCase cases
-own-cases n cases h = λ i d few. let case = h.each i d few in subst (λ m. IsCase m (get_or cases i d)) (sym case.items) case
 
 pub case-at : (n : ℕ) (cases : List PupilCase) (i : ℕ) (c : PupilCase) → ArePupils n cases → slice_get cases i ≡ Some c → IsCase n c
 case-at n cases i c h at = subst (IsCase n) (sym (unwrap_or-slice_get cases i c) ∙ ap (λ o. unwrap_or o c) at) (h.each i c (slice_get_within cases i c at))

@@ -173,17 +173,6 @@ sees_first {before} {after} first second refusal seen = record {
   later = seen.later;
 }
 
--- both names are one, and the file was fetched once
-pub sees_one : {before after : ShelfState} (first second : Text) (left : Vec ℕ Global) → first ≡ second → SeesFile first before after (Ok (Ok left)) → SeesFiles first second before after (Ok (Ok (record { left = left; right = None })))
-sees_one {before} {after} first second left same seen = record {
-  calls = seen.calls;
-  sees = seen.sees;
-  given = (seen.given, subst (λ (name : Text). seen.calls.file name ≡ Bytes left.items) same seen.given);
-  made = inl seen.made;
-  kept = seen.kept;
-  later = seen.later;
-}
-
 -- memory ran out: whatever was given
 pub sees_err : {before after : ShelfState} (first second : Text) (given : Result (Result TwoFiles Refusal) AllocError) (P : AllocError → Type 0) (r : Result (Result TwoFiles Refusal) AllocError) → SeesFiles first second before after given → IsErrAnd r P → SeesFiles first second before after r
 sees_err first second given P r seen e = record {

@@ -1,10 +1,10 @@
 -- The place of the first word that names no item.
-use Rattle.std.proofs.Common.{◌≡◌, ℕ, suc, ◌+◌, ◌<◌, inl, inr, Bool, cond, not, List, [], ◌∷◌, ◌++◌, length, map, filter, Some, None, is_some, option_map, slice_get, refl, sym, ap, ◌∙◌, arith}
+use Rattle.std.proofs.Common.{◌≡◌, ℕ, suc, ◌+◌, inl, inr, Bool, cond, not, List, [], ◌∷◌, ◌++◌, map, filter, Some, None, is_some, option_map, slice_get, refl, sym, ap, ◌∙◌, arith}
 use Rattle.std.specs.declared.option.Option.{Option}
 use Rattle.std.proofs.lemmas.Bool.{cases_Bool}
 use Rattle.std.proofs.lemmas.List.{map-append}
 use Rattle.std.proofs.lemmas.List.Elements.{filter-append}
-use Rattle.ls_lists.proofs.Places.{first-front, position-lt, position-here, position-later, is_some-position}
+use Rattle.ls_lists.proofs.Places.{first-front, position-here, position-later, is_some-position}
 use Rattle.ls_lines.specs.{Text}
 use Rattle.ls_domain.specs.Meanings.{is_named, number_of, first_unnamed}
 use Rattle.ls_meaning.specs.{placed, unnamed}
@@ -26,9 +26,6 @@ module _ (names : List Text) where
         | inr e ↦ rw (position-later names_none w ws e, e) (unnamed-placed ws (suc n) ∙ next_place n (first_unnamed names ws))
       ]
 
-  pub first_unnamed-lt : (ws : List Text) (i : ℕ) → first_unnamed names ws ≡ Some i → i < length ws
-  first_unnamed-lt ws i e = position-lt names_none ws i e
-
   -- ---- words, one after the other
 
   module _ (front rest : List (ℕ × Text)) where
@@ -40,10 +37,6 @@ module _ (names : List Text) where
     -- the first at fault is in front
     pub in_front : (place : ℕ) → slice_get (unnamed names front) 0 ≡ Some place → slice_get (unnamed names (front ++ rest)) 0 ≡ Some place
     in_front place e = ap (λ ps. slice_get ps 0) unnamed-both ∙ first-front (unnamed names front) _ place e
-
-    -- those in front name items
-    pub in_rest : unnamed names front ≡ [] → unnamed names (front ++ rest) ≡ unnamed names rest
-    in_rest e = unnamed-both ∙ ap (λ ps. ps ++ unnamed names rest) e
 
   -- ---- the word of an item
 

@@ -5,5 +5,4 @@ pub mod PupilLists
 pub mod PupilNames
 pub mod PupilParts
 pub mod PupilStates
-pub mod Replays
 pub mod Putting

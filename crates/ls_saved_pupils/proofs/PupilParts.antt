@@ -25,14 +25,6 @@ when-spelled n p h = rw h refl
 abbrev joined : Option Text → Option (List Ratios × (ℕ × ℕ)) → Option Start → Option (List Query) → Option (List Reply) → Option Pupil
 joined name settings start own replies = option_map pupil_from (option_zip (option_zip name settings) (option_zip start (option_zip own replies)))
 
-joined-no_yes : (name : Text) (s : List Ratios × (ℕ × ℕ)) (start : Option Start) (replies : Option (List Reply)) → joined (Some name) (Some s) start None replies ≡ None
-joined-no_yes name s None replies = refl
-joined-no_yes name s (Some start) replies = refl
-
-joined-no_replies : (name : Text) (s : List Ratios × (ℕ × ℕ)) (start : Option Start) (own : List Query) → joined (Some name) (Some s) start (Some own) None ≡ None
-joined-no_replies name s None own = refl
-joined-no_replies name s (Some start) own = refl
-
 module _ (v : Version) (n : ℕ) (d : Data) (name : Text) (named : name_field.find_in d ≡ Some name) where
   parted : (name : Option Text) (settings : Option (List Ratios × (ℕ × ℕ))) (start : Option Start) (own : Option (List Query)) (replies : Option (List Reply))
       → name_field.find_in d ≡ name → (settings_fields v n).find_in d ≡ settings → (start_field n).find_in d ≡ start → (yes_field n).find_in d ≡ own → (replies_field n).find_in d ≡ replies
@@ -44,25 +36,8 @@ module _ (v : Version) (n : ℕ) (d : Data) (name : Text) (named : name_field.fi
       ∙ ap (λ x. kept_if (is_pupil n) (joined name settings start x ((replies_field n).find_in d))) e
       ∙ ap (λ x. kept_if (is_pupil n) (joined name settings start own x)) f
 
-  pub no_settings : (settings_fields v n).find_in d ≡ None → (pupil_codec v n).read d ≡ None
-  no_settings e = parted (Some name) None _ _ _ named e refl refl refl
-
   -- the settings are read
   module _ (s : Settings) (e : (settings_fields v n).find_in d ≡ Some (settings_parts s)) where
-    pub no_yes : (yes_field n).find_in d ≡ None → (pupil_codec v n).read d ≡ None
-    no_yes f =
-        let start = (start_field n).find_in d in
-        let replies = (replies_field n).find_in d in
-        parted (Some name) (Some (settings_parts s)) start None replies named e refl f refl ∙ ap (kept_if (is_pupil n)) (joined-no_yes name (settings_parts s) start replies)
-
-    pub no_replies : (own : List Query) → (yes_field n).find_in d ≡ Some own → (replies_field n).find_in d ≡ None → (pupil_codec v n).read d ≡ None
-    no_replies own f g =
-        let start = (start_field n).find_in d in
-        parted (Some name) (Some (settings_parts s)) start (Some own) None named e refl f g ∙ ap (kept_if (is_pupil n)) (joined-no_replies name (settings_parts s) start own)
-
-    pub no_start : (own : List Query) (rs : List Reply) → (yes_field n).find_in d ≡ Some own → (replies_field n).find_in d ≡ Some rs → (start_field n).find_in d ≡ None → (pupil_codec v n).read d ≡ None
-    no_start own rs f g h = parted (Some name) (Some (settings_parts s)) None (Some own) (Some rs) named e h f g
-
     -- all parts are read
     module _ (own : List Query) (rs : List Reply) (start : Start) (f : (yes_field n).find_in d ≡ Some own) (g : (replies_field n).find_in d ≡ Some rs) (h : (start_field n).find_in d ≡ Some start) where
       abbrev pub own_pupil : Pupil

@@ -1,5 +1,5 @@
 -- The verdict on a space, by a walk over its base.
-use Rattle.ls_space.proofs.Vocabulary.{◌+◌, ◌-◌, ◌<◌, ◌∙◌, ◌≡◌, ◌≤◌, IsInOrder, Items, Learning, List, None, NotGraded, Some, ℕ, [], ap, base, base-below, base-in_order, base-needed, drop, drop-next, drop_all, false, first_double, get_or, graded_by, is_same, is_space, items, le-ltb, least, len, length, lt-ltb, minus, nat_lt, needed, no_first, not_graded, option_map_or, own_by, refl, slice_index, spanned, spanned-IsUnionFamily, spanned-has, subst, sym, take, true, union_below, unions, unwrap_or, without}
+use Rattle.ls_space.proofs.Vocabulary.{◌+◌, ◌-◌, ◌<◌, ◌∙◌, ◌≡◌, ◌≤◌, IsInOrder, Items, Learning, List, None, NotGraded, Some, ℕ, [], ap, base, base-below, base-in_order, base-needed, drop, drop-next, false, first_double, get_or, graded_by, is_same, is_space, items, le-ltb, least, len, length, lt-ltb, minus, nat_lt, needed, no_first, not_graded, option_map_or, own_by, refl, slice_index, spanned, spanned-IsUnionFamily, spanned-has, subst, sym, take, true, union_below, unions, unwrap_or, without}
 use Rattle.std.proofs.lemmas.Option.{unwrap_or-slice_get}
 use Rattle.ls_set.proofs.Firsts.{items-least}
 use Rattle.ls_theory.specs.declared.verdict.BaseVerdict.{BaseVerdict}
@@ -53,9 +53,6 @@ module _ (b : List Items) (order : IsInOrder b) (whole : needed b ≡ b) where
     judged-passed own is few had =
         let here : nat_lt 1 (len (own_by b k)) ≡ false = ap (λ s. nat_lt 1 (len s)) (sym (judged-own own is)) ∙ le-ltb 1 (len own) few in
         had ∙ ap (first_double b) (drop-next b i k l e) ∙ rw here refl
-
-  pub judged-all : (i : ℕ) → length b ≤ i → first_double b b ≡ first_double b (drop i b) → Learning ≡ graded_by b b
-  judged-all i l had = sym (ap (λ o. option_map_or (not_graded b) o Learning) (had ∙ ap (first_double b) (drop_all i b l)))
 
 -- ---- the base of a family
 

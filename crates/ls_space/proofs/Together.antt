@@ -1,12 +1,9 @@
 -- Items that come together, by a walk over the sets of a list.
-use Rattle.ls_space.proofs.Vocabulary.{◌&&◌, ◌+◌, ◌++◌, ◌<◌, ◌∙◌, ◌∷◌, ◌≡◌, ◌≤◌, ◌⊎◌, AreTogether, ComesWith, IsWithin, IsWithin-from, Items, List, ℕ, [], among-append, among-cases, and_parts, ap, arith, empty, false, false_from_ne_true, full, get_or, has, has-full, has-meet, has-union, inl, inr, is_among, is_apart, is_missing, is_within, is_within-from, lacks_apart, length, length-append, lt-ltb, meet, not, not-true, or_cases, refl, subst, sym, take, take_all, take_more, touches, true, true≢false, union, union-left, union-right}
+use Rattle.ls_space.proofs.Vocabulary.{◌&&◌, ◌+◌, ◌++◌, ◌<◌, ◌∙◌, ◌∷◌, ◌≡◌, ◌≤◌, ◌⊎◌, ComesWith, IsWithin, IsWithin-from, Items, List, ℕ, [], among-append, among-cases, and_parts, ap, arith, empty, false, false_from_ne_true, full, get_or, has, has-full, has-meet, has-union, inl, inr, is_among, is_apart, is_missing, is_within, is_within-from, lacks_apart, length, lt-ltb, meet, not, not-true, or_cases, refl, subst, sym, take, take_all, take_more, touches, true, true≢false, union, union-left, union-right}
 use Rattle.std.proofs.lemmas.Bool.{cases_eq}
 use Rattle.std.proofs.lemmas.Bool.Decides.{nat_tests}
 use Rattle.ls_set.proofs.Sets.{members}
 use Rattle.ls_set.specs.{with}
-use Rattle.std.proofs.Math.Nat.{eq-or-lt_of_le}
-use Rattle.std.proofs.Math.Seq.{get_or-append_seam}
-use Rattle.std.proofs.lemmas.List.{get_or_append_left}
 use Rattle.ls_laws.proofs.Lists.{some-from}
 use Rattle.ls_laws.proofs.Remains.{touches-at}
 
@@ -57,18 +54,6 @@ module _ (g : List Items) (n i : ℕ) (m k v : Items) (l : n < length g) (e : k 
       | inr same ↦ absurd (true≢false (sym h ∙ ap (λ s. has s i) same ∙ t))
     ];
   }
-
--- ---- the same of each item
-
-pub together-more : (g ms : List Items) (i : ℕ) (m : Items) → length ms ≡ i → ComesWith g i m → AreTogether g ms → AreTogether g (ms ++ m ∷ [])
-together-more g ms i m e comes had j l =
-    let upto : j ≤ length ms = omega (arith, l, length-append ms (m ∷ [])) in
-    elim (eq-or-lt_of_le upto) [
-      | inl same ↦
-          subst (λ q. ComesWith g q (get_or (ms ++ m ∷ []) q empty)) (sym same)
-          (subst (ComesWith g (length ms)) (sym (get_or-append_seam ms m [] empty)) (subst (λ q. ComesWith g q m) (sym e) comes))
-      | inr below ↦ subst (ComesWith g j) (sym (get_or_append_left ms (m ∷ []) empty j below)) (had j below)
-    ]
 
 -- ---- a set that has all items of the sets
 

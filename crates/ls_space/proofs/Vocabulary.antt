@@ -1,5 +1,5 @@
 -- The words that the proofs of this crate cite, passed on from one place.
-pub use Rattle.std.proofs.Common.{Bool, List, None, Some, [], ap, append_assoc, ap₂, arith, cond, drop, eqb, eqb-true, false, find, get_or, inl, inr, le-ltb, length, length-append, lt-ltb, map, min, nat_lt, not, refl, slice_index, slice_index_or, subst, suc, sym, take, true, true≢false, unwrap_or, zero, ℕ, ◌&&◌, ◌++◌, ◌+◌, ◌-◌, ◌<◌, ◌∙◌, ◌∷◌, ◌≡◌, ◌≤◌, ◌⊎◌}
+pub use Rattle.std.proofs.Common.{Bool, List, None, Some, [], ap, append_assoc, ap₂, arith, cond, drop, eqb, eqb-true, false, find, get_or, inl, inr, le-ltb, length, lt-ltb, map, min, nat_lt, not, refl, slice_index, slice_index_or, subst, suc, sym, take, true, true≢false, unwrap_or, zero, ℕ, ◌&&◌, ◌++◌, ◌+◌, ◌-◌, ◌<◌, ◌∙◌, ◌∷◌, ◌≡◌, ◌≤◌, ◌⊎◌}
 pub use Rattle.std.proofs.lemmas.Bool.{and_parts, false_from_ne_true, not-true, or_cases, or_left, or_right}
 pub use Rattle.std.proofs.lemmas.List.{append-nil, drop_all, get_or_default, get_or_read_under, length-drop, take-append-drop, take_all, take_min, take_more}
 pub use Rattle.std.proofs.lemmas.List.FromFn.{get_or-map-range_with_len, length-map-range_with_len}

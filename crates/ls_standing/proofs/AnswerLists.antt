@@ -42,13 +42,13 @@ is_other m a = not (eqb a.number m)
 abbrev pub has_number : ℕ → Answer → Bool
 has_number m a = eqb a.number m
 
-abbrev pub AllAbove : ℕ → List Answer → Type 0
+abbrev AllAbove : ℕ → List Answer → Type 0
 AllAbove m xs = AllByRecursion (λ y. m < y) (map (λ a. a.number) xs)
 
 differs : (x m : ℕ) → m < x → eqb x m ≡ false
 differs x m l = ne_eqb x m (λ e. absurd (omega arith))
 
-pub others_above : (m : ℕ) (xs : List Answer) → AllAbove m xs → filter (is_other m) xs ≡ xs
+others_above : (m : ℕ) (xs : List Answer) → AllAbove m xs → filter (is_other m) xs ≡ xs
 others_above m [] h = refl
 others_above m (x ∷ xs) h = rw (differs x.number m h.0) (ap (λ l. x ∷ l) (others_above m xs h.1))
 
@@ -61,7 +61,7 @@ higher x m [] l h = tt
 higher x m (y ∷ xs) l h = (let k = h.0 in omega arith, higher x m xs l h.1)
 
 -- the answer with the number is the first of the list, or stands further on
-pub first_or_later : (m : ℕ) (x a : Answer) (xs : List Answer) → AllAbove x.number xs → find (has_number m) (x ∷ xs) ≡ Some a
+first_or_later : (m : ℕ) (x a : Answer) (xs : List Answer) → AllAbove x.number xs → find (has_number m) (x ∷ xs) ≡ Some a
     → ((x.number ≡ m) × (x ≡ a) × AllAbove m xs) ⊎ ((x.number < m) × (find (has_number m) xs ≡ Some a))
 first_or_later m x a xs h e =
     elim (cases_eq x.number m) [

@@ -1,4 +1,3 @@
 pub mod Starts
 pub mod Standing
 pub mod QueryOrders
-pub mod Answered

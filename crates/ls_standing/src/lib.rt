@@ -1,7 +1,6 @@
 //! What stands of an interview: its start, its answers, and the sets that they leave.
 #![tactic(auto)]
 
-mod answered;
 mod answers;
 mod few_rules;
 mod on_items;
@@ -9,7 +8,6 @@ mod query_key;
 mod saved;
 mod start;
 
-pub use answered::Answered;
 pub use answers::{
     answer_with, nos, opposed, put_last, rules_before, take_out, yes_others, yes_queries,
 };

@@ -1,5 +1,5 @@
 -- What is decided, by what is made.
-use Rattle.ls_state.proofs.Vocabulary.{[], ◌<◌, ◌∙◌, ◌∷◌, ◌≡◌, AllocError, Bool, Calls, Change, Command, Decides, EditCommand, Effect, Err, Folder, FewCalls, FolderStays, IfOk, Interview, IsAfterLine, IsDecided, IsErrAnd, List, Makes, MakesChange, Missing, None, Ok, OnOk, Option, PupilCommand, Refused, Response, Result, Sees, Session, SettingCommand, ShelfState, Some, Unnamed, ViewCommand, ℕ, answers, ap, arith, changes_interview, changes_pupils, changes_settings, command_effect, cond, edit_effect, edit_item_words, edit_of, edit_row, false, has_domain, in_domain, length, line_effect, pupil_effect, pupil_item_words, pupil_name, pupil_of, pupil_row, refl, setting_effect, setting_item_words, setting_of, setting_row, standing_session, started, subst, sym, true, unless_unnamed, unnamed, view_effect, view_item_words, view_of, view_row, SafeCommand, SafeInterview, changes_safe, safe_effect, safe_item_words, safe_of, safe_row}
+use Rattle.ls_state.proofs.Vocabulary.{[], ◌<◌, ◌∙◌, ◌∷◌, ◌≡◌, AllocError, Bool, Calls, Change, Command, Decides, EditCommand, Effect, Err, Folder, FewCalls, FolderStays, IfOk, Interview, IsAfterLine, IsDecided, IsErrAnd, List, Makes, MakesChange, Missing, None, Ok, OnOk, Option, PupilCommand, Refused, Response, Result, Sees, Session, SettingCommand, ShelfState, Some, Unnamed, ViewCommand, ℕ, answers, ap, arith, changes_interview, changes_pupils, changes_settings, command_effect, cond, edit_effect, edit_item_words, edit_of, edit_row, false, has_domain, in_domain, length, line_effect, pupil_effect, pupil_item_words, pupil_name, pupil_of, pupil_row, refl, setting_effect, setting_item_words, setting_of, setting_row, standing_session, started, subst, sym, true, unless_unnamed, unnamed, view_effect, view_item_words, view_of, view_row, SafeCommand, changes_safe, safe_effect, safe_item_words, safe_of, safe_row}
 pub use Rattle.ls_requests.proofs.Seen.{files_stay}
 use Rattle.ls_requests.proofs.Seen.{calls_told, sees_told}
 use Rattle.std.proofs.lemmas.Result.{on_ok_weaker, on_err_weaker}
@@ -40,14 +40,6 @@ makes_interview {s} {c} {next} {r} h = record {
   response = h.response;
   session = on_ok_weaker r (λ e. ap (λ (i : Interview). record s { interview = i }) e) h.next;
   undone = on_err_weaker r (λ e. ap (λ (i : Interview). record s { interview = i }) e) h.undone;
-}
-
--- the safe interview becomes another
-pub makes_safe : {s : Session} {c : Change (Option SafeInterview)} {next : Option SafeInterview} {r : Result Response AllocError} → MakesChange c s.safe next r → Makes (changes_safe s c) s (record s { safe = next }) r
-makes_safe {s} {c} {next} {r} h = record {
-  response = h.response;
-  session = on_ok_weaker r (λ e. ap (λ (o : Option SafeInterview). record s { safe = o }) e) h.next;
-  undone = on_err_weaker r (λ e. ap (λ (o : Option SafeInterview). record s { safe = o }) e) h.undone;
 }
 
 -- ---- what is decided

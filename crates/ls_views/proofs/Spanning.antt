@@ -24,8 +24,5 @@ module _ (b : BaseState) (e : base (family b) ≡ b.sets) (space : is_space (ful
   surmised-is : surmised b ≡ Ok clauses
   surmised-is = rw spans refl
 
-  pub surmised-clauses : (found : List (List Items)) → surmised b ≡ Ok found → found ≡ clauses
-  surmised-clauses found is = let same : Ok found ≡ Ok clauses = sym is ∙ surmised-is in cc same
-
   pub never-missing : (q : ℕ) → surmised b ≡ Err (NotSpanning q) → ⊥
   never-missing q is = let same : Err (NotSpanning q) ≡ Ok clauses = sym is ∙ surmised-is in cc same

@@ -16,7 +16,7 @@ use ls_interior::{Counted, Steps};
 use ls_query::Blocks;
 use ls_rules::Ruled;
 use ls_set::PLACES;
-use ls_standing::{Answered, OnItems, Start, can_stand, each_no_broken, with_rules, yes_queries};
+use ls_standing::{OnItems, Start, can_stand, each_no_broken, with_rules, yes_queries};
 use ls_theory::Answer;
 use std::alloc::{AllocError, Global};
 use std::sync::ledger::Ledger;
@@ -116,13 +116,11 @@ impl Inquiry {
             return Err(StandingFault::BadAnswers);
         }
         let copied = Vec::from_slice(alloc, answers)?;
-        let answered = Answered::of(alloc, answers)?;
         let (family, table) = parts_with(alloc, n, start, answers, steps)?;
         Ok(Inquiry {
             alloc,
             family,
             answers: copied,
-            answered,
             next,
             block: k,
             blocks,

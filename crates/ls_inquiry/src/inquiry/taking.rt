@@ -85,20 +85,9 @@ impl Inquiry {
         self.family.rules().len() < self.answers.len()
     }
 
-    // The number of the standing answer to the query, if there is one.
-    fn standing_number(&self, query: &Query) -> Option<u64>
-        ensures { result ≡ standing_number self.now query.now }
-    {
-        if self.answered.has(query) {
-            self.number_of(query)
-        } else {
-            None
-        }
-    }
-
-    // The same, looked for among all answers.
+    // The number of the standing answer to the query, if there is one: it is looked for among all.
     #[tactic(auto, unfolding(ls_set::specs::ItemSet::is_same))]
-    fn number_of(&self, query: &Query) -> Option<u64>
+    fn standing_number(&self, query: &Query) -> Option<u64>
         ensures { result ≡ standing_number self.now query.now }
     {
         self.answers
@@ -155,7 +144,6 @@ impl Inquiry {
     {
         self.answers.reserve(1)?;
         self.family.reserve()?;
-        self.answered.put(query)?;
         self.family.push_reserved(*query);
         if !is_yes(told) {
             self.table
@@ -176,7 +164,6 @@ impl Inquiry {
     {
         self.answers.reserve(1)?;
         self.table.reserve_no()?;
-        self.answered.put(query)?;
         let no = No {
             number: self.next,
             query: *query,
@@ -213,7 +200,6 @@ impl Inquiry {
             .yes_removed(&Counted::new(&self.family), &answer.query, steps);
         self.from = self.blocks.next_query(None);
         self.is_found = false;
-        self.answered.take_out(&answer.query);
         take_out(&mut self.answers, answer.number);
     }
 
@@ -227,7 +213,6 @@ impl Inquiry {
         self.table.no_removed(number);
         self.from = self.blocks.next_query(None);
         self.is_found = false;
-        self.answered.take_out(&answer.query);
         take_out(&mut self.answers, number);
     }
 }

@@ -5,4 +5,4 @@ use Rattle.ls_inquiry.proofs.inquiry.Inquiry.family.Goals as goal
 pub returns-clause-members : goal.returns-clause-members
 returns-clause-members c =
     let s = c.self.inside.family.inner in
-    ruled-compat s.item_count s.start c.self.inside.family.rules ∙ ap (compat s.item_count s.start) c.self.invariant.0.held.ruled ∙ ap compatible_sets c.self.view_is
+    ruled-compat s.item_count s.start c.self.inside.family.rules ∙ ap (compat s.item_count s.start) c.self.invariant.held.ruled ∙ ap compatible_sets c.self.view_is

@@ -33,9 +33,6 @@ returns-then-not-can_stand-clause-fault g c = (
 pub returns-in_err-copied-clause-fault : goal.returns-in_err-copied-clause-fault
 returns-in_err-copied-clause-fault g c = ran_out _ c.from_residual-in_err-copied.result _ (has_blocks g (goal.at.returns-in_err-copied-clause-fault g c).In_ok-blocks) c.from_residual-in_err-copied.ensures.1
 
-pub returns-in_err-answered-clause-fault : goal.returns-in_err-answered-clause-fault
-returns-in_err-answered-clause-fault g c = ran_out _ c.from_residual-in_err-answered.result _ (has_blocks g (goal.at.returns-in_err-answered-clause-fault g c).In_ok-blocks) c.from_residual-in_err-answered.ensures.1
-
 pub returns-in_err-family-clause-fault : goal.returns-in_err-family-clause-fault
 returns-in_err-family-clause-fault g c =
     no_table (asked g (goal.at.returns-in_err-family-clause-fault g c).In_ok-blocks) _ c.from_residual-in_err-family.result c.in_err-family.field-0.0 (has_blocks g (goal.at.returns-in_err-family-clause-fault g c).In_ok-blocks)
@@ -54,7 +51,7 @@ invariant_of-result g c =
       standing = c.can_stand.ensures.enough i.start c.args.k c.if-not-can_stand.false ((decides g (goal.at.invariant_of-result g c).In_ok-copied).0 c.in_ok-family.ensures.fits);
     } in
     rw (c.in_ok-family.ensures.inner, c.in_ok-family.ensures.rules, c.in_ok-copied.ensures.items)
-    (asking i c.in_ok-blocks.blocks (yes_queries i.answers) c.in_ok-family.table c.next_query.result held (range g (goal.at.invariant_of-result g c).In_ok-blocks) (some-made c.args.n c.args.k c.in_ok-blocks.blocks (sym c.new.ensures.value ∙ c.in_ok-blocks.was)) c.next_query.ensures, c.in_ok-answered.ensures)
+    (asking i c.in_ok-blocks.blocks (yes_queries i.answers) c.in_ok-family.table c.next_query.result held (range g (goal.at.invariant_of-result g c).In_ok-blocks) (some-made c.args.n c.args.k c.in_ok-blocks.blocks (sym c.new.ensures.value ∙ c.in_ok-blocks.was)) c.next_query.ensures)
 
 pub returns-clause-made : goal.returns-clause-made
 returns-clause-made g c =

@@ -12,7 +12,5 @@ invariant_of-result g c =
     let rules = c.in_ok-family.family.rules in
     let table = c.in_ok-family.table in
     let blocks = one-made c.args.n c.args.n c.new.result c.unwrap-blocks.result c.requires.some c.requires.few refl c.new.ensures.value c.unwrap-blocks.ensures in
-    let held = held-begun c.args.n (start_of c.args.start) rules table c.requires.some c.requires.few c.requires.start.is_start c.in_ok-family.ensures.rules c.in_ok-family.ensures.table in (
-      rw (c.in_ok-family.ensures.inner, c.new-2.ensures.items) (asking i c.unwrap-blocks.result rules table c.next_query.result held blocks (omega arith) c.next_query.ensures),
-      rw (c.new-2.ensures.items, c.new-3.ensures) (λ r. refl),
-    )
+    let held = held-begun c.args.n (start_of c.args.start) rules table c.requires.some c.requires.few c.requires.start.is_start c.in_ok-family.ensures.rules c.in_ok-family.ensures.table in
+    rw (c.in_ok-family.ensures.inner, c.new-2.ensures.items) (asking i c.unwrap-blocks.result rules table c.next_query.result held blocks (omega arith) c.next_query.ensures)

@@ -9,12 +9,10 @@ invariant_of-self c =
     let i = interview_of s c.self.inside.block c.self.inside.answers.items c.self.inside.next in
     let j = interview_of s c.args.k c.self.inside.answers.items c.self.inside.next in
     let b = c.in_ok-self-inside.field-0 in
-    let is_made = ap (λ m. made m c.args.k) (sym c.items.ensures.count) ∙ sym c.new.ensures.value ∙ c.in_ok-self-inside.was in (
-      asking j b c.self.inside.family.rules c.self.inside.table c.next_query-self-inside.result
-          (held-blocks i c.args.k c.self.inside.family.rules c.self.inside.table c.self.invariant.0.held)
-          (range-of s.item_count c.args.k b is_made) (some-made s.item_count c.args.k b is_made) c.next_query-self-inside.ensures,
-      c.self.invariant.1,
-    )
+    let is_made = ap (λ m. made m c.args.k) (sym c.items.ensures.count) ∙ sym c.new.ensures.value ∙ c.in_ok-self-inside.was in
+    asking j b c.self.inside.family.rules c.self.inside.table c.next_query-self-inside.result
+    (held-blocks i c.args.k c.self.inside.family.rules c.self.inside.table c.self.invariant.held)
+    (range-of s.item_count c.args.k b is_made) (some-made s.item_count c.args.k b is_made) c.next_query-self-inside.ensures
 
 pub returns-clause-made : goal.returns-clause-made
 returns-clause-made c =
