@@ -3,7 +3,6 @@
 
 mod pupil;
 
-pub use ls_settings::{BadSetting, Ratio, Ratios, Settings};
 pub use ls_theory::{Asked, Outcome, Reason, Reply, ReplyFault};
-pub use ls_weight::WeightFault;
+pub use ls_weight::{BadSetting, Ratio, Ratios, Settings, WeightFault};
 pub use pupil::Pupil;

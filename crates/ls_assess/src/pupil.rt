@@ -8,9 +8,8 @@ ghost use Rattle.ls_weight.specs.Weighings.{IsWeighable};
 
 use ls_ask::{half_split, leader};
 use ls_set::{ItemSet, SetList};
-use ls_settings::Settings;
 use ls_theory::{Asked, Outcome, Reason, Reply, ReplyFault};
-use ls_weight::{WeightFault, Weights};
+use ls_weight::{Settings, WeightFault, Weights};
 use std::alloc::{AllocError, Global};
 use std::marker::Model;
 

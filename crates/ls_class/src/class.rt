@@ -12,9 +12,8 @@ use crate::halves::replay_halves;
 use ls_cutting::Word;
 use ls_files::{ClassResult, Results};
 use ls_set::{ItemSet, SetList};
-use ls_settings::Settings;
 use ls_theory::Replay;
-use ls_weight::WeightFault;
+use ls_weight::{Settings, WeightFault};
 use std::alloc::{AllocError, Global};
 use std::thread::Threads;
 

@@ -9,9 +9,8 @@ use crate::gate::Gate;
 use crate::tree::replay_all;
 use ls_assess::Pupil;
 use ls_set::{ItemSet, SetList};
-use ls_settings::Settings;
 use ls_theory::Replay;
-use ls_weight::WeightFault;
+use ls_weight::{Settings, WeightFault};
 use std::alloc::Global;
 
 // Each of so many pupils enters the gate, the first of which stands at the place `first`.

@@ -9,9 +9,8 @@ ghost use Rattle.ls_class.specs.Replays.{replay_from};
 use crate::gate::Gate;
 use crate::group::replay_group;
 use ls_set::{ItemSet, SetList};
-use ls_settings::Settings;
 use ls_theory::Replay;
-use ls_weight::WeightFault;
+use ls_weight::{Settings, WeightFault};
 use std::alloc::{AllocError, Global};
 use std::thread::{Threads, join};
 

@@ -13,8 +13,8 @@ use crate::keys::put_at;
 use crate::lists::{read_list, write_list};
 use crate::part_fault::PartFault;
 use ls_files::Version;
-use ls_settings::Settings;
 use ls_theory::{Ratio, Ratios};
+use ls_weight::Settings;
 use serde_json::{Map, Value};
 use std::alloc::{AllocError, Global};
 

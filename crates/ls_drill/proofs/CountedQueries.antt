@@ -1,7 +1,7 @@
 -- Queries counted one after another, and how many there are.
 use Rattle.ls_drill.proofs.Vocabulary.{◌&&◌, ◌*◌, ◌+◌, ◌∙◌, ◌∷◌, ◌≡◌, ◌≤◌, BlockRange, Bool, ForSome, Interview, Items, List, None, Option, Query, Some, ℕ, [], add-one, add-zero, ap, ap₂, arith, blocks, comes_after, cond, count_by, count_by-le-length, false, find, find-any, flat_map, get-in, good-to, is_filled, is_filled_no, is_filled_yes, is_good, is_no, is_yes, known, length, length-append, length-filter, length-map, map, numbers_from, queries, queries-in, query_before, query_before-asymmetric, refl, slice_get, sorted-queries, subst, suc, sum_by-cons, sym, take, true, zero, zero-add}
 use Rattle.ls_lists.proofs.Sorted.{find-next}
-use Rattle.ls_inquiry.specs.Held.{blocks_of}
+use Rattle.ls_expert.specs.Held.{blocks_of}
 use Rattle.ls_query.specs.Blocks.{choose}
 use Rattle.ls_query.proofs.Binomials.{choose-none, choose-more, choose-zero_more}
 use Rattle.ls_query.proofs.BySize.{length-blocks_more, length-blocks_none}

@@ -10,7 +10,7 @@ ghost use Rattle.ls_drill.specs.HiddenOrders.{most_drilled};
 ghost use Rattle.ls_drill.specs.Summaries.{is_yes, is_no, is_filled, is_filled_yes, is_filled_no};
 
 use crate::asked::Asked;
-use ls_inquiry::{Inquiry, Known};
+use ls_expert::{Inquiry, Known};
 use ls_interior::Steps;
 use ls_query::Blocks;
 use ls_set::{ItemSet, Query};

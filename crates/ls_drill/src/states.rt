@@ -9,7 +9,7 @@ ghost use Rattle.ls_drill.specs.Summaries.{counted, is_learning};
 use crate::summary::MOST_STATES;
 use ls_base::{Base, Followed};
 use ls_enum::{ListFault, list_all};
-use ls_inquiry::Inquiry;
+use ls_expert::Inquiry;
 use ls_interior::{Counted, Steps};
 use ls_space::test_base;
 use ls_theory::BaseVerdict;

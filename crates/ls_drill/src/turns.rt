@@ -5,7 +5,7 @@ ghost use Rattle.ls_theory.specs.{accepted, refusal};
 ghost use Rattle.ls_drill.specs.Drills.{reply, drilled};
 
 use crate::hidden::Hidden;
-use ls_inquiry::{AnswerFault, Inquiry, Start};
+use ls_expert::{AnswerFault, Inquiry, Start};
 use ls_interior::Steps;
 use ls_set::Query;
 use std::alloc::{AllocError, Global};

@@ -9,13 +9,17 @@ ghost use Rattle.ls_theory.specs.{breaks_none, compat, compatible_sets, is_settl
 ghost use Rattle.ls_theory.specs.{next_question, refusal, retracted, spaces_of, yes_queries};
 ghost use Rattle.ls_base.specs.Followed.{IsFollowed};
 ghost use Rattle.ls_standing.specs.Standing.{interview_on, IsStanding};
-ghost use Rattle.ls_inquiry.specs.Held.{blocks_of};
-ghost use Rattle.ls_inquiry.specs.Saved.{IsStandingFault};
-ghost use Rattle.ls_inquiry.specs.Steps.{steps_back, most_steps, question_steps};
-ghost use Rattle.ls_inquiry.specs.Told.{told_before};
+ghost use Rattle.ls_expert.specs.Held.{blocks_of};
+ghost use Rattle.ls_expert.specs.Saved.{IsStandingFault};
+ghost use Rattle.ls_expert.specs.Steps.{steps_back, most_steps, question_steps};
+ghost use Rattle.ls_expert.specs.Told.{told_before};
 
+use crate::bad_query::BadQuery;
+use crate::inquiry::Inquiry;
+use crate::retract_fault::RetractFault;
+use crate::standing_fault::StandingFault;
+use crate::start_fault::StartFault;
 use ls_base::Followed;
-use ls_inquiry::{BadQuery, Inquiry, RetractFault, StandingFault, StartFault};
 use ls_interior::Steps;
 use ls_query::{BlockFault, Blocks};
 use ls_rules::Ruled;

@@ -2,10 +2,9 @@
 use crate::print_each;
 use ls_base::PastFault;
 use ls_enum::ListFault;
-use ls_inquiry::{RetractFault, StandingFault, StartFault};
-use ls_settings::BadSetting;
+use ls_expert::{RetractFault, StandingFault, StartFault};
 use ls_theory::{AnswerFault, BaseFault, BlockFault};
-use ls_weight::WeightFault;
+use ls_weight::{BadSetting, WeightFault};
 use std::alloc::AllocError;
 use std::io;
 

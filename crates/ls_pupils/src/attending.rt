@@ -8,7 +8,7 @@ use crate::beginning::begin;
 use crate::cases::PupilCases;
 use ls_assess::Settings;
 use ls_cutting::Word;
-use ls_inquiry::Inquiry;
+use ls_expert::Inquiry;
 use ls_interior::Steps;
 use ls_meaning::{PupilRequest, Response};
 use std::alloc::{AllocError, Global};

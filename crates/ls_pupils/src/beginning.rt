@@ -13,7 +13,7 @@ use crate::states::list_states;
 use ls_assess::{Pupil, Settings, WeightFault};
 use ls_cutting::Word;
 use ls_enum::ListFault;
-use ls_inquiry::{Inquiry, Start};
+use ls_expert::{Inquiry, Start};
 use ls_interior::Steps;
 use ls_meaning::{Refusal, Response};
 use ls_set::{ItemSet, Query, QueryList};

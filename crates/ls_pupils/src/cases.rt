@@ -10,7 +10,7 @@ ghost use Rattle.ls_pupils.specs.declared.cases.PupilCase.{PupilCase as Case};
 
 use ls_assess::{Pupil, ReplyFault, Settings};
 use ls_cutting::Word;
-use ls_inquiry::Start;
+use ls_expert::Start;
 use ls_set::QueryList;
 use std::alloc::{AllocError, Global};
 use std::marker::Model;

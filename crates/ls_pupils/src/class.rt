@@ -10,7 +10,7 @@ use ls_assess::{Settings, WeightFault};
 use ls_class::{ClassFault, ClassTable, OpenGate, run_class};
 use ls_domain::Domain;
 use ls_enum::ListFault;
-use ls_inquiry::Inquiry;
+use ls_expert::Inquiry;
 use ls_interior::Steps;
 use ls_meaning::{Refusal, Response, Shown};
 use ls_set::SetList;

@@ -4,7 +4,7 @@ ghost use Rattle.ls_theory.specs.{compatible_sets, most_states};
 
 use ls_columns::Columns;
 use ls_enum::{ListFault, list_all};
-use ls_inquiry::Inquiry;
+use ls_expert::Inquiry;
 use ls_interior::{Counted, Steps};
 use ls_set::SetList;
 use ls_standing::leading;

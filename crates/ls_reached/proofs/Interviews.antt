@@ -4,9 +4,9 @@ use Rattle.ls_theory.specs.declared.answer.Answer.{Answer}
 use Rattle.ls_theory.specs.declared.block_fault.BlockFault.{BlockFault}
 use Rattle.ls_theory.specs.declared.ratio.Ratios.{Ratios}
 use Rattle.ls_theory.specs.Settings.{Settings, are_ratios, are_limits, are_settings, standard, with_all, with_item}
-use Rattle.ls_settings.proofs.Kept.{list_all-replicate}
+use Rattle.ls_weight.proofs.KeptSettings.{list_all-replicate}
 use Rattle.ls_standing.specs.Standing as held
-use Rattle.ls_inquiry.proofs.Holding.{made-one, standing-begun, standing-blocks, standing-start}
+use Rattle.ls_expert.proofs.Holding.{made-one, standing-begun, standing-blocks, standing-start}
 use Rattle.ls_meaning.specs.declared.response.Refusal.TheVariants as refusal_of
 use Rattle.ls_meaning.specs.declared.request.Edit.{Edit}
 use Rattle.ls_meaning.specs.declared.request.Edit.TheVariants as edit

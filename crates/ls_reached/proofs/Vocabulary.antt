@@ -7,8 +7,8 @@ pub use Rattle.std.specs.Prelude.{bytes_eq, is_none, slice_index_or, ⊤}
 pub use Rattle.std.specs.Result.{is_ok, result_ok}
 pub use Rattle.ls_domain.specs.Domains.{IsDomain, is_name, names_of_table, names_of_words}
 unfoldable pub use Rattle.ls_domain.specs.Domains.{names_from}
-pub use Rattle.ls_inquiry.proofs.Retracting.{distinct-fewer, standing-back}
-pub use Rattle.ls_inquiry.proofs.Taking.{distinct-last, standing-taken}
+pub use Rattle.ls_expert.proofs.Retracting.{distinct-fewer, standing-back}
+pub use Rattle.ls_expert.proofs.Taking.{distinct-last, standing-taken}
 pub use Rattle.ls_lines.specs.{Text, front, is_long, one}
 unfoldable pub use Rattle.ls_lines.specs.{command, command_of, cut, forms, is_of, lines, parts, spelling, words}
 pub use Rattle.ls_lists.proofs.Every.{All-append, All-filter, All-given, All-map, each, list_all-set}

@@ -1,7 +1,7 @@
 -- What is decided, by what is made.
 use Rattle.ls_state.proofs.Vocabulary.{[], ◌<◌, ◌∙◌, ◌∷◌, ◌≡◌, AllocError, Bool, Calls, Change, Command, Decides, EditCommand, Effect, Err, Folder, FewCalls, FolderStays, IfOk, Interview, IsAfterLine, IsDecided, IsErrAnd, List, Makes, MakesChange, Missing, None, Ok, OnOk, Option, PupilCommand, Refused, Response, Result, Sees, Session, SettingCommand, ShelfState, Some, Unnamed, ViewCommand, ℕ, answers, ap, arith, changes_interview, changes_pupils, changes_settings, command_effect, cond, edit_effect, edit_item_words, edit_of, edit_row, false, has_domain, in_domain, length, line_effect, pupil_effect, pupil_item_words, pupil_name, pupil_of, pupil_row, refl, setting_effect, setting_item_words, setting_of, setting_row, standing_session, started, subst, sym, true, unless_unnamed, unnamed, view_effect, view_item_words, view_of, view_row, SafeCommand, changes_safe, safe_effect, safe_item_words, safe_of, safe_row}
-pub use Rattle.ls_requests.proofs.Seen.{files_stay}
-use Rattle.ls_requests.proofs.Seen.{calls_told, sees_told}
+pub use Rattle.ls_deciding.proofs.Seen.{files_stay}
+use Rattle.ls_deciding.proofs.Seen.{calls_told, sees_told}
 use Rattle.std.proofs.lemmas.Result.{on_ok_weaker, on_err_weaker}
 
 -- ---- where no call is made

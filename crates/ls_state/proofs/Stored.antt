@@ -1,7 +1,7 @@
 -- A command that stores a file.
 use Rattle.ls_state.proofs.Vocabulary.{◌++◌, ◌<◌, ◌∙◌, ◌≡◌, ◌≤◌, ◌↔◌, AllocError, Bool, Calls, Decides, Done, Effect, Err, FailedLast, FileFailed, Folder, FolderStays, IsErrOf, LargeFile, List, Missing, None, Ok, Option, Refused, Response, Result, Sees, Session, ShelfState, Some, StoreCause, Stores, ℕ, answers, ap, false, le-ltb, length, longest_file, lt-ltb, one_more, refl, refuse, save_row, saved, session_text, stores, subst, sym, true}
 use Rattle.ls_state.proofs.Fetched.{few_one}
-use Rattle.ls_requests.proofs.Seen.{calls_told, calls_told-failed, files_stay, sees_told}
+use Rattle.ls_deciding.proofs.Seen.{calls_told, calls_told-failed, files_stay, sees_told}
 use Rattle.std.specs.FinMap as map
 use Rattle.ls_edge.specs.declared.traits.StoreFault.{StoreFault}
 use Rattle.ls_edge.specs.declared.traits.StoreFault.TheVariants as store

@@ -3,8 +3,8 @@ use Rattle.ls_state.proofs.Vocabulary.{[], ◌++◌, ◌∙◌, ◌∷◌, ◌�
 use Rattle.ls_state.proofs.Decided.{makes_as}
 use Rattle.ls_state.proofs.Fetched.{calls_failed, calls_missing, decides_seen, decides_unseen, few_one, refused_apart}
 use Rattle.std.proofs.lemmas.Slice.Eq.{bytes_eq-Decides}
-use Rattle.ls_contents.specs.TwoFiles.{right_bytes}
-use Rattle.ls_contents.specs.declared.meshes.TwoFiles.{TwoFiles}
+use Rattle.ls_deciding.specs.TwoFiles.{right_bytes}
+use Rattle.ls_deciding.specs.declared.meshes.TwoFiles.{TwoFiles}
 use Rattle.ls_meaning.specs.MeshRows.{two_files}
 
 -- a file that gave bytes, and is not told as one whose call failed, is not refused

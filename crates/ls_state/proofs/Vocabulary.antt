@@ -44,8 +44,8 @@ pub use Rattle.ls_theory.specs.declared.answer.Answer.{Answer}
 pub use Rattle.ls_room.proofs.Saying.{says_as}
 pub use Rattle.ls_write.proofs.Showing.{can-view}
 pub use Rattle.ls_write.specs.Showing.{CanSay, is_shown}
-pub use Rattle.ls_requests.specs.Changes.{MakesChange}
-pub use Rattle.ls_requests.specs.Fetches.{AreFetched, AreMade, FailedLast, Fetching, GaveBytes, IsFetched, Sees, SeesFile, SeesFiles, ShelfState, shelf_state}
+pub use Rattle.ls_deciding.specs.Changes.{MakesChange}
+pub use Rattle.ls_deciding.specs.Fetches.{AreFetched, AreMade, FailedLast, Fetching, GaveBytes, IsFetched, Sees, SeesFile, SeesFiles, ShelfState, shelf_state}
 pub use Rattle.ls_state.specs.Decides.{Decides, FewCalls, IsDecided, Makes}
 pub use Rattle.ls_state.specs.Standing.{IsAfterLine, standing_session}
 pub use Rattle.ls_state.specs.States.{state_session}

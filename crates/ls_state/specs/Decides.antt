@@ -6,7 +6,7 @@ use Rattle.ls_edge.specs.Files.{Folder, FolderStays}
 use Rattle.ls_cutting.specs.{Text}
 use Rattle.ls_meaning.specs.{Calls, Effect, Failed, Session, folder_with}
 use Rattle.ls_meaning.specs.declared.response.Response.{Response}
-pub use Rattle.ls_requests.specs.Fetches.{Sees, ShelfState, shelf_state}
+pub use Rattle.ls_deciding.specs.Fetches.{Sees, ShelfState, shelf_state}
 
 -- ---- without the folder
 

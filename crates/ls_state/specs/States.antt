@@ -5,13 +5,13 @@ use Rattle.std.specs.Option.{ForSome}
 use Rattle.ls_theory.specs.{Interview}
 use Rattle.ls_theory.specs.Settings.{Settings}
 use Rattle.ls_base.specs.declared.trail.Entry.{Entry}
-use Rattle.ls_requests.specs.Changes.{IsTrailOf}
+use Rattle.ls_deciding.specs.Changes.{IsTrailOf}
 use Rattle.ls_cutting.specs.{Text}
 use Rattle.ls_meaning.specs.{Session}
 use Rattle.ls_pupils.specs.Cases.{pupils_of, ArePupils}
 use Rattle.ls_pupils.specs.declared.cases.PupilCase.{PupilCase}
-use Rattle.ls_safely.specs.Cases.{IsSafeCase, safe_interview}
-use Rattle.ls_safely.specs.declared.case.SafeCase.{SafeCase}
+use Rattle.ls_deciding.specs.Cases.{IsSafeCase, safe_interview}
+use Rattle.ls_deciding.specs.declared.case.SafeCase.{SafeCase}
 
 -- the session of names, an interview on their items, settings and pupils, and a safe interview
 abbrev pub state_session : List Text → Interview → Settings → List PupilCase → Option SafeCase

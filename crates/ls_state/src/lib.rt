@@ -4,5 +4,5 @@
 
 mod state;
 
-pub use ls_requests::fetch;
+pub use ls_deciding::fetch;
 pub use state::State;

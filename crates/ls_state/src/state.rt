@@ -19,18 +19,17 @@ mod skills;
 
 use ls_assess::Settings;
 use ls_base::Trail;
+use ls_deciding::{SafeCase, ask_safe, change, show};
 use ls_domain::Domain;
 use ls_edge::Sink;
-use ls_inquiry::{Inquiry, Start};
+use ls_expert::{Inquiry, Start};
 use ls_interior::Steps;
 use ls_lines::{EditCommand, PupilCommand, SafeCommand, SettingCommand, ViewCommand};
 use ls_meaning::{Refusal, Response};
 use ls_pupils::{PupilCases, attend, set};
-use ls_requests::{ask_safe, change, show};
 use ls_resolve::{
     ResolveFault, Unnamed, resolve_edit, resolve_pupil, resolve_safe, resolve_setting, resolve_view,
 };
-use ls_safely::SafeCase;
 use ls_set::PLACES;
 use ls_store::{Parts, SessionFault, read_parts};
 use ls_write::{Room, SetTexts, put_response};

@@ -2,8 +2,8 @@
 use Rattle.ls_store.proofs.Vocabulary.{Answer, BlockRange, Bool, Data, Err, Interview, IsStandingFault, List, None, Option, Result, Some, Start, answers_field, ap, ap₂, are_made, cond, false, false_from_ne_true, interview_from, interview_on, is_ok, kept_if, made, next_field, option_map, option_zip, read_interview, refl, stands, sym, true, true≢false, ℕ, ◌∙◌, ◌≡◌}
 use Rattle.std.specs.declared.alloc.AllocError.{AllocError}
 use Rattle.ls_theory.specs.declared.block_fault.BlockFault.{BlockFault}
-use Rattle.ls_inquiry.specs.declared.standing_fault.StandingFault.{StandingFault}
-use Rattle.ls_inquiry.specs.declared.standing_fault.StandingFault.TheVariants.{BadBlock, TooWide, BadAnswers, Memory}
+use Rattle.ls_expert.specs.declared.standing_fault.StandingFault.{StandingFault}
+use Rattle.ls_expert.specs.declared.standing_fault.StandingFault.TheVariants.{BadBlock, TooWide, BadAnswers, Memory}
 use Rattle.ls_standing.specs.Standing as held
 use Rattle.ls_codecs.specs.Whole as whole
 use Rattle.ls_codecs.proofs.Sound.{stands-standing}

@@ -8,8 +8,8 @@ ghost use Rattle.ls_files.specs.Standing.{are_made};
 ghost use Rattle.ls_codecs.specs.Faults.{IsRead};
 
 use ls_codecs::{PartFault, read_at, read_list_at};
+use ls_expert::{Inquiry, StandingFault, Start};
 use ls_files::Version;
-use ls_inquiry::{Inquiry, StandingFault, Start};
 use ls_interior::Steps;
 use ls_theory::Answer;
 use serde_json::Value;

@@ -1,8 +1,8 @@
 // The parts of a session.
 use ls_domain::Domain;
-use ls_inquiry::Inquiry;
+use ls_expert::Inquiry;
 use ls_pupils::PupilCases;
-use ls_settings::Settings;
+use ls_weight::Settings;
 
 /// The parts of a session: the domain, the interview on its items, and their settings and pupils.
 #[derive(Drop)]

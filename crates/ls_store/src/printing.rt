@@ -7,12 +7,12 @@ ghost use Rattle.ls_files.specs.{session_text};
 ghost use Rattle.ls_files.specs.SessionFiles.{session_value};
 ghost use Rattle.ls_pupils.specs.Cases.{pupils_of, ArePupils};
 
+use crate::written_pupils::cases_value;
 use ls_codecs::{names_value, put_at, put_settings, start_value, write_list};
 use ls_domain::Domain;
-use ls_inquiry::Inquiry;
+use ls_expert::Inquiry;
 use ls_pupils::PupilCases;
-use ls_saved_pupils::cases_value;
-use ls_settings::Settings;
+use ls_weight::Settings;
 use serde_json::{Map, Value};
 use std::alloc::{AllocError, Global};
 

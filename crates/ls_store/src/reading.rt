@@ -11,18 +11,18 @@ ghost use Rattle.ls_store.specs.Stored.{held_in, session_of_parts};
 use crate::fault::SessionFault;
 use crate::inquiries::read_inquiry;
 use crate::parts::Parts;
+use crate::pupils::read_pupils;
 use ls_codecs::{
     PartFault, read_block, read_domain, read_limits, read_object, read_odds, read_start,
     read_version,
 };
 use ls_domain::Domain;
+use ls_expert::Inquiry;
 use ls_files::{Cause, Version};
-use ls_inquiry::Inquiry;
 use ls_interior::Steps;
 use ls_pupils::PupilCases;
-use ls_saved_pupils::read_pupils;
 use ls_set::PLACES;
-use ls_settings::Settings;
+use ls_weight::Settings;
 use serde_json::Value;
 use std::alloc::Global;
 use std::sync::ledger::Ledger;

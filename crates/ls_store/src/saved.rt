@@ -13,7 +13,7 @@ use ls_domain::Domain;
 use ls_expert::Interview;
 use ls_interior::Steps;
 use ls_pupils::PupilCases;
-use ls_settings::Settings;
+use ls_weight::Settings;
 use std::alloc::{AllocError, Global};
 use std::sync::ledger::Ledger;
 

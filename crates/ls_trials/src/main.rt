@@ -2,8 +2,14 @@
 //! names the command line has; `data/README.txt` says how one is written.
 #![tactic(auto)]
 
-use ls_case_runs::differing;
-use ls_cases::text::Trouble;
+mod case;
+mod extent;
+mod fault;
+mod text;
+mod trial;
+
+use crate::text::Trouble;
+use crate::trial::differing;
 use std::rt::Files;
 use std::thread::Threads;
 use std::{env, fs, io};

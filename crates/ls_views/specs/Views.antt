@@ -4,7 +4,7 @@ use Rattle.ls_set.specs.{Items}
 use Rattle.ls_theory.specs.{Interview, base, base_verdict, clauses_at, projection, state_of}
 use Rattle.ls_lines.specs.declared.view.ViewCommand.{ViewCommand}
 use Rattle.ls_lines.specs.declared.view.ViewCommand.TheVariants as command
-use Rattle.ls_inquiry.specs.Steps.{question_steps}
+use Rattle.ls_expert.specs.Steps.{question_steps}
 use Rattle.ls_meaning.specs.{learned, paths_shown, state_shown}
 use Rattle.ls_meaning.specs.RelationRows.{relation_shown}
 use Rattle.ls_meaning.specs.declared.request.View.{View}

@@ -15,8 +15,8 @@ ghost use Rattle.ls_meaning.specs.RelationRows.{relation_shown};
 ghost use Rattle.ls_views.specs.Views.{is_based, based_on};
 
 use ls_base::{Base, Followed};
+use ls_expert::Inquiry;
 use ls_fringe::state_of;
-use ls_inquiry::Inquiry;
 use ls_interior::Inside;
 use ls_meaning::{Refusal, Response, Shown, SurmiseClauses, View};
 use ls_order::Relation;

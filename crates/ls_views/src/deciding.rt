@@ -5,8 +5,8 @@ ghost use Rattle.ls_meaning.specs.{IsViewOn, fringes_row, known_row, project_row
 ghost use Rattle.ls_meaning.specs.{view_row};
 ghost use Rattle.ls_views.specs.Views.{is_based, view_steps};
 
+use ls_expert::{AnswerFault, BadQuery, Inquiry};
 use ls_fringe::fringes;
-use ls_inquiry::{AnswerFault, BadQuery, Inquiry};
 use ls_interior::{Steps, is_member};
 use ls_meaning::{Refusal, Response, Shown, View};
 use ls_set::{CursorFault, ItemSet, Query};

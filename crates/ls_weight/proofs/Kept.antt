@@ -1,5 +1,6 @@
 -- What is known of weights and sums that are kept.
-use Rattle.ls_weight.proofs.Vocabulary.{◌*◌, ◌<◌, ◌^◌, ◌∙◌, ◌∷◌, ◌≡◌, ◌≤◌, IsFirstMaxByKey, AreKeptSums, Items, KeptSums, List, Ratio, Ratios, Reply, Weighing, ℕ, [], ap, arith, count_by, empty, get_or, get_or-le-sum_by, get_or-map, get_or-map-range_with_len, get_or-replicate, has, is_ratio, length, length-map, length-replicate, light-total, map, mass, mass-sum, nat_tests, range_with_len, refl, replicate, sum_by-cons, sym, total, true, weight}
+use Rattle.ls_weight.proofs.Light.{light-total}
+use Rattle.ls_weight.proofs.Vocabulary.{◌*◌, ◌<◌, ◌^◌, ◌∙◌, ◌∷◌, ◌≡◌, ◌≤◌, IsFirstMaxByKey, AreKeptSums, Items, KeptSums, List, Ratio, Ratios, Reply, Weighing, ℕ, [], ap, arith, count_by, empty, get_or, get_or-le-sum_by, get_or-map, get_or-map-range_with_len, get_or-replicate, has, is_ratio, length, length-map, length-replicate, map, mass, mass-sum, nat_tests, range_with_len, refl, replicate, sum_by-cons, sym, total, true, weight}
 use Rattle.std.proofs.lemmas.Nat.{mul-le}
 use Rattle.ls_lists.proofs.Filters.{sum_by-filter-le}
 

@@ -1,4 +1,7 @@
 mod Vocabulary
+pub mod Light
+pub mod Heavy
+pub mod KeptSettings
 pub mod SumsBelow
 pub mod Passing
 pub mod Rowing

@@ -1,5 +1,6 @@
 -- What is kept after one more reply.
-use Rattle.ls_weight.proofs.Vocabulary.{◌*◌, ◌++◌, ◌+◌, ◌-◌, ◌<◌, ◌^◌, ◌∙◌, ◌∷◌, ◌≡◌, ◌≤◌, IsFirstMaxByKey, AreKeptSums, KeptSums, List, Ratio, Reply, Weighing, ℕ, [], agreeing_with, agrees, ap, ap₂, arith, cond, get_or, get_or_default, is_ratio, length, length-append, light-total, map, mass, nat_tests, ratio_for, state_at, subst, total, true, weight}
+use Rattle.ls_weight.proofs.Light.{light-total}
+use Rattle.ls_weight.proofs.Vocabulary.{◌*◌, ◌++◌, ◌+◌, ◌-◌, ◌<◌, ◌^◌, ◌∙◌, ◌∷◌, ◌≡◌, ◌≤◌, IsFirstMaxByKey, AreKeptSums, KeptSums, List, Ratio, Reply, Weighing, ℕ, [], agreeing_with, agrees, ap, ap₂, arith, cond, get_or, get_or_default, is_ratio, length, length-append, map, mass, nat_tests, ratio_for, state_at, subst, total, true, weight}
 use Rattle.ls_weight.proofs.Kept.{kept-long, mass-le}
 use Rattle.ls_weight.proofs.After.{after-total, after-mass, after-weights, first-stays, items-more}
 

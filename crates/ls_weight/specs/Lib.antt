@@ -1,3 +1,4 @@
+pub mod Allowed
 pub mod Sums
 pub mod Rows
 pub mod Weighings

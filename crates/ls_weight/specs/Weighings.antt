@@ -8,7 +8,7 @@ use Rattle.ls_theory.specs.Settings.{Settings, most_states, heavy_after}
 use Rattle.ls_theory.specs.{mass, total, weight}
 use Rattle.ls_weight.specs.Sums.{table_cells}
 use Rattle.ls_weight.specs.Rows.{width_of}
-use Rattle.ls_settings.specs.Allowed.{IsAllowed}
+use Rattle.ls_weight.specs.Allowed.{IsAllowed}
 
 -- the settings, the states, and the replies that were given
 pub record Weighing : Type 0 where

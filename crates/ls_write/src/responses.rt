@@ -24,7 +24,7 @@ use crate::structures::{put_complements, put_mesh, put_unions};
 use crate::surmise::put_surmise;
 use crate::walking::put_paths;
 use ls_edge::Sink;
-use ls_inquiry::{Inquiry, Known};
+use ls_expert::{Inquiry, Known};
 use ls_interior::Steps;
 use ls_meaning::{Response, Shown};
 use ls_project::Trace;

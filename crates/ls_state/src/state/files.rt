@@ -4,14 +4,13 @@ ghost use Rattle.ls_meaning.specs.{in_domain, refuse, save_row, start_row, store
 ghost use Rattle.ls_state.specs.Decides.{Decides, shelf_state};
 
 use crate::state::State;
-use ls_contents::test_sets;
 use ls_cutting::Word;
+use ls_deciding::{fetch, start_from, test_sets};
 use ls_edge::{LONGEST_FILE, Shelf, StoreFault};
 use ls_interior::Steps;
 use ls_lines::FileCommand;
 use ls_meaning::{Refusal, Response, SkillModel, StartFile};
 use ls_pupils::assess_class;
-use ls_requests::{fetch, start_from};
 use ls_store::print_parts;
 use std::alloc::{AllocError, Global};
 use std::sync::ledger::Ledger;

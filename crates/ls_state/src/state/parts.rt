@@ -5,11 +5,10 @@ ghost use Rattle.ls_meaning.specs.MeshRows.{mesh_agree_row, mesh_row};
 ghost use Rattle.ls_state.specs.Decides.{Decides, shelf_state};
 
 use crate::state::State;
-use ls_contents::{agreement, page_of_mesh};
 use ls_cutting::Word;
+use ls_deciding::{agreement, fetch_both, page_of_mesh};
 use ls_edge::Shelf;
 use ls_meaning::{Refusal, Response};
-use ls_requests::fetch_both;
 use ls_resolve::read_after;
 use std::alloc::AllocError;
 

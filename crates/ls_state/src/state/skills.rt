@@ -5,11 +5,10 @@ ghost use Rattle.ls_meaning.specs.SkillRows.{skills_row};
 ghost use Rattle.ls_state.specs.Decides.{Decides, shelf_state};
 
 use crate::state::State;
-use ls_contents::delineate;
 use ls_cutting::Word;
+use ls_deciding::{delineate, fetch};
 use ls_edge::Shelf;
 use ls_meaning::{Refusal, Response, SkillModel};
-use ls_requests::fetch;
 use ls_resolve::read_after;
 use std::alloc::AllocError;
 

@@ -1,5 +1,5 @@
 use Rattle.ls_drill.proofs.Vocabulary.{arith, good-from, ◌*◌, ◌+◌, ◌∙◌, ◌≡◌, ◌≤◌, Answer, IfOk, Known, List, Result, Some, ap, cond, is_good, is_no, is_same_query, is_yes, known, list_any, not, rules, subst, sym, true}
-use Rattle.ls_inquiry.specs.declared.bad_query.BadQuery.{BadQuery}
+use Rattle.ls_expert.specs.declared.bad_query.BadQuery.{BadQuery}
 use Rattle.ls_drill.specs.declared.counting.Filled.{Filled}
 use Rattle.ls_drill.proofs.CountedQueries.{IsCounted, none-counted, next-good, counted-asked, counted-filled, counted-end, counted-last, met, met-none}
 use Rattle.ls_drill.proofs.SettledDrills.{filled-any}

@@ -1,7 +1,7 @@
 use Rattle.ls_store.proofs.Vocabulary.{◌∙◌, ◌≡◌, Answer, List, PupilCase, Start, answer_codec, ap, codes, list_value, lists, no_members, numbers, object, pupil_codec, pupil_of_case, pupils_of, start_codec, view}
 use Rattle.ls_files.specs.declared.version.Version.TheVariants as version
 use Rattle.std.proofs.lemmas.Result.{on_ok_weaker}
-use Rattle.ls_saved_pupils.proofs.Putting.{then_put, then_settings}
+use Rattle.ls_store.proofs.Putting.{then_put, then_settings}
 use Rattle.ls_store.proofs.WrittenCases.{case-values}
 use Rattle.ls_store.proofs.printing.put_parts.Goals as goal
 

@@ -1,6 +1,6 @@
 use Rattle.ls_state.proofs.Vocabulary.{[], ◌<◌, ◌∙◌, ◌≡◌, CursorFault, Decides, Effect, Err, Fetched, IfOk, Items, List, Ok, Option, Refusal, Response, Result, Session, Text, ℕ, after_of, answers, ap, in_domain, in_domain-some, length, refl, sets_of, shelf_state, state_session, subst}
 use Rattle.ls_meaning.specs.MeshRows.{mesh_row, meshed_by}
-use Rattle.ls_contents.specs.TwoFiles.{right_bytes}
+use Rattle.ls_deciding.specs.TwoFiles.{right_bytes}
 use Rattle.ls_state.proofs.Cursors.{cursor}
 use Rattle.ls_state.proofs.Decided.{decides_made, makes_response, some_names}
 use Rattle.ls_state.proofs.TwoFetched.{both_read, both_unfetched, both_unread}

@@ -1,6 +1,6 @@
 use Rattle.ls_state.proofs.Vocabulary.{[], ◌<◌, ◌∙◌, ◌≡◌, Decides, Effect, Fetched, IfOk, List, Ok, Refusal, Response, Session, Text, ℕ, answers, ap, bytes_fetched, in_domain, in_domain-some, length, refl, sets_of, shelf_state, state_session, subst}
 use Rattle.ls_meaning.specs.MeshRows.{agreed_by, mesh_agree_row, two_files}
-use Rattle.ls_contents.specs.TwoFiles.{right_bytes}
+use Rattle.ls_deciding.specs.TwoFiles.{right_bytes}
 use Rattle.ls_state.proofs.Decided.{makes_response, some_names}
 use Rattle.ls_state.proofs.TwoFetched.{both_read, both_unfetched, both_unread}
 use Rattle.ls_state.proofs.state.State.mesh_agree.Goals as goal

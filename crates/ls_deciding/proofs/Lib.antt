@@ -1,0 +1,9 @@
+mod TwoParts
+mod Delineated
+mod Answered
+mod Opened
+mod Vocabulary
+pub mod Seen
+mod Fetched
+mod TwoFetched
+mod Trailed

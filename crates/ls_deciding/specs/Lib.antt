@@ -1,0 +1,6 @@
+pub mod Readings
+pub mod TwoFiles
+pub mod Parts
+pub mod Cases
+pub mod Changes
+pub mod Fetches

@@ -1,5 +1,0 @@
-mod Vocabulary
-pub mod Seen
-mod Fetched
-mod TwoFetched
-mod Trailed

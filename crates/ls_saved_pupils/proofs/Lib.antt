@@ -1,8 +1,0 @@
-mod Vocabulary
-pub mod CaseParts
-pub mod OwnSettings
-pub mod PupilLists
-pub mod PupilNames
-pub mod PupilParts
-pub mod PupilStates
-pub mod Putting

@@ -1,4 +1,0 @@
-mod Vocabulary
-pub mod Light
-pub mod Heavy
-pub mod Kept
