@@ -2,8 +2,8 @@
 use Rattle.ls_base.proofs.Vocabulary.{Bool, IsBelow, IsInOrder, IsInOrder-filter, Items, List, Query, [], ap, append-nil, ap₂, arith, atoms_at, base, breaks, broken_at, broken_in, cases_lt, cond, false, filter, filter-append, filter-both, filter_agree, gained, gained_at, gained_below, get_or, has, has-full, has-interior, has-minus, has_none_within, having, inl, inr, is_among, is_atom_at, is_gained, is_proper, is_same, is_within, joined, joins, least_beside, left_by, length, list_any, ltb-true, map, minus, near, not, refl, some_breaks, spanned, spanned-IsUnionFamily, spanned-in_order, subst, suc, sym, take, take_more, true, true≢false, union_below, zero, ℕ, ◌&&◌, ◌++◌, ◌+◌, ◌<◌, ◌∙◌, ◌∷◌, ◌≡◌}
 use Rattle.std.proofs.Math.Bool.{and_comm}
 use Rattle.ls_laws.proofs.Closures.{left-IsUnionFamily}
-use Rattle.ls_changes.proofs.Least.{among-either, among-left, among-right, below-through, some-filter, some-same}
-use Rattle.ls_changes.proofs.Atoms.{near-below, gained-where, base-list, base-same}
+use Rattle.ls_laws.proofs.LeastSets.{among-either, among-left, among-right, below-through, some-filter, some-same}
+use Rattle.ls_laws.proofs.AtomsAfter.{near-below, gained-where, base-list, base-same}
 use Rattle.ls_base.specs.declared.left.Broken.{Broken}
 use Rattle.ls_base.proofs.Spanned.{base-again, atoms_at-base}
 

@@ -14,8 +14,8 @@ use Rattle.ls_set.proofs.Sets.{IsWithin-from, is_within-from, has-empty, has-wit
 use Rattle.ls_laws.specs.Spans.{is_proper, joins, touches}
 use Rattle.ls_laws.proofs.Lists.{some-among, some-from}
 use Rattle.ls_laws.proofs.Remains.{common, touches-at}
-use Rattle.ls_changes.specs.Least.{IsBelow, has_none_within, having}
-use Rattle.ls_changes.proofs.Least.{among-either, among-left, among-right}
+use Rattle.ls_laws.specs.LeastSets.{IsBelow, has_none_within, having}
+use Rattle.ls_laws.proofs.LeastSets.{among-either, among-left, among-right}
 use Rattle.ls_base.specs.Gains.{is_gained}
 
 -- ---- one more set

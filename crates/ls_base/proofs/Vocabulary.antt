@@ -10,7 +10,7 @@ pub use Rattle.std.proofs.lemmas.Option.{get_or_from_slice_get, slice_get-get_or
 pub use Rattle.std.proofs.lemmas.Result.{IfOk-weaker, err_from_is_err_and}
 pub use Rattle.std.specs.List.{All, AllByRecursion, dedup, dedup_from, list_all, list_any, range_with_len}
 pub use Rattle.std.specs.Option.{option_map_or}
-pub use Rattle.ls_changes.specs.Least.{IsBelow, gained, has_none_within, having, joined, least_beside, least_sets, near}
+pub use Rattle.ls_laws.specs.LeastSets.{IsBelow, gained, has_none_within, having, joined, least_beside, least_sets, near}
 pub use Rattle.ls_laws.proofs.Atoms.{IsAtom-from, among-base, atom_within, base-member, base-spans}
 pub use Rattle.ls_laws.proofs.Counts.{as_many, len-one, len-single, len-zero}
 pub use Rattle.ls_laws.proofs.Interiors.{IsUnionFamily, from-interior, has-interior, interior-member, interior-whole, interior-within, subsets-IsUnionFamily, to-interior}

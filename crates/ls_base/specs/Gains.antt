@@ -3,7 +3,7 @@ use Rattle.std.specs.Prelude.{ℕ, zero, suc, Bool, not, ◌&&◌, List, [], ◌
 use Rattle.std.specs.List.{list_any}
 use Rattle.ls_set.specs.{Items, has, len, minus}
 use Rattle.ls_laws.specs.Spans.{is_proper, joins}
-use Rattle.ls_changes.specs.Least.{having, has_none_within}
+use Rattle.ls_laws.specs.LeastSets.{having, has_none_within}
 use Rattle.ls_laws.specs.Spans.{union_below}
 use Rattle.ls_base.specs.declared.left.Broken.{Broken}
 

@@ -6,7 +6,7 @@ ghost use Rattle.ls_theory.specs.Queries.{some_breaks};
 ghost use Rattle.ls_theory.specs.Bases.{base, atom_sets, based, is_atom_at};
 ghost use Rattle.ls_theory.specs.Bases.{atoms_at, most_base_sets};
 ghost use Rattle.ls_laws.specs.Spans.{AreOn, left_by, spanned, touches};
-ghost use Rattle.ls_changes.specs.Least.{IsBelow};
+ghost use Rattle.ls_laws.specs.LeastSets.{IsBelow};
 ghost use Rattle.ls_base.specs.Bases.{family, single_sets, own_items, IsBaseFault};
 ghost use Rattle.ls_base.specs.Bases.{IsPastOf, IsOfMany};
 

@@ -4,7 +4,7 @@ ghost use Rattle.std.specs.Prelude.{IfOk, OnOk};
 ghost use Rattle.std.specs.List.{list_any};
 ghost use Rattle.ls_set.specs.{is_same, is_within, union};
 ghost use Rattle.ls_laws.specs.Spans.{is_proper, joins, touches};
-ghost use Rattle.ls_changes.specs.Least.{IsBelow};
+ghost use Rattle.ls_laws.specs.LeastSets.{IsBelow};
 ghost use Rattle.ls_base.specs.Gains.{least_size, is_gained};
 
 use crate::unions::is_proper;

@@ -1,4 +1,11 @@
 mod Vocabulary
+pub mod Traces
+pub mod Spoken
+pub mod SpanningLists
+pub mod Unclosed
+pub mod Fewer
+pub mod Below
+pub mod Verdicts
 pub mod Spanning
 pub mod Places
 pub mod Clauses

@@ -1,3 +1,5 @@
+pub mod LeastSets
+pub mod AtomsAfter
 mod Vocabulary
 pub mod Lists
 pub mod Interiors

@@ -1,3 +1,4 @@
+pub mod LeastSets
 pub mod Walks
 pub mod Spans
 pub mod Families

@@ -2,6 +2,7 @@
 //! that does nothing when it runs, so that a proof can cite it as that function's promise.
 #![tactic(auto)]
 
+mod after_yes;
 mod assessments;
 mod bases;
 mod changes;
@@ -10,6 +11,7 @@ mod fringes;
 mod gradation;
 mod spaces;
 
+pub use after_yes::{atoms_are_least, base_after_yes};
 pub use assessments::{masses_are_sums, share_comes_before_budget};
 pub use bases::{
     base_of_spanning, base_spans, family_is_compatible_with_its_base, spanned_by, spans_after_yes,

@@ -18,8 +18,8 @@ use Rattle.ls_laws.proofs.Spans.{among-spanned, spanned-has, spanned-whole}
 use Rattle.ls_laws.proofs.Projecting.{projection-from}
 use Rattle.ls_set.proofs.Ascending.{least-none}
 use Rattle.ls_set.proofs.Listed.{least-none_left}
-use Rattle.ls_spans.specs.Traces.{meets_with}
-use Rattle.ls_spans.proofs.Traces.{among-trace, projection-base, projection-IsFamily}
+use Rattle.ls_clauses.specs.Traces.{meets_with}
+use Rattle.ls_clauses.proofs.Traces.{among-trace, projection-base, projection-IsFamily}
 use Rattle.ls_origins.specs.Meshes.{mesh, side}
 use Rattle.ls_mesh.specs.Sides.{IsInside, IsClosed, common, both}
 use Rattle.ls_mesh.proofs.Meshed.{mesh-in_order, interior-inside, closed-family, fewer}

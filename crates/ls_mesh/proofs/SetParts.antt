@@ -22,7 +22,7 @@ use Rattle.ls_laws.proofs.Lists.{every-among, every-from, same_members}
 use Rattle.ls_laws.proofs.BaseStarts.{compat-sets}
 use Rattle.ls_laws.proofs.Families.{family_sets, compat-IsFamily, spanned-IsFamily}
 use Rattle.ls_laws.proofs.Spans.{spanned-base, spanned-whole, among-spanned}
-use Rattle.ls_spans.proofs.Traces.{projection-IsFamily}
+use Rattle.ls_clauses.proofs.Traces.{projection-IsFamily}
 use Rattle.ls_origins.specs.declared.mesh_fault.MeshFault.TheVariants.{NotCovered}
 use Rattle.ls_origins.specs.Meshes.{mesh, part_items, part_family, mesh_of, uncovered, side}
 use Rattle.ls_origins.specs.Meshes.{wide_side, mesh_fault, has_same_sets, agree}

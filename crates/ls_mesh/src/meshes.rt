@@ -7,7 +7,7 @@ ghost use Rattle.ls_theory.specs.Bases.{base};
 ghost use Rattle.ls_theory.specs.Projections.{projection};
 ghost use Rattle.ls_laws.specs.Spans.{AreOn, needed, spanned};
 ghost use Rattle.ls_laws.specs.Families.{IsFamily};
-ghost use Rattle.ls_spans.specs.Traces.{meets_with};
+ghost use Rattle.ls_clauses.specs.Traces.{meets_with};
 ghost use Rattle.ls_origins.specs.Meshes.{mesh, is_meshed, side};
 ghost use Rattle.ls_mesh.specs.Sides.{IsInside, IsSide, AreSides, IsClosed};
 ghost use Rattle.ls_mesh.specs.Sides.{side_interior, turns, common, both};

@@ -5,8 +5,8 @@ use Rattle.ls_set.specs.{IsWithin, Items, full, has}
 use Rattle.ls_set.proofs.Sets.{has-meet}
 use Rattle.ls_theory.specs.{base, projection}
 use Rattle.ls_laws.specs.Spans.{AreOn, spanned}
-use Rattle.ls_spans.specs.Traces.{meets_with}
-use Rattle.ls_spans.proofs.Traces.{from-meets, projection-of_spanned}
+use Rattle.ls_clauses.specs.Traces.{meets_with}
+use Rattle.ls_clauses.proofs.Traces.{from-meets, projection-of_spanned}
 use Rattle.ls_base.proofs.Spanned.{base-on}
 
 pub meets-on : (n : ℕ) (p : Items) (g made : List Items) → base (spanned n g) ≡ g → made ≡ meets_with p g → AreOn n made

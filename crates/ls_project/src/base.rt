@@ -1,7 +1,7 @@
 // The base of a projection.
 ghost use Rattle.std.specs.Prelude.{◌≡◌, IfOk};
 ghost use Rattle.ls_theory.specs.{base, projection};
-ghost use Rattle.ls_spans.specs.Traces.{meets_with};
+ghost use Rattle.ls_clauses.specs.Traces.{meets_with};
 ghost use Rattle.ls_base.specs.Bases.{family};
 
 use ls_base::{Base, PastFault};

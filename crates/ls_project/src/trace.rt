@@ -32,7 +32,7 @@ impl<'a, F: Inside> Trace<'a, F> {
 
 impl<F: Inside> Inside for Trace<'_, F> {
     ghost use Rattle.ls_theory.specs.{projection};
-    ghost use Rattle.ls_spans.proofs.Traces.{projection-IsFamily};
+    ghost use Rattle.ls_clauses.proofs.Traces.{projection-IsFamily};
 
     ghost item_count = { λ t. F.item_count t.inner };
 

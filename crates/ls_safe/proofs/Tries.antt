@@ -28,11 +28,11 @@ use Rattle.ls_laws.proofs.Atoms.{among-base}
 use Rattle.ls_laws.proofs.Spans.{base-in_order}
 use Rattle.ls_laws.proofs.Remains.{among-joins, from-joins}
 use Rattle.ls_laws.proofs.WellGraded.{is_well_graded-atoms}
-use Rattle.ls_changes.specs.Least.{IsBelow, gained, has_none_within, having, joined}
-use Rattle.ls_changes.specs.Least.{least_sets, near}
-use Rattle.ls_changes.proofs.Least.{IsLeast-from, among-from, among-left, among-parts, among-right}
-use Rattle.ls_changes.proofs.Least.{below-through}
-use Rattle.ls_changes.proofs.Atoms.{atom-of, base-cases, near-below}
+use Rattle.ls_laws.specs.LeastSets.{IsBelow, gained, has_none_within, having, joined}
+use Rattle.ls_laws.specs.LeastSets.{least_sets, near}
+use Rattle.ls_laws.proofs.LeastSets.{IsLeast-from, among-from, among-left, among-parts, among-right}
+use Rattle.ls_laws.proofs.LeastSets.{below-through}
+use Rattle.ls_laws.proofs.AtomsAfter.{atom-of, base-cases, near-below}
 use Rattle.ls_origins.specs.Safe.{trial, is_safe, Safe, applied_first, passes, settled, awaited}
 use Rattle.ls_origins.specs.Safe.{tried, tried_in, all_tried, safe_turn, first_past, turn_past}
 use Rattle.ls_origins.proofs.Lengths.{no_longer}

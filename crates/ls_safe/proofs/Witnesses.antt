@@ -17,7 +17,7 @@ use Rattle.ls_laws.specs.Families.{IsFamily}
 use Rattle.ls_laws.proofs.Atoms.{base-member}
 use Rattle.ls_laws.proofs.Breaks.{among-left_parts}
 use Rattle.ls_laws.proofs.WellGraded.{is_well_graded-atoms}
-use Rattle.ls_changes.specs.Least.{IsBelow, near}
+use Rattle.ls_laws.specs.LeastSets.{IsBelow, near}
 use Rattle.ls_origins.specs.Safe.{trial, is_safe}
 use Rattle.ls_origins.specs.declared.safe_answer.SafeAnswer.{SafeAnswer}
 use Rattle.ls_safe.specs.Turns.{is_past}

@@ -11,7 +11,7 @@ ghost use Rattle.ls_theory.specs.Bases.{base};
 ghost use Rattle.ls_theory.specs.Verdict.{is_well_graded};
 ghost use Rattle.ls_laws.specs.Spans.{is_double};
 ghost use Rattle.ls_laws.specs.Families.{IsFamily};
-ghost use Rattle.ls_changes.specs.Least.{IsBelow, near};
+ghost use Rattle.ls_laws.specs.LeastSets.{IsBelow, near};
 ghost use Rattle.ls_origins.specs.Safe.{trial, is_safe, Safe, settled, awaited, all_tried};
 ghost use Rattle.ls_origins.specs.Safe.{safe_turn, first_past, turn_past};
 ghost use Rattle.ls_safe.specs.Turns.{is_past, is_still, are_still};

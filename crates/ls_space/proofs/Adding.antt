@@ -2,7 +2,7 @@
 use Rattle.ls_space.proofs.Vocabulary.{◌++◌, ◌+◌, ◌<◌, ◌∙◌, ◌∷◌, ◌≡◌, ◌≤◌, ComesWith, Decides-is_same, IsGrown, IsInOrder, Items, List, None, Some, ℕ, [], among-append, among-here, ap, drop, drop-next, empty, eqb, eqb-true, false, find, get_or, has, has-empty, has-with, inl, inr, is_among, is_missing, is_same, lacks_apart, length, list_any, option_or, or_cases, or_right, refl, subst, suc, sym, take, take-append-drop, take_all, true, true≢false, union, with, zero}
 use Rattle.std.proofs.lemmas.List.Folds.{find-append}
 use Rattle.ls_laws.proofs.Lists.{find-none}
-use Rattle.ls_spans.proofs.Fewer.{missing-apart}
+use Rattle.ls_clauses.proofs.Fewer.{missing-apart}
 use Rattle.ls_space.proofs.Together.{among-more}
 
 -- no union of a set of the list with one of g is missing

@@ -14,10 +14,10 @@ pub use Rattle.ls_set.proofs.Members.{Each-among, among-append, among-cases, amo
 pub use Rattle.ls_set.proofs.Sets.{Decides-is_same, IsWithin-from, has-empty, has-full, has-meet, has-union, has-with, is_within-from, union-left, union-right}
 pub use Rattle.ls_set.specs.{IsInOrder, IsWithin, Items, comes_before, empty, full, has, is_among, is_within, items, len, meet, minus, union, with, without}
 unfoldable pub use Rattle.ls_set.specs.{is_same, least}
-pub use Rattle.ls_spans.proofs.Below.{base-below}
-pub use Rattle.ls_spans.proofs.Verdicts.{graded-of_base, verdict-by-unions}
-pub use Rattle.ls_spans.specs.Unions.{ComesWith, IsGrown, first_partner, is_apart, is_missing, lacks_apart}
-pub use Rattle.ls_spans.specs.Verdicts.{first_double, graded_by, not_graded, own_by}
+pub use Rattle.ls_clauses.proofs.Below.{base-below}
+pub use Rattle.ls_clauses.proofs.Verdicts.{graded-of_base, verdict-by-unions}
+pub use Rattle.ls_clauses.specs.Unions.{ComesWith, IsGrown, first_partner, is_apart, is_missing, lacks_apart}
+pub use Rattle.ls_clauses.specs.Verdicts.{first_double, graded_by, not_graded, own_by}
 pub use Rattle.ls_theory.specs.{base, interior, is_space, unions, with_base}
 unfoldable pub use Rattle.ls_theory.specs.{verdict}
 pub use Rattle.ls_theory.specs.declared.verdict.BaseVerdict.TheVariants.{Learning, NotGraded}

@@ -5,7 +5,7 @@ ghost use Rattle.ls_theory.specs.{base_verdict};
 ghost use Rattle.ls_theory.specs.declared.verdict.BaseVerdict.TheVariants.{NotGraded};
 ghost use Rattle.ls_laws.specs.Spans.{needed};
 ghost use Rattle.ls_base.specs.Bases.{family};
-ghost use Rattle.ls_spans.specs.Verdicts.{graded_by};
+ghost use Rattle.ls_clauses.specs.Verdicts.{graded_by};
 
 use ls_base::{Base, own_items_but, single_items};
 use ls_set::ItemSet;

@@ -3,7 +3,7 @@ ghost use Rattle.std.specs.Prelude.{◌≡◌, IfOk};
 ghost use Rattle.ls_set.specs.{IsInOrder, full};
 ghost use Rattle.ls_theory.specs.{verdict, with_base};
 ghost use Rattle.ls_laws.specs.Spans.{needed};
-ghost use Rattle.ls_spans.specs.Verdicts.{graded_by};
+ghost use Rattle.ls_clauses.specs.Verdicts.{graded_by};
 
 use crate::gradation::judge;
 use crate::submembers::base_sets;

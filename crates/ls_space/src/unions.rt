@@ -2,7 +2,7 @@
 ghost use Rattle.std.specs.Prelude.{◌≡◌, ◌<◌, ◌≤◌, true, find, length, List, IfOk};
 ghost use Rattle.std.specs.List.{list_any};
 ghost use Rattle.ls_set.specs.{Items, IsWithin, is_among};
-ghost use Rattle.ls_spans.specs.Unions.{is_missing, is_apart, lacks_apart, ComesWith, IsGrown};
+ghost use Rattle.ls_clauses.specs.Unions.{is_missing, is_apart, lacks_apart, ComesWith, IsGrown};
 ghost use Rattle.ls_laws.specs.Spans.{touches};
 ghost use Rattle.ls_space.specs.Together.{AreTogether};
 

@@ -6,7 +6,7 @@ use Rattle.ls_set.specs.{numbers_from, set_of}
 use Rattle.ls_theory.specs.{atom_items, atom_sets, atoms_at, clauses_at}
 use Rattle.ls_laws.proofs.Atoms.{base-member, base-spans}
 use Rattle.ls_laws.proofs.Spans.{spanned-in_order}
-use Rattle.ls_spans.proofs.Spanning.{atom_items-spanning}
+use Rattle.ls_clauses.proofs.SpanningLists.{atom_items-spanning}
 use Rattle.ls_base.specs.Bases.{BaseState, family}
 use Rattle.ls_base.proofs.Spanned.{atoms_at-base}
 

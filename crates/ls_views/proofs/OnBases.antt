@@ -3,7 +3,7 @@ use Rattle.ls_views.proofs.Vocabulary.{◌otherwise◌, ◌∙◌, ◌≡◌, In
 use Rattle.ls_laws.proofs.Spans.{spanned-base}
 use Rattle.ls_laws.proofs.Answering.{compat_family}
 use Rattle.ls_laws.proofs.Families.{family_sets, spanned-IsFamily}
-use Rattle.ls_spans.proofs.Traces.{projection-IsFamily}
+use Rattle.ls_clauses.proofs.Traces.{projection-IsFamily}
 use Rattle.ls_base.specs.Bases.{BaseState, family}
 use Rattle.ls_write.proofs.Showing.{compatible-space}
 use Rattle.ls_meaning.specs.declared.request.View.TheVariants as view

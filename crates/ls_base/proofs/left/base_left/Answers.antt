@@ -1,7 +1,7 @@
 use Rattle.ls_base.proofs.Vocabulary.{◌++◌, ◌∙◌, IfOk-weaker, IsInOrder, ap, base-in_order}
 use Rattle.ls_base.proofs.Vocabulary.{gained_below, is_among, near, spanned, spanned-in_order}
 use Rattle.ls_base.proofs.Vocabulary.{subst, sym}
-use Rattle.ls_changes.specs.Least.{IsBelow}
+use Rattle.ls_laws.specs.LeastSets.{IsBelow}
 use Rattle.ls_base.proofs.OwnItems.{base-needs}
 use Rattle.ls_base.proofs.Gains.{base-left, base-unbroken}
 use Rattle.ls_base.proofs.left.base_left.Goals as goal

@@ -2,7 +2,7 @@ use Rattle.std.proofs.Common.{◌≡◌, ◌∙◌, ◌++◌, ap, filter, subst,
 use Rattle.std.specs.Prelude.{OnOk}
 use Rattle.ls_set.specs.{empty, with}
 use Rattle.ls_laws.specs.Spans.{joins, touches}
-use Rattle.ls_changes.specs.Least.{IsBelow, having}
+use Rattle.ls_laws.specs.LeastSets.{IsBelow, having}
 use Rattle.ls_base.specs.Gains.{is_gained}
 use Rattle.ls_base.proofs.Lowest.{gained-by-lowest}
 use Rattle.ls_base.proofs.left.push_gained.Goals as goal

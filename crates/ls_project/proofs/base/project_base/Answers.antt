@@ -1,7 +1,7 @@
 use Rattle.std.proofs.Common.{ap, ◌∙◌}
 use Rattle.ls_theory.specs.{base}
 use Rattle.ls_laws.specs.Spans.{spanned}
-use Rattle.ls_spans.specs.Traces.{meets_with}
+use Rattle.ls_clauses.specs.Traces.{meets_with}
 use Rattle.ls_project.proofs.Bases.{meets-on, traced-base}
 use Rattle.ls_project.proofs.base.project_base.Goals as goal
 

@@ -2,7 +2,7 @@ use Rattle.std.proofs.Common.{List, filter, subst}
 use Rattle.std.specs.Prelude.{IfOk}
 use Rattle.ls_set.specs.{Items}
 use Rattle.ls_laws.specs.Spans.{touches}
-use Rattle.ls_changes.specs.Least.{IsBelow}
+use Rattle.ls_laws.specs.LeastSets.{IsBelow}
 use Rattle.ls_base.specs.Bases.{BaseState}
 use Rattle.ls_base.proofs.base.Base.lowest_touching.Goals as goal
 

@@ -2,7 +2,7 @@ use Rattle.std.proofs.Common.{sym, ap, ◌∙◌, subst}
 use Rattle.ls_set.specs.{IsWithin, full, meet, minus, union}
 use Rattle.ls_set.proofs.Sets.{minus-within, union-within}
 use Rattle.ls_theory.specs.{interior}
-use Rattle.ls_spans.proofs.Traces.{projection-interior}
+use Rattle.ls_clauses.proofs.Traces.{projection-interior}
 use Rattle.ls_project.specs.Projecting.{TraceState}
 use Rattle.ls_project.proofs.trace.TraceInside.inside.Goals as goal
 

@@ -1,5 +1,0 @@
-use Rattle.ls_spans.proofs.Traces.{projection-IsFamily, projection-interior}
-use Rattle.ls_spans.proofs.projections.projections_are_families.Goals as goal
-
-pub returns : goal.returns
-returns c = record { family = projection-IsFamily; interior = projection-interior }

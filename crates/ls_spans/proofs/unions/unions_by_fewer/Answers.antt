@@ -1,5 +1,0 @@
-use Rattle.ls_spans.proofs.Fewer.{missing-apart}
-use Rattle.ls_spans.proofs.unions.unions_by_fewer.Goals as goal
-
-pub returns : goal.returns
-returns c f g before after k s e order clean grown = missing-apart f g before after k s e order clean grown

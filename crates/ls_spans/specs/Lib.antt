@@ -1,4 +1,0 @@
-pub mod Traces
-pub mod Speaking
-pub mod Unions
-pub mod Verdicts
