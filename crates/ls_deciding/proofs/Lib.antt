@@ -7,3 +7,6 @@ pub mod Seen
 mod Fetched
 mod TwoFetched
 mod Trailed
+mod BaseAtoms
+mod OnBases
+mod Spanning

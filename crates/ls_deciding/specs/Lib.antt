@@ -4,3 +4,4 @@ pub mod Parts
 pub mod Cases
 pub mod Changes
 pub mod Fetches
+pub mod Views

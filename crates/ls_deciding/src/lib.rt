@@ -3,8 +3,10 @@
 #![tactic(auto)]
 
 mod attending;
+mod based;
 mod case;
 mod changing;
+mod deciding;
 mod families;
 mod fetching;
 mod meshes;
@@ -16,8 +18,10 @@ mod starts;
 mod viewing;
 
 pub use attending::{attend_safe, is_opening};
+pub use based::decide_based;
 pub use case::SafeCase;
 pub use changing::change;
+pub use deciding::{decide, is_based};
 pub use families::test_sets;
 pub use fetching::{fetch, fetch_both};
 pub use meshes::{TwoFiles, agreement, page_of_mesh};

@@ -4,14 +4,15 @@ ghost use Rattle.std.specs.Prelude.{◌≡◌, true, IfOk, OnOk};
 ghost use Rattle.ls_theory.specs.{yes_queries};
 ghost use Rattle.ls_base.specs.Trail.{EndsAt, is_begun};
 ghost use Rattle.ls_meaning.specs.{IsViewOn, view_row};
-ghost use Rattle.ls_views.specs.Views.{is_based};
+ghost use Rattle.ls_deciding.specs.Views.{is_based};
 ghost use Rattle.ls_deciding.specs.Changes.{IsTrailOf};
 
 use ls_base::Trail;
 use ls_expert::Inquiry;
 use ls_interior::Steps;
 use ls_meaning::{Response, View};
-use ls_views::{decide, decide_based, is_based};
+use crate::based::decide_based;
+use crate::deciding::{decide, is_based};
 use std::alloc::{AllocError, Global};
 use std::sync::ledger::Ledger;
 

@@ -5,3 +5,4 @@ mod Asking
 pub mod Taking
 pub mod Retracting
 mod Saving
+pub mod Spaces

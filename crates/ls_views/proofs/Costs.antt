@@ -19,7 +19,8 @@ use Rattle.ls_meaning.specs.declared.response.Refusal.TheVariants as refusal_of
 use Rattle.ls_meaning.specs.declared.response.Response.TheVariants.{Shown}
 use Rattle.ls_meaning.specs.declared.response.Shown.TheVariants as shown
 use Rattle.ls_write.specs.Showing.{response_steps}
-use Rattle.ls_views.specs.Views.{command_steps, view_steps}
+use Rattle.ls_deciding.specs.Views.{view_steps}
+use Rattle.ls_views.specs.Views.{command_steps}
 
 module _ (n : ℕ) where
   otherwise-steps : (refusals : List Refusal) (r : Response) → response_steps r n ≡ 0 → response_steps (refusals otherwise r) n ≡ 0

@@ -1,6 +1,3 @@
 mod Vocabulary
-mod BaseAtoms
-mod OnBases
-mod Spanning
 mod Viewing
 mod Costs

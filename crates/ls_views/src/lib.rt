@@ -1,10 +1,6 @@
-//! What commands show of an interview, decided; and the whole reply to a command that shows it.
+//! The whole reply to a command that looks at an interview: decided, and written.
 #![tactic(auto)]
 
-mod based;
-mod deciding;
 mod reading;
 
-pub use based::decide_based;
-pub use deciding::{decide, is_based};
 pub use reading::view;

@@ -9,11 +9,11 @@ ghost use Rattle.ls_theory.specs.{yes_queries};
 ghost use Rattle.ls_base.specs.Followed.{IsFollowed};
 ghost use Rattle.ls_room.specs.Rooms.{Wrote, no_reply};
 ghost use Rattle.ls_write.specs.Showing.{CanSay, response_steps, session_with};
-ghost use Rattle.ls_views.specs.Views.{command_steps, view_steps};
+ghost use Rattle.ls_deciding.specs.Views.{view_steps};
+ghost use Rattle.ls_views.specs.Views.{command_steps};
 
-use crate::based::decide_based;
-use crate::deciding::{decide, is_based};
 use ls_base::Followed;
+use ls_deciding::{decide, decide_based, is_based};
 use ls_domain::Domain;
 use ls_edge::{Sink, SinkFault};
 use ls_expert::{Inquiry, Interview};

@@ -11,8 +11,7 @@ use Rattle.ls_write.proofs.Vocabulary.{length, lines_bytes, lines_of, not, past_
 use Rattle.ls_write.proofs.Vocabulary.{paths_shown, peak_of, project_row, refl, refuse}
 use Rattle.ls_write.proofs.Vocabulary.{refuse_fault, shown_lines, slice_index, state_of}
 use Rattle.ls_write.proofs.Vocabulary.{state_shown, states_row, subst, sym, true, view_row}
-use Rattle.ls_laws.proofs.Interiors.{space-to}
-use Rattle.ls_laws.proofs.Answering.{compatible_fit, compat_family}
+use Rattle.ls_expert.proofs.Spaces.{compatible-space}
 use Rattle.ls_theory.specs.declared.verdict.BaseVerdict.TheVariants as of_base
 use Rattle.ls_theory.specs.declared.answer_fault.AnswerFault.TheVariants.{BadQuery}
 use Rattle.ls_set.specs.declared.cursor.CursorFault.{CursorFault}
@@ -38,14 +37,6 @@ pub said-same : (s : Session) {a b : Response} → a ≡ b → bytes_of (lines_o
 said-same s {a} {b} e = ap (λ (r : Response). bytes_of (lines_of s r)) (sym e)
 
 -- ---- what stands on the states
-
--- the states are a space
-pub compatible-space : (i : Interview) → IsSound i → is_space (full i.count) (compatible_sets i)
-    ≡ true
-compatible-space i sound =
-    let family = compat_family i in
-    space-to (full i.count) (compatible_sets i) family.holds_empty
-    (compatible_fit i sound.some_fits).holds_full family.holds_unions
 
 -- a space whose verdict is `Learning` is a learning space
 learning-from : (n : ℕ) (f : List Items) → is_space (full n) f ≡ true → base_verdict f

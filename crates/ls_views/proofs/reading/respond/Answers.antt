@@ -2,7 +2,8 @@ use Rattle.ls_views.proofs.Vocabulary.{◌<◌, ◌∙◌, CanSay, Err, IfOk-wea
 use Rattle.std.proofs.Common.{◌+◌, ◌≤◌, refl}
 use Rattle.ls_meaning.specs.declared.request.View.{View}
 use Rattle.ls_write.specs.Showing.{response_steps}
-use Rattle.ls_views.specs.Views.{command_steps, view_steps}
+use Rattle.ls_deciding.specs.Views.{view_steps}
+use Rattle.ls_views.specs.Views.{command_steps}
 use Rattle.ls_resolve.specs.declared.unnamed.ResolveFault.{ResolveFault}
 use Rattle.ls_meaning.specs.declared.response.Refusal.TheVariants.{Unnamed}
 use Rattle.ls_write.proofs.Showing.{can-view}

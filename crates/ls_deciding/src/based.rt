@@ -12,7 +12,7 @@ ghost use Rattle.ls_meaning.specs.declared.response.Response.TheVariants as resp
 ghost use Rattle.ls_meaning.specs.declared.response.Shown.TheVariants as shown;
 ghost use Rattle.ls_meaning.specs.{IsViewOn, learned, paths_shown, state_shown, view_row};
 ghost use Rattle.ls_meaning.specs.RelationRows.{relation_shown};
-ghost use Rattle.ls_views.specs.Views.{is_based, based_on};
+ghost use Rattle.ls_deciding.specs.Views.{is_based, based_on};
 
 use ls_base::{Base, Followed};
 use ls_expert::Inquiry;

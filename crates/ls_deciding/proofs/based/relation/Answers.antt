@@ -1,7 +1,7 @@
-use Rattle.ls_views.proofs.Vocabulary.{subst}
+use Rattle.ls_deciding.proofs.Vocabulary.{subst}
 use Rattle.ls_surmise.specs.Surmises.{IsFromFaultOf, surmised}
-use Rattle.ls_views.proofs.Spanning.{never-missing}
-use Rattle.ls_views.proofs.based.relation.Goals as goal
+use Rattle.ls_deciding.proofs.Spanning.{never-missing}
+use Rattle.ls_deciding.proofs.based.relation.Goals as goal
 
 pub unreachable-requires : goal.unreachable-requires
 unreachable-requires c =

@@ -1,9 +1,9 @@
-use Rattle.ls_views.proofs.Vocabulary.{◌∙◌, Items, List, ap, ap₂, sym}
+use Rattle.ls_deciding.proofs.Vocabulary.{◌∙◌, Items, List, ap, ap₂, sym}
 use Rattle.std.specs.Prelude.{map}
 use Rattle.ls_set.specs.{set_of}
 use Rattle.ls_theory.specs.{atom_items, clauses_at}
-use Rattle.ls_views.proofs.BaseAtoms.{base-atoms, base-clauses}
-use Rattle.ls_views.proofs.based.clauses_of.Goals as goal
+use Rattle.ls_deciding.proofs.BaseAtoms.{base-atoms, base-clauses}
+use Rattle.ls_deciding.proofs.based.clauses_of.Goals as goal
 
 pub invariant_of-result : goal.invariant_of-result
 invariant_of-result c =

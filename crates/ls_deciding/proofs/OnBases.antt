@@ -1,11 +1,11 @@
 -- What stands on the base of an interview, by the family of the base.
-use Rattle.ls_views.proofs.Vocabulary.{◌otherwise◌, ◌∙◌, ◌≡◌, Interview, IsFollowedBase, IsSound, Items, List, Option, Peak, Response, View, ap, ap₂, base, based_on, based_row, compat-in_order, compatible_sets, full, is_based, is_space, past_refusal, projection, refuse_fault, spanned, sym, true, view_row, yes_queries}
+use Rattle.ls_deciding.proofs.Vocabulary.{◌otherwise◌, ◌∙◌, ◌≡◌, Interview, IsFollowedBase, IsSound, Items, List, Option, Peak, Response, View, ap, ap₂, base, based_on, based_row, compat-in_order, compatible_sets, full, is_based, is_space, past_refusal, projection, refuse_fault, spanned, sym, true, view_row, yes_queries}
 use Rattle.ls_laws.proofs.Spans.{spanned-base}
 use Rattle.ls_laws.proofs.Answering.{compat_family}
 use Rattle.ls_laws.proofs.Families.{family_sets, spanned-IsFamily}
 use Rattle.ls_clauses.proofs.Traces.{projection-IsFamily}
 use Rattle.ls_base.specs.Bases.{BaseState, family}
-use Rattle.ls_write.proofs.Showing.{compatible-space}
+use Rattle.ls_expert.proofs.Spaces.{compatible-space}
 use Rattle.ls_meaning.specs.declared.request.View.TheVariants as view
 
 module _ (i : Interview) (b : BaseState) (h : IsFollowedBase i.count i.start (yes_queries i.answers) b) where

@@ -1,6 +1,6 @@
-use Rattle.ls_views.proofs.Vocabulary.{◌∙◌, IfOk-weaker, IsFollowed, subst, yes_queries}
-use Rattle.ls_views.proofs.OnBases.{followed-space, followed-row}
-use Rattle.ls_views.proofs.based.decide_based.Goals as goal
+use Rattle.ls_deciding.proofs.Vocabulary.{◌∙◌, IfOk-weaker, IsFollowed, subst, yes_queries}
+use Rattle.ls_deciding.proofs.OnBases.{followed-space, followed-row}
+use Rattle.ls_deciding.proofs.based.decide_based.Goals as goal
 
 pub show-requires-clause-space : goal.show-requires-clause-space
 show-requires-clause-space c =

@@ -1,5 +1,5 @@
 -- The surmise function of the base of a space.
-use Rattle.ls_views.proofs.Vocabulary.{◌∙◌, ◌≡◌, Err, Items, List, base, full, is_space, subst, sym, true, ℕ}
+use Rattle.ls_deciding.proofs.Vocabulary.{◌∙◌, ◌≡◌, Err, Items, List, base, full, is_space, subst, sym, true, ℕ}
 use Rattle.std.proofs.Common.{None, Ok, refl}
 use Rattle.ls_theory.specs.{clauses_at}
 use Rattle.ls_theory.specs.Bases.{first_missing}

@@ -3,7 +3,7 @@ ghost use Rattle.std.specs.Prelude.{◌≡◌, ◌≤◌, ◌+◌, false};
 ghost use Rattle.ls_set.specs.{IsWithin, full};
 ghost use Rattle.ls_meaning.specs.{IsViewOn, fringes_row, known_row, project_row, states_row};
 ghost use Rattle.ls_meaning.specs.{view_row};
-ghost use Rattle.ls_views.specs.Views.{is_based, view_steps};
+ghost use Rattle.ls_deciding.specs.Views.{is_based, view_steps};
 
 use ls_expert::{AnswerFault, BadQuery, Inquiry};
 use ls_fringe::fringes;

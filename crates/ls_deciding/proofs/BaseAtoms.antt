@@ -1,5 +1,5 @@
 -- The atoms among the sets of a base are those of its family.
-use Rattle.ls_views.proofs.Vocabulary.{[], ◌∙◌, ◌∷◌, ◌≡◌, Items, List, ap, base, sym, ℕ}
+use Rattle.ls_deciding.proofs.Vocabulary.{[], ◌∙◌, ◌∷◌, ◌≡◌, Items, List, ap, base, sym, ℕ}
 use Rattle.std.proofs.Common.{refl}
 use Rattle.std.specs.Prelude.{map}
 use Rattle.ls_set.specs.{numbers_from, set_of}

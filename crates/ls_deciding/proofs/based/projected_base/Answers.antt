@@ -1,8 +1,8 @@
-use Rattle.ls_views.proofs.Vocabulary.{◌∙◌, BaseVerdict, Items, List, ap, ap₂, base_verdict}
+use Rattle.ls_deciding.proofs.Vocabulary.{◌∙◌, BaseVerdict, Items, List, ap, ap₂, base_verdict}
 use Rattle.ls_meaning.specs.declared.response.Response.TheVariants as response
 use Rattle.ls_meaning.specs.declared.response.Shown.TheVariants as shown
-use Rattle.ls_views.proofs.OnBases.{projected-family}
-use Rattle.ls_views.proofs.based.projected_base.Goals as goal
+use Rattle.ls_deciding.proofs.OnBases.{projected-family}
+use Rattle.ls_deciding.proofs.based.projected_base.Goals as goal
 
 pub returns : goal.returns
 returns c =
