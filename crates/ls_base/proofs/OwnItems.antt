@@ -59,12 +59,6 @@ module _ (s known own next k : Items) (sets : List Items) (i : ℕ) (l : i < len
       ∙ ap (λ u. minus s (union known u)) (sym ((below-unites s).taken k t (drop (i + 1) sets)))
       ∙ ap (λ f. minus s (union known (union_below f s))) (sym (drop-next sets i k l e))
 
-  pub own-passed : is_proper k s ≡ false → next ≡ own → IsOwn next s known sets i
-  own-passed t is =
-      is ∙ had
-      ∙ ap (λ u. minus s (union known u)) (sym ((below-unites s).passed k t (drop (i + 1) sets)))
-      ∙ ap (λ f. minus s (union known (union_below f s))) (sym (drop-next sets i k l e))
-
 among-drop : (i : ℕ) (f : List Items) (k : Items) → is_among (drop i f) k ≡ true → is_among f k ≡ true
 among-drop zero f k c = c
 among-drop (suc i) [] k c = c

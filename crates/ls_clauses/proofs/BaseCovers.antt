@@ -1,5 +1,5 @@
 -- The base of sets that have each item has each item, and an item that no set has is one of the items.
-use Rattle.ls_clauses.proofs.Vocabulary.{◌<◌, ◌∙◌, ◌≡◌, Err, IsCover, AreOn, Items, List, None, Ok, Sets, Some, ℕ, [], among-base, and_parts, atom_within, base, base-member, based, compat, compat-IsUnionFamily, compat-sets, cond, false, first_missing, full, has, has-full, has-minus, has-unions, is_among, least-cases, length, limited, lt-ltb, ltb, ltb-true, minus, most_base_sets, not, option_map_or, refl, some-among, subst, sym, true, unions}
+use Rattle.ls_clauses.proofs.Vocabulary.{◌∙◌, ◌≡◌, Err, IsCover, AreOn, Items, List, None, Ok, Sets, Some, ℕ, [], among-base, atom_within, base, base-member, based, compat, compat-IsUnionFamily, compat-sets, cond, false, first_missing, full, has, has-full, has-unions, is_among, length, limited, lt-ltb, ltb, most_base_sets, option_map_or, refl, some-among, subst, sym, true, unions}
 use Rattle.ls_theory.specs.declared.base_fault.BaseFault.TheVariants.{NotSpanning, Past}
 use Rattle.ls_clauses.proofs.Covers.{cover-member, cover-least}
 
@@ -18,10 +18,6 @@ limited-ok : (sets made : List Items) → limited sets ≡ Ok made → sets ≡ 
 limited-ok sets made =
     elim (ltb most_base_sets (length sets)) as (λ b. cond b (Err (Past (length sets))) (Ok sets) ≡ Ok made → sets ≡ made) [ true ↦ λ e. absurd (cc e) | false ↦ λ e. cc e ]
 
-limited-spans : (sets : List Items) (q : ℕ) → limited sets ≡ Err (NotSpanning q) → ⊥
-limited-spans sets q =
-    elim (ltb most_base_sets (length sets)) as (λ b. cond b (Err (Past (length sets))) (Ok sets) ≡ Err (NotSpanning q) → ⊥) [ true ↦ λ e. cc e | false ↦ λ e. cc e ]
-
 module _ (n : ℕ) (sets : List Items) where
   -- a base that was found has each item
   pub based-cover : (made : List Items) → AreOn n sets → based n sets ≡ Ok made → IsCover n made
@@ -29,16 +25,4 @@ module _ (n : ℕ) (sets : List Items) where
       elim (first_missing n sets) as (λ o. first_missing n sets ≡ o → option_map_or (λ q. Err (NotSpanning q)) o (limited (base (compat n (Sets sets) []))) ≡ Ok made → IsCover n made) [
         | None ↦ λ none at. subst (IsCover n) (limited-ok (base (compat n (Sets sets) [])) made at) (base-cover n sets ((cover-least n sets small).1 none))
         | Some q ↦ λ some at. absurd (cc at)
-      ] refl e
-
-  -- an item that no set has is one of the items
-  pub missing-lt : (q : ℕ) → based n sets ≡ Err (NotSpanning q) → q < n
-  missing-lt q e =
-      elim (first_missing n sets) as (λ o. first_missing n sets ≡ o → option_map_or (λ p. Err (NotSpanning p)) o (limited (base (compat n (Sets sets) []))) ≡ Err (NotSpanning q) → q < n) [
-        | None ↦ λ none at. absurd (limited-spans (base (compat n (Sets sets) [])) q at)
-        | Some p ↦ λ some at.
-            let same : p ≡ q = cc at in
-            let held = (least-cases (minus (full n) (unions sets)) p some).0 in
-            let parts = and_parts (has (full n) p) (not (has (unions sets) p)) (sym (has-minus (full n) (unions sets) p) ∙ held) in
-            subst (λ i. i < n) same (ltb-true p n (sym (has-full n p) ∙ parts.0))
       ] refl e

@@ -22,9 +22,6 @@ lesser-from q k l h w n =
 pub atom-among : (f : List Items) (q : ℕ) (k : Items) → is_among (atoms_at f q) k ≡ true → IsAtom f q k
 atom-among f q k c = let p = and_parts (is_among f k) (is_atom_at f q k) (sym (among-filter (is_atom_at f q) f k) ∙ c) in IsAtom-from f q k p.0 p.1
 
-pub among-atoms : (f : List Items) (q : ℕ) (k : Items) → IsAtom f q k → is_among (atoms_at f q) k ≡ true
-among-atoms f q k a = among-filter (is_atom_at f q) f k ∙ and_from (is_among f k) (is_atom_at f q k) a.member (is_atom_at-from f q k a)
-
 -- members that span tell which sets are atoms
 pub is_atom_at-spanning : (f g : List Items) → IsPart g f → Spans g f → (q : ℕ) (k : Items) → is_atom_at g q k ≡ is_atom_at f q k
 is_atom_at-spanning f g part span q k = ap (λ b. has k q && not b) (both_ways (list_any (lesser q k) g) (list_any (lesser q k) f)

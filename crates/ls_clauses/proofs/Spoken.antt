@@ -1,9 +1,8 @@
 -- Which sets and items a verdict speaks of.
-use Rattle.ls_clauses.proofs.Vocabulary.{◌&&◌, ◌++◌, ◌<◌, ◌∙◌, ◌∷◌, ◌≡◌, BaseVerdict, Bool, AreOn, IsPart, IsWithin, Items, List, None, Option, Some, ℕ, [], among-here, among-there, and_from, and_parts, ap, arith, atom_items, base, base-member, base_verdict, bound, cases_Bool, closed-pair, cond, double-found, double_atom, empty, false, filter, find, full, graded-space, has, has-meet, inl, inner_fringe, inr, is_among, is_atom_at, is_double, is_same, is_space, is_union_closed, is_well_graded, items, items-below, length, list_all, list_any, map, members, not, numbers_from, outer_fringe, pairs, projection, projection-from, refl, state_of, subst, suc, sym, true, true≢false, unclosed_pair, union, verdict, verdict_from, with, with_base, without, zero}
+use Rattle.ls_clauses.proofs.Vocabulary.{◌&&◌, ◌++◌, ◌<◌, ◌∙◌, ◌∷◌, ◌≡◌, BaseVerdict, Bool, AreOn, IsPart, IsWithin, Items, List, None, Option, Some, ℕ, [], among-here, among-there, and_from, and_parts, ap, arith, atom_items, base, base-member, base_verdict, bound, cases_Bool, closed-pair, cond, double-found, double_atom, empty, false, filter, find, full, graded-space, has, inl, inr, is_among, is_atom_at, is_double, is_space, is_union_closed, is_well_graded, items, items-below, length, list_all, list_any, map, members, not, numbers_from, pairs, refl, subst, suc, sym, true, true≢false, unclosed_pair, union, verdict, verdict_from, with, with_base, zero}
 use Rattle.std.specs.Prelude.{slice_index}
 use Rattle.ls_theory.specs.declared.verdict.BaseVerdict.TheVariants as of_base
 use Rattle.ls_theory.specs.declared.verdict.Verdict.TheVariants.{NoEmpty, NoFull}
-use Rattle.ls_laws.proofs.ReadBack.{has-inner_fringe, has-outer_fringe}
 use Rattle.ls_clauses.specs.Speaking.{IsDoubleOn, IsBaseVerdictOn, IsVerdictOn}
 
 -- ---- the items at which a set is an atom
@@ -114,30 +113,3 @@ module _ (n : ℕ) (f : List Items) (on : AreOn n f) where
           | inl b ↦ subst (λ c. IsVerdictOn n (cond (not c) NoFull (verdict_from f (unclosed_pair f)))) (sym b) (unclosed-on (unclosed_pair f) refl a b)
         ])
   ]
-
--- ---- fringes, states and bases of projections
-
-module _ (n : ℕ) (f : List Items) (on : AreOn n f) where
-  pub inner-within : (k : Items) → IsWithin k (full n) → IsWithin (inner_fringe f k) (full n)
-  inner-within k w = λ i h. w i (and_parts (has k i) (is_among f (without k i)) (sym (has-inner_fringe f k i) ∙ h)).0
-
-  pub outer-within : (k : Items) → IsWithin (outer_fringe n f k) (full n)
-  outer-within k = λ i h.
-      let a = and_parts (not (has k i)) (is_among f (with k i)) (sym (has-outer_fringe n f on k i) ∙ h) in
-      on (with k i) a.1 i (grind (arith, members))
-
-  pub state_of-within : (inner outer k : Items) → state_of n f inner outer ≡ Some k → IsWithin k (full n)
-  unfolding state_of
-  state_of-within inner outer k e = on k (found-among (λ k. is_same (inner_fringe f k) inner && is_same (outer_fringe n f k) outer) f k e)
-    where
-      found-among : (p : Items → Bool) (xs : List Items) (k : Items) → find p xs ≡ Some k → is_among xs k ≡ true
-      found-among p [] k e = absurd (cc e)
-      found-among p (x ∷ xs) k e = elim (p x) as (λ b. cond b (Some x) (find p xs) ≡ Some k → is_among (x ∷ xs) k ≡ true) [
-        | true ↦ λ h. let same : k ≡ x = sym (cc h) in among-here k x xs same
-        | false ↦ λ h. among-there k x xs (found-among p xs k h)
-      ] e
-
-pub projection-within : (n : ℕ) (p : Items) (f : List Items) → IsWithin p (full n) → AreOn n (projection n p f)
-projection-within n p f w = λ k m.
-    let from = projection-from n p f k m in
-    subst (λ s. IsWithin s (full n)) (sym from.2) (λ i h. w i (and_parts (has p i) (has from.0 i) (sym (has-meet p from.0 i) ∙ h)).0)

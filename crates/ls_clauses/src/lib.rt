@@ -1,5 +1,6 @@
-//! Laws of surmise functions and of starts, and of the search for a member: what follows from the
-//! definitions alone. Each is a clause of a function that does nothing when it runs.
+//! Laws of surmise functions, of starts, of lists that span a family, and of the search for a
+//! member: what follows from the definitions alone. Each is a clause of a function that does nothing
+//! when it runs.
 #![tactic(auto)]
 
 mod members;

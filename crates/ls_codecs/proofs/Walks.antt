@@ -1,19 +1,11 @@
 -- Lists of values, read one after another.
-use Rattle.ls_codecs.proofs.Vocabulary.{◌++◌, ◌+◌, ◌<◌, ◌∙◌, ◌∷◌, ◌≡◌, ◌≤◌, Data, List, None, Option, Some, Values, ℕ, [], among-here, among-there, ap, append-nil, append_assoc, arith, as_array, drop, drop-cons, four_values, get_or, items_view, length, option_and_then, option_map, read_each, read_list, refl, suc, sym, true, two_values, view, zero}
+use Rattle.ls_codecs.proofs.Vocabulary.{◌++◌, ◌+◌, ◌<◌, ◌∙◌, ◌∷◌, ◌≡◌, ◌≤◌, Data, List, None, Option, Some, Values, ℕ, [], ap, append-nil, append_assoc, arith, drop, drop-cons, four_values, get_or, items_view, length, option_and_then, option_map, read_each, refl, suc, sym, two_values, view}
 use Rattle.std.proofs.lemmas.List.{drop_all}
 use Rattle.serde_json.specs.declared.value.Value.{Value}
-use Rattle.ls_set.specs.{Items, is_among}
 
 -- what was read, and the rest, are the whole
 abbrev pub IsReadTo : {X : Type 0} → (Data → Option X) → List X → List Value → Option (List X) → Type 0
 IsReadTo f xs rest whole = option_map (λ ys. xs ++ ys) (read_each f (items_view rest)) ≡ whole
-
-pub read-first : {X : Type 0} (f : Data → Option X) (vs : List Value) (d : Data) → Some (items_view vs) ≡ as_array d → IsReadTo f [] vs (read_list f d)
-read-first f vs d e = same (read_each f (items_view vs)) ∙ ap (option_and_then (read_each f)) e
-  where
-    same : {Y : Type 0} (o : Option (List Y)) → option_map (λ ys. [] ++ ys) o ≡ o
-    same None = refl
-    same (Some ys) = refl
 
 next-item : (vs : List Value) (i : ℕ) (v : Value) → i < length vs → v ≡ get_or vs i v → drop i vs ≡ v ∷ drop (i + 1) vs
 next-item vs i v l e = drop-cons vs i v l ∙ ap (λ y. y ∷ drop (suc i) vs) (sym e) ∙ ap (λ k. v ∷ drop k vs) (let k : suc i ≡ i + 1 = omega arith in k)
@@ -66,8 +58,3 @@ four-none o vs e h = none vs h ∙ ap (option_and_then four_values) e
     none (v ∷ w ∷ x ∷ y ∷ z ∷ vs) h = refl
 
 -- ---- sets of a list
-
-pub among-at : (ss : List Items) (i : ℕ) (s : Items) → i < length ss → s ≡ get_or ss i s → is_among ss s ≡ true
-among-at [] i s l e = absurd (omega arith)
-among-at (t ∷ ss) zero s l e = among-here s t ss e
-among-at (t ∷ ss) (suc i) s l e = among-there s t ss (among-at ss i s (omega arith) e)

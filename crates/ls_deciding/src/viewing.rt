@@ -7,12 +7,12 @@ ghost use Rattle.ls_meaning.specs.{IsViewOn, view_row};
 ghost use Rattle.ls_deciding.specs.Views.{is_based};
 ghost use Rattle.ls_deciding.specs.Changes.{IsTrailOf};
 
+use crate::based::decide_based;
+use crate::deciding::{decide, is_based};
 use ls_base::Trail;
 use ls_expert::Inquiry;
 use ls_interior::Steps;
 use ls_meaning::{Response, View};
-use crate::based::decide_based;
-use crate::deciding::{decide, is_based};
 use std::alloc::{AllocError, Global};
 use std::sync::ledger::Ledger;
 

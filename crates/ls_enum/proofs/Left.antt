@@ -1,5 +1,5 @@
 -- What is left after a cursor, and what is left of a page.
-use Rattle.ls_enum.proofs.Vocabulary.{◌*◌, ◌++◌, ◌+◌, ◌-◌, ◌<◌, ◌∙◌, ◌∷◌, ◌≡◌, ◌≤◌, AllByRecursion, IsInOrder, Items, List, MatchOption, None, Option, Some, ℕ, [], ap, append_assoc, ap₂, arith, comes_after, comes_before, comes_before-asymmetric, comes_before-irreflexive, comes_before-transitive, cond, false, filter, find, found-holds, is_some, le-ltb, left_after, length, lt-ltb, ltb, ltb-true, refl, same_truth, suc, sym, take, take_all, true}
+use Rattle.ls_enum.proofs.Vocabulary.{◌*◌, ◌++◌, ◌+◌, ◌-◌, ◌<◌, ◌∙◌, ◌∷◌, ◌≡◌, ◌≤◌, AllByRecursion, IsInOrder, Items, List, None, Option, Some, ℕ, [], ap, append_assoc, ap₂, arith, comes_after, comes_before, comes_before-asymmetric, comes_before-irreflexive, comes_before-transitive, cond, false, filter, find, found-holds, le-ltb, left_after, length, lt-ltb, ltb, ltb-true, refl, same_truth, suc, sym, take, take_all, true}
 use Rattle.ls_lists.proofs.Filters.{filter-all}
 
 -- ---- the first that is left, and what is left behind it
@@ -69,17 +69,6 @@ take-ended rest m e = ap (take m) e ∙ take_all m [] (omega arith)
 
 pub more-ended : (rest : List Items) (m : ℕ) → rest ≡ [] → ltb m (length rest) ≡ false
 more-ended rest m e = le-ltb m (length rest) (let q : length rest ≡ 0 = ap length e in omega arith)
-
--- `count` sets are given, and so the page
-pub take-full : (rest : List Items) (count done : ℕ) → count ≤ done → take (count - done) rest ≡ []
-take-full rest count done l = ap (λ m. take m rest) (let q : count - done ≡ 0 = omega arith in q)
-
--- `count` sets are given, and a further one is looked for
-pub more-full : (r : Option Items) (rest next : List Items) (count done : ℕ) → MatchOption r ((rest ≡ []) × (next ≡ [])) (λ x. rest ≡ x ∷ next) → count ≤ done → is_some r ≡ ltb (count - done) (length rest)
-more-full None rest next count done h l = sym (more-ended rest (count - done) h.0)
-more-full (Some x) rest next count done h l =
-    let n : length rest ≡ length next + 1 = ap length h ∙ (let q : length (x ∷ next) ≡ length next + 1 = omega arith in q) in
-    sym (lt-ltb (count - done) (length rest) (omega arith))
 
 -- each set costs at most so many steps
 pub more_steps : (before now start done each : ℕ) → before ≤ start + done * each → now ≤ before + each → now ≤ start + (done + 1) * each

@@ -167,12 +167,6 @@ pub both-within : (x : Items) (f : List Items) (y : Items) (g : List Items) (s :
     → IsWithin (both_sides x f y g s) s
 both-within x f y g s i h = side-within x f s i (side-within y g (side_interior x f s) i h)
 
-pub both-keeps : (n : ℕ) (x : Items) (f : List Items) (y : Items) (g : List Items) (s k : Items)
-    → is_among (mesh n x f y g) k ≡ true → IsWithin k s → IsWithin k (both_sides x f y g s)
-both-keeps n x f y g s k c w =
-    let m = mesh-from n x f y g k c in
-    side-keeps y g (side_interior x f s) k m.right (side-keeps x f s k m.left w)
-
 pub closed-family : (n : ℕ) (f : List Items) → IsFamily n f → IsClosed f
 closed-family n f h = record { holds_empty = h.holds_empty; holds_unions = h.holds_unions }
 

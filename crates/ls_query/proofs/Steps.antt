@@ -30,10 +30,6 @@ no_next n a c none within e h =
 
 -- ---- the item that moves
 
--- how many items are packed
-packed : Items → ℕ → ℕ
-packed a i = len a - len (keep_before a i)
-
 pub kept_fewer : (a : Items) (i : ℕ) → has a i ≡ true → len (keep_before a i) < len a
 kept_fewer a i h = len-less (keep_before a i) a i (keep_before-within a i) (has-keep_before a i i ∙ rw (h, le-ltb i i (omega arith)) refl) h
 

@@ -1,5 +1,5 @@
 -- Leaving items out of a member, in turn.
-use Rattle.std.proofs.Common.{ℕ, zero, suc, ◌+◌, ◌-◌, ◌<◌, ◌≤◌, ◌≡◌, inl, inr, Bool, true, false}
+use Rattle.std.proofs.Common.{ℕ, zero, suc, ◌+◌, ◌-◌, ◌<◌, ◌≡◌, inl, inr, Bool, true, false}
 use Rattle.std.proofs.Common.{cond, List, find, Option, Some}
 use Rattle.std.proofs.Common.{None, option_map, refl, sym, ap, ◌∙◌, arith}
 use Rattle.std.proofs.lemmas.Bool.{cases_eq}
@@ -21,9 +21,6 @@ lowered-next f k j n l =
     let e : n - j ≡ suc (n - (j + 1)) = omega arith in
     let d : suc j ≡ j + 1 = omega arith in
     ap (lowered f k j) e ∙ ap (λ i. lowered f (lowered_at f k j) i (n - (j + 1))) d
-
-pub lowered-end : (f : List Items) (k : Items) (j n : ℕ) → n ≤ j → lowered f k j (n - j) ≡ k
-lowered-end f k j n l = ap (lowered f k j) (let e : n - j ≡ 0 = omega arith in e)
 
 pub lowered-some : (f : List Items) (k t : Items) (j : ℕ)
     → interior_keeping f (without k j) (keep_before k j) ≡ Some t → lowered_at f k j ≡ t

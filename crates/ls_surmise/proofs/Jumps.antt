@@ -1,5 +1,5 @@
 -- Sets of a list in order that can't lie within a set, and are passed over at once.
-use Rattle.ls_surmise.proofs.Vocabulary.{◌&&◌, ◌+◌, ◌-◌, ◌<◌, ◌||◌, ◌∙◌, ◌∷◌, ◌≡◌, ◌≤◌, AllByRecursion, Bool, IsInOrder, IsWithin-from, Items, List, None, Some, ℕ, [], and_parts, ap, arith, back_in, cases_eq, cases_order, comes_before, comes_before-asymmetric, comes_before-at, comes_before-transitive, differs_first, drop, drop-drop, drop-next, drop_all, empty, false, false_from_ne_true, full, get_or, get_or_default, has, has-empty, has-minus, in_order-at, inl, inr, is_within, is_within-from, keep_before, least, len, length, list_any, ltb, members, minus, nat_tests, not, not-true, refl, subst, suc, sym, take, take_all, true, true≢false, union, zero}
+use Rattle.ls_surmise.proofs.Vocabulary.{◌&&◌, ◌+◌, ◌-◌, ◌<◌, ◌||◌, ◌∙◌, ◌∷◌, ◌≡◌, ◌≤◌, AllByRecursion, Bool, IsInOrder, IsWithin-from, Items, List, None, Some, ℕ, [], and_parts, ap, arith, back_in, cases_eq, cases_order, comes_before, comes_before-asymmetric, comes_before-at, comes_before-transitive, differs_first, drop, drop-drop, drop-next, empty, false, false_from_ne_true, full, get_or, get_or_default, has, has-empty, has-minus, in_order-at, inl, inr, is_within, is_within-from, keep_before, least, len, length, list_any, ltb, members, minus, nat_tests, not, not-true, refl, subst, suc, sym, take, take_all, true, true≢false, union, zero}
 use Rattle.std.specs.List.Sorted.{IsPartitionedBy}
 use Rattle.ls_set.proofs.Ascending.{least-cases}
 use Rattle.ls_set.proofs.Firsts.{items-none}
@@ -82,9 +82,6 @@ jumped c d x sets place m whole order l at e before h =
 
 pub found : (c d : Items) (sets : List Items) (place : ℕ) (whole : Bool) → place < length sets → d ≡ get_or sets place d → is_within d c ≡ true → list_any (λ s. is_within s c) (drop place sets) ≡ whole → true ≡ whole
 found c d sets place whole l at w h = sym (ap (λ b. b || list_any (λ s. is_within s c) (drop (place + 1) sets)) w) ∙ ap (list_any (λ s. is_within s c)) (sym (drop-next sets place d l at)) ∙ h
-
-pub last : (c : Items) (sets : List Items) (place : ℕ) (whole : Bool) → length sets ≤ place → list_any (λ s. is_within s c) (drop place sets) ≡ whole → false ≡ whole
-last c sets place whole l h = ap (list_any (λ s. is_within s c)) (sym (drop_all place sets l)) ∙ h
 
 drop-short : (sets : List Items) (i : ℕ) → length (drop i sets) ≤ length sets - i
 drop-short sets zero = omega arith

@@ -1,6 +1,6 @@
 -- Columns of words, one item's behind another's.
-use Rattle.ls_weight.proofs.Vocabulary.{◌%◌, ◌*◌, ◌+◌, ◌-◌, ◌/◌, ◌<◌, ◌∙◌, ◌≡◌, ◌≤◌, AreColumns, IsColumn, List, ℕ, ap, arith, bit_at, cases_lt, drop, eqb, get_or, inl, inr, length, mul-add, mul-le-mul_left, mul-one, mul_comm, suc, sym, take, width_of, words_of, zero}
-use Rattle.std.proofs.Math.Nat.{div-add-mod, div-eq_of_lt, mod-lt, mul-add-div}
+use Rattle.ls_weight.proofs.Vocabulary.{◌%◌, ◌*◌, ◌+◌, ◌-◌, ◌/◌, ◌<◌, ◌∙◌, ◌≡◌, ◌≤◌, AreColumns, IsColumn, List, ℕ, ap, arith, bit_at, drop, eqb, get_or, length, mul-add, mul-le-mul_left, mul-one, mul_comm, sym, take, width_of, words_of}
+use Rattle.std.proofs.Math.Nat.{div-add-mod, div-eq_of_lt, mul-add-div}
 use Rattle.ls_theory.specs.{most_states}
 use Rattle.ls_weight.proofs.Passing.{row-full, row-index, row-is}
 
@@ -13,20 +13,6 @@ pub record IsPlace (at words n : ℕ) : Type 0 where
   pub some : 0 < words
   pub item : at / words < n
   pub word : at % words < words
-
-pub place-is : (at words n : ℕ) → at < words * n → IsPlace at words n
-place-is at zero n l = absurd (omega arith)
-place-is at (suc m) n l =
-    let words = suc m in
-    let parts = div-add-mod at words in
-    record {
-      some = omega arith;
-      item = elim (cases_lt (at / words) n) [
-        | inl lt ↦ lt
-        | inr ge ↦ let most = mul-le-mul_left words ge in absurd (omega arith)
-      ];
-      word = mod-lt at (omega arith);
-    }
 
 word-item : (words q r : ℕ) → r < words → (words * q + r) / words ≡ q
 word-item words q r l =
