@@ -1,47 +1,10 @@
 """The page of a class, of what the program found of its pupils."""
-import html
-
+from class_change import change_part
+from class_parts import bar, count_of, lines, listed, row, said, text_of
 from class_style import STYLE
 
-NUMBERS = ["Masters", "Ready", "Questions", "Replies", "Share", "Right in the table"]
-
-
-def text_of(words):
-    """A text of the page. A byte that isn't UTF-8, as a file's name may have, is shown as such."""
-    text = str(words).encode("utf-8", "surrogateescape").decode("utf-8", "replace")
-    return html.escape(text, quote=True)
-
-
-def named(names, items):
-    """Names in the order of items, for a cell; none is broken at its hyphen."""
-    found = [f"<span class=name>{text_of(it)}</span>" for it in items if it in names]
-    return ", ".join(found) or "<span class=faint>–</span>"
-
-
-def row(*cells):
-    return "<tr>" + "".join(cells) + "</tr>\n"
-
-
-def cell(words, kind=""):
-    return f"<td{f' class={kind}' if kind else ''}>{words}</td>"
-
-
-def head(*words):
-    """A table's heading, in which the words over numbers stand at the right."""
-    kinds = {word: " class=number" for word in NUMBERS}
-    cells = [f"<th scope=col{kinds.get(word, '')}>{text_of(word)}</th>" for word in words]
-    return "<thead>" + row(*cells) + "</thead>"
-
-
-def bar(count, of, kind=""):
-    """A bar whose length is a part of the cell."""
-    return f'<span class="bar {kind}" style="width: {100 * count / max(of, 1):.1f}%"></span>'
-
-
-def count_of(many, word):
-    return f"{many:,} {word}{'' if many == 1 else 's'}"
-
-
+MANY = 24   # items, with more of which the columns are narrower in print
+OFTEN = 4   # an item stands out where the table disagrees for one pupil of so many
 KEY = """<p class=key><span><i class=mastered>●</i>masters</span>
 <span><i class=last>◆</i>masters, maybe learned last</span>
 <span><i class=ready>○</i>can learn next</span><span><i></i>later</span>
@@ -49,107 +12,138 @@ KEY = """<p class=key><span><i class=mastered>●</i>masters</span>
 """
 
 
-def states_part(pupils, items):
+def mark_of(pupil, item):
+    """How an item stands for a pupil: the kind of its cell, its mark, and words."""
+    if item in pupil.last:
+        return "last", "◆", "masters, maybe learned last"
+    if item in pupil.state:
+        return "mastered", "●", "masters"
+    return ("ready", "○", "can learn next") if item in pupil.ready else ("later", "", "later")
+
+
+def states_part(pupils, shown):
     """Who stands where: a row for each pupil, and a column for each item."""
     rows = ""
     for pupil in pupils:
-        cells = [f"<th scope=row>{text_of(pupil.name)}</th>"]
-        for item in items:
-            kind, mark, tells = (
-                ("last", "◆", "masters, maybe learned last") if item in pupil.last else
-                ("mastered", "●", "masters") if item in pupil.state else
-                ("ready", "○", "can learn next") if item in pupil.ready else
-                ("later", "", "later"))
+        cells = ""
+        for item in shown.items:
+            kind, mark, tells = mark_of(pupil, item)
             odd = " odd" if (item in pupil.right) != (item in pupil.state) else ""
-            title = text_of(f"{pupil.name}, {item}: {tells}")
-            cells.append(f'<td class="{kind}{odd}" title="{title}">{mark}</td>')
-        rows += row(*cells, cell(len(pupil.state), "number"))
-    top = "".join(f"<th scope=col class=item><span>{text_of(item)}</span></th>" for item in items)
-    return (f"<h2>Who stands where</h2>\n{KEY}<div class=wide><table class=states>\n<thead>"
+            title = text_of(f"{pupil.name}\n{shown.of(item)}\n{tells}")
+            cells += f'<td class="{kind}{odd}" title="{title}">{mark}</td>'
+        rows += row(f"<th scope=row>{said(pupil.name)}</th>", cells,
+                    f"<td class=number>{len(pupil.state)}</td>")
+    top = "".join(f"<th scope=col class=item><span>{said(shown.of(item))}</span></th>"
+                  for item in shown.items)
+    kind = "states many" if len(shown.items) > MANY else "states"
+    return (f'<h2>Who stands where</h2>\n{KEY}<div class=wide><table class="{kind}">\n<thead>'
             f"<tr><th></th>{top}<th scope=col class=item><span>masters</span></th></tr></thead>\n"
             f"<tbody>{rows}</tbody></table></div>\n")
 
 
-def ready_part(pupils, items):
+def ready_part(pupils, shown):
     """How many pupils are ready for each item, and who they are: they can be taught together."""
-    rows = ""
-    for item in items:
+    rows = []
+    for item in shown.items:
         who = [pupil.name for pupil in pupils if item in pupil.ready]
         if who:
-            rows += row(f"<th scope=row>{text_of(item)}</th>", cell(len(who), "number"),
-                        cell(bar(len(who), len(pupils), "next"), "bars"),
-                        cell(named(who, who)))
-    done = [pupil.name for pupil in pupils if len(pupil.state) == len(items)]
-    end = f"<p>Master all items: {text_of(', '.join(done))}.</p>\n" if done else ""
+            rows.append((shown.of(item), len(who), bar(len(who), len(pupils), "next"),
+                         listed(who)))
+    done = [pupil.name for pupil in pupils if len(pupil.state) == len(shown.items)]
+    end = f"<p>Master all items: {listed(done)}.</p>\n" if done else ""
     return ("<h2>Who is ready for what</h2>\n<p>The pupils beside an item can learn it next, and"
-            " so together.</p>\n<table class=lines>" + head("Item", "Ready", "", "Pupils")
-            + f"<tbody>{rows}</tbody></table>\n{end}")
+            " so together.</p>\n" + lines(["Item", "Ready", "", "Pupils"], rows) + end)
 
 
-def pupils_part(pupils, items):
+def pupils_part(pupils, shown):
     """What each pupil learned last and can learn next, and how the assessment ended."""
-    rows = "".join(row(f"<th scope=row>{text_of(it.name)}</th>",
-                       cell(f"{len(it.state)} of {len(items)}", "number"),
-                       cell(named(it.last, items)), cell(named(it.ready, items)),
-                       cell(it.replies, "number"), cell(it.reason)) for it in pupils)
+    rows = [(it.name, f"{len(it.state)} of {len(shown.items)}", shown.listed(it.last),
+             shown.listed(it.ready), it.replies,
+             "<b class=warn>budget</b>" if it.reason == "budget" else it.reason) for it in pupils]
     return ("<h2>Pupils</h2>\n<p>An assessment ends by <b>share</b> where one state stands out. It"
             " ends by <b>budget</b> where the questions ran out: read that state with care.</p>\n"
-            "<table class=lines>"
-            + head("Pupil", "Masters", "Maybe learned last", "Can learn next", "Questions",
-                   "Ended by")
-            + f"<tbody>{rows}</tbody></table>\n")
+            + lines(["Pupil", "Masters", "Maybe learned last", "Can learn next", "Questions",
+                     "Ended by"], rows))
 
 
-def items_part(pupils, items):
-    """How many master each item, are ready for it, and had it right, the best known first."""
-    rows = ""
-    masters = {item: sum(item in pupil.state for pupil in pupils) for item in items}
-    for item in sorted(items, key=lambda item: -masters[item]):
-        rows += row(f"<th scope=row>{text_of(item)}</th>", cell(masters[item], "number"),
-                    cell(bar(masters[item], len(pupils)), "bars"),
-                    cell(sum(item in pupil.ready for pupil in pupils), "number"),
-                    cell(sum(item in pupil.right for pupil in pupils), "number"))
-    return ("<h2>Items</h2>\n<table class='lines narrow'>"
-            + head("Item", "Masters", "", "Ready", "Right in the table")
-            + f"<tbody>{rows}</tbody></table>\n")
+def items_part(pupils, shown):
+    """How many master each item, are ready for it, had it right, and how often the table disagrees
+    with the states; the best known first."""
+    rows = []
+    masters = {item: sum(item in pupil.state for pupil in pupils) for item in shown.items}
+    for item in sorted(shown.items, key=lambda item: -masters[item]):
+        right = sum(item in pupil.right for pupil in pupils)
+        slips = sum(item in pupil.state - pupil.right for pupil in pupils)
+        odd = [slips, sum(item in pupil.right - pupil.state for pupil in pupils)]
+        if OFTEN * sum(odd) >= len(pupils):
+            odd = [f"<b class=warn>{many}</b>" for many in odd]
+        rows.append((shown.of(item), masters[item], bar(masters[item], len(pupils)),
+                     sum(item in pupil.ready for pupil in pupils), right, *odd))
+    return ("<h2>Items</h2>\n<p>The table disagrees by a slip, where a mastered item is wrong in"
+            " it, and by a lucky guess, where another is right. In red it does so for a quarter"
+            " of the pupils: look at the task, or at what the space says of the item.</p>\n"
+            + lines(["Item", "Masters", "", "Ready", "Right in the table", "Slips", "Guesses"],
+                    rows, "narrow"))
 
 
-def singles_part(singles, items):
+def standing_of(single):
+    """Where an assessment stands, in words."""
+    kind, word = (single.standing or "taken away").split()
+    if kind == "question":
+        return f"is asked {said(word)} next"
+    return "taken away" if kind == "taken" else \
+        "<b class=warn>over by budget</b>" if word == "budget" else f"over by {word}"
+
+
+def singles_part(singles, shown):
     """The reports of the pupils that were assessed alone."""
-    rows = ""
-    for it in singles:
-        words = (it.standing or "taken away").split()
-        standing = (f"is asked {words[1]} next" if words[0] == "question" else
-                    f"over by {words[1]}" if words[0] == "over" else "taken away")
-        rows += row(f"<th scope=row>{text_of(it.name)}</th>", cell(named(it.state, items)),
-                    cell(f"{100 * it.weight // it.total} %", "number"),
-                    cell(named(it.last, items)), cell(named(it.ready, items)),
-                    cell(it.replies, "number"), cell(text_of(standing)))
+    rows = [(it.name, shown.listed(it.state), f"{100 * it.weight // it.total} %",
+             shown.listed(it.last), shown.listed(it.ready), it.replies, standing_of(it))
+            for it in singles]
     return ("<h2>Assessed one by one</h2>\n<p>The share is that of the state in the"
-            " weight of all states.</p>\n<div class=wide><table class=lines>"
-            + head("Pupil", "State", "Share", "Maybe learned last", "Can learn next", "Replies",
-                   "Standing") + f"<tbody>{rows}</tbody></table></div>\n")
+            " weight of all states.</p>\n"
+            + lines(["Pupil", "State", "Share", "Maybe learned last", "Can learn next", "Replies",
+                     "Standing"], rows))
 
 
-def page(title, space, pupils, singles, sources):
-    """The whole page."""
-    items = space.items
-    told = [count_of(len(items), "item")]
-    body = ""
+def uncertain(pupils, singles):
+    """A sentence that stands out, where questions ran out; nothing where they didn't."""
+    ends = [it.reason for it in pupils]
+    ends += [it.standing.split()[1] for it in singles if (it.standing or "").startswith("over")]
+    few = ends.count("budget")
+    if not few:
+        return ""
+    return (f"<p class=alarm>{few:,} of {len(ends):,} {'is' if few == 1 else 'are'} uncertain:"
+            " the questions ran out before one state stood out. Raise <code>limits</code>, or ask"
+            " more.</p>\n")
+
+
+def summary(pupils, shown):
+    """The numbers of a class, in a line."""
+    told = [count_of(len(shown.items), "item")]
     if pupils:
-        asked = [pupil.replies for pupil in pupils]
+        asked = sorted({pupil.replies for pupil in pupils})
+        asked = f"{asked[0]} to {asked[-1]}" if len(asked) > 1 else str(asked[0])
         budget = sum(pupil.reason == "budget" for pupil in pupils)
         told = [count_of(len(pupils), "pupil"), *told,
                 f"{count_of(len({pupil.state for pupil in pupils}), 'state')} among them",
-                f"{min(asked)} to {max(asked)} questions each",
+                f"{asked} questions each",
                 f"{len(pupils) - budget} ended by share, {budget} by budget"]
-        body = (states_part(pupils, items) + ready_part(pupils, items) + pupils_part(pupils, items)
-                + items_part(pupils, items))
+    return ", ".join(told)
+
+
+def page(title, shown, pupils, singles, change, sources):
+    """The whole page. The change since an earlier table may be None."""
+    body = uncertain(pupils, singles)
+    if pupils:
+        body += states_part(pupils, shown) + ready_part(pupils, shown)
+        body += change_part(change, shown) if change else ""
+        body += pupils_part(pupils, shown) + items_part(pupils, shown)
     if singles:
-        body += singles_part(singles, items)
+        body += singles_part(singles, shown)
     return (f'<!DOCTYPE html>\n<html lang=en>\n<head><meta charset="utf-8">\n'
             f'<meta name="viewport" content="width=device-width, initial-scale=1">\n'
             f"<title>{text_of(title)}</title>\n<style>{STYLE}</style></head>\n<body>\n"
-            f"<h1>{text_of(title)}</h1>\n<p class=faint>{text_of(', '.join(told))}.</p>\n{body}"
+            f"<h1>{text_of(title)}</h1>\n<p class=faint>{summary(pupils, shown)}.</p>\n{body}"
             f"<footer>From {text_of(' and '.join(sources))}, by the replies of lspace.</footer>\n"
             "</body></html>\n")

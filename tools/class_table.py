@@ -3,16 +3,19 @@
   with Space(program, script) as space:
       space.pupils("class.csv")    each pupil of the table, assessed by `class`
       space.alone()                each pupil that the script assessed one by one
+  in_order(pupils, items, order)   the pupils by name, by state, or as they are
 """
 import csv
 import itertools
 import json
 import os
+import re
 from collections import namedtuple
 
 import companion
 from companion import MOST_PUPILS, Trouble, clipped, records_of, refusal_of
 from course import Course
+from labels import plain
 
 # What is known of a pupil of the class: the items of the state and of its two fringes, and what
 # the table says was right, each a set of names.
@@ -28,7 +31,7 @@ def read_class(path):
     found = set()
     for place, name in enumerate(names, 2):
         if name in found:
-            raise Trouble(f"{path}, record {place}: there is a pupil {clipped(name)} before")
+            raise Trouble(f"{path}, record {place}: there is a pupil {clipped(plain(name))} before")
         if not name:
             raise Trouble(f"{path}, record {place}: the pupil has no name")
         found.add(name)
@@ -99,8 +102,12 @@ class Space(Course):
         if place == 1:
             return ("the first record has to be any word, and then each item's name once: "
                     + ", ".join(self.items) + f" ({reply[0]})")
-        return (f"record {place}, of {clipped(rows[place - 1][0])}, has to be a name and then under"
+        return (f"record {place}, of {clipped(plain(rows[place - 1][0]))}, has to be a name and then under"
                 f" each item 1 for right or 0 for wrong ({reply[0]})")
+
+    def small_base(self):
+        """The base; None where there is none, as where it is too large."""
+        return None if refusal_of(self.say("base")) else self.base()
 
     def alone(self):
         """Each pupil that the script or its session assessed alone."""
@@ -119,11 +126,19 @@ def fringes_in(line):
     return frozenset(inner.split()), frozenset(outer.split())
 
 
+def natural(name):
+    """What orders names as people do: p2 before p10, and large letters as small ones."""
+    parts = re.split("([0-9]+)", name.casefold())
+    numbers = [it.lstrip("0") for it in parts[1::2]]
+    parts[1::2] = [(len(it), it) for it in numbers]
+    return parts, name
+
+
 def in_order(pupils, items, order):
     """The pupils by their names, or with those that master most first and one state together."""
     if order == "table":
         return pupils
-    by_name = sorted(pupils, key=lambda pupil: (pupil.name.casefold(), pupil.name))
+    by_name = sorted(pupils, key=lambda pupil: natural(pupil.name))
     if order == "name":
         return by_name
     return sorted(by_name, key=lambda pupil: (-len(pupil.state),

@@ -85,10 +85,10 @@ class Reports(unittest.TestCase):
         self.assertEqual([row[:2] + row[3:] for row in page.texts("Who is ready for what")], [
             ["expand", "3", "Bea, Cid, Eva"], ["decimal", "2", "Ann, Eva"],
             ["compare", "1", "Cid"], ["add", "1", "Ann"]])
-        self.assertIn("Master all items: Dan.", self.text)
+        self.assertIn("Master all items: <bdi class=name>Dan</bdi>.", self.text)
         self.assertEqual(page.texts("Items"), [
-            ["decimal", "3", "", "2", "3"], ["compare", "3", "", "1", "3"],
-            ["expand", "2", "", "3", "2"], ["add", "1", "", "1", "2"]])
+            ["decimal", "3", "", "2", "3", "0", "0"], ["compare", "3", "", "1", "3", "0", "0"],
+            ["expand", "2", "", "3", "2", "0", "0"], ["add", "1", "", "1", "2", "0", "1"]])
         self.assertIn("5 pupils, 4 items, 5 states among them, 5 to 6 questions each, "
                       "5 ended by share, 0 by budget.", self.text)
 
