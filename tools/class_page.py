@@ -2,6 +2,7 @@
 from class_change import change_part
 from class_parts import bar, count_of, lines, listed, row, said, text_of
 from class_style import STYLE
+from class_table import end_of
 
 MANY = 24   # items, with more of which the columns are narrower in print
 OFTEN = 4   # an item stands out where the table disagrees for one pupil of so many
@@ -108,8 +109,7 @@ def singles_part(singles, shown):
 
 def uncertain(pupils, singles):
     """A sentence that stands out, where questions ran out; nothing where they didn't."""
-    ends = [it.reason for it in pupils]
-    ends += [it.standing.split()[1] for it in singles if (it.standing or "").startswith("over")]
+    ends = [end for end in map(end_of, pupils + singles) if end in ("share", "budget")]
     few = ends.count("budget")
     if not few:
         return ""

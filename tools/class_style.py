@@ -61,6 +61,8 @@ footer { margin-top: 2.5rem; border-top: 1px solid var(--line); padding-top: .5r
   .lines td.number { display: inline-block; margin-right: 1rem; padding: 0; }
   .lines td::before { content: attr(data-head) ": "; color: var(--faint); } }
 @media print { body { margin: 0; max-width: none; font-size: 10pt; } .wide { overflow: visible; }
+  .states { font-size: 9pt; } .many { font-size: 7pt; }
+  .states.many td { width: .8rem; height: 1rem; } .many th.item { padding: 0; }
   tr, h2 { break-inside: avoid; } h2 { break-after: avoid; } thead { display: table-header-group; }
   @page { margin: 14mm; } }
 """

@@ -3,6 +3,7 @@
   with Space(program, script) as space:
       space.pupils("class.csv")    each pupil of the table, assessed by `class`
       space.alone()                each pupil that the script assessed one by one
+  end_of(pupil)                    why the assessment of either is over
   in_order(pupils, items, order)   the pupils by name, by state, or as they are
 """
 import csv
@@ -102,8 +103,8 @@ class Space(Course):
         if place == 1:
             return ("the first record has to be any word, and then each item's name once: "
                     + ", ".join(self.items) + f" ({reply[0]})")
-        return (f"record {place}, of {clipped(plain(rows[place - 1][0]))}, has to be a name and then under"
-                f" each item 1 for right or 0 for wrong ({reply[0]})")
+        return (f"record {place}, of {clipped(plain(rows[place - 1][0]))}, has to be a name and"
+                f" then under each item 1 for right or 0 for wrong ({reply[0]})")
 
     def small_base(self):
         """The base; None where there is none, as where it is too large."""
@@ -124,6 +125,14 @@ def fringes_in(line):
     """The inner and the outer fringe of a line `fringes`."""
     inner, outer = line[len("fringes"):].split("|")
     return frozenset(inner.split()), frozenset(outer.split())
+
+
+def end_of(pupil):
+    """Why an assessment is over: "share" or "budget"; what else is told where it isn't over, and
+    nothing where the pupil was taken away."""
+    if isinstance(pupil, Pupil):
+        return pupil.reason
+    return (pupil.standing or "").removeprefix("over ")
 
 
 def natural(name):

@@ -24,10 +24,13 @@ li { padding: .15rem .6rem; border: 1px solid var(--line); border-radius: .3rem;
 h1 { overflow-wrap: anywhere; }
 section + section { margin-top: 3rem; border-top: 2px solid var(--line); padding-top: 2rem; }
 figure { margin: 1.6rem 0 0; break-inside: avoid; } figcaption { font-size: 13px; }
-svg { display: block; width: auto; height: auto; max-width: 100%; max-height: 8.5cm; background: #fff; margin-bottom: .3rem;
-  border: 1px solid var(--line); border-radius: .3rem; } svg text { unicode-bidi: plaintext; }
+svg { display: block; width: auto; height: auto; max-width: 100%; max-height: 8.5cm;
+  background: #fff; margin-bottom: .3rem; border: 1px solid var(--line); border-radius: .3rem; }
+ svg text { unicode-bidi: plaintext; }
 @media print { :root { color-scheme: light; --ink: #000; --paper: #fff; --line: #d5dbe2;
-  --warn: #b3261e; } body { margin: 0; max-width: none; font-size: 11pt; }
+  --warn: #b3261e; } body { margin: 0; max-width: none; font: 10.5pt/1.35 system-ui, sans-serif; }
+  h2 { margin: .9rem 0 .25rem; } ul { gap: .25rem .3rem; } li { padding: 0 .45rem; }
+  figure, footer { margin-top: 1rem; } svg { max-height: 7cm; }
   section + section { margin: 0; border: 0; padding: 0; break-before: page; } svg { border: 0; }
   h2 { break-after: avoid; } li { break-inside: avoid; } @page { margin: 14mm; } }
 """
