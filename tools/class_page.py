@@ -50,10 +50,11 @@ def ready_part(pupils, shown):
         if who:
             rows.append((shown.of(item), len(who), bar(len(who), len(pupils), "next"),
                          listed(who)))
+    table = ("<p>The pupils beside an item can learn it next, and so together.</p>\n"
+             + lines(["Item", "Ready", "", "Pupils"], rows)) if rows else ""
     done = [pupil.name for pupil in pupils if len(pupil.state) == len(shown.items)]
     end = f"<p>Master all items: {listed(done)}.</p>\n" if done else ""
-    return ("<h2>Who is ready for what</h2>\n<p>The pupils beside an item can learn it next, and"
-            " so together.</p>\n" + lines(["Item", "Ready", "", "Pupils"], rows) + end)
+    return f"<h2>Who is ready for what</h2>\n{table}{end}"
 
 
 def pupils_part(pupils, shown):
@@ -77,21 +78,21 @@ def items_part(pupils, shown):
         slips = sum(item in pupil.state - pupil.right for pupil in pupils)
         odd = [slips, sum(item in pupil.right - pupil.state for pupil in pupils)]
         if OFTEN * sum(odd) >= len(pupils):
-            odd = [f"<b class=warn>{many}</b>" for many in odd]
+            odd = [f"<b class=warn>{many}</b>" if many else many for many in odd]
         rows.append((shown.of(item), masters[item], bar(masters[item], len(pupils)),
                      sum(item in pupil.ready for pupil in pupils), right, *odd))
     return ("<h2>Items</h2>\n<p>The table disagrees by a slip, where a mastered item is wrong in"
             " it, and by a lucky guess, where another is right. In red it does so for a quarter"
-            " of the pupils: look at the task, or at what the space says of the item.</p>\n"
+            " of the pupils or more: look at the task, or at what the space says of the item.</p>\n"
             + lines(["Item", "Masters", "", "Ready", "Right in the table", "Slips", "Guesses"],
                     rows, "narrow"))
 
 
-def standing_of(single):
+def standing_of(single, shown):
     """Where an assessment stands, in words."""
     kind, word = (single.standing or "taken away").split()
     if kind == "question":
-        return f"is asked {said(word)} next"
+        return f"is asked {said(shown.of(word))} next"
     return "taken away" if kind == "taken" else \
         "<b class=warn>over by budget</b>" if word == "budget" else f"over by {word}"
 
@@ -99,7 +100,8 @@ def standing_of(single):
 def singles_part(singles, shown):
     """The reports of the pupils that were assessed alone."""
     rows = [(it.name, shown.listed(it.state), f"{100 * it.weight // it.total} %",
-             shown.listed(it.last), shown.listed(it.ready), it.replies, standing_of(it))
+             shown.listed(it.last), shown.listed(it.ready), it.replies,
+             standing_of(it, shown))
             for it in singles]
     return ("<h2>Assessed one by one</h2>\n<p>The share is that of the state in the"
             " weight of all states.</p>\n"

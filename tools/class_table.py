@@ -132,7 +132,7 @@ def end_of(pupil):
     nothing where the pupil was taken away."""
     if isinstance(pupil, Pupil):
         return pupil.reason
-    return (pupil.standing or "").removeprefix("over ")
+    return pupil.standing.replace("over ", "") if pupil.standing else ""
 
 
 def natural(name):

@@ -84,14 +84,15 @@ class Sheets(Report):
 
     def test_labels(self):
         """Long ones may be broken, and those in another direction stand alone."""
-        self.write("s", CHAIN)
+        self.write("s", CHAIN + "pupil Zoe\n")
         self.write("labels.csv", f"name,label\na,{LONG}\nb,{HEBREW}\nc,<b> & &lt;\ngone,x\n")
         printed = self.report("s", self.write("t.csv", "who,a,b,c\nAnn,1,1,0\n"), "--labels",
                               "labels.csv", "--sheets", "sheets.html")
         self.assertIn("note: there is a label for gone, and no such item", printed)
         page = (self.folder / "t.html").read_text(encoding="utf-8")
         for part in [f"<bdi class=long>{LONG.strip()}</bdi>", f"<bdi class=name>{HEBREW}</bdi>",
-                     "<bdi class=name>&lt;b&gt; &amp; &amp;lt;</bdi>"]:
+                     "<bdi class=name>&lt;b&gt; &amp; &amp;lt;</bdi>",
+                     f"is asked <bdi class=name>{HEBREW}</bdi> next"]:
             self.assertIn(part, page)
         sheet = self.sheets()[0]
         self.assertIn(f"<li dir=auto>{HEBREW}</li>", sheet)
