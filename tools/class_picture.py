@@ -1,6 +1,6 @@
 """Small pictures of a base, each with the state of a pupil on it, by `dot` of Graphviz.
 
-  pictures = pictures_of(base, shown, pupils)    the picture by the state, as a part of a page
+  pictures = pictures_of(base, shown, pupils)    the picture by `standing_of`, as a part of a page
 
 There is none where `dot` is missing or where the base is too large to be read so small: a note on
 standard error tells which."""
@@ -21,6 +21,11 @@ MOST_LINES = 4  # of a label in a box
 LEGEND = ("Each box is a way to what it names, and builds on the boxes below it. Dark, with a"
           " double frame: you master it. Dashed: you do, and may have learned it last. Thick frame:"
           " you can learn it next.")
+
+
+def standing_of(pupil):
+    """The state with its fringes, by which pupils have the same picture."""
+    return pupil.state, pupil.last, pupil.ready
 
 
 def words_of(label):
@@ -68,22 +73,22 @@ def bare(picture):
 
 
 def is_small(picture):
-    width, height = re.search(r'width="(\d+)pt" height="(\d+)pt"', picture).groups()
-    return int(width) <= WIDEST and int(height) <= TALLEST
+    found = re.search(r'width="([0-9.]+)pt" height="([0-9.]+)pt"', picture)
+    return bool(found) and float(found[1]) <= WIDEST and float(found[2]) <= TALLEST
 
 
 def pictures_of(base, shown, pupils):
-    """The picture of each state of the pupils; of a base that is None there is none."""
+    """The picture of each standing of the pupils; of a base that is None there is none."""
     if base is None or len(base) > MOST_SETS:
         tell("note: the base is too large for a small picture, so the sheets have none")
         return {}
     if shutil.which("dot") is None:
         tell("note: `dot` isn't found, so the sheets have no picture; it comes with Graphviz")
         return {}
-    marks = {it.state: Marks("", it.state, it.last, it.ready) for it in pupils}
+    marks = {standing_of(it): Marks("", *standing_of(it)) for it in pupils}
     found = drawn([input_of(base, shown, it) for it in marks.values()])
     if found and not all(map(is_small, found)):
         tell("note: the base is too large for a small picture, so the sheets have none")
         return {}
-    return {state: f"<figure>{bare(it)}<figcaption>{LEGEND}</figcaption></figure>"
-            for state, it in zip(marks, found)}
+    return {standing: f"<figure>{bare(it)}<figcaption>{LEGEND}</figcaption></figure>"
+            for standing, it in zip(marks, found)}

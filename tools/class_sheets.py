@@ -3,6 +3,7 @@ from collections import namedtuple
 
 import sheet
 from class_parts import count_of, readable, text_of
+from class_picture import standing_of
 from class_table import Pupil, end_of
 
 # What a sheet tells of a pupil: the items in their order, and whether the state stands out.
@@ -57,5 +58,5 @@ def section(pupil, shown, before, picture, title):
 def sheets(title, shown, pupils, change, pictures):
     """The file with the sheets of all pupils."""
     before = {now.name: then.state for then, now in change.both} if change else {}
-    pages = [section(it, shown, before, pictures.get(it.state, ""), title) for it in pupils]
+    pages = [section(it, shown, before, pictures.get(standing_of(it), ""), title) for it in pupils]
     return "\n".join([*sheet.opened(readable(title)), *pages, "</html>", ""])
