@@ -1,77 +1,15 @@
 """What the page of a class shows."""
-import html.parser
 import os
 import re
-import subprocess
 import sys
-import tempfile
 import unittest
 from pathlib import Path
 
-TOP = Path(__file__).resolve().parents[2]
-SAMPLES = TOP / "samples"
-VOID = {"meta", "br"}
+sys.path.insert(0, str(Path(__file__).resolve().parent))
+from reports import CHAIN, SAMPLES, Report
 
 
-class Page(html.parser.HTMLParser):
-    """The tables of a page by their heading: rows of cells, each its text and its class."""
-
-    def __init__(self, text):
-        super().__init__()
-        self.stack, self.tables, self.heading, self.cell = [], {}, "", None
-        self.feed(text)
-        self.close()
-        if self.stack:
-            raise AssertionError(f"{self.stack} aren't closed")
-
-    def handle_starttag(self, tag, attributes):
-        self.stack += [] if tag in VOID else [tag]
-        if tag == "h2":
-            self.heading = ""
-        if tag == "table":
-            self.tables[self.heading] = []
-        if tag == "tr":
-            self.tables[self.heading].append([])
-        if tag in ("th", "td"):
-            self.cell = ["", dict(attributes).get("class", "")]
-            self.tables[self.heading][-1].append(self.cell)
-
-    def handle_endtag(self, tag):
-        if self.stack.pop() != tag:
-            raise AssertionError(f"{tag} ends another")
-        if tag in ("th", "td"):
-            self.cell = None
-
-    def handle_data(self, data):
-        if self.stack and self.stack[-1] == "h2":
-            self.heading += data
-        if self.cell:
-            self.cell[0] += data
-
-    def texts(self, heading):
-        return [[text for text, _ in row] for row in self.tables[heading][1:]]
-
-
-class Reports(unittest.TestCase):
-    def setUp(self):
-        kept = tempfile.TemporaryDirectory()
-        self.addCleanup(kept.cleanup)
-        self.folder = Path(kept.name)
-
-    def report(self, *words, status=0):
-        done = subprocess.run([sys.executable, str(TOP / "tools/report"), *words],
-                              cwd=self.folder, stdout=subprocess.PIPE, stderr=subprocess.STDOUT)
-        self.assertEqual(done.returncode, status, done.stdout.decode())
-        return done.stdout.decode()
-
-    def page(self, *words):
-        self.text = self.report(*words, "--out", "-")
-        return Page(self.text)
-
-    def write(self, name, text):
-        (self.folder / name).write_text(text, encoding="utf-8")
-        return self.folder / name
-
+class Reports(Report):
     def test_the_class_of_the_guide(self):
         """The states, fringes and counts of the five pupils, worked by hand."""
         page = self.page(SAMPLES / "fractions.txt", SAMPLES / "class.csv")
@@ -85,10 +23,10 @@ class Reports(unittest.TestCase):
         self.assertEqual([row[:2] + row[3:] for row in page.texts("Who is ready for what")], [
             ["expand", "3", "Bea, Cid, Eva"], ["decimal", "2", "Ann, Eva"],
             ["compare", "1", "Cid"], ["add", "1", "Ann"]])
-        self.assertIn("Master all items: Dan.", self.text)
+        self.assertIn("Master all items: <bdi class=name>Dan</bdi>.", self.text)
         self.assertEqual(page.texts("Items"), [
-            ["decimal", "3", "", "2", "3"], ["compare", "3", "", "1", "3"],
-            ["expand", "2", "", "3", "2"], ["add", "1", "", "1", "2"]])
+            ["decimal", "3", "", "2", "3", "0", "0"], ["compare", "3", "", "1", "3", "0", "0"],
+            ["expand", "2", "", "3", "2", "0", "0"], ["add", "1", "", "1", "2", "0", "1"]])
         self.assertIn("5 pupils, 4 items, 5 states among them, 5 to 6 questions each, "
                       "5 ended by share, 0 by budget.", self.text)
 
@@ -227,6 +165,73 @@ class Reports(unittest.TestCase):
         self.write("s", "ask\n")
         self.assertIn("s has no session: no items were given", self.report("s", status=1))
         self.assertFalse((self.folder / "t.html").exists())
+
+    def test_names_in_natural_order(self):
+        self.write("s", "items a\n")
+        long = "p" + "9" * 5000
+        names = ["p10", "P2", "p1", long, "p02"]
+        table = self.write("t.csv", "who,a\n" + "".join(f"{it},1\n" for it in names))
+        page = self.page("s", table)
+        self.assertEqual([row[0] for row in page.texts("Pupils")], ["p1", "P2", "p02", "p10", long])
+
+    def test_what_ended_by_budget_stands_out(self):
+        self.write("s", "items a b c\nyes a : b\nlimits 3 90\n")
+        self.page("s", self.write("t.csv", "pupil,c,a,b\nann,1,1,0\nbob,0,0,0\n"))
+        self.assertIn("<p class=alarm>2 of 2 are uncertain: the questions ran out before one state"
+                      " stood out. Raise <code>limits</code>, or ask more.</p>", self.text)
+        self.assertIn("<b class=warn>budget</b>", self.text)
+        self.page(SAMPLES / "fractions.txt", SAMPLES / "class.csv")
+        self.assertNotIn("<p class=alarm>", self.text)
+
+    def test_slips_and_guesses_of_an_item(self):
+        """Of the chain a, b, c Ann fails a alone, and Bob masters c alone."""
+        self.write("s", CHAIN)
+        page = self.page("s", self.write("t.csv", "who,a,b,c\nAnn,0,1,1\nBob,0,0,1\nCid,0,0,0\n"))
+        self.assertEqual({row[0]: row[5:] for row in page.texts("Items")},
+                         {"a": ["1", "0"], "b": ["0", "0"], "c": ["0", "1"]})
+        self.assertEqual(re.findall('data-head="(Slips|Guesses)"><b class=warn>1</b>', self.text),
+                         ["Slips", "Guesses"])
+
+    def test_what_changed_since_an_earlier_table(self):
+        """Ann learns b, Bob forgets it, Cid stays; Dan and Eva are in one table each."""
+        self.write("s", CHAIN)
+        old = self.write("<old>.csv", "who,c,b,a\nBob,0,1,1\nAnn,0,0,1\nCid,1,1,1\nDan,0,0,0\n")
+        new = self.write("t.csv", "who,a,b,c\nAnn,1,1,0\nBob,1,0,0\nCid,1,1,1\nEva,0,0,0\n")
+        page = self.page("s", new, "--before", old, "--sheets", "sheets.html")
+        self.assertEqual(page.texts("What was gained and lost"), [
+            ["Ann", "1", "2", "b", "–"], ["Bob", "2", "1", "–", "b"]])
+        self.assertEqual(page.texts("Items gained and lost"), [["b", "2", "2", "Ann", "Bob"]])
+        for told in ["the 3 pupils of both tables gained 1 item and lost 1; 1 stand as they did",
+                     "Only in <bdi class=name>&lt;old&gt;.csv</bdi>: <bdi class=name>Dan</bdi>.",
+                     "Only in this table: <bdi class=name>Eva</bdi>."]:
+            self.assertIn(told, self.text)
+        sheets = self.sheets()
+        self.assertIn("<h2>New since the test before</h2><ul class=mastered><li dir=auto>b</li>",
+                      sheets[0])
+        self.assertIn("<h2>Mastered in the test before: look again</h2>", sheets[1])
+        self.assertNotIn("the test before", sheets[2] + sheets[3])
+
+    def test_a_change_without_a_pupil_of_both_tables(self):
+        self.write("s", "items a\n")
+        self.write("old.csv", "who,a\nAnn,1\n")
+        self.page("s", self.write("t.csv", "who,a\nBob,1\n"), "--before", "old.csv")
+        self.assertIn("No pupil of <bdi class=name>old.csv</bdi> is in this table.", self.text)
+        self.assertIn("--before needs a table", self.report("s", "--before", "t.csv", status=2))
+
+    def test_each_cell_has_its_heading(self):
+        """It is shown where a narrow screen has no columns."""
+        self.page(SAMPLES / "fractions.txt", SAMPLES / "class.csv")
+        for table in re.findall('<table class="lines.*?</table>', self.text, flags=re.S):
+            heads = re.findall("<th scope=col[^>]*>([^<]*)</th>", table)[1:]
+            cells = re.findall('<td class=\\w+ data-head="([^"]*)">', table)
+            self.assertEqual(cells, heads * (len(cells) // len(heads)))
+            self.assertGreater(len(cells), 3)
+
+    def test_a_program_that_is_not_there(self):
+        self.write("s", "items a b\n")
+        told = self.report("s", "--program", "/nowhere", status=3)
+        self.assertEqual(told, "report: /nowhere is no program that can be run; name it by"
+                               " --program PATH\n")
 
 
 if __name__ == "__main__":
