@@ -113,8 +113,8 @@ class Sheets(Report):
         self.assertEqual(done.returncode, 2)
         self.assertIn(b"report: sheets.html can't be written: File too large\n", done.stderr)
         for place, told in [("/dev/full", "No space left on device"), ("no/x", "No such file"),
-                            (".", "it names no file"), ("-", "--sheets needs a file"), ("t.csv", "is another file of this"),
-                            ("./t.html", "is another file of this")]:
+                            (".", "it names no file"), ("-", "--sheets needs a file"),
+                            ("t.csv", "is another file of"), ("./t.html", "is another file of")]:
             self.assertIn(told, self.report("s", "t.csv", "--sheets", place, status=2))
         self.assertEqual({it.name: it.read_bytes() for it in self.folder.iterdir()}, before)
 
