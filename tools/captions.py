@@ -70,10 +70,10 @@ def legend(marks, path=None, words=Words()):
     """What the marks of a picture of states mean."""
     if path is not None:
         return [f"Arrows and thick frames: the path {words.listed(path)}.",
-                "Dark, with a double frame: where it ends."]
+                "Double frame: where it ends."]
     if marks is None:
         return []
-    return [f"Dark, with a double frame: {marks.pupil} in {words.braced(marks.state)}.",
+    return [f"Double frame: {marks.pupil} in {words.braced(marks.state)}.",
             f"Thick lines and frames: can be learned next ({words.listed(marks.outer)}).",
             f"Dashed lines and frames: may have been learned last ({words.listed(marks.inner)})."]
 

@@ -6,7 +6,7 @@
 """
 import unicodedata
 
-LONGEST = 400  # letters of a text that is folded; what is behind them couldn't be read in a box
+LONGEST = 1000  # letters of a text that is folded; what is behind them couldn't be read in a box
 TO_LEFT, BY_FIRST, END = "\u2067", "\u2068", "\u2069"  # they begin and end a part by its direction
 NO_TEXT = dict.fromkeys([*range(0xd800, 0xe000), 0xfffe, 0xffff])  # letters that no XML may have
 
@@ -36,7 +36,7 @@ def folded(text, width, most=LONGEST):
     """The lines of a text, cut at its spaces, and where a word is too long in the word. Where they
     are more than `most`, two dots say so."""
     lines = []
-    for word in text[:LONGEST].translate(NO_TEXT).split(" "):
+    for word in text[:LONGEST].split(" "):
         for part in pieces(word, width):
             if lines and width_of(f"{lines[-1]} {part}") <= width:
                 lines[-1] += " " + part

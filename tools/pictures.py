@@ -12,7 +12,7 @@ Marks are told apart by frames and lines, so the colours may be lost."""
 from collections import Counter, namedtuple
 
 from captions import Words, counted, heading, legend, part_legend, title_of
-from lettering import folded, turned
+from lettering import NO_TEXT, folded, turned
 
 Marks = namedtuple("Marks", "pupil state inner outer")
 SETS_SHOWN = 40     # with more states a box shows the cursor in place of the set
@@ -22,6 +22,7 @@ WIDEST_LINE = 64    # of the text above the picture
 WIDEST_NAME = 17    # of a line in a box, in letters
 WIDEST_LABEL = 22   # the same where a label stands in it
 MOST_LINES = 6      # of a label in a box; its tooltip has it all
+LONGEST_TIP = 3000  # letters of a tooltip: `dot` takes strings of 16,384 bytes
 BACKSLASH = "\ue05c"  # stands for it in a tooltip, where `dot` would take it for a mark of its own
 BOXES = {
     "state": 'fillcolor="#1f4e79", fontcolor=white, peripheries=2',
@@ -60,11 +61,12 @@ def quoted(text):
 
 def kept(text):
     """A text that `dot` has to show letter by letter: it would read `&lt;` as a letter."""
-    return text.replace("&", "&amp;")
+    return text.translate(NO_TEXT).replace("&", "&amp;")
 
 
 def tip(text):
     """A tooltip. `dot` reads a backslash in it twice, so another letter stands for it."""
+    text = text if len(text) <= LONGEST_TIP else text[:LONGEST_TIP] + ".."
     return f"tooltip={quoted(kept(text).replace(chr(92), BACKSLASH))}"
 
 

@@ -15,7 +15,7 @@ from pictures import BACKSLASH
 
 SVG = "{http://www.w3.org/2000/svg}"
 TIP = "{http://www.w3.org/1999/xlink}title"
-FONT = ("font-family", "font-size")
+FONT = "Helvetica,sans-Serif"  # as dot writes it
 DARK = {  # what an element looks like in the dark, by its place
     ".lspace text": "fill: #e6ebf0", ".lspace .paper": "fill: #14191f",
     ".lspace .learned polygon": "fill: #14191f; stroke: #14191f",
@@ -52,7 +52,7 @@ def spoken(text):
     return text.replace(BACKSLASH, "\\")
 
 
-def tidy(part, fonts):
+def tidy(part):
     """Takes what only dot needs out of the group of a box or a line, and makes its tooltip the
     title of it."""
     title, link = part.find(f"{SVG}title"), part.find(f".//{SVG}a")
@@ -60,28 +60,22 @@ def tidy(part, fonts):
         title.text = spoken(link.get(TIP, ""))
         part[:] = [title, *link]
     part.attrib.pop("id", None)
-    for text in part.iter(f"{SVG}text"):
-        for name in FONT:
-            if text.get(name) == fonts.get(name):
-                text.attrib.pop(name)
 
 
 def tidied(graph):
     """The parts of the graph in their order. The two halves of a line share a group."""
     found, halves = [], {}
-    fonts = {name: it.get(name) for it in graph.iter(f"{SVG}text") for name in FONT}
     for part in graph:
         if part.tag != f"{SVG}g":
             found.append(part)
             continue
-        tidy(part, fonts)
+        tidy(part)
         title = part.find(f"{SVG}title")
         first = halves.setdefault((part.get("class"), title.text), part)
         if first is part or not part.get("class").startswith("edge"):
             found.append(part)
         else:
             first.extend(it for it in part if it is not title)
-    graph.attrib.update(fonts)
     return found
 
 
@@ -100,10 +94,19 @@ def dressed(made):
         it.text = text
     root[:] = [*told, graph]
     root.attrib.update({"class": "lspace", "role": "img"})
+    share_font(graph)
     in_lines(root, graph)
     ElementTree.register_namespace("", SVG[1:-1])
     text = ElementTree.tostring(root, "unicode")
     return f'<?xml version="1.0" encoding="UTF-8"?>\n{text}\n'.encode()
+
+
+def share_font(graph):
+    """Names the font once."""
+    for text in graph.iter(f"{SVG}text"):
+        if text.get("font-family") == FONT:
+            text.attrib.pop("font-family")
+    graph.set("font-family", FONT)
 
 
 def in_lines(root, graph):
