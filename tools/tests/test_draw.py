@@ -1,71 +1,25 @@
 """Whether a picture has the states, covers, names and marks of the space."""
 import re
+import shlex
 import shutil
 import subprocess
 import sys
-import tempfile
 import unittest
 import xml.etree.ElementTree
 from pathlib import Path
 
-TOP = Path(__file__).resolve().parents[2]
-sys.path.insert(0, str(TOP / "tools"))
+sys.path[:0] = [str(Path(__file__).resolve().parent), str(Path(__file__).resolve().parents[1])]
 import companion
 import pictures
+from drawings import TOP, Draw, boxes, lines, title
 
 companion.find_program()  # a plain end where there is none
 FRACTIONS = str(TOP / "samples/fractions.txt")
+PICTURES = TOP / "docs/pictures"
 SVG = "{http://www.w3.org/2000/svg}"
 # The lines of the guide's fractions: from a state, by an item, to a state, by the cursors there.
 COVERS = """0 expand 8   0 decimal 4  4 expand c   4 compare 6  8 decimal c  8 compare a
             6 expand e   c compare e  a decimal e  a add b      e add f      b decimal f"""
-
-
-def boxes(text):
-    """Each box of a state, an item or a base set with its words and what it looks like."""
-    found = re.findall(r'^  "([^"+]+)" \[label="([^"]*)"(.*)\];$', text, flags=re.M)
-    return {name: (label.replace("\\n", " "), kind_of(look)) for name, label, look in found}
-
-
-def kind_of(look):
-    return "path" if "class=path" in look else "state" if "peripheries=2" in look else "dashed" if "dashed" in look else \
-        "thick" if "penwidth=2.6" in look else ""
-
-
-def lines(text):
-    """Each line of a picture of states: from where, by which items, where to, and how it looks."""
-    words = dict(re.findall(r'^  "([^"]*\+[^"]*)" \[label="([^"]*)"', text, flags=re.M))
-    found = re.findall(r'^  "(\w+)" -> "([^"]+)" -> "(\w+)"(.*);$', text, flags=re.M)
-    return [(low, words[middle], high, kind_of(look)) for low, middle, high, look in found]
-
-
-def title(text):
-    return re.search(r'graph \[label="([^"]*)"', text)[1].replace("\\l", " ").strip()
-
-
-class Draw(unittest.TestCase):
-    def setUp(self):
-        kept = tempfile.TemporaryDirectory()
-        self.addCleanup(kept.cleanup)
-        self.folder = Path(kept.name)
-
-    def draw(self, *words, status=0):
-        """What the companion prints, and what it says on standard error."""
-        done = subprocess.run([sys.executable, str(TOP / "tools/draw"), *words], cwd=self.folder,
-                              stdout=subprocess.PIPE, stderr=subprocess.PIPE)
-        self.assertEqual(done.returncode, status, done.stderr.decode())
-        return done.stdout.decode(), done.stderr.decode()
-
-    def dot(self, script, *words):
-        """The input of dot for a script that is given by its lines."""
-        (self.folder / "script").write_text(script)
-        return self.draw("script", "--dot", *words)[0]
-
-    def refused(self, script, *words, status=1):
-        (self.folder / "script").write_text(script)
-        printed, told = self.draw("script", "--dot", *words, status=status)
-        self.assertEqual(printed, "")
-        return told
 
 
 class States(Draw):
@@ -139,7 +93,8 @@ class InPlace(Draw):
         text, told = self.draw("eight", "--dot")
         self.assertEqual(told, "draw: more than 128 states, so the relation is drawn "
                                "(--most N draws up to N states)\n")
-        self.assertIn("8 items, by what comes before what, in place of more than 128 states.", title(text))
+        self.assertIn("8 items, by what comes before what, in place of more than 128 states.",
+                      title(text))
         self.assertEqual(re.findall(r'"(\w)" -> "(\w)"', text), [("a", "b")])
 
     def test_items_that_are_free_have_a_relation_without_lines(self):
@@ -385,6 +340,18 @@ class Svg(Draw):
             self.assertIn(f".lspace .{kind} ", style)
             self.assertTrue([it for it in root.iter() if kind in it.get("class", "").split()])
         self.assertEqual(root.find(".//*[@class='paper']").get("fill"), "white")
+
+    def test_the_pictures_of_the_documents(self):
+        """They are those of the commands beside them, though other versions of dot place boxes
+        elsewhere."""
+        for name in ("numbers", "arithmetic"):
+            told = (PICTURES / f"{name}.txt").read_text().split("\n")[1]
+            words = shlex.split(told[1:])[1:-2]
+            fresh = self.svg(str(PICTURES / words[0]), *words[1:])
+            stored = xml.etree.ElementTree.parse(PICTURES / f"{name}.svg").getroot()
+            for kind in ("title", "desc", "style"):
+                self.assertEqual(*(sorted(it.text for it in root.iter(SVG + kind))
+                                   for root in (fresh, stored)))
 
     def test_each_box_and_line_is_a_line_of_the_file(self):
         root = self.svg(FRACTIONS)
