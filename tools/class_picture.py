@@ -7,11 +7,10 @@ standard error tells which."""
 import re
 import shutil
 import subprocess
-import textwrap
-import unicodedata
 
 from companion import tell
-from pictures import Marks, box, covers, kind_of_way, line, whole
+from lettering import folded, turned
+from pictures import Marks, box, covers, kept, kind_of_way, line, whole
 
 MOST_SETS = 30  # of a base in a small picture
 WIDEST = 750    # points of a picture, which the page makes narrower
@@ -28,16 +27,6 @@ def standing_of(pupil):
     return pupil.state, pupil.last, pupil.ready
 
 
-def words_of(label):
-    """A label in lines, each in the direction in which the whole begins. What dot would take for a
-    letter of HTML is written as one."""
-    strong = [it for it in map(unicodedata.bidirectional, label) if it in ("L", "R", "AL")]
-    mark = "\u200f" if strong[:1] in (["R"], ["AL"]) else ""
-    lines = textwrap.wrap(label, WIDTH, max_lines=MOST_LINES, placeholder=" …",
-                          break_on_hyphens=False)
-    return [mark + it.replace("&", "&amp;") for it in lines]
-
-
 def input_of(base, shown, marks):
     """The input of dot: the base by inclusion. A set is named by the items of which it is a least
     state."""
@@ -45,8 +34,8 @@ def input_of(base, shown, marks):
     lines = ['  graph [label=""];']  # in place of a title's line
     for (cursor, names), own in zip(base, sets):
         least = [it for it in names if not any(it in other and other < own for other in sets)]
-        label = "\n".join(line for it in least for line in words_of(shown.of(it)))
-        lines.append(box(cursor, label, kind_of_way(names, least, marks)))
+        words = (it for item in least for it in turned(folded(shown.of(item), WIDTH, MOST_LINES)))
+        lines.append(box(cursor, kept("\n".join(words)), kind_of_way(names, least, marks)))
     lines += [line([base[low][0], base[high][0]]) for low, high in covers(sets)]
     return whole([], lines, straight=False)
 

@@ -98,7 +98,7 @@ class Sheets(Report):
         self.assertIn(f"<li dir=auto>{HEBREW}</li>", sheet)
         if shutil.which("dot"):
             self.assertIn(">&lt;b&gt; &amp; &amp;lt;</text>", sheet)
-            self.assertIn(">\u200f" + HEBREW.split(" (", maxsplit=1)[0], sheet)
+            self.assertIn(">\u2067" + HEBREW.split(" (", maxsplit=1)[0], sheet)
 
     def test_writes_that_fail(self):
         """The page and the sheets that stand stay as they are, and nothing stands beside them."""
