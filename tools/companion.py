@@ -24,6 +24,7 @@ from pathlib import Path
 from streams import Trouble, demand_input, status_of, tell, telling, write_whole  # noqa: F401
 
 TOP = Path(__file__).resolve().parent.parent
+BUILT = TOP / "crates/ls_app/out/ls_app"
 LONGEST_LINE = 65536
 LONGEST_TEXT = 2**28  # bytes of a file that is read, so that one without end is refused
 MOST_PUPILS = 4096  # that a class table may have
@@ -68,14 +69,35 @@ REFUSALS = {
 
 
 def find_program(option=None):
-    """The path of the program: the option, the variable LSPACE, the built one, or the launcher."""
+    """The path of the program: the option, the variable LSPACE, or the built one, which in an
+    installation is the `lspace` there. In a repository that one would build, and so isn't taken."""
     named = option or os.environ.get("LSPACE")
-    built = TOP / "crates/ls_app/out/ls_app"
-    path = Path(named) if named else built if os.access(built, os.X_OK) else TOP / "lspace"
+    if not named and (TOP / "crates.txt").is_file() and not is_built():
+        raise Trouble(f"no program is built of these sources; {TOP / 'lspace'} builds it, in hours,"
+                      " or LSPACE=PATH names another", 3)
+    path = Path(named) if named else BUILT if BUILT.is_file() else TOP / "lspace"
     found = os.path.abspath(path) if os.path.isfile(path) else shutil.which(str(path))
     if not found or not os.access(found, os.X_OK):
         raise Trouble(f"{path} is no program that can be run; name it by --program PATH", 3)
     return found
+
+
+def printed_by(words):
+    """What a command prints at the top; None where it fails."""
+    try:
+        done = subprocess.run(words, cwd=TOP, stdout=subprocess.PIPE, stderr=subprocess.DEVNULL)
+    except OSError:
+        return None
+    return done.stdout.decode().strip() if done.returncode == 0 else None
+
+
+def is_built():
+    """Whether a program stands that was built of these sources, as the launcher tells it."""
+    stamp = BUILT.with_name("lspace.sources")
+    if not (os.access(BUILT, os.X_OK) and stamp.is_file()):
+        return False
+    wanted = printed_by([str(TOP / "tools/sources"), "stamp"])
+    return bool(wanted) and read_text(stamp).strip() == wanted
 
 
 def read_text(path):

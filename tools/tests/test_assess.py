@@ -13,10 +13,9 @@ from html.parser import HTMLParser
 from pathlib import Path
 
 TOP = Path(__file__).resolve().parents[2]
-sys.path.insert(0, str(TOP / "tools"))
-import companion
+sys.path.insert(0, str(TOP / "tools/tests"))
+from given import PROGRAM
 
-PROGRAM = companion.find_program()
 ASSESS = [sys.executable, str(TOP / "tools/assess")]
 SPACE = "items expand decimal compare add\nstart surmise fractions.json\n"
 # Ann of the guide: decimal wrong, compare right, add wrong, and the same again.

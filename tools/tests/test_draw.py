@@ -9,11 +9,10 @@ import xml.etree.ElementTree
 from pathlib import Path
 
 TOP = Path(__file__).resolve().parents[2]
-sys.path.insert(0, str(TOP / "tools"))
-import companion
+sys.path.insert(0, str(TOP / "tools/tests"))
+from given import PROGRAM
 import pictures
 
-companion.find_program()  # a plain end where there is none
 FRACTIONS = str(TOP / "samples/fractions.txt")
 # The lines of the guide's fractions: from a state, by an item, to a state, by the cursors there.
 COVERS = """0 expand 8   0 decimal 4  4 expand c   4 compare 6  8 decimal c  8 compare a
@@ -225,7 +224,7 @@ class Refused(Draw):
     def test_a_missing_dot_is_told(self):
         (self.folder / "script").write_text("items a")
         done = subprocess.run([sys.executable, str(TOP / "tools/draw"), "script"], cwd=self.folder,
-                              env={"PATH": "/nowhere", "LSPACE": companion.find_program()},
+                              env={"PATH": "/nowhere", "LSPACE": PROGRAM},
                               stdout=subprocess.PIPE, stderr=subprocess.PIPE)
         self.assertEqual((done.returncode, done.stdout), (3, b""))
         self.assertIn(b"apt-get install graphviz", done.stderr)

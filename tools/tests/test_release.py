@@ -13,10 +13,9 @@ import unittest
 from pathlib import Path
 
 TOP = Path(__file__).resolve().parents[2]
-sys.path.insert(0, str(TOP / "tools"))
-import companion
+sys.path.insert(0, str(TOP / "tools/tests"))
+from given import PROGRAM
 
-PROGRAM = companion.find_program()
 COPIED = ["README.md", "docs", "samples", "tools", "lspace"]
 DAY = "2026-03-04T05:06:07 +0000"
 GIT = {"GIT_AUTHOR_NAME": "a", "GIT_AUTHOR_EMAIL": "a@b", "GIT_COMMITTER_NAME": "a",

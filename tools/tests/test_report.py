@@ -9,6 +9,9 @@ import unittest
 from pathlib import Path
 
 TOP = Path(__file__).resolve().parents[2]
+sys.path.insert(0, str(TOP / "tools/tests"))
+import given  # noqa: F401
+
 SAMPLES = TOP / "samples"
 VOID = {"meta", "br"}
 

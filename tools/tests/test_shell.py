@@ -14,11 +14,10 @@ import unittest
 from pathlib import Path
 
 TOP = Path(__file__).resolve().parents[2]
-sys.path.insert(0, str(TOP / "tools"))
-import companion
+sys.path.insert(0, str(TOP / "tools/tests"))
+from given import PROGRAM
 import typed
 
-PROGRAM = companion.find_program()
 SHELL = [sys.executable, str(TOP / "tools/shell")]
 HOSTILE = ["it's \"quoted\" <b>&amp;</b>", "$(touch owned); `touch owned`", "\x1b[31mred",
            "a\tb\x00c", "items \xfc\u05d0", "keep", "keep a:b", "help <b>", "help help", "|", ":", "no",
