@@ -157,7 +157,7 @@ class Archives(Releases):
                          sum(it.is_file() for it in self.unpacked.rglob("*")))
 
     def test_each_companion_of_it_runs(self):
-        names = [it for it in (self.unpacked / "tools").iterdir() if it.suffix != ".py"]
+        names = [it for it in (self.unpacked / "tools").iterdir() if not it.suffix]
         self.assertGreater(len(names), 8)
         for it in names:
             self.assertEqual(run([sys.executable, it, "--help"], self.base).returncode, 0, it)
@@ -249,6 +249,16 @@ class Installations(Releases):
                    input=b"items a b\n")
         self.assertEqual((done.stdout, done.stderr), (b"ok 2\n", b""))
         self.assertEqual((prefix / "bin/lspace").read_bytes(), Path(PROGRAM).read_bytes())
+
+    def test_what_other_programs_look_for(self):
+        prefix = self.folder()
+        self.install(prefix)
+        for path, name in {"bash-completion/completions/lspace": "completion.bash",
+                           "bash-completion/completions/lspace-kst": "completion.bash",
+                           "vim/vimfiles/ftdetect/lspace.vim": "ftdetect.vim",
+                           "vim/vimfiles/syntax/lspace.vim": "lspace.vim"}.items():
+            self.assertEqual((prefix / "share" / path).read_bytes(),
+                             (TOP / "tools" / name).read_bytes())
 
     def test_the_man_page(self):
         prefix = self.folder()
