@@ -25,6 +25,9 @@ from streams import Trouble, demand_input, status_of, tell, telling, write_whole
 
 TOP = Path(__file__).resolve().parent.parent
 BUILT = TOP / "crates/ls_app/out/ls_app"
+LETTERS = "of the letters a to z and A to Z, digits, '_', '-' and '.'"
+NAME_RULE = f"a name has 1 to 40 {LETTERS}"
+FILE_RULE = f"a file's name has 1 to 64 {LETTERS}, the first of them no '.'"
 LONGEST_LINE = 65536
 LONGEST_TEXT = 2**28  # bytes of a file that is read, so that one without end is refused
 MOST_PUPILS = 4096  # that a class table may have
@@ -136,6 +139,24 @@ def records_of(text, separator=","):
         yield from ((reader.line_num, fields) for fields in reader if fields)
     except csv.Error as error:
         raise Trouble(f"line {reader.line_num} of the table: {error}") from None
+
+
+def use_of(text):
+    """What a companion says of its use, with the names that the commands have where it stands: in
+    an installation that is `lspace-shell` in place of `tools/shell`."""
+    if not Path(sys.argv[0]).name.startswith("lspace-"):
+        return text
+    return re.sub(r"\btools/([a-z])", r"lspace-\1", text).replace("./lspace", "lspace")
+
+
+def is_name(word):
+    """Whether an item or a pupil can have this name."""
+    return re.fullmatch(r"[A-Za-z0-9_.-]{1,40}", word) is not None
+
+
+def is_file_name(word):
+    """Whether a command can name a file so."""
+    return re.fullmatch(r"[A-Za-z0-9_-][A-Za-z0-9_.-]{0,63}", word) is not None
 
 
 def clipped(text):

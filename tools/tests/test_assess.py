@@ -240,7 +240,7 @@ class Assessments(unittest.TestCase):
 
     def test_names_and_files(self):
         for name in ("Ann Lee", "../Ann", "<b>", "a\nb", "it's", "\"", "", "x" * 41, "\u05d0"):
-            self.assertIn("a pupil's name has 1 to 40 letters",
+            self.assertIn("a pupil's name has 1 to 40 of the letters",
                           self.assess([], name, status=2))
         self.assertEqual(sorted(it.name for it in self.folder.iterdir()),
                          ["course.txt", "fractions.json"])

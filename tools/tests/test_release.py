@@ -250,6 +250,15 @@ class Installations(Releases):
         self.assertEqual((done.stdout, done.stderr), (b"ok 2\n", b""))
         self.assertEqual((prefix / "bin/lspace").read_bytes(), Path(PROGRAM).read_bytes())
 
+    def test_the_help_of_an_installed_companion_has_its_own_name(self):
+        prefix = self.folder()
+        self.install(prefix)
+        for name in ("assess", "explain", "interview", "kst", "made-class", "shell", "uninstall"):
+            done = run([sys.executable, prefix / f"bin/lspace-{name}", "--help"], prefix)
+            told = done.stdout.decode()
+            self.assertIn(f"usage: lspace-{name} ", told)
+            self.assertNotRegex(told, r"tools/(?!install)|\./lspace")
+
     def test_what_other_programs_look_for(self):
         prefix = self.folder()
         self.install(prefix)
