@@ -24,6 +24,10 @@ from pathlib import Path
 from streams import Trouble, demand_input, status_of, tell, telling, write_whole  # noqa: F401
 
 TOP = Path(__file__).resolve().parent.parent
+BUILT = TOP / "crates/ls_app/out/ls_app"
+LETTERS = "of the letters a to z and A to Z, digits, '_', '-' and '.'"
+NAME_RULE = f"a name has 1 to 40 {LETTERS}"
+FILE_RULE = f"a file's name has 1 to 64 {LETTERS}, the first of them no '.'"
 LONGEST_LINE = 65536
 LONGEST_TEXT = 2**28  # bytes of a file that is read, so that one without end is refused
 MOST_PUPILS = 4096  # that a class table may have
@@ -68,14 +72,35 @@ REFUSALS = {
 
 
 def find_program(option=None):
-    """The path of the program: the option, the variable LSPACE, the built one, or the launcher."""
+    """The path of the program: the option, the variable LSPACE, or the built one, which in an
+    installation is the `lspace` there. In a repository that one would build, and so isn't taken."""
     named = option or os.environ.get("LSPACE")
-    built = TOP / "crates/ls_app/out/ls_app"
-    path = Path(named) if named else built if os.access(built, os.X_OK) else TOP / "lspace"
+    if not named and (TOP / "crates.txt").is_file() and not is_built():
+        raise Trouble(f"no program is built of these sources; {TOP / 'lspace'} builds it, in hours,"
+                      " or LSPACE=PATH names another", 3)
+    path = Path(named) if named else BUILT if BUILT.is_file() else TOP / "lspace"
     found = os.path.abspath(path) if os.path.isfile(path) else shutil.which(str(path))
     if not found or not os.access(found, os.X_OK):
         raise Trouble(f"{path} is no program that can be run; name it by --program PATH", 3)
     return found
+
+
+def printed_by(words):
+    """What a command prints at the top; None where it fails."""
+    try:
+        done = subprocess.run(words, cwd=TOP, stdout=subprocess.PIPE, stderr=subprocess.DEVNULL)
+    except OSError:
+        return None
+    return done.stdout.decode().strip() if done.returncode == 0 else None
+
+
+def is_built():
+    """Whether a program stands that was built of these sources, as the launcher tells it."""
+    stamp = BUILT.with_name("lspace.sources")
+    if not (os.access(BUILT, os.X_OK) and stamp.is_file()):
+        return False
+    wanted = printed_by([str(TOP / "tools/sources"), "stamp"])
+    return bool(wanted) and read_text(stamp).strip() == wanted
 
 
 def read_text(path):
@@ -114,6 +139,24 @@ def records_of(text, separator=","):
         yield from ((reader.line_num, fields) for fields in reader if fields)
     except csv.Error as error:
         raise Trouble(f"line {reader.line_num} of the table: {error}") from None
+
+
+def use_of(text):
+    """What a companion says of its use, with the names that the commands have where it stands: in
+    an installation that is `lspace-shell` in place of `tools/shell`."""
+    if not Path(sys.argv[0]).name.startswith("lspace-"):
+        return text
+    return re.sub(r"\btools/([a-z])", r"lspace-\1", text).replace("./lspace", "lspace")
+
+
+def is_name(word):
+    """Whether an item or a pupil can have this name."""
+    return re.fullmatch(r"[A-Za-z0-9_.-]{1,40}", word) is not None
+
+
+def is_file_name(word):
+    """Whether a command can name a file so."""
+    return re.fullmatch(r"[A-Za-z0-9_-][A-Za-z0-9_.-]{0,63}", word) is not None
 
 
 def clipped(text):

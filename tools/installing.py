@@ -15,6 +15,12 @@ SHARE = "share/lspace"
 LIST = f"{SHARE}/INSTALLED"
 PART = ".lspace-part"
 NOT_COMMANDS = ("install",)
+COMPLETIONS = "share/bash-completion/completions"
+# What other programs look for in folders of their own.
+ELSEWHERE = {"man/lspace.1": "share/man/man1/lspace.1",
+             "tools/completion.bash": f"{COMPLETIONS}/lspace",
+             "tools/ftdetect.vim": "share/vim/vimfiles/ftdetect/lspace.vim",
+             "tools/lspace.vim": "share/vim/vimfiles/syntax/lspace.vim"}
 
 
 def sums():
@@ -43,20 +49,22 @@ def program_of(known, plain):
 
 def placed(known, plain):
     """For each path below the prefix the path of its file in the release."""
-    places = {"bin/lspace": program_of(known, plain), "share/man/man1/lspace.1": "man/lspace.1"}
+    places = {"bin/lspace": program_of(known, plain)}
     for path in known:
-        if not path.startswith(("programs/", "man/")):
-            places[f"{SHARE}/{path}"] = path
+        if not path.startswith("programs/"):
+            places[ELSEWHERE.get(path, f"{SHARE}/{path}")] = path
     return places
 
 
 def links(known):
-    """For each link below the prefix where it leads: the program, and the companions by name."""
+    """For each link below the prefix where it leads: the program, and the companions by name with
+    their completion."""
     found = {f"{SHARE}/lspace": "../../bin/lspace"}
     for path in known:
         name = PurePosixPath(path).name
         if path.startswith("tools/") and "." not in name and name not in NOT_COMMANDS:
             found[f"bin/lspace-{name}"] = f"../{SHARE}/{path}"
+            found[f"{COMPLETIONS}/lspace-{name}"] = "lspace"
     return found
 
 

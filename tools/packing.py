@@ -18,6 +18,7 @@ COMPANIONS = ["assess", "draw", "explain", "install", "interview", "kst", "made-
               "shell", "uninstall"]
 FOLDERS = ["README.md", "docs", "samples", "tools"]
 DOCUMENTS = (".md", ".svg", ".png")
+FOR_OTHERS = ["tools/completion.bash", "tools/ftdetect.vim", "tools/lspace.vim"]
 
 
 def git(top, *words):
@@ -57,7 +58,8 @@ def files_of_commit(top):
     with tarfile.open(fileobj=io.BytesIO(git(top, "archive", "HEAD", *FOLDERS))) as archive:
         known = {it.name: (archive.extractfile(it).read(), 0o755 if it.mode & 0o100 else 0o644)
                  for it in archive if it.isfile()}
-    kept = needed(known) + [path for path in known if path.startswith("samples/")]
+    kept = needed(known) + [path for path in FOR_OTHERS if path in known]
+    kept += [path for path in known if path.startswith("samples/")]
     kept += [path for path in known if path == "README.md" or
              path.startswith("docs/") and path.endswith(DOCUMENTS)]
     return {path: known[path] for path in kept}

@@ -19,6 +19,12 @@ NEW = ("items", "pupil")  # whose names are new ones
 NAMING = ("items", "load-items", "open")  # which give the items
 CHANGES = {"items", "load-items", "start", "blocks", "yes", "no", "retract", "odds", "ratio",
            "limits", "pupil", "reply", "close", "open", "safe-open", "safe", "safe-close"}
+RULES = {  # of the words that a part of a form stands for, and whether a word keeps them
+    "NAME": (companion.NAME_RULE, companion.is_name),
+    "FILE": (companion.FILE_RULE, companion.is_file_name),
+    "COUNT": ("a count is a number from 0 to 65536",
+              lambda it: re.fullmatch("0|[1-9][0-9]{0,4}", it) and int(it) <= 65536),
+}
 LISTED = 12  # so many items, pupils or files are named in a sentence
 
 
@@ -94,7 +100,7 @@ class Typed:
         """The files of the folder that a command can name."""
         try:
             return sorted(it.name for it in os.scandir(self.folder) if it.is_file()
-                          and re.fullmatch(r"[A-Za-z0-9_-][A-Za-z0-9_.-]{0,63}", it.name))
+                          and companion.is_file_name(it.name))
         except OSError:
             return []
 
@@ -146,9 +152,18 @@ class Typed:
             meant = near(name, list(self.commands))
             return f"Do you mean {' or '.join(meant)}?" if meant else ""
         forms = "; ".join(self.forms(name))
-        what = f"Word {place} is '{words[place - 1]}'." if place <= len(words) else \
+        what = self.wrong_word(words, place) if place <= len(words) else \
             "Something is missing at its end."
         return f"{what} The form is: {forms}."
+
+    def wrong_word(self, words, place):
+        """What is known of the word with which no command goes on."""
+        word = words[place - 1]
+        wanted = {part for form in self.forms(words[0])
+                  for part in next_parts(form, words[:place - 1])}
+        rules = [rule for kind, (rule, holds) in RULES.items() if kind in wanted
+                 and not holds(word)] if word not in (":", "|") else []
+        return f"Word {place} is '{word}'" + "".join(f", and {it}" for it in rules) + "."
 
     def nearest(self, word, known, kind):
         meant = near(word, known)

@@ -10,10 +10,9 @@ import unittest
 from pathlib import Path
 
 TOP = Path(__file__).resolve().parents[2]
-sys.path.insert(0, str(TOP / "tools"))
-import companion
+sys.path.insert(0, str(TOP / "tools/tests"))
+from given import PROGRAM
 
-PROGRAM = companion.find_program()
 INTERVIEW = [sys.executable, str(TOP / "tools/interview")]
 ITEMS = "expand decimal compare add"
 # The answers of the guide on fractions, in the order in which they are asked with blocks of 1.

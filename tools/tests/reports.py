@@ -7,6 +7,8 @@ import tempfile
 import unittest
 from pathlib import Path
 
+import given  # noqa: F401
+
 TOP = Path(__file__).resolve().parents[2]
 SAMPLES = TOP / "samples"
 VOID = {"meta", "br"}

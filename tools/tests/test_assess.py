@@ -13,10 +13,9 @@ from html.parser import HTMLParser
 from pathlib import Path
 
 TOP = Path(__file__).resolve().parents[2]
-sys.path.insert(0, str(TOP / "tools"))
-import companion
+sys.path.insert(0, str(TOP / "tools/tests"))
+from given import PROGRAM
 
-PROGRAM = companion.find_program()
 ASSESS = [sys.executable, str(TOP / "tools/assess")]
 SPACE = "items expand decimal compare add\nstart surmise fractions.json\n"
 # Ann of the guide: decimal wrong, compare right, add wrong, and the same again.
@@ -241,7 +240,7 @@ class Assessments(unittest.TestCase):
 
     def test_names_and_files(self):
         for name in ("Ann Lee", "../Ann", "<b>", "a\nb", "it's", "\"", "", "x" * 41, "\u05d0"):
-            self.assertIn("a pupil's name has 1 to 40 letters",
+            self.assertIn("a pupil's name has 1 to 40 of the letters",
                           self.assess([], name, status=2))
         self.assertEqual(sorted(it.name for it in self.folder.iterdir()),
                          ["course.txt", "fractions.json"])

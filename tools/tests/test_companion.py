@@ -6,11 +6,10 @@ import unittest
 from pathlib import Path
 
 TOP = Path(__file__).resolve().parents[2]
-sys.path.insert(0, str(TOP / "tools"))
+sys.path.insert(0, str(TOP / "tools/tests"))
+from given import PROGRAM
 import companion
 import course
-
-PROGRAM = companion.find_program()
 
 
 class Replies(unittest.TestCase):

@@ -9,11 +9,10 @@ import xml.etree.ElementTree
 from pathlib import Path
 
 sys.path[:0] = [str(Path(__file__).resolve().parent), str(Path(__file__).resolve().parents[1])]
-import companion
+from given import PROGRAM
 import pictures
 from drawings import TOP, Draw, boxes, lines, title
 
-companion.find_program()  # a plain end where there is none
 FRACTIONS = str(TOP / "samples/fractions.txt")
 PICTURES = TOP / "docs/pictures"
 SVG = "{http://www.w3.org/2000/svg}"
@@ -221,7 +220,7 @@ class Refused(Draw):
     def test_a_missing_dot_is_told(self):
         (self.folder / "script").write_text("items a")
         done = subprocess.run([sys.executable, str(TOP / "tools/draw"), "script"], cwd=self.folder,
-                              env={"PATH": "/nowhere", "LSPACE": companion.find_program()},
+                              env={"PATH": "/nowhere", "LSPACE": PROGRAM},
                               stdout=subprocess.PIPE, stderr=subprocess.PIPE)
         self.assertEqual((done.returncode, done.stdout), (3, b""))
         self.assertIn(b"apt-get install graphviz", done.stderr)

@@ -11,11 +11,11 @@ import unittest
 from pathlib import Path
 
 TOP = Path(__file__).resolve().parents[2]
-sys.path.insert(0, str(TOP / "tools"))
+sys.path.insert(0, str(TOP / "tools/tests"))
+import given  # noqa: F401
 import companion
 import streams
 
-PROGRAM = companion.find_program()
 COMPANIONS = ["draw s --dot", "kst states s", "made-class s 3", "report s t.csv --out -",
               "interview i --items a b"]
 # A program that tells its process, takes all lines, and never replies.

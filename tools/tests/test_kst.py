@@ -8,11 +8,11 @@ import unittest
 from pathlib import Path
 
 TOP = Path(__file__).resolve().parents[2]
-sys.path.insert(0, str(TOP / "tools"))
+sys.path.insert(0, str(TOP / "tools/tests"))
+from given import PROGRAM
 import companion
 import matrices
 
-PROGRAM = companion.find_program()
 # The nine states of the guide's fractions, in the order of `states`.
 FRACTIONS = """expand,decimal,compare,add
 1,1,1,1

@@ -5,10 +5,9 @@ import unittest
 from pathlib import Path
 
 TOP = Path(__file__).resolve().parents[2]
-sys.path.insert(0, str(TOP / "tools"))
-import companion
+sys.path.insert(0, str(TOP / "tools/tests"))
+import given  # noqa: F401
 
-companion.find_program()  # a plain end where there is none
 FRACTIONS = str(TOP / "samples/fractions.txt")
 STATES = {"1111", "1110", "1100", "1011", "1010", "1000", "0110", "0100", "0000"}
 

@@ -6,11 +6,10 @@ import unittest
 from pathlib import Path
 
 TOP = Path(__file__).resolve().parents[2]
-sys.path.insert(0, str(TOP / "tools"))
-import companion
+sys.path.insert(0, str(TOP / "tools/tests"))
+from given import PROGRAM
 import refusals
 
-PROGRAM = companion.find_program()
 SPECS = TOP / "crates/ls_meaning/specs"
 RESPONSE = TOP / "crates/ls_meaning/src/response.rt"
 EXPLAIN = [sys.executable, str(TOP / "tools/explain")]

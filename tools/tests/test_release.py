@@ -13,10 +13,9 @@ import unittest
 from pathlib import Path
 
 TOP = Path(__file__).resolve().parents[2]
-sys.path.insert(0, str(TOP / "tools"))
-import companion
+sys.path.insert(0, str(TOP / "tools/tests"))
+from given import PROGRAM
 
-PROGRAM = companion.find_program()
 COPIED = ["README.md", "docs", "samples", "tools", "lspace"]
 DAY = "2026-03-04T05:06:07 +0000"
 GIT = {"GIT_AUTHOR_NAME": "a", "GIT_AUTHOR_EMAIL": "a@b", "GIT_COMMITTER_NAME": "a",
@@ -158,7 +157,7 @@ class Archives(Releases):
                          sum(it.is_file() for it in self.unpacked.rglob("*")))
 
     def test_each_companion_of_it_runs(self):
-        names = [it for it in (self.unpacked / "tools").iterdir() if it.suffix != ".py"]
+        names = [it for it in (self.unpacked / "tools").iterdir() if not it.suffix]
         self.assertGreater(len(names), 8)
         for it in names:
             self.assertEqual(run([sys.executable, it, "--help"], self.base).returncode, 0, it)
@@ -250,6 +249,25 @@ class Installations(Releases):
                    input=b"items a b\n")
         self.assertEqual((done.stdout, done.stderr), (b"ok 2\n", b""))
         self.assertEqual((prefix / "bin/lspace").read_bytes(), Path(PROGRAM).read_bytes())
+
+    def test_the_help_of_an_installed_companion_has_its_own_name(self):
+        prefix = self.folder()
+        self.install(prefix)
+        for name in ("assess", "explain", "interview", "kst", "made-class", "shell", "uninstall"):
+            done = run([sys.executable, prefix / f"bin/lspace-{name}", "--help"], prefix)
+            told = done.stdout.decode()
+            self.assertIn(f"usage: lspace-{name} ", told)
+            self.assertNotRegex(told, r"tools/(?!install)|\./lspace")
+
+    def test_what_other_programs_look_for(self):
+        prefix = self.folder()
+        self.install(prefix)
+        for path, name in {"bash-completion/completions/lspace": "completion.bash",
+                           "bash-completion/completions/lspace-kst": "completion.bash",
+                           "vim/vimfiles/ftdetect/lspace.vim": "ftdetect.vim",
+                           "vim/vimfiles/syntax/lspace.vim": "lspace.vim"}.items():
+            self.assertEqual((prefix / "share" / path).read_bytes(),
+                             (TOP / "tools" / name).read_bytes())
 
     def test_the_man_page(self):
         prefix = self.folder()

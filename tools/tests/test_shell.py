@@ -14,11 +14,10 @@ import unittest
 from pathlib import Path
 
 TOP = Path(__file__).resolve().parents[2]
-sys.path.insert(0, str(TOP / "tools"))
-import companion
+sys.path.insert(0, str(TOP / "tools/tests"))
+from given import PROGRAM
 import typed
 
-PROGRAM = companion.find_program()
 SHELL = [sys.executable, str(TOP / "tools/shell")]
 HOSTILE = ["it's \"quoted\" <b>&amp;</b>", "$(touch owned); `touch owned`", "\x1b[31mred",
            "a\tb\x00c", "items \xfc\u05d0", "keep", "keep a:b", "help <b>", "help help", "|", ":", "no",
@@ -67,6 +66,15 @@ class Lines(Shells):
             self.assertIn(part, told)
         self.assertNotIn("\x1b", told)
         self.assertNotIn("lspace>", told)
+
+    def test_a_word_that_keeps_no_rule(self):
+        told = self.shell(["items \u00fcber a", "items a b", "states 65537", "states \u00b2",
+                           "save .x", "yes a | b"], status=1)
+        self.assertIn("Word 2 is '\u00fcber', and a name has 1 to 40 of the letters a to z", told)
+        self.assertIn("Word 2 is '65537', and a count is a number from 0 to 65536.", told)
+        self.assertIn("Word 2 is '\u00b2', and a count", told)
+        self.assertIn("Word 2 is '.x', and a file's name has 1 to 64 of", told)
+        self.assertIn("Word 3 is '|'. The form is", told)
 
     def test_help(self):
         told = self.shell(["help", "help yes", "help state-of", "help zzz"])
@@ -260,6 +268,12 @@ class Terminals(Shells):
 
     def status(self):
         return os.waitpid(self.child, 0)[1] >> 8
+
+    def test_a_script_with_items(self):
+        (self.folder / "s.txt").write_text("items add sub\n")
+        self.assertIn(b"The items: add, sub\r\n", self.begin("s.txt"))
+        os.write(self.terminal, b"quit\r")
+        self.assertEqual(self.status(), 0)
 
     def test_a_session(self):
         self.assertIn(b"Begin with the items", self.begin())

@@ -1,0 +1,1 @@
+autocmd BufRead,BufNewFile *.lspace setfiletype lspace
