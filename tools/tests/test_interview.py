@@ -95,8 +95,8 @@ class Interviews(ByLines):
     def test_items_are_asked_for(self):
         printed = self.interview(["a a", "", "a b\u00fc c", "a b", "q"], items=None)
         self.assertIn("These can't be taken. 12 repeat 2 1", printed)
-        self.assertIn("These can't be taken. 'b\u00fc' is none: a name has 1 to 40 of the letters a to z",
-                      printed)
+        self.assertIn("a name has 1 to 40 of the letters a to z", printed)
+        self.assertIn("These can't be taken. 'b\u00fc' is no such name.", printed)
         self.assertEqual(printed.count("Which items?"), 4)
         self.assertIn("2 items in first.txt. They stay: other items take another file.",
                       printed)
