@@ -14,7 +14,7 @@ import re
 from collections import namedtuple
 
 import companion
-from companion import MOST_PUPILS, Trouble, clipped, records_of, refusal_of
+from companion import MOST_PUPILS, Trouble, clipped, records_of, refusal_of, use_of
 from course import Course
 from labels import plain
 
@@ -101,8 +101,10 @@ class Space(Course):
             return refusal_of(reply)
         place = int(words[2])
         if place == 1:
+            hint = "; for a table with semicolons there is `tools/kst class TABLE`"
             return ("the first record has to be any word, and then each item's name once: "
-                    + ", ".join(self.items) + f" ({reply[0]})")
+                    + ", ".join(self.items) + f" ({reply[0]})"
+                    + (use_of(hint) if any(";" in it for it in rows[0]) else ""))
         return (f"record {place}, of {clipped(plain(rows[place - 1][0]))}, has to be a name and"
                 f" then under each item 1 for right or 0 for wrong ({reply[0]})")
 

@@ -287,7 +287,7 @@ class Pictures(Draw):
 @unittest.skipIf(shutil.which("dot") is None, "`dot` of Graphviz isn't found")
 class Svg(Draw):
     def svg(self, *words):
-        self.draw(*words, "--out", "x.svg")
+        self.assertEqual(self.draw(*words, "--out", "x.svg")[0], "x.svg is written\n")
         return xml.etree.ElementTree.parse(self.folder / "x.svg").getroot()
 
     def told(self, root, kind):

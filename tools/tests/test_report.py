@@ -154,6 +154,7 @@ class Reports(Report):
         self.write("s", "items a b\n")
         for text, told in [
                 ("pupil,a\nAnn,1\n", "the first record has to be any word, and then each"),
+                ("pupil;a;b;c\nAnn;1;0;0\n", "for a table with semicolons there is `tools/kst"),
                 ("pupil,a,b\nAnn,1,0\nBea B,1,x\n", "record 3, of Bea B, has to be a name"),
                 ("pupil,a,b\nAnn,1,0\nAnn,1,1\n", "record 3: there is a pupil Ann before")]:
             status = 2 if "before" in told else 1
